@@ -3,4 +3,4 @@
 
 mod outside;
 
-pub use outside::{Failed, Sink, Source, write_all};
+pub use outside::{Clock, Failed, Sink, Source, write_all};

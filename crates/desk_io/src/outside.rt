@@ -1,9 +1,11 @@
 //! What the desk knows of the outside: a source of bytes, a sink for bytes, a clock.
 //!
 //! What an object holds is told or untold: a file or a socket tells nothing. How often it failed is always told.
-ghost use Rattle.std.specs.Prelude.{◌≡◌, ℕ, ◌<◌, ◌≤◌, List, length, IfOk, OnOk, OnErr, Option};
+ghost use Rattle.std.specs.Prelude.{◌≡◌, ℕ, ◌<◌, ◌≤◌, ◌+◌, ℤ, List, length, IfOk, OnOk, OnErr, IfSome, Option};
 ghost use Rattle.std.specs.Io.KnownBytes.{ReadConsumes, WriteAppends, Appends, Keeps};
 ghost use Rattle.desk_io.specs.Outside.{Rises, AppendsPart};
+
+use obs_time::Instant;
 
 /// The outside failed in this call. Its count of faults has risen.
 #[derive(Clone, Copy, Debug, PartialEq, Eq)]
@@ -57,6 +59,22 @@ pub trait Sink: Drop {
     fn end(&mut self)
         ensures bytes { Keeps (taken self.old) (taken self.new) }
         ensures counts { faults self.new ≡ faults self.old };
+}
+
+/// What time it is.
+pub trait Clock: Drop {
+    /// The k-th reading to come, counted from 0, where it is told.
+    ghost reading: { Self → ℕ → Option ℤ };
+
+    /// Reads the clock.
+    fn now(&mut self) -> Instant
+        ensures told { IfSome (reading self.old 0) (λ t. result ≡ t) }
+        ensures later { (k : ℕ) → reading self.new k ≡ reading self.old (k + 1) };
+
+    /// Another clock with the same readings to come. This one's stay.
+    fn another(&mut self) -> Self
+        ensures same { (k : ℕ) → reading result k ≡ reading self.old k }
+        ensures stays { (k : ℕ) → reading self.new k ≡ reading self.old k };
 }
 
 /// Writes all of the piece, in as many writes as the sink wants. After a failure the sink took a
