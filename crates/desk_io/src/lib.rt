@@ -1,0 +1,6 @@
+//! The outside of the desk: where bytes come from, where they go, and what time it is.
+#![tactic(auto)]
+
+mod outside;
+
+pub use outside::{Clock, Failed, Sink, Source, write_all};

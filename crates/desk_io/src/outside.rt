@@ -1,0 +1,95 @@
+//! What the desk knows of the outside: a source of bytes, a sink for bytes, a clock.
+//!
+//! What an object holds is told or untold: a file or a socket tells nothing. How often it failed is always told.
+ghost use Rattle.std.specs.Prelude.{◌≡◌, ℕ, ◌<◌, ◌≤◌, ◌+◌, ℤ, List, length, IfOk, OnOk, OnErr, IfSome, Option};
+ghost use Rattle.std.specs.Io.KnownBytes.{ReadConsumes, WriteAppends, Appends, Keeps};
+ghost use Rattle.desk_io.specs.Outside.{Rises, AppendsPart};
+
+use obs_time::Instant;
+
+/// The outside failed in this call. Its count of faults has risen.
+#[derive(Clone, Copy, Debug, PartialEq, Eq)]
+pub struct Failed;
+
+/// Where bytes come from.
+pub trait Source: Drop {
+    /// The bytes that reads will give from here on, where they are told.
+    ghost left: { Self → Option (List ℕ) };
+
+    /// How often the source has failed.
+    ghost faults: { Self → ℕ };
+
+    /// How many reads can still give bytes.
+    ghost reads: { Self → ℕ };
+
+    /// Reads into the front of the piece and says how many bytes it read: 0 for a piece that isn't
+    /// empty is the end of the bytes.
+    fn read(&mut self, piece: &mut [u8]) -> Result<usize, Failed>
+        ensures bytes { ReadConsumes (left self.old) (left self.new) result piece.new }
+        ensures within { IfOk result (λ n. n ≤ length piece.old) }
+        ensures counts { faults self.old ≤ faults self.new }
+        ensures cause { OnErr result (Rises (faults self.old) (faults self.new)) }
+        ensures reads { reads self.new ≤ reads self.old }
+        ensures nearer { IfOk result (λ n. 0 < n → reads self.new < reads self.old) };
+
+    /// Gives up the real thing behind the source.
+    fn end(&mut self)
+        ensures bytes { Keeps (left self.old) (left self.new) }
+        ensures counts { faults self.new ≡ faults self.old }
+        ensures reads { reads self.new ≤ reads self.old };
+}
+
+/// Where bytes go.
+pub trait Sink: Drop {
+    /// The bytes that the sink took so far, where they are told.
+    ghost taken: { Self → Option (List ℕ) };
+
+    /// How often the sink has failed.
+    ghost faults: { Self → ℕ };
+
+    /// Takes bytes from the front of the piece and says how many: at least one of a piece that isn't empty.
+    fn write(&mut self, piece: &[u8]) -> Result<usize, Failed>
+        ensures bytes { WriteAppends (taken self.old) (taken self.new) result piece.now }
+        ensures within { IfOk result (λ n. n ≤ length piece.now) }
+        ensures some { IfOk result (λ n. 0 < length piece.now → 0 < n) }
+        ensures counts { faults self.old ≤ faults self.new }
+        ensures cause { OnErr result (Rises (faults self.old) (faults self.new)) };
+
+    /// Gives up the real thing behind the sink.
+    fn end(&mut self)
+        ensures bytes { Keeps (taken self.old) (taken self.new) }
+        ensures counts { faults self.new ≡ faults self.old };
+}
+
+/// What time it is.
+pub trait Clock: Drop {
+    /// The k-th reading to come, counted from 0, where it is told.
+    ghost reading: { Self → ℕ → Option ℤ };
+
+    /// Reads the clock.
+    fn now(&mut self) -> Instant
+        ensures told { IfSome (reading self.old 0) (λ t. result ≡ t) }
+        ensures later { (k : ℕ) → reading self.new k ≡ reading self.old (k + 1) };
+
+    /// Another clock with the same readings to come. This one's stay.
+    fn another(&mut self) -> Self
+        ensures same { (k : ℕ) → reading result k ≡ reading self.old k }
+        ensures stays { (k : ℕ) → reading self.new k ≡ reading self.old k };
+}
+
+/// Writes all of the piece, in as many writes as the sink wants. After a failure the sink took a
+/// front of the piece and not all of it.
+pub fn write_all<K: Sink>(sink: &mut K, piece: &[u8]) -> Result<(), Failed>
+    ensures whole { OnOk result (Appends (K.taken sink.old) (K.taken sink.new) piece.now) }
+    ensures part { OnErr result (AppendsPart (K.taken sink.old) (K.taken sink.new) piece.now) }
+    ensures counts { K.faults sink.old ≤ K.faults sink.new }
+    ensures cause { OnErr result (Rises (K.faults sink.old) (K.faults sink.new)) }
+{
+    let mut rest = piece;
+    while !rest.is_empty() {
+        let count = sink.write(rest)?;
+        let (_, left) = rest.split_at(count);
+        rest = left;
+    }
+    Ok(())
+}
