@@ -1,0 +1,25 @@
+//! Request frames on a byte stream, and reply frames.
+//!
+//! A request frame is a head, a line feed, and a body. The head is a key, a blank, a number, a
+//! blank, a verb, a blank, and the length of the body. The next frame follows at once.
+#![tactic(auto)]
+
+mod head;
+mod parts;
+
+pub use head::{Front, Head, read_head};
+
+/// The most bytes that the key of a head has.
+pub const KEY_BYTES: usize = 33;
+
+/// The most digits that the number of a head has.
+pub const NUMBER_DIGITS: usize = 18;
+
+/// The most bytes that the verb of a head has.
+pub const VERB_BYTES: usize = 12;
+
+/// The most digits that the length in a head has.
+pub const LENGTH_DIGITS: usize = 9;
+
+/// The most bytes that a head has, with its three blanks and its line feed.
+pub const HEAD_BYTES: usize = KEY_BYTES + NUMBER_DIGITS + VERB_BYTES + LENGTH_DIGITS + 4;
