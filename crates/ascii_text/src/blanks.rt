@@ -1,0 +1,1 @@
+//! Blanks, the bytes 32.

@@ -1,0 +1,8 @@
+//! Text of bytes below 128, as the formats of minor planet astrometry have it: digits of a radix, numbers of a fixed
+//! width, decimals, blanks.
+#![tactic(auto)]
+
+pub mod blanks;
+pub mod digits;
+pub mod reading;
+pub mod writing;

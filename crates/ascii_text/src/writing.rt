@@ -1,0 +1,1 @@
+//! Writing at the end of a text.
