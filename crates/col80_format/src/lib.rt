@@ -1,0 +1,9 @@
+//! The 80-column format for optical astrometric observations, as the Minor Planet Center describes it:
+//! single lines, and batches of lines.
+#![tactic(auto)]
+
+mod batch;
+mod reading;
+
+pub use batch::split_batch;
+pub use reading::read_line;

@@ -1,0 +1,15 @@
+-- How a short text is kept.
+use Rattle.std.proofs.Common.{◌≡◌, ℕ, ◌-◌, min, List, ◌++◌, length, take, drop, replicate, ap, ◌∙◌, arith}
+use Rattle.std.proofs.lemmas.List.{take_min, drop-replicate}
+use Rattle.obs_record.specs.Short.{kept_short}
+
+-- the first bytes of the text, with the zeros that stood in the array after them
+pub kept_from : (text bytes : List ℕ) (n : ℕ) → n ≡ min (length text) 12 → bytes ≡ take n text
+    → record { len = n; bytes = bytes ++ drop n (replicate 12 0) } ≡ kept_short text
+unfolding kept_short
+kept_from text bytes n len front =
+    let swapped : n ≡ min 12 (length text) = omega arith in
+    let text_is : bytes ≡ take 12 text = front ∙ ap (λ (k : ℕ). take k text) swapped ∙ take_min 12 text in
+    let left : 12 - n ≡ 12 - length text = omega arith in
+    let zeros : drop n (replicate {A = ℕ} 12 0) ≡ replicate {A = ℕ} (12 - length text) 0 = drop-replicate {X = ℕ} n 12 0 ∙ ap (λ (k : ℕ). replicate {A = ℕ} k 0) left in
+    cc

@@ -1,0 +1,24 @@
+ghost use Rattle.std.specs.Prelude.{◌≡◌};
+ghost use Rattle.obs_record.specs.Short.{kept_short};
+
+/// A text of at most 12 bytes. The bytes from `len` on are 0.
+#[derive(Clone, Copy, Debug, PartialEq, Eq)]
+pub struct Short {
+    pub len: u8,
+    pub bytes: [u8; 12],
+}
+
+impl Short {
+    /// The text, or its first 12 bytes where it is longer.
+    pub fn new(text: &[u8]) -> Short
+        ensures { result ≡ kept_short text.now }
+    {
+        let len = text.len().min(12);
+        let mut bytes = [0; 12];
+        bytes[..len].copy_from_slice(&text[..len]);
+        Short {
+            len: len as u8,
+            bytes,
+        }
+    }
+}
