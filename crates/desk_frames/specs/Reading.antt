@@ -1,5 +1,5 @@
 -- What a reader of the bytes that have come so far says of the part of a head at their front.
-use Rattle.std.specs.Prelude.{◌≡◌, ℕ, ◌+◌, ◌<◌, ◌≤◌, List, [], ◌∷◌, ◌++◌, length, drop, Result, Ok, Err}
+use Rattle.std.specs.Prelude.{◌≡◌, ◌≢◌, ℕ, ◌+◌, ◌-◌, ◌*◌, ◌<◌, ◌≤◌, List, [], ◌∷◌, ◌++◌, length, drop, Result, Ok, Err, decimal}
 use Rattle.std.specs.List.{AllByRecursion}
 use Rattle.desk_frames.specs.declared.parts.Unread.{Unread}
 use Rattle.desk_frames.specs.declared.parts.Unread.TheVariants as unread
@@ -47,11 +47,30 @@ pub record IsBegun (IsOfClass : ℕ → Type 0) (most : ℕ) (bytes : List ℕ) 
   pub few : length bytes ≤ most
   pub each : AllByRecursion IsOfClass bytes
 
+-- why a field of bytes of one class isn't read
+abbrev pub FailsToken : (ℕ → Type 0) → ℕ → ℕ → List ℕ → Unread → Type 0
+FailsToken IsOfClass most stop bytes unread.Part = IsBegun IsOfClass most bytes
+FailsToken IsOfClass most stop bytes unread.Bad = (more : List ℕ) → Lacks (IsToken IsOfClass most) (stopped stop) (bytes ++ more)
+
 -- a field of bytes of one class, up to the byte that ends it
 abbrev pub ReadsToken : {X : Type 0} → (ℕ → Type 0) → ℕ → ℕ → (X → List ℕ × List ℕ) → List ℕ → Result X Unread → Type 0
 ReadsToken IsOfClass most stop view bytes (Ok x) = IsToken IsOfClass most (view x).0 × (bytes ≡ stopped stop (view x).0 (view x).1)
-ReadsToken IsOfClass most stop view bytes (Err unread.Part) = IsBegun IsOfClass most bytes
-ReadsToken IsOfClass most stop view bytes (Err unread.Bad) = (more : List ℕ) → Lacks (IsToken IsOfClass most) (stopped stop) (bytes ++ more)
+ReadsToken IsOfClass most stop view bytes (Err e) = FailsToken IsOfClass most stop bytes e
+
+-- a number's text before the byte that ends it
+abbrev pub numbered : ℕ → ℕ → List ℕ → List ℕ
+numbered stop n rest = decimal n ++ stop ∷ rest
+
+-- the number that decimal digits write when they follow those of n
+abbrev pub number_from : ℕ → List ℕ → ℕ
+number_from n [] = n
+number_from n (digit ∷ digits) = number_from (10 * n + (digit - 48)) digits
+
+-- a zero stands in front, and behind it something else than the byte that ends a number
+abbrev pub HasZeroInFront : ℕ → List ℕ → Type 0
+HasZeroInFront stop [] = ⊥
+HasZeroInFront stop (first ∷ []) = ⊥
+HasZeroInFront stop (first ∷ second ∷ rest) = (first ≡ 48) × (second ≢ stop)
 
 -- ---- heads
 

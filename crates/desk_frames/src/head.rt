@@ -1,5 +1,12 @@
 //! The head of a request frame, at the front of the bytes that have come so far.
 
+ghost use Rattle.std.specs.Prelude.{◌≡◌, ◌+◌, ◌<◌, ◌≤◌, ◌^◌, ◌↔◌, ℕ, List, length, drop, IfOk};
+ghost use Rattle.desk_frames.specs.Frames.{HeadParts, IsHead, headed, NoHead, BeginsHead, NeverFrame};
+ghost use Rattle.desk_frames.specs.Reading.{Reads, parts_of, IsHeadAt, IfWhole, IsWholeAnd};
+
+use crate::parts::{Unread, key_at, number_at, verb_at};
+use crate::{HEAD_BYTES, KEY_BYTES, LENGTH_DIGITS, NUMBER_DIGITS, VERB_BYTES};
+
 /// The head of a request frame.
 #[derive(Clone, Copy, Debug)]
 pub struct Head<'a> {
@@ -26,7 +33,50 @@ pub enum Front<'a> {
     Bad,
 }
 
-/// Reads
-pub fn read_head(_bytes: &[u8]) -> Front<'_> {
-    Front::Bad
+/// The head at the front, and the bytes behind it.
+fn head_at(bytes: &[u8]) -> Result<(Head<'_>, &[u8]), Unread>
+    ensures reads { Reads IsHead headed (λ x. (parts_of x.0, x.1.now)) bytes.now result }
+    ensures size { IfOk result (λ x. x.0.size + length x.1.now ≡ length bytes.now) }
+{
+    let (key, rest) = key_at(bytes)?;
+    let (number, rest) = number_at(NUMBER_DIGITS, b' ', rest)?;
+    let (verb, rest) = verb_at(rest)?;
+    let (length, rest) = number_at(LENGTH_DIGITS, b'\n', rest)?;
+    let size = bytes.len() - rest.len();
+    let head = Head {
+        key,
+        number,
+        verb,
+        length,
+        size,
+    };
+    Ok((head, rest))
+}
+
+/// Looks for a head at the front of the bytes that have come so far.
+///
+/// It looks at no more than their first `HEAD_BYTES`, takes no memory, and the body that follows
+/// the head may be missing.
+pub fn read_head(bytes: &[u8]) -> Front<'_>
+    // The head that is answered stands at the front, with its fields and its size.
+    ensures whole { IfWhole result (λ head. IsHeadAt bytes.now (parts_of head) head.size) }
+    // A head that stands at the front is answered.
+    ensures only { (h : HeadParts) (rest : List ℕ) → IsHead h → bytes.now ≡ headed h rest →
+        IsWholeAnd result (λ head. (parts_of head ≡ h) × (drop head.size bytes.now ≡ rest)) }
+    // No head stands there yet, and bytes that may follow complete one.
+    ensures part { (result ≡ Front.Part) ↔ (NoHead bytes.now × BeginsHead bytes.now) }
+    // No frame can come there any more.
+    ensures bad { (result ≡ Front.Bad) ↔ NeverFrame bytes.now }
+    ensures short { result ≡ Front.Part → length bytes.now < HEAD_BYTES }
+    ensures size { IfWhole result (λ head. head.size ≤ HEAD_BYTES) }
+    ensures key { IfWhole result (λ head. (0 < length head.key.now) × (length head.key.now ≤ KEY_BYTES)) }
+    ensures number { IfWhole result (λ head. head.number < 10 ^ NUMBER_DIGITS) }
+    ensures verb { IfWhole result (λ head. (0 < length head.verb.now) × (length head.verb.now ≤ VERB_BYTES)) }
+    ensures length { IfWhole result (λ head. head.length < 10 ^ LENGTH_DIGITS) }
+{
+    match head_at(bytes) {
+        Ok((head, _)) => Front::Whole(head),
+        Err(Unread::Part) => Front::Part,
+        Err(Unread::Bad) => Front::Bad,
+    }
 }

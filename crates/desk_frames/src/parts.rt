@@ -2,7 +2,8 @@
 
 ghost use Rattle.std.specs.Prelude.{◌≡◌, ◌<◌, ◌≤◌, ◌^◌, ◌↔◌, length, IsTrue, decimal};
 ghost use Rattle.desk_frames.specs.Frames.{IsDigit, IsKey, IsVerb, IsToken};
-ghost use Rattle.desk_frames.specs.Reading.{IsOf, Reads, ReadsToken, stopped};
+ghost use Rattle.std.specs.List.{AllByRecursion};
+ghost use Rattle.desk_frames.specs.Reading.{IsOf, Reads, ReadsToken, stopped, numbered, number_from, HasZeroInFront};
 
 use crate::{KEY_BYTES, VERB_BYTES};
 
@@ -52,4 +53,56 @@ fn token_at(class: Class, most: usize, stop: u8, bytes: &[u8]) -> Result<(&[u8],
         }
     }
     Err(Unread::Part)
+}
+
+/// The key at the front, before its blank, and the bytes behind it.
+pub fn key_at(bytes: &[u8]) -> Result<(&[u8], &[u8]), Unread>
+    ensures { Reads IsKey (stopped 32) (λ x. (x.0.now, x.1.now)) bytes.now result }
+{
+    token_at(Class::Printable, KEY_BYTES, b' ', bytes)
+}
+
+/// The verb at the front, before its blank, and the bytes behind it.
+pub fn verb_at(bytes: &[u8]) -> Result<(&[u8], &[u8]), Unread>
+    ensures { Reads IsVerb (stopped 32) (λ x. (x.0.now, x.1.now)) bytes.now result }
+{
+    token_at(Class::Verb, VERB_BYTES, b' ', bytes)
+}
+
+/// The number that decimal digits write.
+fn value_of(digits: &[u8]) -> u64
+    requires few { length digits.now ≤ 18 }
+    requires each { AllByRecursion IsDigit digits.now }
+    ensures { result ≡ number_from 0 digits.now }
+{
+    let mut value = 0;
+    for digit in digits {
+        value = 10 * value + u64::from(*digit - b'0');
+    }
+    value
+}
+
+/// Whether a zero stands before another digit, or before anything but the byte that ends a number.
+fn has_zero_in_front(stop: u8, bytes: &[u8]) -> bool
+    ensures { IsTrue result ↔ HasZeroInFront stop bytes.now }
+{
+    match bytes {
+        [b'0', second, ..] => *second != stop,
+        _ => false,
+    }
+}
+
+/// The number at the front, without leading zeros and of at most so many digits, before the byte
+/// that ends it, and the bytes behind it.
+pub fn number_at(digits: usize, stop: u8, bytes: &[u8]) -> Result<(u64, &[u8]), Unread>
+    requires some { 0 < digits }
+    requires few { digits ≤ 18 }
+    requires ends { stop < 33 }
+    ensures { Reads (λ n. n < 10 ^ digits) (numbered stop) (λ x. (x.0, x.1.now)) bytes.now result }
+{
+    if has_zero_in_front(stop, bytes) {
+        return Err(Unread::Bad);
+    }
+    let (text, rest) = token_at(Class::Digit, digits, stop, bytes)?;
+    Ok((value_of(text), rest))
 }
