@@ -1,0 +1,9 @@
+pub mod Keys
+pub mod History
+pub mod Observations
+pub mod Rules
+pub mod Texts
+pub mod Replies
+pub mod Refusals
+pub mod Step
+pub mod Turns

@@ -1,0 +1,23 @@
+-- The lines of which answers are made. Each ends in a line feed.
+use Rattle.std.specs.Prelude.{ℕ, List, [], ◌∷◌, ◌++◌, codes, decimal}
+use Rattle.obs_record.specs.declared.rule.RuleCode.{RuleCode}
+use Rattle.act_model.specs.Rules.{rule_name}
+
+abbrev pub line_of : List ℕ → List ℕ
+line_of text = text ++ 10 ∷ []
+
+-- `receipt R`
+abbrev pub receipt_line : ℕ → List ℕ
+receipt_line receipt = line_of (codes "receipt " ++ decimal receipt)
+
+-- `accepted A refused B`
+abbrev pub counts_line : ℕ → ℕ → List ℕ
+counts_line accepted refused = line_of (codes "accepted " ++ decimal accepted ++ codes " refused " ++ decimal refused)
+
+-- `line N obs K`: the line was accepted, as observation K
+abbrev pub accepted_line : ℕ → ℕ → List ℕ
+accepted_line number observation = line_of (codes "line " ++ decimal number ++ codes " obs " ++ decimal observation)
+
+-- `line N refused S1`: the rule that the line broke first
+abbrev pub refused_line : ℕ → RuleCode → List ℕ
+refused_line number rule = line_of (codes "line " ++ decimal number ++ codes " refused " ++ rule_name rule)

@@ -1,0 +1,16 @@
+use crate::request::Verb;
+use item_list::Bytes;
+use obs_time::Instant;
+
+/// An act that the office accepted. Its place in the history, counted from 1, is its receipt.
+#[derive(Debug, Drop)]
+pub struct Entry {
+    /// Who asked: 0 is the founding officer.
+    pub caller: u32,
+    /// The number that the caller gave the request, 1 to 999,999,999,999,999,999.
+    pub number: u64,
+    /// When it was accepted, and never before the entry before it.
+    pub moment: Instant,
+    pub verb: Verb,
+    pub body: Bytes,
+}

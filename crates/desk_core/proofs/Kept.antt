@@ -1,0 +1,60 @@
+-- The answers that are kept are those of the entries' own time.
+use Rattle.std.proofs.Common.{◌≡◌, ℕ, ◌+◌, ◌<◌, ◌≤◌, Bool, true, false, cond, List, [], ◌∷◌, ◌++◌, length, get_or, take, drop, Some, suc, ap, sym, subst, ◌∙◌, append_assoc, arith}
+use Rattle.std.specs.Prelude.{slice_get, reverse, map}
+use Rattle.std.proofs.lemmas.List.{reverse-append, take-append-drop, length-take, length-map, length-reverse}
+use Rattle.std.proofs.Math.Seq.{drop-cons}
+use Rattle.std.proofs.Math.Numerals.{add-one}
+use Rattle.std.proofs.lemmas.Option.{get_or_from_slice_get, slice_get_within}
+use Rattle.act_model.specs.declared.entry.Entry.{Entry}
+use Rattle.act_model.specs.declared.request.Request.{Request}
+use Rattle.act_model.specs.declared.reply.Reply.{Reply}
+use Rattle.act_model.specs.declared.reply.Reply.TheVariants.{Done, Refused}
+use Rattle.act_model.specs.declared.reply.Refusal.TheVariants.{OtherRequest}
+use Rattle.act_model.specs.History.{Kept, next_receipt}
+use Rattle.act_model.specs.Replies.{entry_answer}
+use Rattle.act_model.specs.Step.{is_resend, kept_reply}
+use Rattle.desk_core.specs.declared.filed.Filed.{Filed}
+use Rattle.desk_core.specs.Filed.{entries_of, history_of, AreAnswered, IsFiledAt}
+
+-- what was filed, cut at one place
+split_at : (filed : List Filed) (place : ℕ) (f : Filed) → slice_get filed place ≡ Some f → filed ≡ take place filed ++ (f ∷ drop (place + 1) filed)
+split_at filed place f there =
+    let within = slice_get_within filed place f there in
+    let is : get_or filed place f ≡ f = get_or_from_slice_get filed place f f there in
+    let next : drop place filed ≡ f ∷ drop (place + 1) filed = drop-cons filed place f within ∙ rw add-one (ap (λ (g : Filed). g ∷ drop (suc place) filed) is) in
+    sym (take-append-drop place filed) ∙ ap (λ (rest : List Filed). take place filed ++ rest) next
+
+answered_behind : (newer : List Filed) (f : Filed) (older : List Filed) → AreAnswered (newer ++ f ∷ older) → f.answer ≡ entry_answer (entries_of older) f.entry.body
+answered_behind [] f older answered = answered.0
+answered_behind (g ∷ newer) f older answered = answered_behind newer f older answered.1
+
+pub answered_at : (filed : List Filed) (place : ℕ) (f : Filed) → slice_get filed place ≡ Some f → AreAnswered (reverse filed)
+    → f.answer ≡ entry_answer (history_of (take place filed)) f.entry.body
+answered_at filed place f there answered =
+    let behind = drop (place + 1) filed in
+    let turned : reverse filed ≡ reverse behind ++ (f ∷ reverse (take place filed)) =
+    ap reverse (split_at filed place f there) ∙ reverse-append (take place filed) (f ∷ behind) ∙ ap (λ (newer : List Filed). newer ++ reverse (take place filed)) (reverse-append (f ∷ []) behind) ∙ append_assoc (reverse behind) (f ∷ []) (reverse (take place filed)) in
+    answered_behind (reverse behind) f (reverse (take place filed)) (subst AreAnswered turned answered)
+
+pub receipt_at : (filed : List Filed) (place : ℕ) → place < length filed → next_receipt (history_of (take place filed)) ≡ place + 1
+receipt_at filed place within =
+    simp (length-map, length-reverse, length-take) (omega arith)
+
+pub kept_again : (filed : List Filed) (place : ℕ) (f : Filed) (q : Request) (text : List ℕ) → place < length filed → AreAnswered (reverse filed) → f ≡ get_or filed place f → is_resend q f.entry ≡ true → text ≡ f.answer
+    → (k : Kept) → IsFiledAt filed place k → Done text ≡ kept_reply q k
+kept_again filed place f q text within answered here resend is k at =
+    let same : at.at ≡ f = sym (get_or_from_slice_get filed place at.at f at.there) ∙ sym here in
+    let entry : k.entry ≡ f.entry = at.entry ∙ ap (λ (g : Filed). g.entry) same in
+    let old : f.answer ≡ entry_answer (history_of (take place filed)) f.entry.body = answered_at filed place f (at.there ∙ ap (λ (g : Filed). Some g) same) answered in
+    let given : text ≡ entry_answer k.before k.entry.body = is ∙ old ∙ ap (λ (e : Entry). entry_answer (history_of (take place filed)) e.body) (sym entry) ∙ ap (λ (h : List Entry). entry_answer h k.entry.body) (sym at.before) in
+    let resent : is_resend q k.entry ≡ true = ap (is_resend q) entry ∙ resend in
+    ap (λ (t : List ℕ). Done t) given ∙ sym (ap (λ (b : Bool). cond b (Done (entry_answer k.before k.entry.body)) (Refused (OtherRequest (next_receipt k.before)))) resent)
+
+pub kept_other : (filed : List Filed) (place : ℕ) (f : Filed) (q : Request) → place < length filed → f ≡ get_or filed place f → is_resend q f.entry ≡ false
+    → (k : Kept) → IsFiledAt filed place k → Refused (OtherRequest (place + 1)) ≡ kept_reply q k
+kept_other filed place f q within here other k at =
+    let same : at.at ≡ f = sym (get_or_from_slice_get filed place at.at f at.there) ∙ sym here in
+    let entry : k.entry ≡ f.entry = at.entry ∙ ap (λ (g : Filed). g.entry) same in
+    let receipt : place + 1 ≡ next_receipt k.before = sym (receipt_at filed place within) ∙ ap (λ (h : List Entry). next_receipt h) (sym at.before) in
+    let not_resent : is_resend q k.entry ≡ false = ap (is_resend q) entry ∙ other in
+    ap (λ (r : ℕ). Refused (OtherRequest r)) receipt ∙ sym (ap (λ (b : Bool). cond b (Done (entry_answer k.before k.entry.body)) (Refused (OtherRequest (next_receipt k.before)))) not_resent)

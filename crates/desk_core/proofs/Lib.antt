@@ -1,0 +1,3 @@
+pub mod FiledLemmas
+pub mod Kept
+pub mod Steps

@@ -1,0 +1,25 @@
+-- What the office keeps of each entry: the entry, and its answer as it was given.
+use Rattle.std.specs.Prelude.{◌≡◌, ℕ, List, [], ◌∷◌, map, reverse, take, slice_get, Some}
+use Rattle.act_model.specs.declared.entry.Entry.{Entry}
+use Rattle.act_model.specs.History.{Kept}
+use Rattle.act_model.specs.Replies.{entry_answer}
+use Rattle.desk_core.specs.declared.filed.Filed.{Filed}
+
+abbrev pub entries_of : List Filed → List Entry
+entries_of filed = map (λ f. f.entry) filed
+
+-- the history of what was filed, in the order in which it was filed: the newest entry first
+abbrev pub history_of : List Filed → List Entry
+history_of filed = entries_of (reverse filed)
+
+-- each answer is that of its entry at the history before it; the newest first
+abbrev pub AreAnswered : List Filed → Type 0
+AreAnswered [] = Unit {0}
+AreAnswered (newest ∷ older) = (newest.answer ≡ entry_answer (entries_of older) newest.entry.body) × AreAnswered older
+
+-- the entry at this place, and the history of what was filed before it
+pub record IsFiledAt (filed : List Filed) (place : ℕ) (k : Kept) : Type 0 where
+  pub at : Filed
+  pub there : slice_get filed place ≡ Some at
+  pub entry : k.entry ≡ at.entry
+  pub before : k.before ≡ history_of (take place filed)

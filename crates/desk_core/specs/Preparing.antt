@@ -1,0 +1,20 @@
+-- What preparing a request answers, by cases on the answer.
+use Rattle.std.specs.Prelude.{◌≡◌, ℕ, ◌<◌, ℤ, List, ◌∷◌}
+use Rattle.act_model.specs.declared.request.Key.{Key}
+use Rattle.act_model.specs.declared.request.Request.{Request}
+use Rattle.act_model.specs.declared.entry.Entry.{Entry}
+use Rattle.act_model.specs.declared.reply.Refusal.TheVariants.{Unread, UnknownKey, OtherRequest, NoMemory}
+use Rattle.act_model.specs.declared.reply.Reply.TheVariants.{Done, Refused}
+use Rattle.act_model.specs.Step.{step}
+use Rattle.desk_core.specs.declared.prepared.Prep.{Prep}
+use Rattle.desk_core.specs.declared.prepared.Prep.TheVariants as prep
+use Rattle.desk_core.specs.Office.{IsReadyAt}
+
+-- A kept reply and a refusal are the step's, which leaves the history. An act that is ready is what the step adds, and
+-- there is room for it. Want of memory says nothing.
+abbrev pub Prepares : Key → List Entry → Request → ℤ → ℕ → Prep → Type 0
+Prepares founder past request reading spare (prep.Kept reply) = step founder past request reading ≡ (reply, past)
+Prepares founder past request reading spare (prep.Refused NoMemory) = Unit {0}
+Prepares founder past request reading spare (prep.Refused refusal) = step founder past request reading ≡ (Refused refusal, past)
+Prepares founder past request reading spare (prep.Ready act) =
+    (step founder past request reading ≡ (Done act.answer, act.entry ∷ past)) × IsReadyAt past act × (0 < spare)

@@ -1,0 +1,77 @@
+ghost use Rattle.std.specs.Prelude.{◌≡◌, ◌<◌, length, IfOk, IfSome, IfNone, reverse, int_lt, if◌then◌else◌};
+ghost use Rattle.act_model.specs.History.{Kept, kept, is_numbered, next_moment};
+ghost use Rattle.act_model.specs.Step.{kept_reply};
+ghost use Rattle.desk_core.specs.Filed.{history_of, AreAnswered, IsFiledAt};
+
+use act_model::{Entry, Refusal, Reply, Request, is_resend};
+use item_list::{Bytes, NoMemory};
+use obs_time::Instant;
+use std::alloc::Global;
+
+/// An entry with its answer, as it was given.
+#[derive(Debug, Drop)]
+pub struct Filed {
+    pub entry: Entry,
+    pub answer: Bytes,
+}
+
+fn is_numbered(entry: &Entry, caller: u32, number: u64) -> bool
+    ensures { result ≡ is_numbered caller number entry.now }
+{
+    entry.caller == caller && entry.number == number
+}
+
+/// The place of the newest entry that the caller's number stands for, or None for a number that the
+/// caller has not used.
+pub fn find(filed: &[Filed], caller: u32, number: u64) -> Option<usize>
+    ensures within { IfSome result (λ place. place < length filed.now) }
+    ensures found { IfSome result (λ place. (k : Kept) × (kept (history_of filed.now) caller number ≡ Some k) × IsFiledAt filed.now place k) }
+    ensures none { IfNone result (kept (history_of filed.now) caller number ≡ None) }
+{
+    for place in (0..filed.len()).rev() {
+        if is_numbered(&filed[place].entry, caller, number) {
+            return Some(place);
+        }
+    }
+    None
+}
+
+/// The answer to a request under a number that stands for the entry at this place.
+pub fn kept_reply(
+    alloc: Global,
+    filed: &[Filed],
+    place: usize,
+    request: &Request,
+) -> Result<Reply, NoMemory>
+    requires within { place < length filed.now }
+    requires answered { AreAnswered (reverse filed.now) }
+    ensures { IfOk result (λ reply. (k : Kept) → IsFiledAt filed.now place k → reply ≡ kept_reply request.now k) }
+{
+    let f = &filed[place];
+    if !is_resend(request, &f.entry) {
+        return Ok(Reply::Refused(Refusal::OtherRequest {
+            receipt: place as u64 + 1,
+        }));
+    }
+    Ok(Reply::Done(Bytes::from_slice(alloc, f.answer.as_slice())?))
+}
+
+/// The moment of the entry that is filed next: the reading, but never before the last entry's moment.
+pub fn next_moment(filed: &[Filed], reading: Instant) -> Instant
+    ensures { result ≡ next_moment (history_of filed.now) reading }
+{
+    match filed.last() {
+        None => reading,
+        Some(last) => later_of(reading, last.entry.moment),
+    }
+}
+
+fn later_of(reading: Instant, last: Instant) -> Instant
+    ensures { result ≡ (if int_lt reading last then last else reading) }
+{
+    if reading.ns() < last.ns() {
+        last
+    } else {
+        reading
+    }
+}

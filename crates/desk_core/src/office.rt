@@ -1,0 +1,125 @@
+ghost use Rattle.std.specs.Prelude.{◌≡◌, ◌+◌, ◌<◌, ◌^◌, ◌∷◌, [], IfOk, length, false};
+ghost use Rattle.act_model.specs.Refusals.{is_unknown};
+ghost use Rattle.act_model.specs.Step.{body_bytes, new_entry};
+ghost use Rattle.desk_core.specs.Office.{IsReadyAt};
+ghost use Rattle.desk_core.specs.Preparing.{Prepares};
+
+use crate::filed::{Filed, find, kept_reply, next_moment};
+use crate::prepared::{Prep, Prepared};
+use crate::refusals::early_refusal;
+use act_model::{Entry, Key, Refusal, Reply, Request, accepted_in, batch_answer, body_bytes};
+use col80_format::split_batch;
+use item_list::{Bytes, NoMemory};
+use obs_time::Instant;
+use std::alloc::{AllocError, Global};
+use std::marker::Model;
+
+/// The founding officer, the one caller that the office has.
+const FOUNDER: u32 = 0;
+
+/// The office in memory.
+#[derive(Drop)]
+pub struct Core {
+    founder: Key,
+    filed: Vec<Filed>,
+    observations: u64,
+}
+
+impl Model for Core {
+    ghost use Rattle.std.specs.Prelude.{◌≡◌, ◌-◌, vec_len, vec_capacity, reverse};
+    ghost use Rattle.act_model.specs.Observations.{observations as observations_in};
+    ghost use Rattle.desk_core.specs.Office.{Office};
+    ghost use Rattle.desk_core.specs.Filed.{history_of, AreAnswered};
+
+    ghost Value = { Office };
+
+    ghost view = { λ c. record { founder = c.founder; history = history_of c.filed.items; spare = vec_capacity c.filed - vec_len c.filed } };
+
+    ghost invariant = { λ c. AreAnswered (reverse c.filed.items) × (c.observations ≡ observations_in (history_of c.filed.items)) };
+}
+
+impl Core {
+    /// An office without entries.
+    pub fn new(alloc: Global, founder: Key) -> Result<Core, NoMemory>
+        ensures founder { IfOk result (λ core. core.founder ≡ founder) }
+        ensures empty { IfOk result (λ core. core.history ≡ []) }
+    {
+        Ok(Core {
+            founder,
+            filed: Vec::new(alloc),
+            observations: 0,
+        })
+    }
+
+    /// Works out what the step answers to an act, and takes the memory for it. The history stays.
+    pub fn prepare(&mut self, request: &Request, reading: Instant) -> Prep
+        requires act { is_unknown request.now.verb ≡ false }
+        requires short { length (body_bytes request.now.body) < 4_294_967_295 }
+        ensures answer { Prepares self.old.founder self.old.history request.now reading self.new.spare result }
+        ensures history { self.new.history ≡ self.old.history }
+        ensures founder { self.new.founder ≡ self.old.founder }
+    {
+        if let Some(refusal) = early_refusal(&self.founder, request) {
+            return Prep::Refused(refusal);
+        }
+        let alloc = *self.filed.allocator();
+        let number = request.number.unwrap_or(0);
+        match find(self.filed.as_slice(), FOUNDER, number) {
+            Some(place) => match kept_reply(alloc, self.filed.as_slice(), place, request) {
+                Ok(reply) => Prep::Kept(reply),
+                Err(_) => Prep::Refused(Refusal::NoMemory),
+            },
+            None => match self.ready(request, reading) {
+                Ok(prepared) => Prep::Ready(prepared),
+                Err(_) => Prep::Refused(Refusal::NoMemory),
+            },
+        }
+    }
+
+    /// The act that a request becomes, with room for its entry.
+    fn ready(&mut self, request: &Request, reading: Instant) -> Result<Prepared, NoMemory>
+        requires { length (body_bytes request.now.body) < 4_294_967_295 }
+        ensures entry { IfOk result (λ act. act.entry ≡ new_entry 0 self.old.history request.now reading) }
+        ensures at { IfOk result (λ act. IsReadyAt self.old.history act) }
+        ensures room { IfOk result (λ act. 0 < self.new.spare) }
+        ensures history { self.new.history ≡ self.old.history }
+        ensures founder { self.new.founder ≡ self.old.founder }
+    {
+        let alloc = *self.filed.allocator();
+        let body = body_bytes(&request.body);
+        let lines = split_batch(alloc, body)?;
+        let before = self.observations;
+        if lines.len() > u64::MAX - before {
+            return Err(AllocError);
+        }
+        let receipt = self.filed.len() as u64 + 1;
+        let answer = batch_answer(alloc, receipt, before, &lines)?;
+        let kept = Bytes::from_slice(alloc, answer.as_slice())?;
+        let entry = Entry {
+            caller: FOUNDER,
+            number: request.number.unwrap_or(0),
+            moment: next_moment(self.filed.as_slice(), reading),
+            verb: request.verb,
+            body: Bytes::from_slice(alloc, body)?,
+        };
+        self.filed.reserve(1)?;
+        Ok(Prepared::new(entry, answer, kept, before + accepted_in(&lines)))
+    }
+
+    /// Adds the entry of an act that was worked out at this history, and gives its answer. It takes no memory.
+    pub fn commit(&mut self, prepared: Prepared) -> Reply
+        requires ready { IsReadyAt self.old.history prepared }
+        requires room { 0 < self.old.spare }
+        ensures reply { result ≡ Reply.Done prepared.answer }
+        ensures history { self.new.history ≡ prepared.entry ∷ self.old.history }
+        ensures founder { self.new.founder ≡ self.old.founder }
+    {
+        let (entry, answer, kept, observations) = prepared.into_parts();
+        self.filed.push_reserved(Filed {
+            entry,
+            answer: kept,
+        });
+        self.observations = observations;
+        Reply::Done(answer)
+    }
+}
