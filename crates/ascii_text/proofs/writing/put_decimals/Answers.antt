@@ -1,0 +1,6 @@
+use Rattle.std.proofs.Common.{arith, rules}
+use Rattle.ascii_text.proofs.Steps.{ten_power}
+use Rattle.ascii_text.proofs.writing.put_decimals.Goals as goal
+
+pub put_digits-requires : goal.put_digits-requires
+put_digits-requires g c = (search rules, (omega arith, (ten_power c.args.decimals.count c.requires.within, c.requires.below)))
