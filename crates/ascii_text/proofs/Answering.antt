@@ -1,7 +1,7 @@
 -- The laws that hold of every reader: it answers, its answer is the only right one, and a text spells one thing.
-use Rattle.std.proofs.Common.{◌≡◌, ◌⊎◌, Option, Some, None, Result, Ok, Err, refl, sym, ap, ◌∙◌, inl, inr}
+use Rattle.std.proofs.Common.{◌≡◌, Option, Some, None, Result, refl, sym, ap, ◌∙◌, inl, inr}
 use Rattle.std.proofs.lemmas.Option.{same_Some, none-some}
-use Rattle.ascii_text.specs.Judged.{answer_of, SpellsNothing, Answers, IsReader}
+use Rattle.ascii_text.specs.Judged.{answer_of, Answers, IsReader}
 
 answers_read : {T P V F : Type 0} (spells : P → T → Type 0) (read : T → Option P) (reader : IsReader spells read) (judge : P → Result V F) (wrong : F) (text : T) (found : Option P)
     → read text ≡ found → Answers spells judge wrong text (answer_of judge wrong found)

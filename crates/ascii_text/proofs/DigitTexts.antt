@@ -1,12 +1,12 @@
 -- Numbers with a fixed number of digits: what is written is read, and what is read is written.
-use Rattle.std.proofs.Common.{◌≡◌, ℕ, zero, suc, ◌+◌, ◌*◌, ◌/◌, ◌%◌, ◌^◌, ◌<◌, List, [], ◌∷◌, ◌++◌, length, Option, Some, None, refl, sym, ap, subst, ◌∙◌, rules, arith}
+use Rattle.std.proofs.Common.{◌≡◌, ℕ, zero, suc, ◌+◌, ◌*◌, ◌/◌, ◌%◌, ◌^◌, ◌<◌, List, [], ◌∷◌, ◌++◌, length, Option, Some, None, refl, sym, ap, ◌∙◌, arith}
 use Rattle.std.proofs.Math.Nat.{pow-zero, pow-suc, mul_comm, div-lt_iff_lt-mul}
 use Rattle.std.proofs.lemmas.Bool.Decides.{nat_tests}
 use Rattle.std.proofs.lemmas.Option.{same_Some}
 use Rattle.std.proofs.lemmas.Nat.{mul-add-lt, div-mul-add, mod-mul-add, mod_below, div-add-mod'}
 use Rattle.ascii_text.specs.declared.digits.Radix.{Radix}
 use Rattle.ascii_text.specs.declared.digits.Radix.TheVariants.{Ten, SixtyTwo}
-use Rattle.ascii_text.specs.Digits.{base, digit_byte, sixty_two_byte, digits_text}
+use Rattle.ascii_text.specs.Digits.{base, digit_byte, digits_text, decimals_text, decimals_width}
 use Rattle.ascii_text.specs.Reading.{◌>>=◌, digit_value, sixty_two_value, digit_at, more_digits, digits_at}
 use Rattle.ascii_text.proofs.Steps.{power_positive}
 
@@ -68,7 +68,7 @@ more_digits-digits_text radix (suc count) value n rest below =
     let others : n % base radix ^ count < base radix ^ count = mod_below n (base radix ^ count) unit in
     let same : (value * base radix + n / base radix ^ count) * base radix ^ count + n % base radix ^ count ≡ value * base radix ^ suc count + n = place_value value (base radix) (base radix ^ count) n (base radix ^ suc count) (pow-suc (base radix) count) in
     rw (digit_at-cons radix (n / base radix ^ count) (digits_text radix count (n % base radix ^ count) ++ rest) first)
-      (more_digits-digits_text radix count (value * base radix + n / base radix ^ count) (n % base radix ^ count) rest others ∙ ap (λ (v : ℕ). Some (v, rest)) same)
+    (more_digits-digits_text radix count (value * base radix + n / base radix ^ count) (n % base radix ^ count) rest others ∙ ap (λ (v : ℕ). Some (v, rest)) same)
 
 -- what digits behind others spell
 record Spelled (radix : Radix) (value count : ℕ) (text : List ℕ) (x : ℕ × List ℕ) (n : ℕ) : Type 0 where
@@ -79,7 +79,7 @@ record Spelled (radix : Radix) (value count : ℕ) (text : List ℕ) (x : ℕ ×
 more_digits_take : (radix : Radix) (count value : ℕ) (text : List ℕ) (x : ℕ × List ℕ) → more_digits radix value count text ≡ Some x
     → (n : ℕ) × Spelled radix value count text x n
 unfolding more_digits digits_text
-more_digits_take radix zero value text x e = 
+more_digits_take radix zero value text x e =
     (0, record { below = rw pow-zero (omega arith); whole = rw pow-zero (omega (arith, some_first value text x e)); text_is = some_second value text x e })
 more_digits_take radix (suc count) value text x e =
     let first = bind_some (digit_at radix text) (λ first. more_digits radix (value * base radix + first.0) count first.1) x e in
@@ -87,12 +87,14 @@ more_digits_take radix (suc count) value text x e =
     let others = more_digits_take radix count (value * base radix + first.0.0) first.0.1 x first.2 in
     let unit : base radix ^ suc count ≡ base radix ^ count * base radix = pow-suc (base radix) count in
     let d : (first.0.0 * base radix ^ count + others.0) / base radix ^ count ≡ first.0.0 = div-mul-add first.0.0 (base radix ^ count) others.0 others.1.below in
-    let m : (first.0.0 * base radix ^ count + others.0) % base radix ^ count ≡ others.0 = mod-mul-add first.0.0 (base radix ^ count) others.0 others.1.below in
-    (first.0.0 * base radix ^ count + others.0, record {
-      below = omega (arith, unit, mul-add-lt first.0.0 (base radix ^ count) others.0 (base radix) taken.1 others.1.below);
-      whole = others.1.whole ∙ place_sum value (base radix) (base radix ^ count) first.0.0 others.0 (base radix ^ suc count) unit;
-      text_is = rw (d, m) (taken.0 ∙ ap (λ (t : List ℕ). digit_byte radix first.0.0 ∷ t) others.1.text_is)
-    })
+    let m : (first.0.0 * base radix ^ count + others.0) % base radix ^ count ≡ others.0 = mod-mul-add first.0.0 (base radix ^ count) others.0 others.1.below in (
+      first.0.0 * base radix ^ count + others.0,
+      record {
+        below = omega (arith, unit, mul-add-lt first.0.0 (base radix ^ count) others.0 (base radix) taken.1 others.1.below);
+        whole = others.1.whole ∙ place_sum value (base radix) (base radix ^ count) first.0.0 others.0 (base radix ^ suc count) unit;
+        text_is = rw (d, m) (taken.0 ∙ ap (λ (t : List ℕ). digit_byte radix first.0.0 ∷ t) others.1.text_is);
+      },
+    )
 
 -- What is written with this many digits is read, whatever follows.
 pub digits_again : (radix : Radix) (count n : ℕ) (rest : List ℕ) → n < base radix ^ count → digits_at radix count (digits_text radix count n ++ rest) ≡ Some (n, rest)
@@ -119,3 +121,11 @@ pub digits_text_injective : (radix : Radix) (count m n : ℕ) → m < base radix
 digits_text_injective radix count m n below_m below_n e =
     let both : Some (m, []) ≡ Some (n, []) = sym (digits_again radix count m [] below_m) ∙ ap (λ (t : List ℕ). digits_at radix count (t ++ [])) e ∙ digits_again radix count n [] below_n in
     some_first m [] (n, []) both
+
+width_some : (count : ℕ) → decimals_width (suc count) ≡ suc count + 1
+width_some count = grind (arith, nat_tests)
+
+pub length-decimals_text : (count value : ℕ) → length (decimals_text count value) ≡ decimals_width count
+unfolding decimals_text
+length-decimals_text zero value = refl
+length-decimals_text (suc count) value = omega (arith, length-digits_text Ten (suc count) value, width_some count)

@@ -1,7 +1,7 @@
 -- Numbers of all the digits that stand at the front, with and without leading zeros, and decimals.
-use Rattle.std.proofs.Common.{◌≡◌, ℕ, zero, suc, ◌+◌, ◌-◌, ◌*◌, ◌/◌, ◌%◌, ◌^◌, ◌<◌, ◌≤◌, Bool, true, false, cond, eqb, ltb, leb, ◌&&◌, ◌||◌, List, [], ◌∷◌, ◌++◌, length, get_or, decimal, Option, Some, None, refl, sym, ap, subst, ◌∙◌, inl, inr, rules, arith}
+use Rattle.std.proofs.Common.{◌≡◌, ℕ, zero, suc, ◌+◌, ◌-◌, ◌*◌, ◌/◌, ◌%◌, ◌^◌, ◌<◌, ◌≤◌, Bool, true, false, cond, eqb, ltb, ◌&&◌, ◌||◌, List, [], ◌∷◌, ◌++◌, length, get_or, decimal, Option, Some, None, refl, sym, ap, subst, ◌∙◌, arith}
 use Rattle.std.proofs.Math.Nat.{pow-zero, pow-suc, div-lt_iff_lt-mul}
-use Rattle.std.proofs.lemmas.Bool.{eqb-true, eqb-false, ne_eqb, ltb-false, le-ltb, or_parts, or_from, cond-false, cases_lt}
+use Rattle.std.proofs.lemmas.Bool.{eqb-false, ne_eqb}
 use Rattle.std.proofs.lemmas.Bool.Decides.{nat_tests}
 use Rattle.std.proofs.lemmas.Fmt.{digits_decimal, digits_value-decimal, decimal-digits_value, decimal_nonempty, first_decimal, length-decimal-le, decimal_digit}
 use Rattle.std.proofs.lemmas.List.{get_or_append_left}
@@ -10,14 +10,12 @@ use Rattle.std.proofs.lemmas.Option.{same_Some}
 use Rattle.std.proofs.lemmas.Str.Parse.{IsNumeralModel, numerals_by_fold, tells_digits}
 use Rattle.std.specs.Char.{is_ascii_digit}
 use Rattle.std.specs.Int.{IsInRange}
-use Rattle.std.specs.List.{prefix_len}
 use Rattle.std.specs.Str.Parse.{AllDigits}
-use Rattle.ascii_text.specs.declared.digits.Radix.{Radix}
 use Rattle.ascii_text.specs.declared.digits.Radix.TheVariants.{Ten}
-use Rattle.ascii_text.specs.Digits.{base, digit_byte, digits_text, decimals_text}
-use Rattle.ascii_text.specs.Reading.{◌>>=◌, digit_value, digit_at, more_digits, digits_at, behind, digit_run, run_at, decimals_at, number_at}
+use Rattle.ascii_text.specs.Digits.{digits_text, decimals_text}
+use Rattle.ascii_text.specs.Reading.{◌>>=◌, digit_at, more_digits, digits_at, behind, digit_run, run_at, decimals_at, number_at}
 use Rattle.ascii_text.proofs.Steps.{power_positive, power_within}
-use Rattle.ascii_text.proofs.DigitTexts.{bind_some, some_first, some_second, digit_at-cons, digits_again, digits_takes, length-digits_text}
+use Rattle.ascii_text.proofs.DigitTexts.{bind_some, some_first, digit_at-cons, digits_again, digits_takes, length-digits_text}
 
 pos_of : (n : ℕ) → (n ≡ 0 → ⊥) → 0 < n
 pos_of n other = grind arith
@@ -84,7 +82,7 @@ digits_at-run digits rest all = more_digits-run digits rest 0 all
 run_value-digits_text : (count n : ℕ) → n < 10 ^ count → run_value 0 (digits_text Ten count n) ≡ n
 run_value-digits_text count n below =
     let read : digits_at Ten count (digits_text Ten count n ++ []) ≡ Some (run_value 0 (digits_text Ten count n), []) =
-      ap (λ (k : ℕ). digits_at Ten k (digits_text Ten count n ++ [])) (sym (length-digits_text Ten count n)) ∙ digits_at-run (digits_text Ten count n) [] (all_digits-digits_text count n below) in
+    ap (λ (k : ℕ). digits_at Ten k (digits_text Ten count n ++ [])) (sym (length-digits_text Ten count n)) ∙ digits_at-run (digits_text Ten count n) [] (all_digits-digits_text count n below) in
     some_first (run_value 0 (digits_text Ten count n)) [] (n, []) (sym read ∙ digits_again Ten count n [] below)
 
 pub digit_run-digits_text : (count n : ℕ) (rest : List ℕ) → n < 10 ^ count → digit_run (digits_text Ten count n ++ rest) ≡ count + digit_run rest
@@ -122,7 +120,7 @@ run_takes text x e =
       some = pos_of (digit_run text) (eqb-false (digit_run text) 0 g.0);
       below = taken.1;
       text_is = taken.0;
-      ends = omega (arith, digit_run-digits_text (digit_run text) d.0.0 d.0.1 taken.1, ap digit_run taken.0)
+      ends = omega (arith, digit_run-digits_text (digit_run text) d.0.0 d.0.1 taken.1, ap digit_run taken.0);
     } in
     subst (λ (y : (ℕ × ℕ) × List ℕ). TakesRun text y) (same_Some made x d.2) one
 
@@ -202,7 +200,7 @@ number_again most n rest some le below ends =
     let value : run_value 0 (decimal n) ≡ n = digits_value-decimal numerals n fits in
     let run : digit_run (decimal n ++ rest) ≡ length (decimal n) = omega (arith, digit_run-all (decimal n) rest all, ends) in
     let kept : is_refused most (length (decimal n)) (get_or (decimal n ++ rest) 0 0) ≡ false =
-      not_refused most (length (decimal n)) (get_or (decimal n ++ rest) 0 0) (decimal_nonempty n fits) (length-decimal-le most n some below fits) (no_leading_zero n rest fits) in
+    not_refused most (length (decimal n)) (get_or (decimal n ++ rest) 0 0) (decimal_nonempty n fits) (length-decimal-le most n some below fits) (no_leading_zero n rest fits) in
     rw (run, kept, digits_at-run (decimal n) rest all, value) refl
 
 -- A number that is read is written so, and no digit follows.
@@ -223,10 +221,10 @@ number_takes most text x le e =
     let value : run_value 0 (digits_text Ten (digit_run text) x.0) ≡ x.0 = run_value-digits_text (digit_run text) x.0 taken.1 in
     let first : get_or text 0 0 ≡ get_or (digits_text Ten (digit_run text) x.0) 0 0 = ap (λ (t : List ℕ). get_or t 0 0) taken.0 ∙ get_or_append_left (digits_text Ten (digit_run text) x.0) x.1 0 0 (omega (arith, wide, kept.some)) in
     let spelled : decimal (run_value 0 (digits_text Ten (digit_run text) x.0)) ≡ digits_text Ten (digit_run text) x.0 =
-      decimal-digits_value numerals (digits_text Ten (digit_run text) x.0) all (omega (arith, wide, kept.some)) (λ z. wide ∙ kept.other (first ∙ z)) (omega (arith, value, eighteen most x.0 le below)) in
+    decimal-digits_value numerals (digits_text Ten (digit_run text) x.0) all (omega (arith, wide, kept.some)) (λ z. wide ∙ kept.other (first ∙ z)) (omega (arith, value, eighteen most x.0 le below)) in
     let is : decimal x.0 ≡ digits_text Ten (digit_run text) x.0 = ap decimal (sym value) ∙ spelled in
     record {
       below = below;
       text_is = taken.0 ∙ ap (λ (t : List ℕ). t ++ x.1) (sym is);
-      ends = omega (arith, digit_run-digits_text (digit_run text) x.0 x.1 taken.1, ap digit_run taken.0)
+      ends = omega (arith, digit_run-digits_text (digit_run text) x.0 x.1 taken.1, ap digit_run taken.0);
     }

@@ -1,5 +1,5 @@
 -- Blanks, the bytes 32.
-use Rattle.std.specs.Prelude.{ℕ, Bool, if◌then◌else◌, ◌==◌, List, [], ◌∷◌, replicate, reverse}
+use Rattle.std.specs.Prelude.{◌≡◌, ◌≢◌, ◌-◌, ◌++◌, length, slice_index, ℕ, Bool, if◌then◌else◌, ◌==◌, List, [], ◌∷◌, replicate, reverse}
 use Rattle.std.specs.List.{list_all}
 
 -- this many blanks
@@ -22,3 +22,11 @@ trimmed_end text = reverse (trimmed_front (reverse text))
 -- the text without the blanks at both ends
 unfoldable pub trimmed : List ℕ → List ℕ
 trimmed text = trimmed_end (trimmed_front text)
+
+-- the middle is what stands between the blanks at both ends of the text: it neither begins nor ends with a blank
+pub record IsTrimmed (text middle : List ℕ) : Type 0 where
+  pub before : ℕ
+  pub after : ℕ
+  pub parts : text ≡ blanks before ++ (middle ++ blanks after)
+  pub first : slice_index middle 0 ≢ 32
+  pub last : slice_index middle (length middle - 1) ≢ 32

@@ -1,7 +1,7 @@
 //! Blanks, the bytes 32. No other byte counts as white space.
 
 ghost use Rattle.std.specs.Prelude.{◌≡◌, ◌≤◌, [], ◌∷◌, ◌++◌, length, IfSome, IfNone};
-ghost use Rattle.ascii_text.specs.Blanks.{are_blanks, trimmed, trimmed_front, trimmed_end};
+ghost use Rattle.ascii_text.specs.Blanks.{are_blanks, trimmed, trimmed_front, trimmed_end, IsTrimmed};
 
 use crate::reading::behind;
 
@@ -50,6 +50,7 @@ fn trimmed_end(text: &[u8]) -> &[u8]
 #[tactic(auto, unfolding(crate::specs::Blanks::trimmed))]
 pub fn trimmed(text: &[u8]) -> &[u8]
     ensures exact { result.now ≡ trimmed text.now }
+    ensures between { IsTrimmed text.now result.now }
     ensures within { length result.now ≤ length text.now }
 {
     trimmed_end(trimmed_front(text))

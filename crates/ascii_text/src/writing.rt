@@ -2,7 +2,7 @@
 
 ghost use Rattle.std.specs.Prelude.{◌≡◌, ◌+◌, ◌^◌, ◌<◌, ◌≤◌, ◌++◌, length, decimal};
 ghost use Rattle.arrayvec.specs.ArrayVec.{array_vec_len};
-ghost use Rattle.ascii_text.specs.Digits.{base, digits_text, decimals_text};
+ghost use Rattle.ascii_text.specs.Digits.{base, digits_text, decimals_text, decimals_width};
 ghost use Rattle.ascii_text.specs.Blanks.{blanks};
 
 use crate::digits::{Radix, base_of, byte_of};
@@ -53,10 +53,11 @@ pub fn put_decimal<const N: usize>(out: &mut ArrayVec<u8, N>, n: u64)
 /// Writes decimals: nothing where there are none, else a point and their digits.
 #[tactic(auto, unfolding(crate::specs::Digits::decimals_text))]
 pub fn put_decimals<const N: usize>(out: &mut ArrayVec<u8, N>, decimals: Decimals)
-    requires room { array_vec_len out.old + decimals.count < N }
+    requires room { array_vec_len out.old + decimals_width decimals.count ≤ N }
     requires within { decimals.count ≤ 18 }
     requires below { decimals.value < 10 ^ decimals.count }
     ensures text { out.new.items ≡ out.old.items ++ decimals_text decimals.count decimals.value }
+    ensures len { array_vec_len out.new ≡ array_vec_len out.old + decimals_width decimals.count }
 {
     if decimals.count > 0 {
         out.push(b'.');
