@@ -1,5 +1,5 @@
 -- Digits of a radix, and the texts of numbers with a fixed number of digits.
-use Rattle.std.specs.Prelude.{ℕ, zero, suc, ◌+◌, ◌/◌, ◌%◌, ◌^◌, nat_lt, if◌then◌else◌, List, [], ◌∷◌}
+use Rattle.std.specs.Prelude.{ℕ, zero, suc, ◌+◌, ◌/◌, ◌%◌, ◌^◌, nat_lt, ◌==◌, if◌then◌else◌, List, [], ◌∷◌}
 use Rattle.ascii_text.specs.declared.digits.Radix.{Radix}
 use Rattle.ascii_text.specs.declared.digits.Radix.TheVariants.{Ten, SixtyTwo}
 
@@ -27,3 +27,7 @@ digits_text radix (suc count) n =
 unfoldable pub decimals_text : ℕ → ℕ → List ℕ
 decimals_text zero value = []
 decimals_text (suc count) value = 46 ∷ digits_text Ten (suc count) value
+
+-- how many bytes decimals take
+abbrev pub decimals_width : ℕ → ℕ
+decimals_width count = if count == 0 then 0 else count + 1

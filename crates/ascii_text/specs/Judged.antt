@@ -1,5 +1,5 @@
 -- How a reader of texts answers. A text spells parts, or it spells nothing. A judge says of parts what the answer is.
-use Rattle.std.specs.Prelude.{◌≡◌, ◌⊎◌, Option, Some, None, Result, Ok, Err}
+use Rattle.std.specs.Prelude.{◌≡◌, ◌⊎◌, Option, Some, None, Result, Err}
 
 -- the judge's word on what was read, or `wrong` where nothing was
 unfoldable pub answer_of : {P V F : Type 0} → (P → Result V F) → F → Option P → Result V F

@@ -4,5 +4,8 @@
 
 pub mod blanks;
 pub mod digits;
+pub mod laws;
 pub mod reading;
+#[cfg(test)]
+mod tests;
 pub mod writing;

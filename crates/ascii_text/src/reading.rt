@@ -4,7 +4,7 @@ ghost use Rattle.std.specs.Prelude.{◌≡◌, ◌+◌, ◌^◌, ◌<◌, ◌≤
 ghost use Rattle.ascii_text.specs.Digits.{base};
 ghost use Rattle.ascii_text.specs.Reading.{digit_at, digits_at, behind, digit_run, run_at, decimals_at, number_at};
 
-use crate::digits::{base_of, digit_of, Radix};
+use crate::digits::{Radix, base_of, digit_of};
 
 /// One digit, and the text behind it.
 #[tactic(auto, unfolding(crate::specs::Reading::digit_at))]
@@ -59,4 +59,59 @@ pub fn digit_run(text: &[u8]) -> usize
     ensures within { result ≤ length text.now }
 {
     text.iter().take_while(|byte| byte.is_ascii_digit()).count()
+}
+
+/// The decimals of a number: how many there are, and their value.
+#[derive(Clone, Copy, Debug, PartialEq, Eq)]
+pub struct Decimals {
+    pub count: usize,
+    pub value: u64,
+}
+
+/// All the decimal digits at the front, and the text behind them; `None` where none stands there.
+#[tactic(auto, unfolding(crate::specs::Reading::run_at))]
+fn run_front(text: &[u8]) -> Option<(Decimals, &[u8])>
+    requires { length text.now ≤ 18 }
+    ensures exact { option_map (λ x. ((x.0.count, x.0.value), x.1.now)) result ≡ run_at text.now }
+    ensures some { IfSome result (λ x. 1 ≤ x.0.count) }
+    ensures below { IfSome result (λ x. x.0.value < 10 ^ x.0.count) }
+    ensures rest { IfSome result (λ x. length x.1.now + x.0.count ≡ length text.now) }
+{
+    let count = digit_run(text);
+    if count == 0 {
+        return None;
+    }
+    let (value, rest) = digits_at(Radix::Ten, count, text)?;
+    Some((Decimals { count, value }, rest))
+}
+
+/// The decimals at the front, behind a point, and the text behind them; no decimals where no point stands there, and
+/// `None` where a point stands with no digit behind it. The text has at most 18 bytes.
+#[tactic(auto, unfolding(crate::specs::Reading::decimals_at))]
+pub fn decimals_at(text: &[u8]) -> Option<(Decimals, &[u8])>
+    requires { length text.now ≤ 18 }
+    ensures exact { option_map (λ x. ((x.0.count, x.0.value), x.1.now)) result ≡ decimals_at text.now }
+    ensures below { IfSome result (λ x. x.0.value < 10 ^ x.0.count) }
+    ensures rest { IfSome result (λ x. length x.1.now + x.0.count ≤ length text.now) }
+{
+    if text.first() != Some(&b'.') {
+        return Some((Decimals { count: 0, value: 0 }, text));
+    }
+    run_front(behind(b'.', text)?)
+}
+
+/// The number at the front, without leading zeros, and the text behind it: all the decimal digits that stand there.
+/// `None` where none stands there, where they are more than `most`, or where a zero leads others.
+#[tactic(auto, unfolding(crate::specs::Reading::number_at))]
+pub fn number_at(most: usize, text: &[u8]) -> Option<(u64, &[u8])>
+    requires { most ≤ 18 }
+    ensures exact { option_map (λ x. (x.0, x.1.now)) result ≡ number_at most text.now }
+    ensures below { IfSome result (λ x. x.0 < 10 ^ most) }
+    ensures rest { IfSome result (λ x. length x.1.now < length text.now) }
+{
+    let count = digit_run(text);
+    if count == 0 || count > most || (count > 1 && text[0] == b'0') {
+        return None;
+    }
+    digits_at(Radix::Ten, count, text)
 }

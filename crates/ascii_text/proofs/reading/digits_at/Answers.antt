@@ -1,7 +1,7 @@
-use Rattle.std.proofs.Common.{◌<◌, ◌≤◌, ◌+◌, ◌*◌, ◌^◌, ◌-◌, ◌≡◌, Some, None, option_map, arith, refl, rules, sym, ◌∙◌}
+use Rattle.std.proofs.Common.{◌<◌, ◌≤◌, ◌+◌, ◌*◌, ◌^◌, arith, refl, sym, ◌∙◌}
 use Rattle.std.proofs.Math.Nat.{pow-zero, sub-zero}
 use Rattle.ascii_text.specs.Digits.{base}
-use Rattle.ascii_text.specs.Reading.{digits_at, more_digits}
+use Rattle.ascii_text.specs.Reading.{digits_at}
 use Rattle.ascii_text.proofs.Steps.{more_digits_goes_on, more_digits_stops, more_digits_ends, digits_below, power_within}
 use Rattle.ascii_text.proofs.reading.digits_at.Goals as goal
 
@@ -30,7 +30,7 @@ loop-preserved c =
     rw c.base_of.ensures (record {
       exact = sym (more_digits_goes_on c.args.radix c.loop.value c.args.count c.loop.counter c.in_ok-digit.digit c.loop.rest.now c.in_ok-digit.after.now c.loop-test.true c.in_ok-digit.ensures.exact) ∙ c.loop.invariant.exact;
       below = digits_below c.args.radix c.loop.value c.loop.counter c.in_ok-digit.digit c.loop.invariant.below c.in_ok-digit.ensures.below;
-      left = omega (arith, c.in_ok-digit.ensures.rest)
+      left = omega (arith, c.in_ok-digit.ensures.rest);
     })
 
 pub returns-clause-exact : goal.returns-clause-exact

@@ -7,5 +7,5 @@ abbrev pub invariant-loop : goal.invariant-loop
 invariant-loop l = record {
   exact : more_digits l.radix l.value (l.count - l.counter) l.rest ≡ digits_at l.radix l.count l.text;
   below : l.value < base l.radix ^ l.counter;
-  left : length l.rest + l.counter ≡ length l.text
+  left : length l.rest + l.counter ≡ length l.text;
 }

@@ -1,0 +1,131 @@
+-- Numbers with a fixed number of digits: what is written is read, and what is read is written.
+use Rattle.std.proofs.Common.{◌≡◌, ℕ, zero, suc, ◌+◌, ◌*◌, ◌/◌, ◌%◌, ◌^◌, ◌<◌, List, [], ◌∷◌, ◌++◌, length, Option, Some, None, refl, sym, ap, ◌∙◌, arith}
+use Rattle.std.proofs.Math.Nat.{pow-zero, pow-suc, mul_comm, div-lt_iff_lt-mul}
+use Rattle.std.proofs.lemmas.Bool.Decides.{nat_tests}
+use Rattle.std.proofs.lemmas.Option.{same_Some}
+use Rattle.std.proofs.lemmas.Nat.{mul-add-lt, div-mul-add, mod-mul-add, mod_below, div-add-mod'}
+use Rattle.ascii_text.specs.declared.digits.Radix.{Radix}
+use Rattle.ascii_text.specs.declared.digits.Radix.TheVariants.{Ten, SixtyTwo}
+use Rattle.ascii_text.specs.Digits.{base, digit_byte, digits_text, decimals_text, decimals_width}
+use Rattle.ascii_text.specs.Reading.{◌>>=◌, digit_value, sixty_two_value, digit_at, more_digits, digits_at}
+use Rattle.ascii_text.proofs.Steps.{power_positive}
+
+-- a step that gave something
+pub bind_some : {A B : Type 0} (o : Option A) (f : A → Option B) (y : B) → (o >>= f) ≡ Some y → (x : A) × (o ≡ Some x) × (f x ≡ Some y)
+bind_some (Some x) f y e = (x, refl, e)
+bind_some None f y e = absurd cc
+
+pub some_first : {A B : Type 0} (a : A) (b : B) (x : A × B) → Some (a, b) ≡ Some x → a ≡ x.0
+some_first {A = A} {B = B} a b x e = ap (λ (p : A × B). p.0) (same_Some (a, b) x e)
+
+pub some_second : {A B : Type 0} (a : A) (b : B) (x : A × B) → Some (a, b) ≡ Some x → b ≡ x.1
+some_second {A = A} {B = B} a b x e = ap (λ (p : A × B). p.1) (same_Some (a, b) x e)
+
+place_sum : (value base unit d n whole : ℕ) → whole ≡ unit * base → (value * base + d) * unit + n ≡ value * whole + (d * unit + n)
+place_sum value base unit d n whole is = rw is (omega arith)
+
+place_value : (value base unit n whole : ℕ) → whole ≡ unit * base → (value * base + n / unit) * unit + n % unit ≡ value * whole + n
+place_value value base unit n whole is = place_sum value base unit (n / unit) (n % unit) whole is ∙ ap (λ (k : ℕ). value * whole + k) (div-add-mod' n unit)
+
+-- ---- one digit
+
+pub digit_value-digit_byte : (radix : Radix) (d : ℕ) → d < base radix → digit_value radix (digit_byte radix d) ≡ Some d
+unfolding digit_value sixty_two_value
+digit_value-digit_byte Ten d below = grind (arith, nat_tests)
+digit_value-digit_byte SixtyTwo d below = grind (arith, nat_tests)
+
+pub digit_byte_of : (radix : Radix) (byte d : ℕ) → digit_value radix byte ≡ Some d → (byte ≡ digit_byte radix d) × (d < base radix)
+unfolding digit_value sixty_two_value
+digit_byte_of Ten byte d e = grind (arith, nat_tests)
+digit_byte_of SixtyTwo byte d e = grind (arith, nat_tests)
+
+pub digit_at-cons : (radix : Radix) (d : ℕ) (text : List ℕ) → d < base radix → digit_at radix (digit_byte radix d ∷ text) ≡ Some (d, text)
+unfolding digit_at
+digit_at-cons radix d text below = rw digit_value-digit_byte refl
+
+pub digit_at_takes : (radix : Radix) (text : List ℕ) (x : ℕ × List ℕ) → digit_at radix text ≡ Some x → (text ≡ digit_byte radix x.0 ∷ x.1) × (x.0 < base radix)
+unfolding digit_at
+digit_at_takes radix [] x e = absurd cc
+digit_at_takes radix (byte ∷ text) x e =
+    let d = bind_some (digit_value radix byte) (λ digit. Some (digit, text)) x e in
+    let same : d.0 ≡ x.0 = some_first d.0 text x d.2 in
+    let rest : text ≡ x.1 = some_second d.0 text x d.2 in
+    let is = digit_byte_of radix byte d.0 d.1 in
+    (ap (λ (b : ℕ). b ∷ text) is.0 ∙ ap (λ (k : ℕ). digit_byte radix k ∷ text) same ∙ ap (λ (t : List ℕ). digit_byte radix x.0 ∷ t) rest, omega (arith, same, is.1))
+
+-- ---- a number of digits
+
+pub more_digits-digits_text : (radix : Radix) (count value n : ℕ) (rest : List ℕ) → n < base radix ^ count
+    → more_digits radix value count (digits_text radix count n ++ rest) ≡ Some (value * base radix ^ count + n, rest)
+unfolding more_digits digits_text
+more_digits-digits_text radix zero value n rest below =
+    let none : n ≡ 0 = omega (arith, below, pow-zero (base radix)) in
+    let same : value ≡ value * base radix ^ zero + n = rw (pow-zero, none) (omega arith) in
+    ap (λ (v : ℕ). Some (v, rest)) same
+more_digits-digits_text radix (suc count) value n rest below =
+    let unit : zero < base radix ^ count = power_positive radix count in
+    let first : n / base radix ^ count < base radix = (div-lt_iff_lt-mul unit).1 (omega (arith, below, pow-suc (base radix) count, mul_comm (base radix) (base radix ^ count))) in
+    let others : n % base radix ^ count < base radix ^ count = mod_below n (base radix ^ count) unit in
+    let same : (value * base radix + n / base radix ^ count) * base radix ^ count + n % base radix ^ count ≡ value * base radix ^ suc count + n = place_value value (base radix) (base radix ^ count) n (base radix ^ suc count) (pow-suc (base radix) count) in
+    rw (digit_at-cons radix (n / base radix ^ count) (digits_text radix count (n % base radix ^ count) ++ rest) first)
+    (more_digits-digits_text radix count (value * base radix + n / base radix ^ count) (n % base radix ^ count) rest others ∙ ap (λ (v : ℕ). Some (v, rest)) same)
+
+-- what digits behind others spell
+record Spelled (radix : Radix) (value count : ℕ) (text : List ℕ) (x : ℕ × List ℕ) (n : ℕ) : Type 0 where
+  pub below : n < base radix ^ count
+  pub whole : x.0 ≡ value * base radix ^ count + n
+  pub text_is : text ≡ digits_text radix count n ++ x.1
+
+more_digits_take : (radix : Radix) (count value : ℕ) (text : List ℕ) (x : ℕ × List ℕ) → more_digits radix value count text ≡ Some x
+    → (n : ℕ) × Spelled radix value count text x n
+unfolding more_digits digits_text
+more_digits_take radix zero value text x e =
+    (0, record { below = rw pow-zero (omega arith); whole = rw pow-zero (omega (arith, some_first value text x e)); text_is = some_second value text x e })
+more_digits_take radix (suc count) value text x e =
+    let first = bind_some (digit_at radix text) (λ first. more_digits radix (value * base radix + first.0) count first.1) x e in
+    let taken = digit_at_takes radix text first.0 first.1 in
+    let others = more_digits_take radix count (value * base radix + first.0.0) first.0.1 x first.2 in
+    let unit : base radix ^ suc count ≡ base radix ^ count * base radix = pow-suc (base radix) count in
+    let d : (first.0.0 * base radix ^ count + others.0) / base radix ^ count ≡ first.0.0 = div-mul-add first.0.0 (base radix ^ count) others.0 others.1.below in
+    let m : (first.0.0 * base radix ^ count + others.0) % base radix ^ count ≡ others.0 = mod-mul-add first.0.0 (base radix ^ count) others.0 others.1.below in (
+      first.0.0 * base radix ^ count + others.0,
+      record {
+        below = omega (arith, unit, mul-add-lt first.0.0 (base radix ^ count) others.0 (base radix) taken.1 others.1.below);
+        whole = others.1.whole ∙ place_sum value (base radix) (base radix ^ count) first.0.0 others.0 (base radix ^ suc count) unit;
+        text_is = rw (d, m) (taken.0 ∙ ap (λ (t : List ℕ). digit_byte radix first.0.0 ∷ t) others.1.text_is);
+      },
+    )
+
+-- What is written with this many digits is read, whatever follows.
+pub digits_again : (radix : Radix) (count n : ℕ) (rest : List ℕ) → n < base radix ^ count → digits_at radix count (digits_text radix count n ++ rest) ≡ Some (n, rest)
+unfolding digits_at
+digits_again radix count n rest below =
+    more_digits-digits_text radix count 0 n rest below ∙ ap (λ (v : ℕ). Some (v, rest)) (omega arith)
+
+-- What is read is written so.
+pub digits_takes : (radix : Radix) (count : ℕ) (text : List ℕ) (n : ℕ) (rest : List ℕ) → digits_at radix count text ≡ Some (n, rest)
+    → (text ≡ digits_text radix count n ++ rest) × (n < base radix ^ count)
+unfolding digits_at
+digits_takes radix count text n rest e =
+    let spelled = more_digits_take radix count 0 text (n, rest) e in
+    let same : spelled.0 ≡ n = omega (arith, spelled.1.whole) in
+    (spelled.1.text_is ∙ ap (λ (k : ℕ). digits_text radix count k ++ rest) same, omega (arith, spelled.1.below, same))
+
+pub length-digits_text : (radix : Radix) (count n : ℕ) → length (digits_text radix count n) ≡ count
+unfolding digits_text
+length-digits_text radix zero n = refl
+length-digits_text radix (suc count) n = ap suc (length-digits_text radix count (n % base radix ^ count))
+
+-- One text is one number.
+pub digits_text_injective : (radix : Radix) (count m n : ℕ) → m < base radix ^ count → n < base radix ^ count → digits_text radix count m ≡ digits_text radix count n → m ≡ n
+digits_text_injective radix count m n below_m below_n e =
+    let both : Some (m, []) ≡ Some (n, []) = sym (digits_again radix count m [] below_m) ∙ ap (λ (t : List ℕ). digits_at radix count (t ++ [])) e ∙ digits_again radix count n [] below_n in
+    some_first m [] (n, []) both
+
+width_some : (count : ℕ) → decimals_width (suc count) ≡ suc count + 1
+width_some count = grind (arith, nat_tests)
+
+pub length-decimals_text : (count value : ℕ) → length (decimals_text count value) ≡ decimals_width count
+unfolding decimals_text
+length-decimals_text zero value = refl
+length-decimals_text (suc count) value = omega (arith, length-digits_text Ten (suc count) value, width_some count)

@@ -1,0 +1,13 @@
+use Rattle.std.proofs.Common.{◌≤◌, ◌^◌, arith}
+use Rattle.std.proofs.lemmas.Option.{IfSome_then}
+use Rattle.ascii_text.specs.declared.digits.Radix.TheVariants.{Ten}
+use Rattle.ascii_text.proofs.Steps.{ten_power, power_within}
+use Rattle.ascii_text.proofs.reading.number_at.Goals as goal
+
+pub digits_at-requires : goal.digits_at-requires
+digits_at-requires c = ten_power c.digit_run-count.result (omega arith)
+
+pub returns-clause-below : goal.returns-clause-below
+returns-clause-below c =
+    let within : 10 ^ c.digit_run-count.result ≤ 10 ^ c.args.most = power_within Ten c.digit_run-count.result c.args.most (omega arith) in
+    IfSome_then c.digits_at.result c.digits_at.ensures.below (λ x below. omega (arith, below))

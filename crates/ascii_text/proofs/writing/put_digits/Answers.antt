@@ -1,0 +1,24 @@
+use Rattle.std.proofs.Common.{◌-◌, ◌∙◌, ◌^◌, sym, arith}
+use Rattle.std.proofs.lemmas.List.{length_push}
+use Rattle.std.proofs.lemmas.Nat.{mod_below}
+use Rattle.ascii_text.specs.Digits.{base}
+use Rattle.ascii_text.proofs.Steps.{power_within, power_positive, few_digits, digits_text_more, digits_text_none}
+use Rattle.ascii_text.proofs.writing.put_digits.Goals as goal
+
+pub overflow_cast-place : goal.overflow_cast-place
+overflow_cast-place g c = omega (arith, few_digits c.args.radix c.args.count c.requires.within)
+
+pub pow-unit-requires : goal.pow-unit-requires
+pow-unit-requires g c = rw c.base_of.ensures (omega (arith, power_within c.args.radix (c.loop-place.place - 1) c.args.count (omega arith)))
+
+pub loop-place-preserved : goal.loop-place-preserved
+loop-place-preserved g c =
+    rw (c.push.ensures.items, c.byte_of.ensures, c.pow-unit.ensures, c.base_of.ensures) (record {
+      text = digits_text_more c.args.radix c.loop-place.place c.loop-place.left c.loop-place.out.items c.loop-place-test.true ∙ c.loop-place.invariant.text;
+      below = mod_below c.loop-place.left (base c.args.radix ^ (c.loop-place.place - 1)) (power_positive c.args.radix (c.loop-place.place - 1));
+      len = simp length_push (omega arith);
+    })
+
+pub returns-clause-text : goal.returns-clause-text
+returns-clause-text g c =
+    sym (digits_text_none c.args.radix c.loop-place.place c.loop-place.left c.loop-place.out.items c.loop-place-test.false) ∙ c.loop-place.invariant.text

@@ -1,0 +1,52 @@
+use crate::blanks::{are_blanks, trimmed};
+use crate::digits::Radix;
+use crate::reading::{Decimals, decimals_at, digits_at, number_at};
+use crate::writing::{put_blanks, put_decimal, put_decimals, put_digits};
+use arrayvec::ArrayVec;
+use std::test::*;
+
+// The numbers of the Minor Planet Center's page on packed designations: `z` is 61, `zzzz` is 62^4 - 1.
+#[test]
+fn reads(rt: HostRuntime) {
+    for (radix, count, text, value) in [
+        (Radix::Ten, 3, b"007.".as_slice(), Some(7)),
+        (Radix::Ten, 2, b"1a".as_slice(), None),
+        (Radix::SixtyTwo, 1, b"z".as_slice(), Some(61)),
+        (Radix::SixtyTwo, 4, b"zzzz".as_slice(), Some(14_776_335)),
+        (Radix::SixtyTwo, 4, b"zzz".as_slice(), None),
+    ] {
+        assert_eq!(rt; digits_at(radix, count, text).map(|x| x.0), value);
+    }
+    for (text, count, value, rest) in [
+        (b".567".as_slice(), 3, 567, 0),
+        (b"   ".as_slice(), 0, 0, 3),
+        (b".05 ".as_slice(), 2, 5, 1),
+    ] {
+        let found = decimals_at(text).map(|x| (x.0.count, x.0.value, x.1.len()));
+        assert_eq!(rt; found, Some((count, value, rest)));
+    }
+    assert!(rt; decimals_at(b". ").is_none());
+    for (text, value) in [
+        (b"0|".as_slice(), Some(0)),
+        (b"703 ".as_slice(), Some(703)),
+        (b"07".as_slice(), None),
+        (b"1000".as_slice(), None),
+        (b"".as_slice(), None),
+    ] {
+        assert_eq!(rt; number_at(3, text).map(|x| x.0), value);
+    }
+}
+
+#[test]
+fn trims_and_writes(rt: HostRuntime) {
+    assert_eq!(rt; trimmed(b"  a b "), b"a b".as_slice());
+    assert_eq!(rt; trimmed(b"   "), b"".as_slice());
+    assert!(rt; are_blanks(b"  ") && !are_blanks(b" \t"));
+    let mut out = ArrayVec::<u8, 24>::new();
+    put_digits(&mut out, Radix::Ten, 3, 7);
+    put_decimals(&mut out, Decimals { count: 2, value: 5 });
+    put_blanks(&mut out, 1);
+    put_decimal(&mut out, 703);
+    put_digits(&mut out, Radix::SixtyTwo, 4, 14_776_335);
+    assert_eq!(rt; out.as_slice(), b"007.05 703zzzz".as_slice());
+}
