@@ -1,1 +1,3 @@
 pub mod Outside
+pub mod Calls
+pub mod Memory

@@ -1,6 +1,8 @@
 //! The outside of the desk: where bytes come from, where they go, and what time it is.
 #![tactic(auto)]
 
+mod memory;
 mod outside;
 
+pub use memory::{MemSink, MemSource, NoMemory};
 pub use outside::{Clock, Failed, Sink, Source, write_all};
