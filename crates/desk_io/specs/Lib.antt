@@ -1,3 +1,4 @@
 pub mod Outside
 pub mod Calls
 pub mod Memory
+pub mod Ticks
