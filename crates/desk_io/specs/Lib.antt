@@ -2,3 +2,4 @@ pub mod Outside
 pub mod Calls
 pub mod Memory
 pub mod Ticks
+pub mod Streams

@@ -4,7 +4,9 @@
 mod clocks;
 mod memory;
 mod outside;
+mod streams;
 
 pub use clocks::{SystemClock, TickClock};
 pub use memory::{MemSink, MemSource, NoMemory};
 pub use outside::{Clock, Failed, Sink, Source, write_all};
+pub use streams::{StreamSink, StreamSource};
