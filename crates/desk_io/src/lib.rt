@@ -10,3 +10,6 @@ pub use clocks::{SystemClock, TickClock};
 pub use memory::{MemSink, MemSource, NoMemory};
 pub use outside::{Clock, Failed, Sink, Source, write_all};
 pub use streams::{StreamSink, StreamSource};
+
+#[cfg(test)]
+mod tests;
