@@ -1,5 +1,5 @@
 -- A source and a sink in memory.
-use Rattle.std.specs.Prelude.{◌≡◌, ℕ, ◌-◌, ◌<◌, ◌⊎◌, min, List, [], ◌++◌, length, drop}
+use Rattle.std.specs.Prelude.{◌≡◌, ℕ, ◌-◌, ◌<◌, ◌⊎◌, min, List, ◌++◌, length, drop}
 use Rattle.desk_io.specs.Calls.{Calls, FailsNext, passed}
 
 -- the bytes that a source still gives, the most that one read gives, and its calls

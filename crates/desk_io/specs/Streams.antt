@@ -1,6 +1,5 @@
 -- A source and a sink over streams, of whose content nothing is told.
-use Rattle.std.specs.Prelude.{ℕ, Bool, false, ◌-◌, ◌==◌, if◌then◌else◌}
-use Rattle.desk_io.specs.Outside.{one_more}
+use Rattle.std.specs.Prelude.{ℕ, Bool, ◌-◌, ◌==◌, if◌then◌else◌}
 
 -- whether a source still has its stream, how often it failed, and how many reads can still give bytes
 pub record StreamSourceState : Type 0 where
