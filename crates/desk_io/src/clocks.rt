@@ -85,9 +85,18 @@ pub struct SystemClock<R: rt::Clock + Copy> {
     last: Instant,
 }
 
+// Of a system's clock a clause sees the last reading.
+impl<R: rt::Clock + Copy> Model for SystemClock<R> {
+    ghost Value = { ℤ };
+
+    ghost view = { λ clock. clock.last };
+}
+
 impl<R: rt::Clock + Copy> SystemClock<R> {
     /// A clock over the system's.
-    pub fn new(system: R) -> SystemClock<R> {
+    pub fn new(system: R) -> SystemClock<R>
+        ensures first { result ≡ pos 0 }
+    {
         SystemClock {
             system,
             last: moment_after_1970(Duration::ZERO),
@@ -107,14 +116,19 @@ impl<R: rt::Clock + Copy> Clock for SystemClock<R> {
     ghost reading = { λ _ _. None };
 
     /// Where the system's clock can't be read this is the last reading again, and at first the start of 1970.
-    fn now(&mut self) -> Instant {
+    fn now(&mut self) -> Instant
+        ensures last { self.new ≡ result }
+    {
         if let Ok(time) = self.system.since_1970() {
             self.last = moment_after_1970(time);
         }
         self.last
     }
 
-    fn another(&mut self) -> Self {
+    fn another(&mut self) -> Self
+        ensures twin { result ≡ self.old }
+        ensures unchanged { self.new ≡ self.old }
+    {
         SystemClock {
             system: self.system,
             last: self.last,
