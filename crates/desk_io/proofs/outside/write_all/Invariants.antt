@@ -1,4 +1,4 @@
-use Rattle.std.proofs.Common.{ℕ, ◌≤◌, length}
+use Rattle.std.proofs.Common.{◌≤◌, length}
 use Rattle.desk_io.proofs.Written.{IsWritten}
 use Rattle.desk_io.proofs.outside.write_all.Given as goal
 

@@ -1,0 +1,13 @@
+-- A clock that goes by steps.
+use Rattle.std.specs.Prelude.{ℕ, ℤ, pos, ◌*◌, ◌+ℤ◌}
+use Rattle.std.specs.Int.{int_min}
+use Rattle.obs_time.specs.Instants.{last_instant}
+
+-- the next reading, and by how many nanoseconds each later one is later
+pub record TickState : Type 0 where
+  pub next : ℤ
+  pub step : ℕ
+
+-- the k-th reading to come, counted from 0: so many steps after the next one, but no later than the last moment of 2199
+abbrev pub tick : TickState → ℕ → ℤ
+tick clock k = int_min (clock.next +ℤ pos (k * clock.step)) last_instant

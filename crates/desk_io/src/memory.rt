@@ -1,0 +1,227 @@
+//! A source and a sink in memory. They fail at the calls that they are told to, and else do what they can.
+
+ghost use Rattle.std.specs.Prelude.{◌≡◌, ℕ, ◌<◌, ◌≤◌, ◌↔◌, ◌⊎◌, ◌++◌, [], List, length, take, drop, min, IsTrue, IsErr, IfOk, OnErr, Some};
+ghost use Rattle.std.specs.Io.KnownBytes.{ReadConsumes, WriteAppends, Keeps};
+ghost use Rattle.desk_io.specs.Outside.{Rises};
+ghost use Rattle.desk_io.specs.Calls.{no_calls, FailsNext, passed, failed};
+ghost use Rattle.desk_io.specs.Memory.{given_length, after_giving, room, WriteFails, after_taking};
+
+use crate::{Failed, Sink, Source};
+use std::alloc::{AllocError, Global};
+use std::marker::Model;
+
+/// Memory was refused.
+pub type NoMemory = AllocError;
+
+// The calls so far, and those that are to fail.
+#[derive(Drop)]
+struct CallLog {
+    fails: Vec<u64>,
+    made: u64,
+    faults: u64,
+}
+
+impl Model for CallLog {
+    ghost use Rattle.desk_io.specs.Calls.{Calls};
+
+    ghost Value = { Calls };
+
+    ghost view = { λ log. record { fails = log.fails.items; made = log.made; faults = log.faults } };
+}
+
+impl CallLog {
+    fn new(alloc: Global, fails: &[u64]) -> Result<CallLog, NoMemory>
+        ensures { IfOk result (λ log. log ≡ no_calls fails.now) }
+    {
+        Ok(CallLog {
+            fails: Vec::from_slice(alloc, fails)?,
+            made: 0,
+            faults: 0,
+        })
+    }
+
+    fn fails_next(&self) -> bool
+        ensures { IsTrue result ↔ FailsNext self.now }
+    {
+        self.fails.contains(&self.made.saturating_add(1))
+    }
+
+    fn pass(&mut self)
+        ensures { self.new ≡ passed self.old }
+    {
+        self.made = self.made.saturating_add(1);
+    }
+
+    fn fail(&mut self)
+        ensures after { self.new ≡ failed self.old }
+        ensures counts { self.old.faults ≤ self.new.faults }
+    {
+        self.made = self.made.saturating_add(1);
+        self.faults = self.faults.saturating_add(1);
+    }
+}
+
+/// A source that gives bytes from memory.
+#[derive(Drop)]
+pub struct MemSource {
+    bytes: Vec<u8>,
+    at: usize,
+    greatest: usize,
+    log: CallLog,
+}
+
+impl Model for MemSource {
+    ghost use Rattle.std.specs.Prelude.{◌<◌, ◌≤◌, length, drop};
+    ghost use Rattle.desk_io.specs.Memory.{SourceState};
+
+    ghost Value = { SourceState };
+
+    ghost view = { λ s. record { left = drop s.at s.bytes.items; greatest = s.greatest; calls = s.log } };
+
+    ghost invariant = { λ s. (s.at ≤ length s.bytes.items) × (0 < s.greatest) };
+}
+
+impl MemSource {
+    /// A source of these bytes, of which one read gives at most `greatest`. Its calls are counted
+    /// from 1, and those that `fails` lists fail.
+    pub fn new(
+        alloc: Global,
+        bytes: &[u8],
+        greatest: usize,
+        fails: &[u64],
+    ) -> Result<MemSource, NoMemory>
+        requires { 0 < greatest }
+        ensures { IfOk result (λ source.
+            source ≡ record { left = bytes.now; greatest = greatest; calls = no_calls fails.now }) }
+    {
+        Ok(MemSource {
+            bytes: Vec::from_slice(alloc, bytes)?,
+            at: 0,
+            greatest,
+            log: CallLog::new(alloc, fails)?,
+        })
+    }
+}
+
+impl Source for MemSource {
+    ghost left = { λ source. Some source.left };
+
+    ghost faults = { λ source. source.calls.faults };
+
+    ghost reads = { λ source. length source.left };
+
+    fn read(&mut self, piece: &mut [u8]) -> Result<usize, Failed>
+        ensures fails { IsErr result ↔ FailsNext self.old.calls }
+        ensures amount { IfOk result (λ n. n ≡ given_length self.old (length piece.old)) }
+        ensures given { IfOk result (λ n. self.new ≡ after_giving self.old n) }
+        ensures piece { IfOk result (λ n. piece.new ≡ take n self.old.left ++ drop n piece.old) }
+        ensures failed { OnErr result (self.new ≡ record self.old { calls = failed self.old.calls }) }
+        ensures untouched { OnErr result (piece.new ≡ piece.old) }
+
+        ensures bytes { ReadConsumes (Some self.old.left) (Some self.new.left) result piece.new }
+        ensures within { IfOk result (λ n. n ≤ length piece.old) }
+        ensures counts { self.old.calls.faults ≤ self.new.calls.faults }
+        ensures cause { OnErr result (Rises self.old.calls.faults self.new.calls.faults) }
+        ensures reads { length self.new.left ≤ length self.old.left }
+        ensures nearer { IfOk result (λ n. 0 < n → length self.new.left < length self.old.left) }
+    {
+        if self.log.fails_next() {
+            self.log.fail();
+            return Err(Failed);
+        }
+        let (_, left) = self.bytes.split_at(self.at);
+        let count = self.greatest.min(piece.len()).min(left.len());
+        let (given, _) = left.split_at(count);
+        piece[..count].copy_from_slice(given);
+        self.at += count;
+        self.log.pass();
+        Ok(count)
+    }
+
+    fn end(&mut self)
+        ensures same { self.new ≡ self.old }
+
+        ensures bytes { Keeps (Some self.old.left) (Some self.new.left) }
+        ensures counts { self.new.calls.faults ≡ self.old.calls.faults }
+        ensures reads { length self.new.left ≤ length self.old.left }
+    {}
+}
+
+/// A sink that takes bytes into memory, which it has from the start.
+#[derive(Drop)]
+pub struct MemSink {
+    bytes: Vec<u8>,
+    capacity: usize,
+    log: CallLog,
+}
+
+impl Model for MemSink {
+    ghost use Rattle.std.specs.Prelude.{◌≤◌, length, vec_capacity};
+    ghost use Rattle.desk_io.specs.Memory.{SinkState};
+
+    ghost Value = { SinkState };
+
+    ghost view = { λ s. record { taken = s.bytes.items; capacity = s.capacity; calls = s.log } };
+
+    ghost invariant = { λ s. (length s.bytes.items ≤ s.capacity) × (s.capacity ≤ vec_capacity s.bytes) };
+}
+
+impl MemSink {
+    /// A sink that takes at most so many bytes. Its calls are counted from 1, and those that `fails`
+    /// lists fail.
+    pub fn new(alloc: Global, capacity: usize, fails: &[u64]) -> Result<MemSink, NoMemory>
+        ensures { IfOk result (λ sink.
+            sink ≡ record { taken = []; capacity = capacity; calls = no_calls fails.now }) }
+    {
+        Ok(MemSink {
+            bytes: Vec::with_capacity(alloc, capacity)?,
+            capacity,
+            log: CallLog::new(alloc, fails)?,
+        })
+    }
+
+    /// The bytes that it took.
+    pub fn bytes(&self) -> &[u8]
+        ensures { result.now ≡ self.now.taken }
+    {
+        &self.bytes
+    }
+}
+
+impl Sink for MemSink {
+    ghost taken = { λ sink. Some sink.taken };
+
+    ghost faults = { λ sink. sink.calls.faults };
+
+    fn write(&mut self, piece: &[u8]) -> Result<usize, Failed>
+        ensures fails { IsErr result ↔ WriteFails self.old (length piece.now) }
+        ensures amount { IfOk result (λ n. n ≡ min (length piece.now) (room self.old)) }
+        ensures taken { IfOk result (λ n. self.new ≡ after_taking self.old (take n piece.now)) }
+        ensures failed { OnErr result (self.new ≡ record self.old { calls = failed self.old.calls }) }
+
+        ensures bytes { WriteAppends (Some self.old.taken) (Some self.new.taken) result piece.now }
+        ensures within { IfOk result (λ n. n ≤ length piece.now) }
+        ensures some { IfOk result (λ n. 0 < length piece.now → 0 < n) }
+        ensures counts { self.old.calls.faults ≤ self.new.calls.faults }
+        ensures cause { OnErr result (Rises self.old.calls.faults self.new.calls.faults) }
+    {
+        let room = self.capacity - self.bytes.len();
+        let count = piece.len().min(room);
+        let is_full = count == 0 && !piece.is_empty();
+        if is_full || self.log.fails_next() {
+            self.log.fail();
+            return Err(Failed);
+        }
+        let (front, _) = piece.split_at(count);
+        self.bytes.extend_from_slice(front).unwrap();
+        self.log.pass();
+        Ok(count)
+    }
+
+    fn end(&mut self)
+        ensures same { self.new ≡ self.old }
+
+        ensures bytes { Keeps (Some self.old.taken) (Some self.new.taken) }
+        ensures counts { self.new.calls.faults ≡ self.old.calls.faults }
+    {}
+}

@@ -1,0 +1,150 @@
+use crate::{
+    Clock, Failed, MemSink, MemSource, Sink, Source, StreamSink, StreamSource, SystemClock,
+    TickClock, write_all,
+};
+use obs_time::Instant;
+use std::io;
+use std::io::{ErrorKind, Read};
+use std::process::Abort;
+use std::test::Fail;
+
+// Reads into a piece of each length, and gets these bytes, or a failure.
+fn expect_reads<S: Source>(rt: &impl Abort, source: &mut S, reads: &[(usize, Option<&str>)]) {
+    for (room, want) in reads {
+        let mut piece = [0u8; 16];
+        assert!(rt; *room <= piece.len());
+        let got = source.read(&mut piece[..*room]).ok();
+        assert_eq!(rt; got, want.map(|text| text.len()), "into {room}");
+        if let Some(count) = got {
+            assert!(rt; count <= piece.len());
+            assert_eq!(rt; &piece[..count], want.unwrap_or("").as_bytes());
+        }
+    }
+}
+
+// Writes each piece, of which so many bytes are taken, or none because of a failure.
+fn expect_writes<K: Sink>(rt: &impl Abort, sink: &mut K, writes: &[(&str, Option<usize>)]) {
+    for (piece, want) in writes {
+        let got = sink.write(piece.as_bytes()).ok();
+        assert_eq!(rt; got, *want, "{piece}");
+    }
+}
+
+// Reads the clock once for each of these moments.
+fn expect_readings<C: Clock>(rt: &impl Abort, clock: &mut C, moments: &[i64]) {
+    for ns in moments {
+        assert_eq!(rt; clock.now().ns(), *ns);
+    }
+}
+
+#[test]
+fn memory(rt: HostRuntime) -> Result<(), Fail> {
+    let mut source = MemSource::new(rt.alloc(), b"abcdefg", 3, &[2])?;
+    let reads = [
+        (2, Some("ab")),
+        (9, None),
+        (0, Some("")),
+        (9, Some("cde")),
+        (9, Some("fg")),
+        (9, Some("")),
+    ];
+    expect_reads(&rt, &mut source, &reads);
+
+    let mut sink = MemSink::new(rt.alloc(), 5, &[2])?;
+    let writes = [
+        ("abc", Some(3)),
+        ("d", None),
+        ("", Some(0)),
+        ("defg", Some(2)),
+        ("fg", None),
+        ("", Some(0)),
+    ];
+    expect_writes(&rt, &mut sink, &writes);
+    assert_eq!(rt; sink.bytes(), b"abcde".as_slice());
+
+    let mut narrow = MemSink::new(rt.alloc(), 5, &[])?;
+    assert_eq!(rt; write_all(&mut narrow, b"abc"), Ok(()));
+    assert_eq!(rt; write_all(&mut narrow, b"defg"), Err(Failed));
+    assert_eq!(rt; narrow.bytes(), b"abcde".as_slice());
+
+    let first = Instant::new(7_258_118_399_999_999_990).ok_or("out of range")?;
+    let mut clock = TickClock::new(first, 4);
+    let mut twin = clock.another();
+    let moments = [
+        7_258_118_399_999_999_990,
+        7_258_118_399_999_999_994,
+        7_258_118_399_999_999_998,
+        7_258_118_399_999_999_999,
+        7_258_118_399_999_999_999,
+    ];
+    expect_readings(&rt, &mut clock, &moments);
+    expect_readings(&rt, &mut twin, &moments);
+    Ok(())
+}
+
+// A reader whose second read fails.
+#[derive(Drop)]
+struct Broken {
+    calls: u8,
+}
+
+impl Read for Broken {
+    fn read(&mut self, piece: &mut [u8]) -> io::Result<usize> {
+        self.calls = self.calls.saturating_add(1);
+        if self.calls == 2 {
+            return Err(io::Error::from(ErrorKind::TimedOut));
+        }
+        match piece.first_mut() {
+            Some(byte) => {
+                *byte = b'x';
+                Ok(1)
+            }
+            None => Ok(0),
+        }
+    }
+}
+
+#[test]
+fn source_over_a_reader(rt: HostRuntime) {
+    let mut source = StreamSource::new(b"abcde".as_slice());
+    let reads = [
+        (3, Some("abc")),
+        (9, Some("de")),
+        (9, Some("")),
+        (9, Some("")),
+    ];
+    expect_reads(&rt, &mut source, &reads);
+
+    let mut broken = StreamSource::new(Broken { calls: 0 });
+    let reads = [(9, Some("x")), (9, None), (9, Some("x"))];
+    expect_reads(&rt, &mut broken, &reads);
+    broken.end();
+    expect_reads(&rt, &mut broken, &[(9, Some(""))]);
+}
+
+#[test]
+fn sink_over_a_writer(rt: HostRuntime) -> Result<(), Fail> {
+    let mut bytes = Vec::new(rt.alloc());
+    let mut sink = StreamSink::new(&mut bytes);
+    assert_eq!(rt; write_all(&mut sink, b"abcde"), Ok(()));
+    sink.end();
+    assert_eq!(rt; write_all(&mut sink, b"f"), Err(Failed));
+    assert_eq!(rt; bytes.as_slice(), b"abcde".as_slice());
+
+    // A slice that is full takes nothing more.
+    let mut room = [0u8; 3];
+    let mut full = StreamSink::new(room.as_mut_slice());
+    let writes = [("abcd", Some(3)), ("d", None), ("", Some(0))];
+    expect_writes(&rt, &mut full, &writes);
+    Ok(())
+}
+
+#[test]
+fn clock_over_the_system(rt: HostRuntime) {
+    let mut clock = SystemClock::new(rt);
+    let mut twin = clock.another();
+    let first = clock.now().ns();
+    let second = twin.now().ns();
+    assert!(rt; first > 1_577_836_800_000_000_000, "after the year 2019");
+    assert!(rt; second > 1_577_836_800_000_000_000, "after the year 2019");
+}
