@@ -16,7 +16,7 @@ use Rattle.desk_frames.proofs.Tokens.{apart, none_yet, one_cut}
 own : IsNumeralModel (AllByRecursion IsDigit) (number_from 0)
 own = numerals_by_fold (AllByRecursion IsDigit) (search rules) number_from (search rules)
 
-digit_apart : (stop : ℕ) → stop < 33 → (byte : ℕ) → IsDigit byte → byte ≢ stop
+pub digit_apart : (stop : ℕ) → stop < 33 → (byte : ℕ) → IsDigit byte → byte ≢ stop
 digit_apart stop low = apart classes.Digit stop low
 
 pub fits_64 : (digits n : ℕ) → digits ≤ 18 → n < 10 ^ digits → n < 2 ^ 64

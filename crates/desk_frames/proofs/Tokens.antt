@@ -99,12 +99,12 @@ never_at class most stop low bytes i lt before last unended more =
         (elim last [ inl full ↦ inl (long ∙ full) | inr not_of ↦ inr not_of ]) (λ e. long ∙ unended e) more)
 
 -- a byte of each class
-abbrev sample : Class → ℕ
+abbrev pub sample : Class → ℕ
 sample classes.Printable = 48
 sample classes.Digit = 48
 sample classes.Verb = 48
 
-sample_is : (class : Class) → IsOf class (sample class)
+pub sample_is : (class : Class) → IsOf class (sample class)
 sample_is classes.Printable = (lit≤ tt, lit≤ tt)
 sample_is classes.Digit = (lit≤ tt, lit≤ tt)
 sample_is classes.Verb = inl (lit≤ tt, lit≤ tt)
