@@ -1,7 +1,7 @@
 -- The four fields of a head, one behind the other.
 use Rattle.std.proofs.Common.{◌≡◌, ℕ, ◌+◌, ◌<◌, ◌≤◌, ◌^◌, List, [], ◌∷◌, ◌++◌, length, drop, refl, sym, ap, subst, ◌∙◌, append_assoc, arith, lit<, lit≤, decimal}
 use Rattle.std.proofs.Math.Nat.{one-le-pow}
-use Rattle.std.proofs.lemmas.List.{length-append, drop_at}
+use Rattle.std.proofs.lemmas.List.{append-nil, length-append, drop_at}
 use Rattle.std.proofs.lemmas.Fmt.{decimal_injective}
 use Rattle.desk_frames.specs.declared.parts.Class.{Class}
 use Rattle.desk_frames.specs.declared.parts.Class.TheVariants as classes
@@ -95,7 +95,8 @@ named_good p good = record { key = good.0; number = good.1.0; verb = good.1.1.0;
 unnamed_good : (h : HeadParts) → IsHead h → AreFields (unnamed h)
 unnamed_good h good = (good.key, (good.number, (good.verb, good.length)))
 
-head_before : (h : HeadParts) (rest more : List ℕ) → headed h rest ++ more ≡ headed h (rest ++ more)
+-- what follows a head follows its bytes
+pub head_before : (h : HeadParts) (rest more : List ℕ) → headed h rest ++ more ≡ headed h (rest ++ more)
 head_before h rest more = fields_part.before (unnamed h) rest more
 
 -- a text has one head at its front
@@ -152,11 +153,17 @@ length_head : (h : HeadParts) (rest : List ℕ) → length (headed h rest) ≡ l
 length_head h rest = ap length (head_end h rest) ∙ length-append (headed h []) rest
 
 -- a head has at least its line feed, and at most the bytes that its fields may have
-head_some : (h : HeadParts) → 0 < length (headed h [])
-head_some h = ?
+length_fields : (a b c d : List ℕ) → length (a ++ 32 ∷ (b ++ 32 ∷ (c ++ 32 ∷ (d ++ 10 ∷ [])))) ≡ length a + length b + length c + length d + 4
+length_fields a b c d = simp length-append (omega arith)
+
+pub head_some : (h : HeadParts) → 0 < length (headed h [])
+head_some h = omega (arith, length_fields h.key (decimal h.number) h.verb (decimal h.length))
 
 pub head_few : (h : HeadParts) → IsHead h → length (headed h []) ≤ HEAD_BYTES
-head_few h good = ?
+head_few h good =
+    let number = decimal_token NUMBER_DIGITS h.number (lit< tt) (lit≤ tt) good.number in
+    let size = decimal_token LENGTH_DIGITS h.length (lit< tt) (lit≤ tt) good.length in
+    omega (arith, length_fields h.key (decimal h.number) h.verb (decimal h.length), number.few, size.few, good.key.few, good.verb.few)
 
 pub head_size : (bytes : List ℕ) (h : HeadParts) (rest : List ℕ) (size : ℕ) → bytes ≡ headed h rest → size + length rest ≡ length bytes → size ≡ length (headed h [])
 head_size bytes h rest size is adds = omega (arith, length_head h rest, ap length is)
@@ -172,6 +179,10 @@ head_at_front bytes h rest size good is adds = record {
   within = omega arith;
 }
 
+shorter : (bytes more : List ℕ) (h : HeadParts) → IsHead h → (bytes ≡ headed h [] → ⊥) → bytes ++ more ≡ headed h [] → length bytes < HEAD_BYTES
+shorter bytes [] h good lacks is = absurd (lacks (sym (append-nil bytes) ∙ is))
+shorter bytes (m ∷ more) h good lacks is = omega (arith, head_few h good, ap length is, length-append bytes (m ∷ more))
+
 -- what is the front of a head, and has no head yet, is shorter than a head
 pub front_short : (bytes : List ℕ) → NoHead bytes → BeginsHead bytes → length bytes < HEAD_BYTES
-front_short bytes lacks begins = ?
+front_short bytes lacks begins = shorter bytes begins.0 begins.1 begins.2 (lacks begins.1 [] begins.2) begins.3

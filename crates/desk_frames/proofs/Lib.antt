@@ -2,3 +2,4 @@ pub mod Tokens
 pub mod Numbers
 pub mod Sequences
 pub mod Heads
+pub mod Streams
