@@ -5,7 +5,7 @@ use Rattle.std.proofs.lemmas.List.{append-nil, length-append, length-replicate, 
 use Rattle.desk_frames.specs.Frames.{Frame, IsFrame, framed, streamed, NoFrame, NeverFrame, IsSession, reached, HeadParts, IsHead, headed, head_of, frame_of, NoHead, BeginsHead}
 use Rattle.desk_frames.proofs.Heads.{one_head, head_before, head_some}
 
-head_good : (f : Frame) → IsFrame f → IsHead (head_of f)
+pub head_good : (f : Frame) → IsFrame f → IsHead (head_of f)
 head_good f good = record { key = good.key; number = good.number; verb = good.verb; length = good.body }
 
 -- a head and a body of its length are a frame
@@ -105,3 +105,6 @@ begins_not_never bytes begins never = not_never (bytes ++ begins.0) begins.1 [] 
 
 pub no_head_never : (bytes : List ℕ) → ((more : List ℕ) → NoHead (bytes ++ more)) → NeverFrame bytes
 no_head_never bytes none more = no_head_no_frame (bytes ++ more) (none more)
+
+pub never_head : (bytes : List ℕ) → NeverFrame bytes → (more : List ℕ) → NoHead (bytes ++ more)
+never_head bytes never more h rest good is = not_never (bytes ++ more) h rest good is (never_goes_on bytes more never)

@@ -5,9 +5,12 @@
 #![tactic(auto)]
 
 mod head;
+pub mod laws;
 mod parts;
+mod replies;
 
 pub use head::{Front, Head, read_head};
+pub use replies::put_reply;
 
 /// The most bytes that the key of a head has.
 pub const KEY_BYTES: usize = 33;
