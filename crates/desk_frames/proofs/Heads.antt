@@ -1,5 +1,5 @@
 -- The four fields of a head, one behind the other.
-use Rattle.std.proofs.Common.{◌≡◌, ℕ, ◌+◌, ◌<◌, ◌≤◌, ◌^◌, List, [], ◌∷◌, ◌++◌, length, drop, refl, sym, ap, subst, ◌∙◌, append_assoc, arith, lit<, lit≤, decimal}
+use Rattle.std.proofs.Common.{◌≡◌, ℕ, ◌+◌, ◌<◌, ◌≤◌, ◌^◌, List, [], ◌∷◌, ◌++◌, length, drop, sym, ap, ◌∙◌, append_assoc, arith, lit<, lit≤, decimal}
 use Rattle.std.proofs.Math.Nat.{one-le-pow}
 use Rattle.std.proofs.lemmas.List.{append-nil, length-append, drop_at}
 use Rattle.std.proofs.lemmas.Fmt.{decimal_injective}
@@ -26,12 +26,12 @@ token_part class most stop low some = record {
 abbrev pub Below : ℕ → ℕ → Type 0
 Below digits n = n < 10 ^ digits
 
-one_number : (digits stop : ℕ) → 0 < digits → digits ≤ 18 → stop < 33 → (m n : ℕ) (x y : List ℕ) → Below digits m → Below digits n → numbered stop m x ≡ numbered stop n y → (m ≡ n) × (x ≡ y)
+one_number : (digits stop : ℕ) → 0 < digits → digits ≤ 19 → stop < 33 → (m n : ℕ) (x y : List ℕ) → Below digits m → Below digits n → numbered stop m x ≡ numbered stop n y → (m ≡ n) × (x ≡ y)
 one_number digits stop some few low m n x y here there e =
     let cut = one_cut IsDigit stop (digit_apart stop low) (decimal m) (decimal n) x y (decimal_token digits m some few here).each (decimal_token digits n some few there).each e in
     (decimal_injective m n (fits_64 digits m few here) (fits_64 digits n few there) cut.0, cut.1)
 
-number_part : (digits stop : ℕ) → 0 < digits → digits ≤ 18 → stop < 33 → IsPart (Below digits) (numbered stop)
+number_part : (digits stop : ℕ) → 0 < digits → digits ≤ 19 → stop < 33 → IsPart (Below digits) (numbered stop)
 number_part digits stop some few low = record {
   before = λ n rest more. append_assoc (decimal n) (stop ∷ rest) more;
   one = one_number digits stop some few low;

@@ -27,7 +27,7 @@ module _ {V W : Type 0} (good : V → Type 0) (first : V → List ℕ → List �
       let v = fails.1.1 in
       let after = second behind.sample [] in
       let whole : bytes ++ (more ++ after) ≡ first v after =
-          sym (append_assoc bytes more after) ∙ ap (λ (t : List ℕ). t ++ after) fails.1.3 ∙ part.before v [] after in
+      sym (append_assoc bytes more after) ∙ ap (λ (t : List ℕ). t ++ after) fails.1.3 ∙ part.before v [] after in
       (λ p rest goods e. fails.0 p.0 (second p.1 rest) goods.0 e, (more ++ after, (v, behind.sample), (fails.1.2, behind.sample_good), whole))
 
   -- where the second isn't read behind the first, both aren't, for the same reason
@@ -38,9 +38,10 @@ module _ {V W : Type 0} (good : V → Type 0) (first : V → List ℕ → List �
       never more p.1 tail goods.1 (part.one v p.0 (rest ++ more) (second p.1 tail) here goods.0 front).1
   second_fails part bytes v rest unread.Part here is fails =
       let more = fails.1.0 in
-      let w = fails.1.1 in
-      (λ p tail goods e. fails.0 p.1 tail goods.1 (part.one v p.0 rest (second p.1 tail) here goods.0 (sym is ∙ e)).1,
-       (more, (v, w), (here, fails.1.2), ap (λ (t : List ℕ). t ++ more) is ∙ part.before v rest more ∙ ap (first v) fails.1.3))
+      let w = fails.1.1 in (
+        λ p tail goods e. fails.0 p.1 tail goods.1 (part.one v p.0 rest (second p.1 tail) here goods.0 (sym is ∙ e)).1,
+        (more, (v, w), (here, fails.1.2), ap (λ (t : List ℕ). t ++ more) is ∙ part.before v rest more ∙ ap (first v) fails.1.3),
+      )
 
   both_before : IsPart good first → IsPart fine second → (p : V × W) (rest more : List ℕ) → spelled_both first second p rest ++ more ≡ spelled_both first second p (rest ++ more)
   both_before a b p rest more = a.before p.0 (second p.1 rest) more ∙ ap (first p.0) (b.before p.1 rest more)

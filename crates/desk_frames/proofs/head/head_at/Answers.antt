@@ -36,4 +36,4 @@ returns-in_err-length-clause-reads c =
     } in
     rw (p.1, p.2)
     (length_fails c.args.bytes.now c.in_ok-key.key.now c.in_ok-number.number c.in_ok-number.rest.now c.in_ok-verb.verb.now c.in_ok-verb.rest.now c.in_err-length.field-0.0 caller
-        c.in_ok-verb.ensures.0 c.in_ok-verb.ensures.1 c.in_err-length.ensures)
+    c.in_ok-verb.ensures.0 c.in_ok-verb.ensures.1 c.in_err-length.ensures)

@@ -23,8 +23,11 @@ returns-in-Ok-clause-bad c =
 
 pub returns-in-Ok-clause-size : goal.returns-in-Ok-clause-size
 returns-in-Ok-clause-size c =
-    omega (arith, head_few (parts_of c.in-Ok.head) c.in-Ok.ensures.reads.0,
-        head_size c.args.bytes.now (parts_of c.in-Ok.head) c.in-Ok.field-0-1.now c.in-Ok.head.size c.in-Ok.ensures.reads.1 c.in-Ok.ensures.size)
+    omega (
+      arith,
+      head_few (parts_of c.in-Ok.head) c.in-Ok.ensures.reads.0,
+      head_size c.args.bytes.now (parts_of c.in-Ok.head) c.in-Ok.field-0-1.now c.in-Ok.head.size c.in-Ok.ensures.reads.1 c.in-Ok.ensures.size,
+    )
 
 pub returns-in-Err-Part-clause-bad : goal.returns-in-Err-Part-clause-bad
 returns-in-Err-Part-clause-bad c =
