@@ -1,5 +1,5 @@
 -- A text of bytes of one class, up to the byte that ends it.
-use Rattle.std.proofs.Common.{IsTrue, false, ◌≡◌, ◌≢◌, ℕ, suc, ◌+◌, ◌<◌, ◌≤◌, ◌⊎◌, inl, inr, List, [], ◌∷◌, ◌++◌, length, get_or, take, drop, refl, sym, ap, subst, ◌∙◌, append_assoc, arith, lit≤}
+use Rattle.std.proofs.Common.{IsTrue, false, ◌≡◌, ◌≢◌, ℕ, ◌+◌, ◌<◌, ◌≤◌, ◌⊎◌, inl, inr, List, [], ◌∷◌, ◌++◌, length, get_or, take, drop, refl, sym, ap, subst, ◌∙◌, append_assoc, arith, lit≤}
 use Rattle.std.specs.List.{AllByRecursion}
 use Rattle.std.proofs.lemmas.List.{take-append-drop, drop_more, length-append, length-take-le}
 use Rattle.desk_frames.specs.Frames.{IsToken}
@@ -8,7 +8,7 @@ use Rattle.desk_frames.specs.declared.parts.Class.TheVariants as classes
 use Rattle.std.specs.Prelude.{Result, Ok, Err}
 use Rattle.desk_frames.specs.declared.parts.Unread.{Unread}
 use Rattle.desk_frames.specs.declared.parts.Unread.TheVariants as unread
-use Rattle.desk_frames.specs.Reading.{Lacks, Begins, Fails, Reads, ReadsToken, stopped, IsOf, IsBegun}
+use Rattle.desk_frames.specs.Reading.{Lacks, Begins, Reads, ReadsToken, stopped, IsOf, IsBegun}
 
 pub each_push : (P : ℕ → Type 0) (xs : List ℕ) (y : ℕ) → AllByRecursion P xs → P y → AllByRecursion P (xs ++ y ∷ [])
 each_push P [] y all here = (here, tt)
@@ -63,9 +63,9 @@ module _ (P : ℕ → Type 0) (stop : ℕ) (apart : (byte : ℕ) → P byte → 
       elim (compare text front byte rest (tail ++ more) good.each all regrouped) [
         | inl ends ↦ omega (arith, good.some, ap length ends.0, unended (sym ends.1))
         | inr longer ↦ elim last [
-            | inl full ↦ omega (arith, good.few, ap length longer.1, length-append front (byte ∷ longer.0))
-            | inr not_of ↦ not_of (each_next P front byte longer.0 (subst (λ (t : List ℕ). AllByRecursion P t) longer.1 good.each))
-          ]
+          | inl full ↦ omega (arith, good.few, ap length longer.1, length-append front (byte ∷ longer.0))
+          | inr not_of ↦ not_of (each_next P front byte longer.0 (subst (λ (t : List ℕ). AllByRecursion P t) longer.1 good.each))
+        ]
       ]
 
   -- where all bytes are of the class, none of them ends the field
@@ -96,15 +96,15 @@ never_at class most stop low bytes i lt before last unended more =
     let long : length (take i bytes) ≡ i = length-take-le i bytes (omega arith) in
     subst (λ (b : List ℕ). Lacks (IsToken (IsOf class) most) (stopped stop) (b ++ more)) (sym (around bytes i lt))
     (never_token (IsOf class) stop (apart class stop low) most (take i bytes) (get_or bytes i 0) (drop (i + 1) bytes) before
-        (elim last [ inl full ↦ inl (long ∙ full) | inr not_of ↦ inr not_of ]) (λ e. long ∙ unended e) more)
+    (elim last [ inl full ↦ inl (long ∙ full) | inr not_of ↦ inr not_of ]) (λ e. long ∙ unended e) more)
 
 -- a byte of each class
-abbrev sample : Class → ℕ
+abbrev pub sample : Class → ℕ
 sample classes.Printable = 48
 sample classes.Digit = 48
 sample classes.Verb = 48
 
-sample_is : (class : Class) → IsOf class (sample class)
+pub sample_is : (class : Class) → IsOf class (sample class)
 sample_is classes.Printable = (lit≤ tt, lit≤ tt)
 sample_is classes.Digit = (lit≤ tt, lit≤ tt)
 sample_is classes.Verb = inl (lit≤ tt, lit≤ tt)

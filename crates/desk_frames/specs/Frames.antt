@@ -1,5 +1,5 @@
 -- Request frames: what a frame is, its bytes, and the frames of a stream.
-use Rattle.std.specs.Prelude.{◌≡◌, ℕ, ◌+◌, ◌-◌, ◌^◌, ◌<◌, ◌≤◌, ◌⊎◌, List, [], ◌∷◌, ◌++◌, length, drop, decimal}
+use Rattle.std.specs.Prelude.{◌≡◌, ℕ, ◌-◌, ◌^◌, ◌<◌, ◌≤◌, ◌⊎◌, List, [], ◌∷◌, ◌++◌, length, decimal}
 use Rattle.std.specs.List.{AllByRecursion}
 use Rattle.desk_frames.specs.declared.TheConstants.{KEY_BYTES, NUMBER_DIGITS, VERB_BYTES, LENGTH_DIGITS}
 

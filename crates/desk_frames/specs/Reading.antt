@@ -1,5 +1,5 @@
 -- What a reader of the bytes that have come so far says of the part of a head at their front.
-use Rattle.std.specs.Prelude.{◌≡◌, ◌≢◌, ℕ, ◌+◌, ◌-◌, ◌*◌, ◌<◌, ◌≤◌, List, [], ◌∷◌, ◌++◌, length, drop, Result, Ok, Err, decimal}
+use Rattle.std.specs.Prelude.{◌≡◌, ◌≢◌, ℕ, ◌+◌, ◌-◌, ◌*◌, ◌≤◌, List, [], ◌∷◌, ◌++◌, length, drop, Result, Ok, Err, decimal}
 use Rattle.std.specs.List.{AllByRecursion}
 use Rattle.desk_frames.specs.declared.parts.Unread.{Unread}
 use Rattle.desk_frames.specs.declared.parts.Unread.TheVariants as unread

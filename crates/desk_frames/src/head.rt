@@ -8,7 +8,7 @@ use crate::parts::{Unread, key_at, number_at, verb_at};
 use crate::{HEAD_BYTES, KEY_BYTES, LENGTH_DIGITS, NUMBER_DIGITS, VERB_BYTES};
 
 /// The head of a request frame.
-#[derive(Clone, Copy, Debug)]
+#[derive(Clone, Copy, Debug, PartialEq, Eq)]
 pub struct Head<'a> {
     /// The key by which the caller is known: 1 to `KEY_BYTES` printable characters without a blank.
     pub key: &'a [u8],
@@ -23,7 +23,7 @@ pub struct Head<'a> {
 }
 
 /// What the front of the bytes that have come so far is.
-#[derive(Clone, Copy, Debug)]
+#[derive(Clone, Copy, Debug, PartialEq, Eq)]
 pub enum Front<'a> {
     /// They begin with this head.
     Whole(Head<'a>),

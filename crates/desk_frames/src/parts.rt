@@ -71,7 +71,7 @@ pub fn verb_at(bytes: &[u8]) -> Result<(&[u8], &[u8]), Unread>
 
 /// The number that decimal digits write.
 fn value_of(digits: &[u8]) -> u64
-    requires few { length digits.now ≤ 18 }
+    requires few { length digits.now ≤ 19 }
     requires each { AllByRecursion IsDigit digits.now }
     ensures { result ≡ number_from 0 digits.now }
 {
@@ -96,7 +96,7 @@ fn has_zero_in_front(stop: u8, bytes: &[u8]) -> bool
 /// that ends it, and the bytes behind it.
 pub fn number_at(digits: usize, stop: u8, bytes: &[u8]) -> Result<(u64, &[u8]), Unread>
     requires some { 0 < digits }
-    requires few { digits ≤ 18 }
+    requires few { digits ≤ 19 }
     requires ends { stop < 33 }
     ensures { Reads (λ n. n < 10 ^ digits) (numbered stop) (λ x. (x.0, x.1.now)) bytes.now result }
 {

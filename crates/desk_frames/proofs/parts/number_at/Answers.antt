@@ -1,4 +1,4 @@
-use Rattle.std.proofs.Common.{◌≡◌, refl}
+use Rattle.std.proofs.Common.{refl}
 use Rattle.std.proofs.lemmas.Result.{err_from_is_err_and}
 use Rattle.desk_frames.proofs.Tokens.{not_true}
 use Rattle.desk_frames.proofs.Numbers.{never_zero, number_found, number_unread}
