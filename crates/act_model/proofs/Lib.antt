@@ -1,1 +1,2 @@
+pub mod Conducts
 pub mod Padded

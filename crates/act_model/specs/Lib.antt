@@ -7,3 +7,4 @@ pub mod Replies
 pub mod Refusals
 pub mod Step
 pub mod Turns
+pub mod Conducts

@@ -6,6 +6,7 @@
 #![tactic(auto)]
 
 mod entry;
+pub mod laws;
 mod reply;
 mod request;
 mod texts;

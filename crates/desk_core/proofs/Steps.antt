@@ -1,6 +1,6 @@
 -- The step, by its cases.
-use Rattle.std.proofs.Common.{◌≡◌, ℕ, ◌<◌, Bool, true, false, cond, List, ◌∷◌, Option, Some, None, refl, sym, ap, ◌∙◌, ℤ}
-use Rattle.std.specs.Prelude.{unwrap_or}
+use Rattle.std.proofs.Common.{◌≡◌, ℕ, ◌<◌, Bool, true, false, cond, List, [], ◌∷◌, Option, Some, None, refl, sym, ap, ◌∙◌, ℤ}
+use Rattle.std.specs.Prelude.{unwrap_or, not, is_none}
 use Rattle.act_model.specs.declared.request.Key.{Key}
 use Rattle.act_model.specs.declared.request.Request.{Request}
 use Rattle.act_model.specs.declared.entry.Entry.{Entry}
@@ -10,7 +10,8 @@ use Rattle.act_model.specs.declared.reply.Reply.{Reply}
 use Rattle.act_model.specs.declared.reply.Reply.TheVariants.{Done, Refused}
 use Rattle.act_model.specs.Keys.{same_key}
 use Rattle.act_model.specs.History.{Kept, caller_of, kept}
-use Rattle.act_model.specs.Refusals.{early_refusal}
+use Rattle.act_model.specs.declared.reply.Part.TheVariants as part
+use Rattle.act_model.specs.Refusals.{early_refusal, first_row, is_unknown, is_act_number}
 use Rattle.act_model.specs.Step.{step, act_step, after_early, after_kept, kept_reply, new_entry, accepted_act}
 use Rattle.desk_core.specs.declared.prepared.Prep.TheVariants as prep
 use Rattle.desk_core.specs.Office.{Act, IsReadyAt}
@@ -21,6 +22,11 @@ module _ (founder : Key) (past : List Entry) (q : Request) (reading : ℤ) where
   unfolding step
   step-refused refusal early =
       ap (λ (o : Option Refusal). after_early o past (act_step (unwrap_or (caller_of founder q.key) 0) past q reading)) early
+
+  -- a verb that is none of the office's is the first refusal
+  pub step-unknown : is_unknown q.verb ≡ true → step founder past q reading ≡ (Refused (Unread part.Verb), past)
+  step-unknown unknown =
+      step-refused (Unread part.Verb) (ap (λ (b : Bool). cond b (Some (Unread part.Verb)) (first_row ((not (is_act_number q.number), Unread part.Number) ∷ (is_none (caller_of founder q.key), UnknownKey) ∷ []))) unknown)
 
   founder_or_nobody : (b : Bool) → ◌≡◌ {A = ℕ} (unwrap_or (cond b (Some 0) None) 0) 0
   founder_or_nobody true = refl

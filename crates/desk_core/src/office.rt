@@ -1,13 +1,13 @@
-ghost use Rattle.std.specs.Prelude.{◌≡◌, ◌+◌, ◌<◌, ◌^◌, ◌∷◌, [], IfOk, length, false};
+ghost use Rattle.std.specs.Prelude.{◌≡◌, ◌+◌, ◌<◌, ◌^◌, ◌∷◌, [], IfOk, ℤ, length, true, false};
 ghost use Rattle.act_model.specs.Refusals.{is_unknown};
-ghost use Rattle.act_model.specs.Step.{body_bytes, new_entry};
+ghost use Rattle.act_model.specs.Step.{body_bytes, new_entry, step};
 ghost use Rattle.desk_core.specs.Office.{IsReadyAt};
 ghost use Rattle.desk_core.specs.Preparing.{Prepares};
 
 use crate::filed::{Filed, find, kept_reply, next_moment};
 use crate::prepared::{Prep, Prepared};
 use crate::refusals::early_refusal;
-use act_model::{Entry, Key, Refusal, Reply, Request, accepted_in, batch_answer, body_bytes};
+use act_model::{Entry, Key, Part, Refusal, Reply, Request, accepted_in, batch_answer, body_bytes};
 use col80_format::split_batch;
 use item_list::{Bytes, NoMemory};
 use obs_time::Instant;
@@ -104,6 +104,21 @@ impl Core {
         };
         self.filed.reserve(1)?;
         Ok(Prepared::new(entry, answer, kept, before + accepted_in(&lines)))
+    }
+
+    /// The answer to a request whose verb is no act. The history stays.
+    pub fn answer(&self, request: &Request) -> Reply
+        requires { is_unknown request.now.verb ≡ true }
+        ensures { (reading : ℤ) → step self.now.founder self.now.history request.now reading ≡ (result, self.now.history) }
+    {
+        Reply::Refused(Refusal::Unread(Part::Verb))
+    }
+
+    /// How many entries the history has.
+    pub fn entries(&self) -> u64
+        ensures { result ≡ length self.now.history }
+    {
+        self.filed.len() as u64
     }
 
     /// Adds the entry of an act that was worked out at this history, and gives its answer. It takes no memory.
