@@ -1,0 +1,4 @@
+pub mod Buffers
+pub mod Pieces
+pub mod Frames
+pub mod Written

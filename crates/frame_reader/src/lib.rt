@@ -1,0 +1,17 @@
+//! Request frames out of a source of bytes, and reply frames into a sink.
+//!
+//! A source gives its bytes in whatever pieces it likes. A `FrameReader` takes the frames that they
+//! make, one after the other, through one buffer.
+#![tactic(auto)]
+
+mod frame;
+mod head;
+mod reader;
+mod replies;
+
+pub use frame::{FrameBody, NextFrame, ReadFrame};
+pub use reader::FrameReader;
+pub use replies::write_reply_frame;
+
+/// How many bytes are read ahead at most: the size of a reader's buffer.
+pub const BUFFER_BYTES: usize = 65_536;

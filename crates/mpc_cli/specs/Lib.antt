@@ -1,0 +1,5 @@
+pub mod Words
+pub mod Serving
+pub mod Runs
+pub mod Numbers
+pub mod Steps

@@ -1,0 +1,99 @@
+-- One step of a run: the next frame of the source is read and answered, or it is told why there is none.
+use Rattle.std.specs.Prelude.{◌≡◌, ℕ, ◌+◌, ◌-◌, ◌≤◌, ◌<◌, ℤ, List, [], ◌++◌, length, Option, Some, Result, Ok, Err}
+use Rattle.std.specs.Io.KnownBytes.{Appends, Keeps, Consumes}
+use Rattle.desk_io.specs.Outside.{AppendsPart}
+use Rattle.desk_io.specs.declared.outside.Failed.{Failed}
+use Rattle.desk_frames.specs.Frames.{Frame, IsFrame, framed, NoFrame}
+use Rattle.frame_reader.specs.declared.frame.FrameBody.{FrameBody}
+use Rattle.frame_reader.specs.declared.frame.FrameBody.TheVariants as kept
+use Rattle.frame_reader.specs.declared.frame.ReadFrame.{ReadFrame}
+use Rattle.frame_reader.specs.Frames.{IsOver, NoFrameComes}
+use Rattle.act_model.specs.declared.request.Key.{Key}
+use Rattle.act_model.specs.declared.request.Body.{Body}
+use Rattle.act_model.specs.declared.request.Body.TheVariants.{Whole, NoRoom}
+use Rattle.act_model.specs.declared.request.Request.{Request}
+use Rattle.act_model.specs.declared.entry.Entry.{Entry}
+use Rattle.act_model.specs.declared.reply.Reply.{Reply}
+use Rattle.act_model.specs.Keys.{key_of}
+use Rattle.act_model.specs.Refusals.{verb_of}
+use Rattle.act_model.specs.Turns.{request_of, written_reply}
+use Rattle.mpc_cli.specs.declared.serving.Turned.{Turned}
+use Rattle.mpc_cli.specs.declared.serving.Turned.TheVariants.{Answered, Over, NoMore, ReadFailed, WriteFailed}
+use Rattle.mpc_cli.specs.Serving.{Readings, TakesTurn, Served}
+use Rattle.mpc_cli.specs.Runs.{offset_at}
+
+-- the body of a request, as it was read
+abbrev pub body_read : FrameBody → Body
+body_read (kept.Whole bytes) = Whole bytes
+body_read kept.NoRoom = NoRoom
+
+-- the request of a frame, as it was read
+abbrev pub request_read : ReadFrame → Request
+request_read read =
+    record { key = key_of read.key.items; number = Some read.number; verb = verb_of read.verb.items; body = body_read read.body }
+
+-- a body that was kept is shorter than this
+abbrev pub IsShorter : ℕ → FrameBody → Type 0
+IsShorter limit (kept.Whole bytes) = length bytes < limit
+IsShorter limit kept.NoRoom = Unit {0}
+
+-- a reply was written whole, or a front of it and not all
+abbrev pub Writes : Option (List ℕ) → Option (List ℕ) → Reply → Result ℕ Failed → Type 0
+Writes old new reply (Ok size) = Appends old new (written_reply reply)
+Writes old new reply (Err failed) = AppendsPart old new (written_reply reply)
+
+-- a frame's request was answered by one turn, and of its reply this was written
+pub record AnswersFrame (founder : Key) (past next : List Entry) (before after : Readings) (old new : Option (List ℕ)) (frame : Frame) (result : Result ℕ Failed) : Type 0 where
+  pub reply : Reply
+  pub turn : TakesTurn founder past (request_of frame) reply next before after
+  pub writes : Writes old new reply result
+
+-- the frame at the front was read, and answered so
+pub record TurnsFrame (founder : Key) (past next : List Entry) (before after : Readings) (old new : Option (List ℕ)) (front rest : List ℕ) (size : ℕ) (result : Result ℕ Failed) : Type 0 where
+  pub frame : Frame
+  pub good : IsFrame frame
+  pub stands : front ≡ framed frame rest
+  pub size_is : size ≡ length (framed frame [])
+  pub answers : AnswersFrame founder past next before after old new frame result
+
+-- the office, the clock and the sink are as they were
+pub record IsUntouched (past next : List Entry) (before after : Readings) (old new : Option (List ℕ)) : Type 0 where
+  pub history : next ≡ past
+  pub clock : (k : ℕ) → after k ≡ before k
+  pub sink : Keeps old new
+
+-- what became of the bytes at the front, those that were read ahead and those that came, of which the rest is still read
+-- ahead and the source has `left`
+abbrev pub Turns : Key → List Entry → List Entry → Readings → Readings → Option (List ℕ) → Option (List ℕ) → List ℕ → List ℕ → Option (List ℕ) → Turned → Type 0
+Turns founder past next before after old new front rest left (Answered size) =
+    TurnsFrame founder past next before after old new front rest size (Ok size)
+Turns founder past next before after old new front rest left WriteFailed =
+    (size : ℕ) × (failed : Failed) × TurnsFrame founder past next before after old new front rest size (Err failed)
+Turns founder past next before after old new front rest left Over = IsOver front rest left × IsUntouched past next before after old new
+Turns founder past next before after old new front rest left NoMore = NoFrameComes front left × (0 < length front) × IsUntouched past next before after old new
+Turns founder past next before after old new front rest left ReadFailed = NoFrame front × IsUntouched past next before after old new
+
+-- a fact where a frame was answered
+abbrev pub OnAnswered : Turned → Type 0 → Type 0
+OnAnswered (Answered size) P = P
+OnAnswered Over P = Unit {0}
+OnAnswered NoMore P = Unit {0}
+OnAnswered ReadFailed P = Unit {0}
+OnAnswered WriteFailed P = Unit {0}
+
+-- a piece of the source's bytes came behind those that were read ahead, and this became of them
+pub record TakesStep (founder : Key) (past next : List Entry) (before after : Readings) (old new left_old left_new : Option (List ℕ)) (ahead rest : List ℕ) (turned : Turned) : Type 0 where
+  pub piece : List ℕ
+  pub came : Consumes left_old left_new piece
+  pub turns : Turns founder past next before after old new (ahead ++ piece) rest left_new turned
+
+-- How far a run has come: over the bytes that came so far, of which those at the end are still read ahead, and with an
+-- offset up to which they are answered.
+pub record Progress (founder : Key) (first now : Readings) (old new left_old left_new : Option (List ℕ)) (ahead : List ℕ) (history : List Entry) (offset : ℕ) : Type 0 where
+  pub came : List ℕ
+  pub texts : List ℕ
+  pub consumed : Consumes left_old left_new came
+  pub appended : Appends old new texts
+  pub served : Served founder first now came ahead texts history
+  pub place : offset ≡ offset_at (length came - length ahead)
+  pub within : length ahead ≤ length came

@@ -1,0 +1,139 @@
+//! Reading frames and answering them, one after the other.
+
+ghost use Rattle.std.specs.Prelude.{◌≡◌, ◌≤◌, ◌<◌, ◌^◌, ℕ, List, Option, Some, [], length, IfOk, OnOk, OnErr};
+ghost use Rattle.std.specs.Io.KnownBytes.{Appends};
+ghost use Rattle.desk_io.specs.Outside.{Rises, AppendsPart};
+ghost use Rattle.frame_reader.specs.Frames.{IsFrameRead};
+ghost use Rattle.act_model.specs.Turns.{written_reply};
+ghost use Rattle.mpc_cli.specs.Steps.{request_read, IsShorter, AnswersFrame, TakesStep, OnAnswered};
+ghost use Rattle.frame_reader.specs.Reading.{work};
+ghost use Rattle.mpc_cli.specs.Runs.{Ends, IsServed};
+
+use crate::status::Status;
+use crate::turns::take_turn;
+use act_model::{Body, Key, Reply, Request, read_verb, refusal_line, status};
+use desk_core::Core;
+use desk_io::{Clock, Failed, Sink, Source};
+use frame_reader::{FrameBody, FrameReader, NextFrame, ReadFrame, write_reply_frame};
+
+/// What became of the next frame.
+#[derive(Debug, Drop)]
+pub enum Turned {
+    /// It was answered; this many bytes it had.
+    Answered(u64),
+    /// The source ended behind the frame before.
+    Over,
+    /// From here on the bytes are no frame.
+    NoMore,
+    /// The source failed.
+    ReadFailed,
+    /// The sink failed inside the reply.
+    WriteFailed,
+}
+
+fn request_of(read: ReadFrame) -> Request
+    ensures { result ≡ request_read read }
+{
+    Request {
+        key: Key::new(read.key.as_slice()),
+        number: Some(read.number),
+        verb: read_verb(read.verb.as_slice()),
+        body: match read.body {
+            FrameBody::Whole(bytes) => Body::Whole(bytes),
+            FrameBody::NoRoom => Body::NoRoom,
+        },
+    }
+}
+
+fn write_reply<K: Sink>(sink: &mut K, reply: &Reply) -> Result<(), Failed>
+    ensures whole { OnOk result (Appends (K.taken sink.old) (K.taken sink.new) (written_reply reply.now)) }
+    ensures part { OnErr result (AppendsPart (K.taken sink.old) (K.taken sink.new) (written_reply reply.now)) }
+    ensures counts { K.faults sink.old ≤ K.faults sink.new }
+    ensures cause { OnErr result (Rises (K.faults sink.old) (K.faults sink.new)) }
+{
+    match reply {
+        Reply::Done(text) => write_reply_frame(sink, status(reply), text.as_slice()),
+        Reply::Refused(refusal) => {
+            write_reply_frame(sink, status(reply), refusal_line(*refusal).as_slice())
+        }
+    }
+}
+
+/// Answers a frame that was read. Says how many bytes it has.
+fn answer_frame<K: Sink, C: Clock>(
+    core: &mut Core,
+    read: ReadFrame,
+    sink: &mut K,
+    clock: &mut C,
+) -> Result<u64, Failed>
+    requires { IsShorter 1_000_000_000 read.body }
+    ensures answers { (front rest : List ℕ) (r : IsFrameRead front read rest) → AnswersFrame core.old.founder core.old.history core.new.history
+        (C.reading clock.old) (C.reading clock.new) (K.taken sink.old) (K.taken sink.new) r.frame result }
+    ensures size { IfOk result (λ size. size ≡ read.size) }
+    ensures founder { core.new.founder ≡ core.old.founder }
+    ensures counts { K.faults sink.old ≤ K.faults sink.new }
+    ensures cause { OnErr result (Rises (K.faults sink.old) (K.faults sink.new)) }
+{
+    let size = read.size;
+    let request = request_of(read);
+    let reply = take_turn(core, &request, clock);
+    write_reply(sink, &reply)?;
+    Ok(size)
+}
+
+/// Reads the next frame and answers it.
+fn serve_next<S: Source, K: Sink, C: Clock>(
+    core: &mut Core,
+    reader: &mut FrameReader,
+    source: &mut S,
+    sink: &mut K,
+    clock: &mut C,
+) -> Turned
+    ensures step { TakesStep core.old.founder core.old.history core.new.history (C.reading clock.old) (C.reading clock.new)
+        (K.taken sink.old) (K.taken sink.new) (S.left source.old) (S.left source.new) reader.old reader.new result }
+    ensures founder { core.new.founder ≡ core.old.founder }
+    ensures source_counts { S.faults source.old ≤ S.faults source.new }
+    ensures sink_counts { K.faults sink.old ≤ K.faults sink.new }
+    ensures read_cause { result ≡ Turned.ReadFailed → Rises (S.faults source.old) (S.faults source.new) }
+    ensures write_cause { result ≡ Turned.WriteFailed → Rises (K.faults sink.old) (K.faults sink.new) }
+    ensures nearer { OnAnswered result (work (S.reads source.new) reader.new < work (S.reads source.old) reader.old) }
+{
+    match reader.next_frame(source) {
+        NextFrame::Frame(read) => match answer_frame(core, read, sink, clock) {
+            Ok(size) => Turned::Answered(size),
+            Err(Failed) => Turned::WriteFailed,
+        },
+        NextFrame::End => Turned::Over,
+        NextFrame::Bad => Turned::NoMore,
+        NextFrame::Failed => Turned::ReadFailed,
+    }
+}
+
+/// Answers the frames of the source to its end, or to where it has none.
+pub fn serve<S: Source, K: Sink, C: Clock>(
+    core: &mut Core,
+    reader: &mut FrameReader,
+    source: &mut S,
+    sink: &mut K,
+    clock: &mut C,
+) -> Status
+    requires empty { core.old.history ≡ [] }
+    requires unread { reader.old ≡ [] }
+    ensures ends { (bytes : List ℕ) → S.left source.old ≡ Some bytes → (texts : List ℕ) × Appends (K.taken sink.old) (K.taken sink.new) texts
+        × Ends core.old.founder (C.reading clock.old) (C.reading clock.new) bytes (S.left source.new) texts (length core.new.history) result }
+    ensures read_cause { result ≡ Status.ReadFault → Rises (S.faults source.old) (S.faults source.new) }
+    ensures write_cause { result ≡ Status.WriteFault → Rises (K.faults sink.old) (K.faults sink.new) }
+    ensures counts { (S.faults source.old ≤ S.faults source.new) × (K.faults sink.old ≤ K.faults sink.new) }
+    ensures served { IsServed result }
+{
+    let mut offset = 0u64;
+    'frames: loop {
+        match serve_next(core, reader, source, sink, clock) {
+            Turned::Answered(size) => offset = offset.saturating_add(size),
+            Turned::Over => return Status::Done,
+            Turned::NoMore => return Status::BadFrame { offset },
+            Turned::ReadFailed => return Status::ReadFault,
+            Turned::WriteFailed => return Status::WriteFault,
+        }
+    }
+}

@@ -1,0 +1,95 @@
+//! The whole program, over any source, sink and clock.
+
+ghost use Rattle.std.specs.Prelude.{◌≡◌, ◌≤◌, ◌↔◌, ℕ, List, Option, Some, None};
+ghost use Rattle.std.specs.Io.KnownBytes.{Appends, Keeps};
+ghost use Rattle.desk_io.specs.Outside.{Rises};
+ghost use Rattle.act_model.specs.Keys.{key_of};
+ghost use Rattle.mpc_cli.specs.Words.{run_key};
+ghost use Rattle.mpc_cli.specs.Runs.{Ends, IsWhole, IsDoneOrWants, IsNotBegun};
+
+use crate::serving::serve;
+use crate::status::{Ended, Status};
+use crate::words::{Words, run_key};
+use act_model::Key;
+use desk_core::Core;
+use desk_io::{Clock, Sink, Source};
+use frame_reader::FrameReader;
+use std::alloc::Global;
+
+/// An end before anything was done.
+fn not_begun(status: Status) -> Ended
+    ensures status { result.status ≡ status }
+    ensures added { result.added ≡ 0 }
+{
+    Ended { status, added: 0 }
+}
+
+/// Serves the frames of the source with the founder's key, from an empty office.
+fn run<S: Source, K: Sink, C: Clock>(
+    alloc: Global,
+    founder: Key,
+    source: &mut S,
+    sink: &mut K,
+    clock: &mut C,
+) -> Ended
+    ensures ends { (bytes : List ℕ) → S.left source.old ≡ Some bytes → (texts : List ℕ) × Appends (K.taken sink.old) (K.taken sink.new) texts
+        × Ends founder (C.reading clock.old) (C.reading clock.new) bytes (S.left source.new) texts result.added result.status }
+    ensures not_begun { IsNotBegun result.status →
+        Keeps (S.left source.old) (S.left source.new) × Keeps (K.taken sink.old) (K.taken sink.new) × (result.added ≡ 0) }
+    ensures not_usage { result.status ≡ Status.Usage → ⊥ }
+    ensures read_cause { result.status ≡ Status.ReadFault → Rises (S.faults source.old) (S.faults source.new) }
+    ensures write_cause { result.status ≡ Status.WriteFault → Rises (K.faults sink.old) (K.faults sink.new) }
+    ensures counts { (S.faults source.old ≤ S.faults source.new) × (K.faults sink.old ≤ K.faults sink.new) }
+{
+    let Ok(mut reader) = FrameReader::new(alloc) else {
+        return not_begun(Status::NoMemory);
+    };
+    let Ok(mut core) = Core::new(alloc, founder) else {
+        return not_begun(Status::NoMemory);
+    };
+    let status = serve(&mut core, &mut reader, source, sink, clock);
+    Ended {
+        status,
+        added: core.entries(),
+    }
+}
+
+/// All that the program does.
+///
+/// Over every source that tells its bytes, however it cuts them into pieces, the answers are those
+/// of one history: the requests of the bytes' frames, in their order, are answered by a conduct from
+/// the empty history, each request under a caller's number acts at most once, and the sink takes the
+/// texts of the replies and nothing else. `run` says this for each status, with what stands there.
+pub fn top<S: Source, K: Sink, C: Clock>(
+    alloc: Global,
+    words: &Words,
+    source: &mut S,
+    sink: &mut K,
+    clock: &mut C,
+) -> Ended
+    // What was answered and written at each end, where the source tells its bytes.
+    ensures run { (key bytes : List ℕ) → run_key words.now ≡ Some key → S.left source.old ≡ Some bytes →
+        (texts : List ℕ) × Appends (K.taken sink.old) (K.taken sink.new) texts
+        × Ends (key_of key) (C.reading clock.old) (C.reading clock.new) bytes (S.left source.new) texts result.added result.status }
+
+    // Good words, a whole session and no fault give the end of the job, or want of memory.
+    ensures complete { (key bytes : List ℕ) → run_key words.now ≡ Some key → S.left source.old ≡ Some bytes → IsWhole bytes →
+        ¬ Rises (S.faults source.old) (S.faults source.new) → ¬ Rises (K.faults sink.old) (K.faults sink.new) → IsDoneOrWants result.status }
+
+    // The words decide alone whether it is `Usage`.
+    ensures usage { (result.status ≡ Status.Usage) ↔ (run_key words.now ≡ None) }
+
+    // Before the first frame nothing is read, written or kept.
+    ensures not_begun { IsNotBegun result.status →
+        Keeps (S.left source.old) (S.left source.new) × Keeps (K.taken sink.old) (K.taken sink.new) × (result.added ≡ 0) }
+
+    // A fault has its cause.
+    ensures read_cause { result.status ≡ Status.ReadFault → Rises (S.faults source.old) (S.faults source.new) }
+    ensures write_cause { result.status ≡ Status.WriteFault → Rises (K.faults sink.old) (K.faults sink.new) }
+    ensures counts { (S.faults source.old ≤ S.faults source.new) × (K.faults sink.old ≤ K.faults sink.new) }
+{
+    match run_key(words) {
+        Some(key) => run(alloc, Key::new(key), source, sink, clock),
+        None => not_begun(Status::Usage),
+    }
+}
