@@ -1,7 +1,6 @@
 pub mod Keys
 pub mod History
 pub mod Observations
-pub mod Rules
 pub mod Texts
 pub mod Replies
 pub mod Refusals

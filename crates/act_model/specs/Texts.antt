@@ -1,7 +1,7 @@
 -- The lines of which answers are made. Each ends in a line feed.
 use Rattle.std.specs.Prelude.{ℕ, List, [], ◌∷◌, ◌++◌, codes, decimal}
 use Rattle.obs_record.specs.declared.rule.RuleCode.{RuleCode}
-use Rattle.act_model.specs.Rules.{rule_name}
+use Rattle.obs_record.specs.Rules.{rule_name}
 
 abbrev pub line_of : List ℕ → List ℕ
 line_of text = text ++ 10 ∷ []

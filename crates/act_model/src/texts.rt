@@ -1,23 +1,31 @@
 //! The texts of answers. All of them are lines that end in a line feed.
 
 ghost use Rattle.std.specs.Prelude.{◌≡◌, ◌+◌, ◌-◌, ◌<◌, ◌≤◌, ◌^◌, ◌++◌, ◌∷◌, [], length, decimal, codes, OnOk, IfOk, count_by};
-ghost use Rattle.act_model.specs.Observations.{fault_of, is_accepted, accepted_in, refused_in};
-ghost use Rattle.act_model.specs.Rules.{rule_name};
+ghost use Rattle.act_model.specs.Observations.{is_named, fault_of, is_accepted, accepted_in, refused_in};
 ghost use Rattle.act_model.specs.Texts.{receipt_line, counts_line, accepted_line, refused_line};
 ghost use Rattle.act_model.specs.Replies.{line_answer, line_answers, observations_with, batch_answer};
 
 use item_list::{Bytes, NoMemory};
 use itoa::Buffer;
-use obs_record::{Line, Lines, RuleCode};
+use obs_record::{Line, Lines, RuleCode, Sighting};
 use std::alloc::Global;
 
+// Whether the observation stands under a number or a designation.
+fn is_named(sighting: &Sighting) -> bool
+    ensures { result ≡ is_named sighting.now }
+{
+    sighting.perm.is_some() || sighting.prov.is_some()
+}
+
 /// The rule that a line breaks, or None for a line that the office accepts.
+#[tactic(auto, unfolding(crate::specs::Observations::fault_of))]
 pub fn fault_of(line: &Line) -> Option<RuleCode>
     ensures { result ≡ fault_of line.now }
 {
-    match line.read {
+    match &line.read {
+        Ok(sighting) if is_named(sighting) => Some(RuleCode::B3),
         Ok(_) => None,
-        Err(rule) => Some(rule),
+        Err(rule) => Some(*rule),
     }
 }
 
@@ -62,7 +70,7 @@ fn push_refused_line(out: &mut Bytes, number: u32, rule: RuleCode) -> Result<(),
     out.extend_from_slice(b"line ")?;
     push_decimal(out, u64::from(number))?;
     out.extend_from_slice(b" refused ")?;
-    out.extend_from_slice(rule_name(rule))?;
+    out.extend_from_slice(rule.name())?;
     out.push(b'\n')
 }
 
@@ -96,15 +104,30 @@ fn push_line_answers(out: &mut Bytes, lines: &[Line], before: u64) -> Result<(),
     Ok(())
 }
 
+#[tactic(auto, unfolding(crate::specs::Observations::is_accepted))]
+fn is_accepted(line: &Line) -> bool
+    ensures { result ≡ is_accepted line.now }
+{
+    fault_of(line).is_none()
+}
+
+fn count_accepted(lines: &[Line]) -> u64
+    ensures { result ≡ accepted_in lines.now }
+{
+    let mut accepted = 0;
+    for line in lines {
+        if is_accepted(line) {
+            accepted += 1;
+        }
+    }
+    accepted
+}
+
 /// How many of the lines the office accepts.
 pub fn accepted_in(lines: &Lines) -> u64
     ensures { result ≡ accepted_in lines.now }
 {
-    lines
-        .as_slice()
-        .iter()
-        .filter(|line| fault_of(line).is_none())
-        .count() as u64
+    count_accepted(lines.as_slice())
 }
 
 /// The answer to a batch of these lines that became the entry with this receipt, where the office
@@ -125,38 +148,4 @@ pub fn batch_answer(
     push_counts_line(&mut out, accepted, lines.len() - accepted)?;
     push_line_answers(&mut out, lines.as_slice(), before)?;
     Ok(out)
-}
-
-/// The name of a rule, as answers give it.
-fn rule_name(rule: RuleCode) -> &'static [u8]
-    ensures { result.now ≡ rule_name rule }
-{
-    match rule {
-        RuleCode::S1 => b"S1",
-        RuleCode::S2 => b"S2",
-        RuleCode::S3 => b"S3",
-        RuleCode::S4 => b"S4",
-        RuleCode::S5 => b"S5",
-        RuleCode::S6 => b"S6",
-        RuleCode::S7 => b"S7",
-        RuleCode::S8 => b"S8",
-        RuleCode::S9 => b"S9",
-        RuleCode::S10 => b"S10",
-        RuleCode::S11 => b"S11",
-        RuleCode::S12 => b"S12",
-        RuleCode::T1 => b"T1",
-        RuleCode::T2 => b"T2",
-        RuleCode::T3 => b"T3",
-        RuleCode::T4 => b"T4",
-        RuleCode::T5 => b"T5",
-        RuleCode::B1 => b"B1",
-        RuleCode::B2 => b"B2",
-        RuleCode::B3 => b"B3",
-        RuleCode::B4 => b"B4",
-        RuleCode::B5 => b"B5",
-        RuleCode::B6 => b"B6",
-        RuleCode::B7 => b"B7",
-        RuleCode::B8 => b"B8",
-        RuleCode::B9 => b"B9",
-    }
 }

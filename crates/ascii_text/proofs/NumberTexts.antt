@@ -1,7 +1,7 @@
 -- Numbers of all the digits that stand at the front, with and without leading zeros, and decimals.
-use Rattle.std.proofs.Common.{◌≡◌, ℕ, zero, suc, ◌+◌, ◌-◌, ◌*◌, ◌/◌, ◌%◌, ◌^◌, ◌<◌, ◌≤◌, Bool, true, false, cond, eqb, ltb, ◌&&◌, ◌||◌, List, [], ◌∷◌, ◌++◌, length, get_or, decimal, Option, Some, None, refl, sym, ap, subst, ◌∙◌, arith}
+use Rattle.std.proofs.Common.{◌≡◌, ℕ, zero, suc, ◌+◌, ◌-◌, ◌*◌, ◌/◌, ◌%◌, ◌^◌, ◌<◌, ◌≤◌, Bool, true, false, cond, eqb, ltb, ◌&&◌, ◌||◌, List, [], ◌∷◌, ◌++◌, length, get_or, drop, decimal, Option, Some, None, refl, sym, ap, subst, ◌∙◌, arith}
 use Rattle.std.proofs.Math.Nat.{pow-zero, pow-suc, div-lt_iff_lt-mul}
-use Rattle.std.proofs.lemmas.Bool.{eqb-false, ne_eqb}
+use Rattle.std.proofs.lemmas.Bool.{eqb-false, lt-ltb, ne_eqb}
 use Rattle.std.proofs.lemmas.Bool.Decides.{nat_tests}
 use Rattle.std.proofs.lemmas.Fmt.{digits_decimal, digits_value-decimal, decimal-digits_value, decimal_nonempty, first_decimal, length-decimal-le, decimal_digit}
 use Rattle.std.proofs.lemmas.List.{get_or_append_left}
@@ -13,8 +13,9 @@ use Rattle.std.specs.Int.{IsInRange}
 use Rattle.std.specs.Str.Parse.{AllDigits}
 use Rattle.ascii_text.specs.declared.digits.Radix.TheVariants.{Ten}
 use Rattle.ascii_text.specs.Digits.{digits_text, decimals_text}
-use Rattle.ascii_text.specs.Reading.{◌>>=◌, digit_at, more_digits, digits_at, behind, digit_run, run_at, decimals_at, number_at}
+use Rattle.ascii_text.specs.Reading.{◌>>=◌, digit_at, more_digits, digits_at, behind, digit_run, run_at, run_within, at_most, decimals_at, decimals_within, number_at}
 use Rattle.ascii_text.proofs.Steps.{power_positive, power_within}
+use Rattle.ascii_text.proofs.BlankTexts.{digit_run-nil, digit_run-other}
 use Rattle.ascii_text.proofs.DigitTexts.{bind_some, some_first, digit_at-cons, digits_again, digits_takes, length-digits_text}
 
 pos_of : (n : ℕ) → (n ≡ 0 → ⊥) → 0 < n
@@ -159,6 +160,56 @@ decimals_found false text x e = subst (λ (y : (ℕ × ℕ) × List ℕ). TakesD
 pub decimals_takes : (text : List ℕ) (x : (ℕ × ℕ) × List ℕ) → decimals_at text ≡ Some x → TakesDecimals text x
 unfolding decimals_at
 decimals_takes text x e = decimals_found (eqb (get_or text 0 0) 46) text x e
+
+in_range : (byte : ℕ) → is_ascii_digit byte ≡ true → IsInRange 48 57 byte
+in_range byte test = (grind (arith, nat_tests), grind (arith, nat_tests))
+
+-- the digits of a run are read up to its end
+run_read_by : (b : Bool) (byte : ℕ) (text : List ℕ) (value : ℕ) → is_ascii_digit byte ≡ b
+    → ((v : ℕ) × (more_digits Ten (value * 10 + (byte - 48)) (digit_run text) text ≡ Some (v, drop (digit_run text) text)))
+    → (v : ℕ) × (more_digits Ten value (digit_run (byte ∷ text)) (byte ∷ text) ≡ Some (v, drop (digit_run (byte ∷ text)) (byte ∷ text)))
+unfolding more_digits
+run_read_by true byte text value test others =
+    let digit = in_range byte test in
+    (others.0, rw (digit_run-cons byte text digit, digit_at-digit byte text digit) others.1)
+run_read_by false byte text value test others = (value, rw (digit_run-other byte text test) refl)
+
+run_read : (text : List ℕ) (value : ℕ) → (v : ℕ) × (more_digits Ten value (digit_run text) text ≡ Some (v, drop (digit_run text) text))
+unfolding more_digits
+run_read [] value = (value, rw digit_run-nil refl)
+run_read (byte ∷ text) value = run_read_by (is_ascii_digit byte) byte text value refl (run_read text (value * 10 + (byte - 48)))
+
+-- more digits than are wanted are passed over
+pub run_past : (most : ℕ) (text : List ℕ) → most < digit_run text → run_within most text ≡ Some (None, drop (digit_run text) text)
+unfolding run_at digits_at
+run_past most text more =
+    let read = run_read text 0 in
+    let some : eqb (digit_run text) 0 ≡ false = ne_eqb (digit_run text) 0 (λ e. omega (arith, e)) in
+    rw (some, read.1, lt-ltb most (digit_run text) more) refl
+
+-- Decimals that are written are read where they are at most so many, and neither a digit nor a point follows.
+pub decimals_within_again : (most count value : ℕ) (rest : List ℕ) → value < 10 ^ count → digit_run rest ≡ 0 → (get_or rest 0 0 ≡ 46 → ⊥)
+    → decimals_within most (decimals_text count value ++ rest) ≡ at_most most ((count, value), rest)
+unfolding decimals_within
+decimals_within_again most count value rest below ends pointless = rw (decimals_again count value rest below ends pointless) refl
+
+-- what a text is where decimals were read from it, or passed over
+pub record TakesDecimalsWithin (most : ℕ) (text : List ℕ) (x : Option (ℕ × ℕ) × List ℕ) : Type 0 where
+  pub count : ℕ
+  pub value : ℕ
+  pub below : value < 10 ^ count
+  pub text_is : text ≡ decimals_text count value ++ x.1
+  pub found : x.0 ≡ cond (ltb most count) None (Some (count, value))
+
+-- Decimals that are read are written so.
+pub decimals_within_takes : (most : ℕ) (text : List ℕ) (x : Option (ℕ × ℕ) × List ℕ) → decimals_within most text ≡ Some x → TakesDecimalsWithin most text x
+unfolding decimals_within
+decimals_within_takes most text x e =
+    let d = bind_some (decimals_at text) (at_most most) x e in
+    let taken = decimals_takes text d.0 d.1 in
+    let made : Option (ℕ × ℕ) × List ℕ = (cond (ltb most d.0.0.0) None (Some d.0.0), d.0.1) in
+    let one : TakesDecimalsWithin most text made = record { count = d.0.0.0; value = d.0.0.1; below = taken.below; text_is = taken.text_is; found = refl } in
+    subst (λ (y : Option (ℕ × ℕ) × List ℕ). TakesDecimalsWithin most text y) (same_Some made x d.2) one
 
 -- ---- numbers without leading zeros
 

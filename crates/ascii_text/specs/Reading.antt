@@ -62,6 +62,18 @@ run_at text =
 unfoldable pub decimals_at : List ℕ → Option ((ℕ × ℕ) × List ℕ)
 decimals_at text = if slice_index text 0 == 46 then (behind 46 text >>= run_at) else Some ((0, 0), text)
 
+-- decimals, or nothing in their place where they are more than this
+abbrev pub at_most : ℕ → (ℕ × ℕ) × List ℕ → Option (Option (ℕ × ℕ) × List ℕ)
+at_most most decimals = Some (if nat_lt most decimals.0.0 then None else Some decimals.0, decimals.1)
+
+-- all the decimal digits at the front where they are at most this many, and nothing in their place where they are more
+abbrev pub run_within : ℕ → List ℕ → Option (Option (ℕ × ℕ) × List ℕ)
+run_within most text = run_at text >>= at_most most
+
+-- the decimals of a number where they are at most this many, and nothing in their place where they are more
+unfoldable pub decimals_within : ℕ → List ℕ → Option (Option (ℕ × ℕ) × List ℕ)
+decimals_within most text = decimals_at text >>= at_most most
+
 -- a number without leading zeros: all the decimal digits at the front, which are at most this many
 unfoldable pub number_at : ℕ → List ℕ → Option (ℕ × List ℕ)
 number_at most text =

@@ -2,7 +2,7 @@
 
 ghost use Rattle.std.specs.Prelude.{◌≡◌, ◌+◌, ◌^◌, ◌<◌, ◌≤◌, length, IfSome, option_map};
 ghost use Rattle.ascii_text.specs.Digits.{base};
-ghost use Rattle.ascii_text.specs.Reading.{digit_at, digits_at, behind, digit_run, run_at, decimals_at, number_at};
+ghost use Rattle.ascii_text.specs.Reading.{decimals_within, run_within, digit_at, digits_at, behind, digit_run, run_at, decimals_at, number_at};
 
 use crate::digits::{Radix, base_of, digit_of};
 
@@ -98,6 +98,41 @@ pub fn decimals_at(text: &[u8]) -> Option<(Decimals, &[u8])>
         return Some((Decimals { count: 0, value: 0 }, text));
     }
     run_front(behind(b'.', text)?)
+}
+
+// All the decimal digits at the front, and the text behind them.
+#[tactic(auto, unfolding(crate::specs::Reading::run_at))]
+fn run_within(most: usize, text: &[u8]) -> Option<(Option<Decimals>, &[u8])>
+    requires { most ≤ 18 }
+    ensures exact { option_map (λ x. (option_map (λ d. (d.count, d.value)) x.0, x.1.now)) result ≡ run_within most text.now }
+    ensures below { IfSome result (λ x. IfSome x.0 (λ d. (d.count ≤ most) × (d.value < 10 ^ d.count))) }
+    ensures rest { IfSome result (λ x. length x.1.now ≤ length text.now) }
+{
+    let count = digit_run(text);
+    if count == 0 {
+        return None;
+    }
+    if count > most {
+        let (_digits, rest) = text.split_at(count);
+        return Some((None, rest));
+    }
+    let (value, rest) = digits_at(Radix::Ten, count, text)?;
+    Some((Some(Decimals { count, value }), rest))
+}
+
+/// The decimals at the front of a text of any length, and the text behind them, as `decimals_at` reads them; `None` in
+/// their place where they are more than `most`.
+#[tactic(auto, unfolding(crate::specs::Reading::decimals_at, crate::specs::Reading::decimals_within))]
+pub fn decimals_within(most: usize, text: &[u8]) -> Option<(Option<Decimals>, &[u8])>
+    requires { most ≤ 18 }
+    ensures exact { option_map (λ x. (option_map (λ d. (d.count, d.value)) x.0, x.1.now)) result ≡ decimals_within most text.now }
+    ensures below { IfSome result (λ x. IfSome x.0 (λ d. (d.count ≤ most) × (d.value < 10 ^ d.count))) }
+    ensures rest { IfSome result (λ x. length x.1.now ≤ length text.now) }
+{
+    if text.first() == Some(&b'.') {
+        return run_within(most, behind(b'.', text)?);
+    }
+    Some((Some(Decimals { count: 0, value: 0 }), text))
 }
 
 /// The number at the front, without leading zeros, and the text behind it: all the decimal digits that stand there.

@@ -26,6 +26,13 @@ fn reads(rt: HostRuntime) {
         assert_eq!(rt; found, Some((count, value, rest)));
     }
     assert!(rt; decimals_at(b". ").is_none());
+    for (text, count) in [
+        (b".123456Z".as_slice(), Some(6)),
+        (b".0000000000000000000001Z".as_slice(), None),
+    ] {
+        let found = decimals_within(9, text).map(|x| (x.0.map(|d| d.count), x.1.len()));
+        assert_eq!(rt; found, Some((count, 1)));
+    }
     for (text, value) in [
         (b"0|".as_slice(), Some(0)),
         (b"703 ".as_slice(), Some(703)),

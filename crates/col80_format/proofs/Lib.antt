@@ -1,2 +1,7 @@
 pub mod Cutting
 pub mod Batches
+pub mod MagnitudeLaws
+pub mod Chains
+pub mod NameLaws
+pub mod LineLaws
+pub mod RangeLaws

@@ -1,8 +1,11 @@
 -- The lines of a batch.
-use Rattle.std.specs.Prelude.{ℕ, Bool, ◌&&◌, ◌||◌, not, ◌==◌, nat_eq, if◌then◌else◌, List, [], ◌∷◌, length, map, filter, slice_index, codes}
-use Rattle.std.specs.List.{list_all, list_any, starts_with, enumerate_from}
+use Rattle.std.specs.Prelude.{◌≡◌, ℕ, Bool, ◌&&◌, ◌||◌, not, ◌==◌, nat_eq, if◌then◌else◌, List, [], ◌∷◌, length, map, filter, slice_index, codes, All, IfOk}
+use Rattle.std.specs.List.{list_any, starts_with, enumerate_from}
 use Rattle.std.specs.Str.Lines.{lines}
+use Rattle.ascii_text.specs.Blanks.{are_blanks}
 use Rattle.obs_record.specs.declared.line.Line.{Line}
+use Rattle.obs_record.specs.Sighting.{IsSighting}
+use Rattle.col80_format.specs.Rules.{IsReading}
 use Rattle.col80_format.specs.Reading.{reading_of}
 
 -- the words that header lines begin with
@@ -19,10 +22,6 @@ begins_with_word word line = starts_with nat_eq line word && (length line == len
 unfoldable pub is_header_line : List ℕ → Bool
 is_header_line line = list_any (λ word. begins_with_word word line) header_words
 
--- a line of blanks alone, or of nothing
-unfoldable pub is_blank_line : List ℕ → Bool
-is_blank_line line = list_all (λ byte. byte == 32) line
-
 -- the list from its first item that fails the test
 unfoldable pub drop_while : {X : Type 0} → (X → Bool) → List X → List X
 drop_while test [] = []
@@ -34,7 +33,7 @@ numbered_lines body = enumerate_from 1 (lines body)
 
 -- a line that may stand before the observations: a blank one, or a header line
 abbrev pub is_front_line : List ℕ → Bool
-is_front_line line = is_blank_line line || is_header_line line
+is_front_line line = are_blanks line || is_header_line line
 
 -- the lines from the first one on that is neither blank nor a header line
 abbrev pub behind_front : List (ℕ × List ℕ) → List (ℕ × List ℕ)
@@ -42,17 +41,29 @@ behind_front numbered = drop_while (λ line. is_front_line line.1) numbered
 
 -- the lines that aren't blank
 abbrev pub filled_lines : List (ℕ × List ℕ) → List (ℕ × List ℕ)
-filled_lines numbered = filter (λ line. not (is_blank_line line.1)) numbered
+filled_lines numbered = filter (λ line. not (are_blanks line.1)) numbered
 
--- a line with its reading
+-- the observation lines of a batch: from the first line on that is neither blank nor a header line, each one that
+-- isn't blank
+abbrev pub observation_lines : List ℕ → List (ℕ × List ℕ)
+observation_lines body = filled_lines (behind_front (numbered_lines body))
+
+-- the line has the number of this numbered text, and what it says is the text's reading
+abbrev pub IsReadFrom : ℕ × List ℕ → Line → Type 0
+IsReadFrom text line = (line.number ≡ text.0) × IsReading text.1 line.read
+
+-- a numbered text with its reading
 abbrev pub read_of : ℕ × List ℕ → Line
-read_of line = record { number = line.0; read = reading_of line.1 }
+read_of text = record { number = text.0; read = reading_of text.1 }
 
 -- what the lines say, those that are blank aside
 abbrev pub said : List (ℕ × List ℕ) → List Line
 said numbered = map read_of (filled_lines numbered)
 
--- what a batch says: from the first line on that is neither blank nor a header line, each line that isn't blank is
--- an observation line
+-- what a batch says: each of its observation lines with its reading
 abbrev pub lines_of : List ℕ → List Line
-lines_of body = said (behind_front (numbered_lines body))
+lines_of body = map read_of (observation_lines body)
+
+-- the observations among the lines have their fields in their ranges
+abbrev pub AreInRange : List Line → Type 0
+AreInRange lines = All (λ line. IfOk line.read IsSighting) lines

@@ -1,9 +1,10 @@
 ghost use Rattle.std.specs.Prelude.{◌≡◌, ◌+◌, ◌<◌, ◌≤◌, ◌∷◌, length, IfOk};
-ghost use Rattle.std.specs.List.{enumerate_from};
+ghost use Rattle.std.specs.List.{enumerate_from, AllZip};
 ghost use Rattle.std.specs.Str.Lines.{lines, strip_carriage_return};
-ghost use Rattle.col80_format.specs.Batch.{is_header_line, is_blank_line, is_front_line, begins_with_word, numbered_lines, behind_front, said, lines_of};
+ghost use Rattle.col80_format.specs.Batch.{is_header_line, is_front_line, begins_with_word, numbered_lines, behind_front, said, observation_lines, IsReadFrom, lines_of, AreInRange};
 
 use crate::reading::read_line;
+use ascii_text::blanks::are_blanks;
 use item_list::{ItemList, NoMemory};
 use memchr::memchr;
 use obs_record::{Line, Lines};
@@ -41,14 +42,6 @@ fn next_line(text: &[u8]) -> (&[u8], &[u8])
     }
 }
 
-/// Whether the line is made of blanks alone, or of nothing.
-#[tactic(auto, unfolding(crate::specs::Batch::is_blank_line))]
-fn is_blank_line(line: &[u8]) -> bool
-    ensures { result ≡ is_blank_line line.now }
-{
-    line.iter().all(|byte| *byte == b' ')
-}
-
 /// Whether the line begins with the word, and a blank or the line's end follows.
 fn begins_with_word(word: &[u8; 3], line: &[u8]) -> bool
     ensures { result ≡ begins_with_word word.now line.now }
@@ -68,7 +61,7 @@ fn is_header_line(line: &[u8]) -> bool
 fn is_front_line(line: &[u8]) -> bool
     ensures { result ≡ is_front_line line.now }
 {
-    is_blank_line(line) || is_header_line(line)
+    are_blanks(line) || is_header_line(line)
 }
 
 /// The text from the first observation line on, and the number of that line.
@@ -93,15 +86,15 @@ fn behind_headers(body: &[u8]) -> (&[u8], u32)
 /// The observation lines from here on, the first line of the text having this number.
 fn read_lines(alloc: Global, text: &[u8], first: u32) -> Result<Lines, NoMemory>
     requires { length text.now + first ≤ 4294967295 }
-    ensures { IfOk result
-        (λ found. found ≡ said (enumerate_from first (lines text.now))) }
+    ensures exact { IfOk result (λ found. found ≡ said (enumerate_from first (lines text.now))) }
+    ensures range { IfOk result AreInRange }
 {
     let mut found = ItemList::new(alloc);
     let mut rest = text;
     let mut number = first;
     while !rest.is_empty() {
         let (line, behind) = next_line(rest);
-        if !is_blank_line(line) {
+        if !are_blanks(line) {
             let read = read_line(line);
             found.push(Line { number, read })?;
         }
@@ -111,12 +104,18 @@ fn read_lines(alloc: Global, text: &[u8], first: u32) -> Result<Lines, NoMemory>
     Ok(found)
 }
 
-/// The observation lines of a batch, each with its number and what it says. The lines are cut at line feeds, a
-/// carriage return before one belongs to it, and lines count from 1, all of them. The lines of blanks alone are
-/// passed over, and so are the header lines before the first observation. Takes memory for the list.
+/// The observation lines of a batch, each with its number and what it says.
+///
+/// The batch is cut into lines at line feeds; a carriage return before a line feed belongs to it, and what stands behind
+/// the last line feed is a line where it isn't empty. Lines count from 1, all of them. Lines of blanks alone are passed
+/// over, and so are header lines up to the first line that is neither; they begin with one of COD, CON, OBS, MEA, TEL,
+/// NET, BND, COM, NUM, ACK and AC2, and a blank or the line's end follows. Takes memory for the list.
 pub fn split_batch(alloc: Global, body: &[u8]) -> Result<Lines, NoMemory>
     requires { length body.now < 4294967295 }
-    ensures { IfOk result (λ found. found ≡ lines_of body.now) }
+    ensures exact { IfOk result (λ found. found ≡ lines_of body.now) }
+    // Each observation line stands there in its place, with the reading of its columns.
+    ensures lines { IfOk result (λ found. AllZip IsReadFrom (observation_lines body.now) found) }
+    ensures range { IfOk result AreInRange }
 {
     let (rest, first) = behind_headers(body);
     read_lines(alloc, rest, first)

@@ -3,6 +3,9 @@
 #![tactic(auto)]
 
 mod batch;
+pub mod laws;
+mod magnitude;
+mod names;
 mod reading;
 
 pub use batch::split_batch;

@@ -1,8 +1,9 @@
 -- Frames, and the sessions that they make.
 use Rattle.std.proofs.Common.{◌≡◌, ℕ, ◌+◌, ◌<◌, ◌≤◌, List, [], ◌∷◌, ◌++◌, length, take, drop, replicate, refl, sym, ap, ◌∙◌, append_assoc, arith}
 use Rattle.std.specs.List.{AllByRecursion}
-use Rattle.std.proofs.lemmas.List.{append-nil, length-append, length-replicate, length-take, take-append-drop, take_at, drop_at}
+use Rattle.std.proofs.lemmas.List.{append-nil, length-append, length-replicate, length-take, length-drop, drop-drop, take-append-drop, take_at, drop_at}
 use Rattle.desk_frames.specs.Frames.{Frame, IsFrame, framed, streamed, NoFrame, NeverFrame, IsSession, reached, HeadParts, IsHead, headed, head_of, frame_of, NoHead, BeginsHead}
+use Rattle.desk_frames.specs.Reading.{IsHeadAt}
 use Rattle.desk_frames.proofs.Heads.{one_head, head_before, head_some}
 
 pub head_good : (f : Frame) → IsFrame f → IsHead (head_of f)
@@ -14,6 +15,16 @@ frame_good h body good long = record { key = good.key; number = good.number; ver
 
 pub frame_whole : (h : HeadParts) (body rest : List ℕ) → length body ≡ h.length → headed h (body ++ rest) ≡ framed (frame_of h body) rest
 frame_whole h body rest long = ap (λ (n : ℕ). headed (record h { length = n }) (body ++ rest)) (sym long)
+
+-- a head at the front, behind which all of its body has come
+pub frame_at_front : (bytes : List ℕ) (h : HeadParts) (size : ℕ) → IsHeadAt bytes h size → size + h.length ≤ length bytes
+    → IsFrame (frame_of h (take h.length (drop size bytes))) × (bytes ≡ framed (frame_of h (take h.length (drop size bytes))) (drop (size + h.length) bytes))
+frame_at_front bytes h size at come =
+    let body : List ℕ = take h.length (drop size bytes) in
+    let long : length body ≡ h.length = omega (arith, length-take h.length (drop size bytes), length-drop size bytes) in (
+      frame_good h body at.good long,
+      at.spelled ∙ ap (headed h) (sym (take-append-drop h.length (drop size bytes))) ∙ frame_whole h body (drop h.length (drop size bytes)) long ∙ ap (framed (frame_of h body)) (drop-drop h.length size bytes),
+    )
 
 -- what follows a frame, or frames, follows their bytes
 pub frame_before : (f : Frame) (rest more : List ℕ) → framed f rest ++ more ≡ framed f (rest ++ more)

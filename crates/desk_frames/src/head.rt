@@ -55,23 +55,28 @@ fn head_at(bytes: &[u8]) -> Result<(Head<'_>, &[u8]), Unread>
 
 /// Looks for a head at the front of the bytes that have come so far.
 ///
-/// It looks at no more than their first `HEAD_BYTES`, takes no memory, and the body that follows
-/// the head may be missing.
+/// The answer is `Whole` exactly where one stands there, `Bad` exactly where no frame can come there
+/// any more, and else `Part`: then there are fewer than `HEAD_BYTES`. It looks at no more than the
+/// first `HEAD_BYTES`, and the body behind the head may be missing.
 pub fn read_head(bytes: &[u8]) -> Front<'_>
     // The head that is answered stands at the front, with its fields and its size.
     ensures whole { IfWhole result (λ head. IsHeadAt bytes.now (parts_of head) head.size) }
     // A head that stands at the front is answered.
-    ensures only { (h : HeadParts) (rest : List ℕ) → IsHead h → bytes.now ≡ headed h rest →
+    ensures only { (h : HeadParts) (rest : List ℕ) →
+        IsHead h → bytes.now ≡ headed h rest →
         IsWholeAnd result (λ head. (parts_of head ≡ h) × (drop head.size bytes.now ≡ rest)) }
     // No head stands there yet, and bytes that may follow complete one.
     ensures part { (result ≡ Front.Part) ↔ (NoHead bytes.now × BeginsHead bytes.now) }
     // No frame can come there any more.
     ensures bad { (result ≡ Front.Bad) ↔ NeverFrame bytes.now }
+    // The front of a head has fewer bytes than a head may have.
     ensures short { result ≡ Front.Part → length bytes.now < HEAD_BYTES }
     ensures size { IfWhole result (λ head. head.size ≤ HEAD_BYTES) }
-    ensures key { IfWhole result (λ head. (0 < length head.key.now) × (length head.key.now ≤ KEY_BYTES)) }
+    ensures key { IfWhole result (λ head.
+        (0 < length head.key.now) × (length head.key.now ≤ KEY_BYTES)) }
     ensures number { IfWhole result (λ head. head.number < 10 ^ NUMBER_DIGITS) }
-    ensures verb { IfWhole result (λ head. (0 < length head.verb.now) × (length head.verb.now ≤ VERB_BYTES)) }
+    ensures verb { IfWhole result (λ head.
+        (0 < length head.verb.now) × (length head.verb.now ≤ VERB_BYTES)) }
     ensures length { IfWhole result (λ head. head.length < 10 ^ LENGTH_DIGITS) }
 {
     match head_at(bytes) {

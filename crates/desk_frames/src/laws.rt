@@ -1,8 +1,9 @@
 //! Laws of heads, frames and sessions, each the contract of a function that does nothing: a caller
 //! that calls it may use it.
 
-ghost use Rattle.std.specs.Prelude.{◌≡◌, ◌≢◌, ◌+◌, ◌<◌, ℕ, List, [], ◌∷◌, ◌++◌, length};
+ghost use Rattle.std.specs.Prelude.{◌≡◌, ◌≢◌, ◌+◌, ◌<◌, ◌≤◌, ℕ, List, [], ◌∷◌, ◌++◌, length, take, drop};
 ghost use Rattle.std.specs.List.{AllByRecursion};
+ghost use Rattle.desk_frames.specs.Reading.{IsHeadAt};
 ghost use Rattle.desk_frames.specs.Frames.{Frame, IsFrame, framed, streamed, NoFrame, NeverFrame, IsSession, reached, HeadParts, IsHead, headed, head_of, frame_of, NoHead};
 
 /// A text is cut once at its first byte of a kind: neither piece before that byte has it.
@@ -26,7 +27,8 @@ pub fn one_frame()
 
 /// A text is one stream of frames, up to a rest that begins with none.
 pub fn one_stream()
-    ensures { (fs gs : List Frame) (x y : List ℕ) → AllByRecursion IsFrame fs → AllByRecursion IsFrame gs →
+    ensures { (fs gs : List Frame) (x y : List ℕ) →
+        AllByRecursion IsFrame fs → AllByRecursion IsFrame gs →
         NoFrame x → NoFrame y → streamed fs x ≡ streamed gs y → (fs ≡ gs) × (x ≡ y) }
 {}
 
@@ -39,9 +41,10 @@ pub fn one_session()
 /// Frames that stand at the front, and the session of the bytes behind them, are the session of
 /// all the bytes.
 pub fn session_behind()
-    ensures streams { (fs gs : List Frame) (rest : List ℕ) → streamed (fs ++ gs) rest ≡ streamed fs (streamed gs rest) }
-    ensures sessions { (bytes middle : List ℕ) (fs gs : List Frame) (rest : List ℕ) → AllByRecursion IsFrame fs →
-        bytes ≡ streamed fs middle → IsSession middle gs rest → IsSession bytes (fs ++ gs) rest }
+    ensures streams { (fs gs : List Frame) (rest : List ℕ) →
+        streamed (fs ++ gs) rest ≡ streamed fs (streamed gs rest) }
+    ensures sessions { (bytes middle : List ℕ) (fs gs : List Frame) (rest : List ℕ) →
+        AllByRecursion IsFrame fs → bytes ≡ streamed fs middle → IsSession middle gs rest → IsSession bytes (fs ++ gs) rest }
 {}
 
 /// The offset that a session reaches and the bytes of its rest are all the bytes.
@@ -52,18 +55,27 @@ pub fn session_reaches()
 
 /// Bytes that come later stand behind the head, the frame or the frames that stand at the front.
 pub fn goes_on()
-    ensures heads { (h : HeadParts) (rest more : List ℕ) → headed h rest ++ more ≡ headed h (rest ++ more) }
-    ensures frames { (f : Frame) (rest more : List ℕ) → framed f rest ++ more ≡ framed f (rest ++ more) }
-    ensures streams { (fs : List Frame) (rest more : List ℕ) → streamed fs rest ++ more ≡ streamed fs (rest ++ more) }
+    ensures heads { (h : HeadParts) (rest more : List ℕ) →
+        headed h rest ++ more ≡ headed h (rest ++ more) }
+    ensures frames { (f : Frame) (rest more : List ℕ) →
+        framed f rest ++ more ≡ framed f (rest ++ more) }
+    ensures streams { (fs : List Frame) (rest more : List ℕ) →
+        streamed fs rest ++ more ≡ streamed fs (rest ++ more) }
 {}
 
 /// A head and a body of the length that it says are a frame, and a frame is its head and its body.
 pub fn head_and_body()
-    ensures good { (h : HeadParts) (body : List ℕ) → IsHead h → length body ≡ h.length → IsFrame (frame_of h body) }
+    ensures good { (h : HeadParts) (body : List ℕ) →
+        IsHead h → length body ≡ h.length → IsFrame (frame_of h body) }
     ensures joined { (h : HeadParts) (body rest : List ℕ) → length body ≡ h.length →
         headed h (body ++ rest) ≡ framed (frame_of h body) rest }
+    ensures taken { (bytes : List ℕ) (h : HeadParts) (size : ℕ) →
+        IsHeadAt bytes h size → size + h.length ≤ length bytes →
+        let frame = frame_of h (take h.length (drop size bytes)) in
+        IsFrame frame × (bytes ≡ framed frame (drop (size + h.length) bytes)) }
     ensures parted { (f : Frame) → IsFrame f → IsHead (head_of f) }
-    ensures cut { (f : Frame) (rest : List ℕ) → framed f rest ≡ headed (head_of f) (f.body ++ rest) }
+    ensures cut { (f : Frame) (rest : List ℕ) →
+        framed f rest ≡ headed (head_of f) (f.body ++ rest) }
 {}
 
 /// Where no head stands, or a head behind which fewer bytes have come than its body has, and where
@@ -78,6 +90,8 @@ pub fn no_frame_yet()
 /// Where no frame can come, none stands, and none can come behind bytes that come later.
 pub fn never_a_frame()
     ensures now { (bytes : List ℕ) → NeverFrame bytes → NoFrame bytes }
-    ensures later { (bytes more : List ℕ) → NeverFrame bytes → NeverFrame (bytes ++ more) }
-    ensures heads { (bytes : List ℕ) → NeverFrame bytes → (more : List ℕ) → NoHead (bytes ++ more) }
+    ensures later { (bytes more : List ℕ) →
+        NeverFrame bytes → NeverFrame (bytes ++ more) }
+    ensures heads { (bytes : List ℕ) →
+        NeverFrame bytes → (more : List ℕ) → NoHead (bytes ++ more) }
 {}

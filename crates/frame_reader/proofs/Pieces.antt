@@ -12,9 +12,6 @@ use Rattle.frame_reader.specs.Frames.{body_of, Ends, IsHeadRead, IsBodyRead, IsC
 
 -- ---- nothing was used yet
 
-pub Grows-nil : (a : Option (List ℕ)) (ahead : List ℕ) → Grows a a ahead ahead
-Grows-nil a ahead = record { piece = []; came = Consumes-nil a; behind = sym (append-nil ahead) }
-
 pub Grows-trans : (a b c : Option (List ℕ)) (ahead next last : List ℕ) → Grows a b ahead next → Grows b c next last → Grows a c ahead last
 Grows-trans a b c ahead next last first second = record {
   piece = first.piece ++ second.piece;
@@ -66,26 +63,18 @@ pub record IsTaken (before after : Option (List ℕ)) (ahead rest : List ℕ) (s
 pub nothing_taken : (a : Option (List ℕ)) (ahead : List ℕ) (size : ℕ) (kept : Option (List ℕ)) → IfSome kept (λ bytes. bytes ≡ []) → IsTaken a a ahead ahead size size kept
 nothing_taken a ahead size kept empty = record { piece = []; came = Consumes-nil a; text = []; stands = append-nil ahead; long = omega arith; same = empty }
 
-module _ (a b c : Option (List ℕ)) (ahead rest more : List ℕ) (size missing : ℕ) (kept : Option (List ℕ)) where
-  -- more bytes came
-  pub taken_grows : IsTaken a b ahead rest size missing kept → Grows b c rest more → IsTaken a c ahead more size missing kept
-  taken_grows taken grows = record {
-    piece = taken.piece ++ grows.piece;
-    came = Consumes-trans a b c taken.piece grows.piece taken.came grows.came;
-    text = taken.text;
-    stands = sym (append_assoc ahead taken.piece grows.piece) ∙ ap (λ (t : List ℕ). t ++ grows.piece) taken.stands
-        ∙ append_assoc taken.text rest grows.piece ∙ ap (λ (t : List ℕ). taken.text ++ t) (sym grows.behind);
-    long = taken.long;
-    same = taken.same;
-  }
-
-  -- no more bytes come, while some are missing
-  pub cut_short : (ending : Ending) → IsTaken a b ahead rest size missing kept → Grows b c rest more → more ≡ [] → 0 < missing → IsCut c ending
-      → (piece : List ℕ) × Consumes a c piece × ((length (ahead ++ piece) < size) × IsCut c ending)
-  cut_short ending taken grows none some why =
-      let all = taken_grows taken grows in
-      let few : length (ahead ++ all.piece) < size = omega (arith, ap length all.stands, length-append all.text more, ap length none, all.long) in
-      (all.piece, all.came, (few, why))
+-- more bytes came
+pub taken_grows : (a b c : Option (List ℕ)) (ahead rest more : List ℕ) (size missing : ℕ) (kept : Option (List ℕ)) → IsTaken a b ahead rest size missing kept → Grows b c rest more
+    → IsTaken a c ahead more size missing kept
+taken_grows a b c ahead rest more size missing kept taken grows = record {
+  piece = taken.piece ++ grows.piece;
+  came = Consumes-trans a b c taken.piece grows.piece taken.came grows.came;
+  text = taken.text;
+  stands = sym (append_assoc ahead taken.piece grows.piece) ∙ ap (λ (t : List ℕ). t ++ grows.piece) taken.stands
+      ∙ append_assoc taken.text rest grows.piece ∙ ap (λ (t : List ℕ). taken.text ++ t) (sym grows.behind);
+  long = taken.long;
+  same = taken.same;
+}
 
 kept_longer : (old new : Option (List ℕ)) (text piece : List ℕ) → IfSome old (λ bytes. bytes ≡ text) → IfSome new (λ longer. IsSomeAnd old (λ bytes. longer ≡ bytes ++ piece))
     → IfSome new (λ bytes. bytes ≡ text ++ piece)
@@ -108,13 +97,3 @@ taken_more a b ahead rest pending used next size missing count old new taken sam
       long = omega (arith, length-append taken.text used, ap length front, length-take-le count pending within, taken.long);
       same = kept_longer old new taken.text used taken.same longer;
     }
-
-body_kept : (kept : Option (List ℕ)) (front text rest : List ℕ) (size : ℕ) → front ≡ text ++ rest → length text ≡ size → IfSome kept (λ bytes. bytes ≡ text) → IsBodyRead front size (body_of kept) rest
-body_kept None front text rest size stands long same = record { text = text; stands = stands; long = long; kept = tt }
-body_kept (Some bytes) front text rest size stands long same = record { text = text; stands = stands; long = long; kept = same }
-
--- none is missing
-pub all_taken : (a b : Option (List ℕ)) (ahead rest : List ℕ) (size missing : ℕ) (kept : Option (List ℕ)) → IsTaken a b ahead rest size missing kept → missing ≡ 0
-    → (piece : List ℕ) × Consumes a b piece × IsBodyRead (ahead ++ piece) size (body_of kept) rest
-all_taken a b ahead rest size missing kept taken none =
-    (taken.piece, taken.came, body_kept kept (ahead ++ taken.piece) taken.text rest size taken.stands (omega (arith, taken.long)) taken.same)

@@ -1,1 +1,3 @@
 pub mod Short
+pub mod Sighting
+pub mod Rules

@@ -1,6 +1,12 @@
--- How a short text is kept.
-use Rattle.std.specs.Prelude.{ℕ, ◌-◌, min, List, ◌++◌, length, take, replicate}
+-- Short texts, and how a text is kept in one.
+use Rattle.std.specs.Prelude.{◌≡◌, ℕ, ◌-◌, ◌≤◌, min, List, ◌++◌, length, take, replicate}
 use Rattle.obs_record.specs.declared.short.Short.{Short}
+
+-- a short text: 12 bytes are kept, and those behind the text are 0
+pub record IsShort (short : Short) : Type 0 where
+  pub room : length short.bytes ≡ 12
+  pub within : short.len ≤ 12
+  pub zeros : short.bytes ≡ take short.len short.bytes ++ replicate (12 - short.len) 0
 
 -- the text, or its first 12 bytes where it is longer; zeros after it
 unfoldable pub kept_short : List ℕ → Short

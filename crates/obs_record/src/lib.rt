@@ -2,11 +2,13 @@
 #![tactic(auto)]
 
 mod line;
+mod name;
 mod rule;
 mod short;
 mod sighting;
 
 pub use line::{Line, Lines};
-pub use rule::RuleCode;
+pub use name::{TrackName, track_name};
+pub use rule::{HeaderFault, RuleCode};
 pub use short::Short;
-pub use sighting::Sighting;
+pub use sighting::{Coded, Shape, Sighting};

@@ -1,3 +1,6 @@
+ghost use Rattle.std.specs.Prelude.{◌≡◌};
+ghost use Rattle.obs_record.specs.Rules.{rule_name};
+
 /// The rules that a line of a batch may break. The rules S are of its spelling, the rules T of the
 /// tables of the office, the rules B of the office's books.
 #[derive(Clone, Copy, Debug, PartialEq, Eq)]
@@ -54,4 +57,55 @@ pub enum RuleCode {
     B8,
     /// The number and the designation belong to one object.
     B9,
+}
+
+/// What is wrong with the headers of a batch in the PSV form of the ADES format.
+#[derive(Clone, Copy, Debug, PartialEq, Eq)]
+pub enum HeaderFault {
+    /// The batch doesn't begin with the line of the format's version.
+    H1,
+    /// The batch ends inside a header.
+    H2,
+    /// The columns have no right ascension or no declination.
+    H3,
+    /// The columns are those of a roving observer or a satellite.
+    H4,
+    /// A column stands twice.
+    H5,
+}
+
+impl RuleCode {
+    /// The name of the rule, as answers give it.
+    pub fn name(self) -> &'static [u8]
+        ensures { result.now ≡ rule_name self }
+    {
+        match self {
+            RuleCode::S1 => b"S1",
+            RuleCode::S2 => b"S2",
+            RuleCode::S3 => b"S3",
+            RuleCode::S4 => b"S4",
+            RuleCode::S5 => b"S5",
+            RuleCode::S6 => b"S6",
+            RuleCode::S7 => b"S7",
+            RuleCode::S8 => b"S8",
+            RuleCode::S9 => b"S9",
+            RuleCode::S10 => b"S10",
+            RuleCode::S11 => b"S11",
+            RuleCode::S12 => b"S12",
+            RuleCode::T1 => b"T1",
+            RuleCode::T2 => b"T2",
+            RuleCode::T3 => b"T3",
+            RuleCode::T4 => b"T4",
+            RuleCode::T5 => b"T5",
+            RuleCode::B1 => b"B1",
+            RuleCode::B2 => b"B2",
+            RuleCode::B3 => b"B3",
+            RuleCode::B4 => b"B4",
+            RuleCode::B5 => b"B5",
+            RuleCode::B6 => b"B6",
+            RuleCode::B7 => b"B7",
+            RuleCode::B8 => b"B8",
+            RuleCode::B9 => b"B9",
+        }
+    }
 }

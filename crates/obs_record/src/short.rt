@@ -1,5 +1,5 @@
 ghost use Rattle.std.specs.Prelude.{◌≡◌};
-ghost use Rattle.obs_record.specs.Short.{kept_short};
+ghost use Rattle.obs_record.specs.Short.{IsShort, kept_short};
 
 /// A text of at most 12 bytes. The bytes from `len` on are 0.
 #[derive(Clone, Copy, Debug, PartialEq, Eq)]
@@ -11,7 +11,8 @@ pub struct Short {
 impl Short {
     /// The text, or its first 12 bytes where it is longer.
     pub fn new(text: &[u8]) -> Short
-        ensures { result ≡ kept_short text.now }
+        ensures text { result ≡ kept_short text.now }
+        ensures short { IsShort result }
     {
         let len = text.len().min(12);
         let mut bytes = [0; 12];

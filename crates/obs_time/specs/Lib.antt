@@ -1,1 +1,9 @@
 pub mod Instants
+pub mod Dates
+pub mod Answering
+pub mod DateText
+pub mod DayText
+pub mod Rounding
+pub mod Written
+pub mod Calendar
+pub mod WrittenText

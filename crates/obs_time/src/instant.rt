@@ -1,8 +1,11 @@
 //! The moment of an observation.
 
-ghost use Rattle.std.specs.Prelude.{◌≡◌, ◌↔◌, IsSome, IfSome};
-ghost use Rattle.obs_time.specs.Instants.{IsInstantNs};
+ghost use Rattle.std.specs.Prelude.{◌≡◌, ◌↔◌, ◌<◌, IsSome, IfSome};
+ghost use Rattle.obs_time.specs.Instants.{IsInstantNs, nanos_of_a_day};
+ghost use Rattle.obs_time.specs.declared.civil.Civil.{Civil};
+ghost use Rattle.obs_time.specs.Dates.{IsCivilOf, IsObservedDay, IsObservedYear, moment};
 
+use crate::civil::NS_PER_DAY;
 use std::marker::Model;
 
 /// The first moment of 1800-01-01, in nanoseconds since 1970.
@@ -34,6 +37,15 @@ impl Instant {
     /// The moment so many nanoseconds after 1970-01-01T00:00:00, or None outside the years 1800 to 2199.
     pub fn new(ns: i64) -> Option<Instant>
         ensures some { IsSome result ↔ IsInstantNs ns }
+        ensures years { (civil : Civil) → IsCivilOf ns civil → (IsSome result ↔ IsObservedYear civil.year) }
+        ensures value { IfSome result (λ t. t ≡ ns) }
+    {
+        Instant::in_range(ns)
+    }
+
+    // The same, without the word on years, which follows from the first clause.
+    fn in_range(ns: i64) -> Option<Instant>
+        ensures some { IsSome result ↔ IsInstantNs ns }
         ensures value { IfSome result (λ t. t ≡ ns) }
     {
         if FIRST_NS <= ns && ns <= LAST_NS {
@@ -49,5 +61,16 @@ impl Instant {
         ensures range { IsInstantNs self }
     {
         self.ns
+    }
+
+    /// The moment so many nanoseconds after the start of a day.
+    pub(crate) fn at(day: i32, ns_of_day: u64) -> Instant
+        requires day { IsObservedDay day }
+        requires time { ns_of_day < nanos_of_a_day }
+        ensures { result ≡ moment day ns_of_day }
+    {
+        Instant {
+            ns: i64::from(day) * NS_PER_DAY + ns_of_day as i64,
+        }
     }
 }

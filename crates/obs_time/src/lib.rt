@@ -4,6 +4,22 @@
 //! calendar is the Gregorian one, from the year 1800 to the year 2199.
 #![tactic(auto)]
 
+mod civil;
+mod dates;
+mod days;
+mod fault;
+mod half_months;
 mod instant;
+mod rounding;
+mod writing;
 
+pub use civil::{Civil, civil_of, day};
+pub use dates::read_date;
+pub use days::read_day_fraction;
+pub use fault::TimeFault;
+pub use half_months::half_month;
 pub use instant::Instant;
+pub use writing::write_day_fraction;
+
+#[cfg(test)]
+mod tests;

@@ -1,0 +1,5 @@
+pub mod Readers
+pub mod Cases
+pub mod Texts
+pub mod Rounding
+pub mod Written

@@ -1,0 +1,5 @@
+pub mod Angles
+pub mod Answer
+pub mod Reading
+pub mod Sexagesimal
+pub mod Writing

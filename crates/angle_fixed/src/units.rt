@@ -1,0 +1,17 @@
+//! The parts of angles, in units of 1/9,000,000,000,000 degree.
+
+pub const HOUR: u64 = 135_000_000_000_000;
+
+pub const MINUTE_OF_TIME: u64 = 2_250_000_000_000;
+
+pub const SECOND_OF_TIME: u64 = 37_500_000_000;
+
+pub const DEGREE: u64 = 9_000_000_000_000;
+
+pub const ARCMINUTE: u64 = 150_000_000_000;
+
+pub const ARCSECOND: u64 = 2_500_000_000;
+/// 24 hours, 360 degrees.
+pub const CIRCLE: u64 = 3_240_000_000_000_000;
+/// 90 degrees.
+pub const QUARTER: u64 = 810_000_000_000_000;

@@ -1,0 +1,11 @@
+pub mod YearLemmas
+pub mod AnswerLaws
+pub mod Verdicts
+pub mod DateLaws
+pub mod DayLemmas
+pub mod DayLaws
+pub mod RoundingLemmas
+pub mod WritingLaws
+pub mod YearLaws
+pub mod TextLaws
+pub mod CalendarLaws

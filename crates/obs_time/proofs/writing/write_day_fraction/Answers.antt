@@ -1,0 +1,36 @@
+use Rattle.std.proofs.Common.{◌≡◌, sym, length, rules, ap, ◌∙◌, ◌/◌, ℕ, List, ◌++◌, ◌-◌, append_assoc}
+use Rattle.std.specs.Prelude.{IsOk}
+use Rattle.ascii_text.specs.Digits.{decimals_text}
+use Rattle.ascii_text.specs.Blanks.{blanks}
+use Rattle.obs_time.proofs.RoundingLemmas.{rounded_nearest}
+use Rattle.obs_time.proofs.DayLemmas.{unit_positive}
+use Rattle.obs_time.proofs.WritingLaws.{text_of}
+use Rattle.obs_time.proofs.TextLaws.{text_is_read, one_text, text_is_kept}
+use Rattle.obs_time.proofs.writing.write_day_fraction.Goals as goal
+
+pub returns-clause-text : goal.returns-clause-text
+returns-clause-text c =
+    let civil = c.rounded_civil-civil.result in
+    let count = c.args.decimals in
+    let value = civil.ns_of_day / c.decimal_unit.result in
+    let out = rw c.unwrap.ensures at c.into_inner.ensures.ok in
+    let parts = c.put_blanks.ensures.text ∙ ap (λ (x : List ℕ). x ++ blanks (6 - count)) c.put_decimals.ensures.text ∙ append_assoc c.put_date.new.out.items (decimals_text count value) (blanks (6 - count)) in
+    text_of c.args.t count civil value c.unwrap.result c.requires.some c.requires.few c.rounded_civil-civil.ensures.civil c.rounded_civil-civil.ensures.year (ap (λ (k : ℕ). civil.ns_of_day / k) c.decimal_unit.ensures.value) (out ∙ parts ∙ c.put_date.ensures.text (decimals_text count value ++ blanks (6 - count)))
+
+seventeen : (c : goal.After-unwrap) → length c.unwrap.result ≡ 17
+seventeen c =
+    let out = rw c.unwrap.ensures at c.into_inner.ensures.ok in
+    let ok : IsOk c.into_inner.result = rw c.unwrap.ensures (search rules) in
+    ap length out ∙ c.into_inner.ensures.variant.0 ok
+
+pub returns-clause-again : goal.returns-clause-again
+returns-clause-again c = λ range. text_is_read c.args.t c.args.decimals c.unwrap.result c.requires.few (returns-clause-text c) range
+
+pub returns-clause-only : goal.returns-clause-only
+returns-clause-only c = λ other len is. one_text c.args.t c.args.decimals other c.unwrap.result c.requires.few is (returns-clause-text c) (len ∙ sym (seventeen c))
+
+pub returns-clause-kept : goal.returns-clause-kept
+returns-clause-kept c = λ text len read. text_is_kept c.args.t c.args.decimals c.unwrap.result text c.requires.few (returns-clause-text c) (len ∙ sym (seventeen c)) read
+
+pub returns-clause-nearest : goal.returns-clause-nearest
+returns-clause-nearest c = rounded_nearest c.args.t _ (unit_positive c.args.decimals c.requires.few)

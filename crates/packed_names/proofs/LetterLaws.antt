@@ -1,0 +1,32 @@
+-- Letters and indices stand for each other.
+use Rattle.std.proofs.Common.{◌≡◌, ℕ, ◌<◌, ◌≤◌, true, cond, ltb, List, [], ◌∷◌, Some, None, refl, sym, ap, subst, arith}
+use Rattle.std.proofs.lemmas.Option.{cond_some}
+use Rattle.std.proofs.lemmas.Bool.{ltb-true}
+use Rattle.std.proofs.lemmas.Bool.Decides.{nat_tests}
+use Rattle.ascii_text.proofs.DigitTexts.{bind_some}
+use Rattle.packed_names.specs.Letters.{letter_of, index_of, letter_at}
+
+pub index_of-letter_of : (index : ℕ) → index < 25 → index_of (letter_of index) ≡ Some index
+unfolding index_of
+index_of-letter_of index below = grind (arith, nat_tests)
+
+pub letter_of-index_of : (letter index : ℕ) → index_of letter ≡ Some index → letter_of index ≡ letter
+unfolding index_of
+letter_of-index_of letter index read = grind (arith, nat_tests)
+
+pub letter_at-letter_of : (count index : ℕ) (rest : List ℕ) → index < count → count ≤ 25 → letter_at count (letter_of index ∷ rest) ≡ Some (index, rest)
+unfolding letter_at
+letter_at-letter_of count index rest below few =
+    let read : index_of (letter_of index) ≡ Some index = index_of-letter_of index (omega arith) in
+    let within : ltb index count ≡ true = grind (arith, nat_tests) in
+    rw (read, within) refl
+
+-- what a letter was read from
+pub letter_at_takes : (count : ℕ) (text : List ℕ) (x : ℕ × List ℕ) → letter_at count text ≡ Some x → (text ≡ letter_of x.0 ∷ x.1) × (x.0 < count)
+unfolding letter_at
+letter_at_takes count [] x read = absurd cc
+letter_at_takes count (letter ∷ text) x read =
+    let step = bind_some (index_of letter) (λ index. cond (ltb index count) (Some (index, text)) None) x read in
+    let kept = cond_some (ltb step.0 count) (step.0, text) x step.2 in
+    let same : letter_of step.0 ≡ letter = letter_of-index_of letter step.0 step.1 in
+    subst (λ (y : ℕ × List ℕ). (letter ∷ text ≡ letter_of y.0 ∷ y.1) × (y.0 < count)) kept.1 (ap (λ (l : ℕ). l ∷ text) (sym same), ltb-true _ _ kept.0)

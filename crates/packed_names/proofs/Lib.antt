@@ -1,0 +1,13 @@
+pub mod Chains
+pub mod LetterLaws
+pub mod DigitLaws
+pub mod OrderLaws
+pub mod PackedNumberLaws
+pub mod PackedProvisionalLaws
+pub mod PackedSurveyLaws
+pub mod JudgingLaws
+pub mod PackedLaws
+pub mod PrintedNumberLaws
+pub mod PrintedProvisionalLaws
+pub mod PrintedLaws
+pub mod DecimalLengths

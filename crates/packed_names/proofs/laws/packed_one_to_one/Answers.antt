@@ -1,0 +1,13 @@
+use Rattle.std.proofs.Common.{◌∙◌, sym}
+use Rattle.packed_names.specs.Ranges.{IsName}
+use Rattle.packed_names.specs.Packed.{packed_text, FitsPacked}
+use Rattle.packed_names.specs.PackedReading.{packed_in}
+use Rattle.packed_names.proofs.JudgingLaws.{one_value}
+use Rattle.packed_names.proofs.PackedLaws.{packed_reader, FitsPacked-IsName}
+use Rattle.packed_names.proofs.laws.packed_one_to_one.Goals as goal
+
+pub returns-clause-one_name : goal.returns-clause-one_name
+returns-clause-one_name c = λ one other text. one_value IsName FitsPacked packed_text FitsPacked-IsName packed_in packed_reader one other text
+
+pub returns-clause-one_text : goal.returns-clause-one_text
+returns-clause-one_text c = λ name one other first second. first.text_is ∙ sym second.text_is

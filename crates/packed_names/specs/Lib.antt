@@ -1,0 +1,12 @@
+pub mod Letters
+pub mod Orders
+pub mod Ranges
+pub mod Ends
+pub mod Spellings
+pub mod Packed
+pub mod PackedReading
+pub mod Printed
+pub mod Judging
+pub mod Order
+pub mod Labels
+pub mod PrintedReading

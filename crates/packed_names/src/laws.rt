@@ -1,0 +1,29 @@
+//! Laws of the two forms. Each function does nothing: its contract is the law, for all names and texts.
+
+ghost use Rattle.std.specs.Prelude.{◌≡◌, ℕ, List};
+ghost use Rattle.packed_names.specs.declared.name.Name.{Name};
+ghost use Rattle.packed_names.specs.Packed.{IsPackedAs};
+ghost use Rattle.packed_names.specs.Printed.{IsPrintedAs};
+ghost use Rattle.packed_names.specs.Order.{designation_cmp};
+
+use crate::name::Designation;
+use std::cmp::Ordering;
+
+/// Two names never share a packed form, and a name never has two.
+pub fn packed_one_to_one()
+    ensures one_name { (one other : Name) (text : List ℕ) → IsPackedAs one text → IsPackedAs other text → one ≡ other }
+    ensures one_text { (name : Name) (one other : List ℕ) → IsPackedAs name one → IsPackedAs name other → one ≡ other }
+{}
+
+/// Two names never share a printed form, and a name never has two.
+pub fn printed_one_to_one()
+    ensures one_name { (one other : Name) (text : List ℕ) → IsPrintedAs one text → IsPrintedAs other text → one ≡ other }
+    ensures one_text { (name : Name) (one other : List ℕ) → IsPrintedAs name one → IsPrintedAs name other → one ≡ other }
+{}
+
+/// Designations compare in the order that is stated for them.
+pub fn designations_in_order(one: Designation, other: Designation) -> Ordering
+    ensures { result ≡ designation_cmp one other }
+{
+    one.cmp(&other)
+}

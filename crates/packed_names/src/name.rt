@@ -1,0 +1,79 @@
+//! Names: numbers and designations.
+
+ghost use Rattle.std.specs.Prelude.{◌≡◌, ◌↔◌, IsTrue};
+ghost use Rattle.packed_names.specs.Ranges.{IsName};
+ghost use Rattle.packed_names.specs.Judging.{is_half_month, is_provisional, is_in_range, judge};
+
+use crate::half_month::HalfMonth;
+use crate::number::Number;
+use crate::provisional::{Provisional, limit};
+use crate::survey::Survey;
+
+/// The designation of a minor planet that has no number yet.
+///
+/// Provisional designations come first in their order, by year, half-month and order; then those of the surveys, by
+/// survey and number.
+#[derive(Clone, Copy, Debug, PartialEq, Eq, PartialOrd, Ord)]
+pub enum Designation {
+    /// Given by the Minor Planet Center for a half-month.
+    Provisional(Provisional),
+    /// Given by a survey, with a number from 1 to 9999.
+    Survey(Survey, u16),
+}
+
+/// What a minor planet is called by.
+#[derive(Clone, Copy, Debug, PartialEq, Eq)]
+pub enum Name {
+    /// Of a minor planet whose orbit is known well.
+    Number(Number),
+    /// Of one that has no number, or of what a numbered one was called before.
+    Designation(Designation),
+}
+
+/// Why a text is no name.
+#[derive(Clone, Copy, Debug, PartialEq, Eq)]
+pub enum NameFault {
+    /// The text has the shape of no name.
+    Spelling,
+    /// The text has the shape of a name, and its number, year or order is none that a name has.
+    OutOfRange,
+}
+
+/// Whether the year and the index are those of a half-month.
+pub(crate) fn is_half_month(half: HalfMonth) -> bool
+    ensures { result ≡ is_half_month half }
+{
+    half.year >= 1925 && half.year <= 2099 && half.index < 24
+}
+
+/// Whether the half-month is one, and has a designation of this order.
+fn is_provisional(provisional: Provisional) -> bool
+    ensures { result ≡ is_provisional provisional }
+{
+    is_half_month(provisional.half)
+        && provisional.order >= 1
+        && provisional.order <= limit(provisional.half)
+}
+
+/// Whether the fields of the name are in their ranges: only such a name has texts.
+pub fn is_name(name: Name) -> bool
+    ensures test { result ≡ is_in_range name }
+    ensures name { IsTrue result ↔ IsName name }
+{
+    match name {
+        Name::Number(number) => number.0 >= 1 && number.0 <= 15_396_335,
+        Name::Designation(Designation::Provisional(provisional)) => is_provisional(provisional),
+        Name::Designation(Designation::Survey(_, number)) => number >= 1 && number <= 9999,
+    }
+}
+
+/// The values themselves, where they are in range.
+pub(crate) fn judged(values: Name) -> Result<Name, NameFault>
+    ensures { result ≡ judge is_in_range values }
+{
+    if is_name(values) {
+        Ok(values)
+    } else {
+        Err(NameFault::OutOfRange)
+    }
+}

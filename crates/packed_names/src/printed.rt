@@ -1,0 +1,109 @@
+//! The printed form of names.
+
+ghost use Rattle.std.specs.Prelude.{◌≡◌, ◌↔◌};
+ghost use Rattle.packed_names.specs.Judging.{is_in_range, is_half_month, judge, answered};
+ghost use Rattle.packed_names.specs.Labels.{IsLabelOf};
+ghost use Rattle.packed_names.specs.Ranges.{IsName};
+ghost use Rattle.packed_names.specs.Printed.{printed_text, IsPrintedAs, HasPrintedShape, IsPrintedName, IsHalfPrintedAs, HasPrintedHalfShape, IsPrintedHalf};
+ghost use Rattle.packed_names.specs.PrintedReading.{printed_in, half_in};
+ghost use Rattle.packed_names.specs.declared.name.Designation.TheVariants as designations;
+ghost use Rattle.packed_names.specs.declared.name.Name.TheVariants as names;
+
+use crate::half_month::HalfMonth;
+use crate::label::Label;
+use crate::name::{Designation, Name, NameFault, is_half_month, judged};
+use crate::number::Number;
+use crate::survey::Survey;
+use reading::{half_in, number_in, provisional_in, survey_in};
+use writing::{number_text, provisional_text, survey_text};
+
+mod reading;
+mod writing;
+
+/// The number, where it is in range.
+fn number_judged(number: u64) -> Result<Name, NameFault>
+    ensures { result ≡ judge is_in_range (names.Number (record { 0 = number })) }
+{
+    if number >= 1 && number <= 15_396_335 {
+        Ok(Name::Number(Number(number as u32)))
+    } else {
+        Err(NameFault::OutOfRange)
+    }
+}
+
+/// The survey designation, where its number is in range.
+fn survey_judged(survey: Survey, number: u64) -> Result<Name, NameFault>
+    ensures { result ≡ judge is_in_range (names.Designation (designations.Survey survey number)) }
+{
+    if number >= 1 && number <= 9999 {
+        Ok(Name::Designation(Designation::Survey(survey, number as u16)))
+    } else {
+        Err(NameFault::OutOfRange)
+    }
+}
+
+#[tactic(auto, unfolding(crate::specs::PrintedReading::printed_in, crate::specs::PrintedReading::designation_in, ascii_text::specs::Judged::answer_of))]
+fn printed(text: &[u8]) -> Result<Name, NameFault>
+    ensures { result ≡ answered is_in_range (printed_in text.now) }
+{
+    if let Some(number) = number_in(text) {
+        return number_judged(number);
+    }
+    if let Some(provisional) = provisional_in(text) {
+        return judged(Name::Designation(Designation::Provisional(provisional)));
+    }
+    match survey_in(text) {
+        Some((survey, number)) => survey_judged(survey, number),
+        None => Err(NameFault::Spelling),
+    }
+}
+
+/// The name that the text is the printed form of, as the Minor Planet Center's page on new- and old-style designations
+/// has it, with the cycle in the line of the letters.
+///
+/// Any other text is `OutOfRange` where it has the shape of a printed name, as `15396336` or `2100 EA`, and `Spelling`
+/// where it has none, as `2024 EA0`.
+pub fn read(text: &[u8]) -> Result<Name, NameFault>
+    ensures exact { result ≡ answered is_in_range (printed_in text.now) }
+    ensures name { (name : Name) → (result ≡ Ok name) ↔ IsPrintedAs name text.now }
+    ensures out_of_range { (result ≡ Err NameFault.OutOfRange) ↔ (HasPrintedShape text.now × ¬ IsPrintedName text.now) }
+    ensures spelling { (result ≡ Err NameFault.Spelling) ↔ (¬ HasPrintedShape text.now) }
+{
+    printed(text)
+}
+
+#[tactic(auto, unfolding(ascii_text::specs::Judged::answer_of))]
+fn printed_half(text: &[u8]) -> Result<HalfMonth, NameFault>
+    ensures { result ≡ answered is_half_month (half_in text.now) }
+{
+    match half_in(text) {
+        Some(half) if is_half_month(half) => Ok(half),
+        Some(_) => Err(NameFault::OutOfRange),
+        None => Err(NameFault::Spelling),
+    }
+}
+
+/// The half-month that the text is the printed form of: year, blank, letter, as `2024 E`.
+///
+/// Any other text is `OutOfRange` where four digits, a blank and a half-month's letter make it up, and `Spelling` else.
+pub fn read_half(text: &[u8]) -> Result<HalfMonth, NameFault>
+    ensures exact { result ≡ answered is_half_month (half_in text.now) }
+    ensures half { (half : HalfMonth) → (result ≡ Ok half) ↔ IsHalfPrintedAs half text.now }
+    ensures out_of_range { (result ≡ Err NameFault.OutOfRange) ↔ (HasPrintedHalfShape text.now × ¬ IsPrintedHalf text.now) }
+    ensures spelling { (result ≡ Err NameFault.Spelling) ↔ (¬ HasPrintedHalfShape text.now) }
+{
+    printed_half(text)
+}
+
+/// The printed form of the name, which is in range.
+pub fn print(name: Name) -> Label
+    requires { IsName name }
+    ensures { IsLabelOf (printed_text name) result }
+{
+    let text = match name {
+        Name::Number(number) => number_text(number.0),
+        Name::Designation(Designation::Provisional(provisional)) => provisional_text(provisional),
+        Name::Designation(Designation::Survey(survey, number)) => survey_text(survey, number),
+    };
+    Label::of(text.as_slice())
+}
