@@ -1,6 +1,6 @@
 //! Writing sexagesimal texts of twelve bytes, without memory.
 
-ghost use Rattle.std.specs.Prelude.{◌≡◌, ◌+◌, ◌-◌, ◌*◌, ◌/◌, ◌%◌, ◌^◌, ◌<◌, ◌≤◌, ◌++◌, length, List, ℕ, Ok, pos, ◌≤ℤ◌, nat_abs};
+ghost use Rattle.std.specs.Prelude.{◌≡◌, ◌+◌, ◌-◌, ◌*◌, ◌%◌, ◌^◌, ◌<◌, ◌≤◌, ◌++◌, length, List, ℕ, Ok, nat_abs};
 ghost use Rattle.arrayvec.specs.ArrayVec.{array_vec_len};
 ghost use Rattle.ascii_text.specs.Digits.{decimals_width};
 ghost use Rattle.angle_fixed.specs.Angles.{arcsecond, circle, quarter, second_of_time, sign_byte, spelling};

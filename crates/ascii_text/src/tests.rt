@@ -1,6 +1,6 @@
 use crate::blanks::{are_blanks, trimmed};
 use crate::digits::Radix;
-use crate::reading::{Decimals, decimals_at, digits_at, number_at};
+use crate::reading::{Decimals, decimals_at, decimals_within, digits_at, number_at};
 use crate::writing::{put_blanks, put_decimal, put_decimals, put_digits};
 use arrayvec::ArrayVec;
 use std::test::*;
@@ -45,11 +45,12 @@ fn reads(rt: HostRuntime) {
 }
 
 #[test]
+#[tactic(auto, using(crate::proofs::Steps::length_decimal_u64))]
 fn trims_and_writes(rt: HostRuntime) {
     assert_eq!(rt; trimmed(b"  a b "), b"a b".as_slice());
     assert_eq!(rt; trimmed(b"   "), b"".as_slice());
     assert!(rt; are_blanks(b"  ") && !are_blanks(b" \t"));
-    let mut out = ArrayVec::<u8, 24>::new();
+    let mut out = ArrayVec::<u8, 40>::new();
     put_digits(&mut out, Radix::Ten, 3, 7);
     put_decimals(&mut out, Decimals { count: 2, value: 5 });
     put_blanks(&mut out, 1);

@@ -10,3 +10,6 @@ mod reading;
 
 pub use batch::split_batch;
 pub use reading::read_line;
+
+#[cfg(test)]
+mod tests;

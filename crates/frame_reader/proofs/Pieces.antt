@@ -1,5 +1,5 @@
 -- Pieces that come out of a source: one behind the other, behind what was read ahead, until a head stands at the front or a body is whole.
-use Rattle.std.proofs.Common.{◌≡◌, ℕ, ◌+◌, ◌-◌, ◌<◌, ◌≤◌, List, [], ◌++◌, length, take, drop, Option, Some, None, IfSome, sym, ap, ◌∙◌, subst, append_assoc, arith}
+use Rattle.std.proofs.Common.{◌≡◌, ℕ, ◌+◌, ◌-◌, ◌≤◌, List, [], ◌++◌, length, take, drop, Option, Some, None, IfSome, sym, ap, ◌∙◌, subst, append_assoc, arith}
 use Rattle.std.specs.Prelude.{IsSomeAnd}
 use Rattle.std.proofs.lemmas.List.{append-nil, take-append-drop, length-append, length-take-le, nil_from_length}
 use Rattle.std.proofs.KnownBytes.{Consumes-nil, Consumes-trans}
@@ -8,7 +8,7 @@ use Rattle.desk_frames.specs.Frames.{NoFrame}
 use Rattle.frame_reader.specs.declared.frame.Ending.{Ending}
 use Rattle.frame_reader.specs.declared.head.HeldHead.{HeldHead}
 use Rattle.frame_reader.specs.Reading.{Grows}
-use Rattle.frame_reader.specs.Frames.{body_of, Ends, IsHeadRead, IsBodyRead, IsCut}
+use Rattle.frame_reader.specs.Frames.{Ends, IsHeadRead}
 
 -- ---- nothing was used yet
 

@@ -33,7 +33,8 @@ pub fn write_reply_frame<K: Sink>(sink: &mut K, status: u16, text: &[u8]) -> Res
     ensures counts { K.faults sink.old ≤ K.faults sink.new }
     ensures cause { OnErr result (Rises (K.faults sink.old) (K.faults sink.new)) }
 {
-    let head = reply_head(status, text.len() as u64);
-    write_all(sink, head.as_slice())?;
+    let written = reply_head(status, text.len() as u64);
+    let head = written.as_slice();
+    write_all(sink, head)?;
     write_all(sink, text)
 }

@@ -14,9 +14,11 @@ use Rattle.packed_names.specs.Ranges.{limit_of}
 abbrev pub is_within : ℕ → ℕ → ℕ → Bool
 is_within from to number = nat_le from number && nat_le number to
 
+-- whether a half-month is one of the years 1925 to 2099
 abbrev pub is_half_month : HalfMonth → Bool
 is_half_month half = is_within 1925 2099 half.year && nat_lt half.index 24
 
+-- whether a half-month is one, and has a designation of this order
 abbrev pub is_provisional : Provisional → Bool
 is_provisional provisional =
     is_half_month provisional.half && is_within 1 (limit_of provisional.half) provisional.order

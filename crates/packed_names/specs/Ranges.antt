@@ -32,6 +32,7 @@ IsNumber number = (1 ≤ number) × (number ≤ 15396335)
 abbrev pub IsSurveyNumber : ℕ → Type 0
 IsSurveyNumber number = (1 ≤ number) × (number ≤ 9999)
 
+-- a designation whose fields are in their ranges
 abbrev pub IsDesignation : Designation → Type 0
 IsDesignation (designations.Provisional provisional) = IsProvisional provisional
 IsDesignation (designations.Survey survey number) = IsSurveyNumber number

@@ -1,4 +1,4 @@
-//! Laws of the two forms. Each function does nothing: its contract is the law, for all names and texts.
+//! Laws of names. The contract of each function is the law, for all names and texts.
 
 ghost use Rattle.std.specs.Prelude.{◌≡◌, ℕ, List};
 ghost use Rattle.packed_names.specs.declared.name.Name.{Name};

@@ -1,7 +1,7 @@
 //! Names: numbers and designations.
 
-ghost use Rattle.std.specs.Prelude.{◌≡◌, ◌↔◌, IsTrue};
-ghost use Rattle.packed_names.specs.Ranges.{IsName};
+ghost use Rattle.std.specs.Prelude.{◌≡◌, ◌↔◌, IsTrue, IfOk};
+ghost use Rattle.packed_names.specs.Ranges.{IsName, IsHalfMonth};
 ghost use Rattle.packed_names.specs.Judging.{is_half_month, is_provisional, is_in_range, judge};
 
 use crate::half_month::HalfMonth;
@@ -41,7 +41,8 @@ pub enum NameFault {
 
 /// Whether the year and the index are those of a half-month.
 pub(crate) fn is_half_month(half: HalfMonth) -> bool
-    ensures { result ≡ is_half_month half }
+    ensures test { result ≡ is_half_month half }
+    ensures half { IsTrue result ↔ IsHalfMonth half }
 {
     half.year >= 1925 && half.year <= 2099 && half.index < 24
 }
@@ -69,7 +70,8 @@ pub fn is_name(name: Name) -> bool
 
 /// The values themselves, where they are in range.
 pub(crate) fn judged(values: Name) -> Result<Name, NameFault>
-    ensures { result ≡ judge is_in_range values }
+    ensures exact { result ≡ judge is_in_range values }
+    ensures in_range { IfOk result IsName }
 {
     if is_name(values) {
         Ok(values)

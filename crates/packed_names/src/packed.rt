@@ -1,6 +1,6 @@
 //! The packed form of names.
 
-ghost use Rattle.std.specs.Prelude.{◌≡◌, ◌↔◌};
+ghost use Rattle.std.specs.Prelude.{◌≡◌, ◌↔◌, IfOk};
 ghost use Rattle.packed_names.specs.Judging.{is_in_range, answered};
 ghost use Rattle.packed_names.specs.Labels.{IsLabelOf};
 ghost use Rattle.packed_names.specs.Ranges.{IsName};
@@ -17,7 +17,8 @@ mod writing;
 
 #[tactic(auto, unfolding(ascii_text::specs::Judged::answer_of))]
 fn unpacked(text: &[u8]) -> Result<Name, NameFault>
-    ensures { result ≡ answered is_in_range (packed_in text.now) }
+    ensures exact { result ≡ answered is_in_range (packed_in text.now) }
+    ensures in_range { IfOk result IsName }
 {
     match packed_in(text) {
         Some(values) => judged(values),
@@ -31,6 +32,8 @@ fn unpacked(text: &[u8]) -> Result<Name, NameFault>
 /// `Spelling` where it has none, as `K24e00A`.
 pub fn unpack(text: &[u8]) -> Result<Name, NameFault>
     ensures exact { result ≡ answered is_in_range (packed_in text.now) }
+    ensures in_range { IfOk result IsName }
+
     ensures name { (name : Name) → (result ≡ Ok name) ↔ IsPackedAs name text.now }
     ensures out_of_range { (result ≡ Err NameFault.OutOfRange) ↔ (HasPackedShape text.now × ¬ IsPackedName text.now) }
     ensures spelling { (result ≡ Err NameFault.Spelling) ↔ (¬ HasPackedShape text.now) }

@@ -1,9 +1,9 @@
 //! The printed form of names.
 
-ghost use Rattle.std.specs.Prelude.{◌≡◌, ◌↔◌};
+ghost use Rattle.std.specs.Prelude.{◌≡◌, ◌↔◌, IfOk};
 ghost use Rattle.packed_names.specs.Judging.{is_in_range, is_half_month, judge, answered};
 ghost use Rattle.packed_names.specs.Labels.{IsLabelOf};
-ghost use Rattle.packed_names.specs.Ranges.{IsName};
+ghost use Rattle.packed_names.specs.Ranges.{IsName, IsHalfMonth};
 ghost use Rattle.packed_names.specs.Printed.{printed_text, IsPrintedAs, HasPrintedShape, IsPrintedName, IsHalfPrintedAs, HasPrintedHalfShape, IsPrintedHalf};
 ghost use Rattle.packed_names.specs.PrintedReading.{printed_in, half_in};
 ghost use Rattle.packed_names.specs.declared.name.Designation.TheVariants as designations;
@@ -22,7 +22,8 @@ mod writing;
 
 /// The number, where it is in range.
 fn number_judged(number: u64) -> Result<Name, NameFault>
-    ensures { result ≡ judge is_in_range (names.Number (record { 0 = number })) }
+    ensures exact { result ≡ judge is_in_range (names.Number (record { 0 = number })) }
+    ensures in_range { IfOk result IsName }
 {
     if number >= 1 && number <= 15_396_335 {
         Ok(Name::Number(Number(number as u32)))
@@ -33,7 +34,8 @@ fn number_judged(number: u64) -> Result<Name, NameFault>
 
 /// The survey designation, where its number is in range.
 fn survey_judged(survey: Survey, number: u64) -> Result<Name, NameFault>
-    ensures { result ≡ judge is_in_range (names.Designation (designations.Survey survey number)) }
+    ensures exact { result ≡ judge is_in_range (names.Designation (designations.Survey survey number)) }
+    ensures in_range { IfOk result IsName }
 {
     if number >= 1 && number <= 9999 {
         Ok(Name::Designation(Designation::Survey(survey, number as u16)))
@@ -44,7 +46,8 @@ fn survey_judged(survey: Survey, number: u64) -> Result<Name, NameFault>
 
 #[tactic(auto, unfolding(crate::specs::PrintedReading::printed_in, crate::specs::PrintedReading::designation_in, ascii_text::specs::Judged::answer_of))]
 fn printed(text: &[u8]) -> Result<Name, NameFault>
-    ensures { result ≡ answered is_in_range (printed_in text.now) }
+    ensures exact { result ≡ answered is_in_range (printed_in text.now) }
+    ensures in_range { IfOk result IsName }
 {
     if let Some(number) = number_in(text) {
         return number_judged(number);
@@ -65,6 +68,8 @@ fn printed(text: &[u8]) -> Result<Name, NameFault>
 /// where it has none, as `2024 EA0`.
 pub fn read(text: &[u8]) -> Result<Name, NameFault>
     ensures exact { result ≡ answered is_in_range (printed_in text.now) }
+    ensures in_range { IfOk result IsName }
+
     ensures name { (name : Name) → (result ≡ Ok name) ↔ IsPrintedAs name text.now }
     ensures out_of_range { (result ≡ Err NameFault.OutOfRange) ↔ (HasPrintedShape text.now × ¬ IsPrintedName text.now) }
     ensures spelling { (result ≡ Err NameFault.Spelling) ↔ (¬ HasPrintedShape text.now) }
@@ -74,7 +79,8 @@ pub fn read(text: &[u8]) -> Result<Name, NameFault>
 
 #[tactic(auto, unfolding(ascii_text::specs::Judged::answer_of))]
 fn printed_half(text: &[u8]) -> Result<HalfMonth, NameFault>
-    ensures { result ≡ answered is_half_month (half_in text.now) }
+    ensures exact { result ≡ answered is_half_month (half_in text.now) }
+    ensures in_range { IfOk result IsHalfMonth }
 {
     match half_in(text) {
         Some(half) if is_half_month(half) => Ok(half),
@@ -88,6 +94,8 @@ fn printed_half(text: &[u8]) -> Result<HalfMonth, NameFault>
 /// Any other text is `OutOfRange` where four digits, a blank and a half-month's letter make it up, and `Spelling` else.
 pub fn read_half(text: &[u8]) -> Result<HalfMonth, NameFault>
     ensures exact { result ≡ answered is_half_month (half_in text.now) }
+    ensures in_range { IfOk result IsHalfMonth }
+
     ensures half { (half : HalfMonth) → (result ≡ Ok half) ↔ IsHalfPrintedAs half text.now }
     ensures out_of_range { (result ≡ Err NameFault.OutOfRange) ↔ (HasPrintedHalfShape text.now × ¬ IsPrintedHalf text.now) }
     ensures spelling { (result ≡ Err NameFault.Spelling) ↔ (¬ HasPrintedHalfShape text.now) }
