@@ -1,5 +1,5 @@
 -- A whole session without a fault is served to its end.
-use Rattle.std.proofs.Common.{◌≡◌, ℕ, ◌<◌, List, [], length, Option, refl, ap, arith}
+use Rattle.std.proofs.Common.{◌≡◌, ℕ, List, [], length, Option, refl, ap, arith}
 use Rattle.desk_frames.specs.Frames.{IsSession}
 use Rattle.desk_frames.proofs.Streams.{one_session}
 use Rattle.act_model.specs.declared.request.Key.{Key}

@@ -1,15 +1,13 @@
 -- How far a run has come, step by step, and what its ends leave.
 use Rattle.std.proofs.Common.{◌≡◌, ℕ, ◌+◌, ◌-◌, ◌^◌, ◌<◌, ◌≤◌, min, List, [], ◌∷◌, ◌++◌, length, take, Option, Some, None, Ok, Err, refl, sym, ap, subst, ◌∙◌, arith, inl, inr, lit<}
-use Rattle.std.specs.Prelude.{◌⊎◌}
-use Rattle.std.specs.Io.KnownBytes.{Consumes, Appends, Keeps, IsAtEnd}
+use Rattle.std.specs.Io.KnownBytes.{Consumes, Appends, IsAtEnd}
 use Rattle.std.proofs.KnownBytes.{Consumes-nil, Appends-nil, Consumes-trans, Appends-trans, Appends-kept, Keeps-refl}
 use Rattle.std.proofs.lemmas.List.{append-nil, length-append}
-use Rattle.desk_io.specs.Outside.{AppendsPart}
 use Rattle.desk_io.specs.declared.outside.Failed.{Failed}
 use Rattle.desk_frames.specs.Frames.{Frame, IsFrame, framed, NoFrame, NeverFrame, reached}
-use Rattle.desk_frames.proofs.Streams.{frame_before, never_no_frame, no_frame_in_nothing}
+use Rattle.desk_frames.proofs.Streams.{frame_before, no_frame_in_nothing}
 use Rattle.frame_reader.specs.declared.frame.ReadFrame.{ReadFrame}
-use Rattle.frame_reader.specs.Frames.{IsOver, IsFrameRead, NoFrameComes}
+use Rattle.frame_reader.specs.Frames.{IsFrameRead, NoFrameComes}
 use Rattle.act_model.specs.declared.request.Key.{Key}
 use Rattle.act_model.specs.declared.entry.Entry.{Entry}
 use Rattle.act_model.specs.declared.reply.Reply.{Reply}
@@ -20,9 +18,9 @@ use Rattle.act_model.proofs.Conducts.{conduct_once, conduct_steps}
 use Rattle.mpc_cli.specs.declared.serving.Turned.{Turned}
 use Rattle.mpc_cli.specs.declared.serving.Turned.TheVariants.{Answered, Over, NoMore, ReadFailed, WriteFailed}
 use Rattle.mpc_cli.specs.declared.status.Status.TheVariants as status
-use Rattle.mpc_cli.specs.Serving.{Readings, TakesTurn, Served, CutShort}
-use Rattle.mpc_cli.specs.Runs.{offset_at, IsLeft, RunsOver, StopsAt, StopsReading, StopsWriting, Ends}
-use Rattle.mpc_cli.specs.Steps.{IsUntouched, AnswersFrame, TurnsFrame, TakesStep, Progress}
+use Rattle.mpc_cli.specs.Serving.{Readings, TakesTurn, Served}
+use Rattle.mpc_cli.specs.Runs.{offset_at, RunsOver, Ends}
+use Rattle.mpc_cli.specs.Steps.{IsUntouched, AnswersFrame, TakesStep, Progress}
 use Rattle.mpc_cli.proofs.Served.{served_none, served_bytes, served_more}
 
 frame_length : (frame : Frame) (rest : List ℕ) → length (framed frame rest) ≡ length (framed frame []) + length rest

@@ -1,23 +1,23 @@
 -- How turns follow one another.
-use Rattle.std.proofs.Common.{◌≡◌, ℕ, ◌+◌, ◌<◌, ℤ, pos, List, [], ◌∷◌, ◌++◌, length, take, Option, Some, None, refl, sym, ap, subst, ◌∙◌, add-zero, zero-add, arith}
-use Rattle.std.specs.Prelude.{map, IfSome, unwrap_or, option_to_list, filter_map, flat_map}
+use Rattle.std.proofs.Common.{◌≡◌, ℕ, ◌+◌, ℤ, List, [], ◌∷◌, ◌++◌, length, Option, Some, None, refl, sym, ap, subst, ◌∙◌, add-zero, zero-add, arith}
+use Rattle.std.specs.Prelude.{IfSome, option_to_list}
 use Rattle.std.specs.List.{AllByRecursion, cons_option}
 use Rattle.std.proofs.lemmas.List.Elements.{filter_map-append}
 use Rattle.std.proofs.lemmas.Grind.{flat_map-append}
 use Rattle.std.proofs.lemmas.List.{append-nil, map-append, length-append}
-use Rattle.desk_frames.specs.Frames.{Frame, IsFrame, framed, streamed}
-use Rattle.desk_frames.proofs.Streams.{stream_before, stream_append, frame_before}
+use Rattle.desk_frames.specs.Frames.{Frame, IsFrame, framed}
+use Rattle.desk_frames.proofs.Streams.{stream_before, stream_append}
 use Rattle.act_model.specs.declared.request.Key.{Key}
 use Rattle.act_model.specs.declared.request.Verb.{Verb}
-use Rattle.act_model.specs.declared.request.Verb.TheVariants.{Submit80, Unknown}
+use Rattle.act_model.specs.declared.request.Verb.TheVariants.{Submit80}
 use Rattle.act_model.specs.declared.request.Request.{Request}
 use Rattle.act_model.specs.declared.entry.Entry.{Entry}
 use Rattle.act_model.specs.declared.reply.Refusal.TheVariants.{NoMemory}
 use Rattle.act_model.specs.declared.reply.Reply.{Reply}
 use Rattle.act_model.specs.declared.reply.Reply.TheVariants.{Refused}
-use Rattle.act_model.specs.Turns.{Turn, IsTurn, TakesReading, Answers, Conduct, AreReadings, request_of, requests_of, readings_of, written_reply, written}
+use Rattle.act_model.specs.Turns.{Turn, TakesReading, Answers, AreReadings, request_of, readings_of, written_reply, written}
 use Rattle.act_model.proofs.Conducts.{conduct_more}
-use Rattle.mpc_cli.specs.Serving.{Readings, LaterBy, TakesTurn, Served, CutShort}
+use Rattle.mpc_cli.specs.Serving.{Readings, LaterBy, TakesTurn, Served}
 
 module _ (founder : Key) (past : List Entry) where
   -- the turn of an act, with the clock's next reading

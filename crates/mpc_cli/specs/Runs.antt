@@ -1,5 +1,5 @@
 -- What a run of the program leaves, by the status with which it ended.
-use Rattle.std.specs.Prelude.{◌≡◌, ℕ, ◌-◌, ◌^◌, ◌<◌, min, List, [], ◌∷◌, length, Option, Some}
+use Rattle.std.specs.Prelude.{◌≡◌, ℕ, ◌-◌, ◌^◌, ◌<◌, min, List, [], length, Option, Some}
 use Rattle.std.specs.Io.KnownBytes.{Consumes}
 use Rattle.desk_frames.specs.Frames.{Frame, NoFrame, IsSession, reached}
 use Rattle.act_model.specs.declared.request.Key.{Key}

@@ -1,5 +1,5 @@
 -- How far a run of the office came over the bytes of its source.
-use Rattle.std.specs.Prelude.{◌≡◌, ℕ, ◌+◌, ◌<◌, ℤ, pos, List, [], ◌∷◌, ◌++◌, length, map, take, Option, unwrap_or, option_to_list}
+use Rattle.std.specs.Prelude.{◌≡◌, ℕ, ◌+◌, ◌<◌, ℤ, pos, List, [], ◌++◌, length, map, take, Option, unwrap_or, option_to_list}
 use Rattle.std.specs.List.{AllByRecursion}
 use Rattle.desk_frames.specs.Frames.{Frame, IsFrame, framed, streamed}
 use Rattle.act_model.specs.declared.request.Key.{Key}

@@ -12,15 +12,14 @@ mod turns;
 mod words;
 
 pub use act_model as model;
-pub use status::{Ended, Status};
-pub use top::top;
-pub use words::Words;
-
 use desk_io::{NoMemory, StreamSink, StreamSource, SystemClock};
 use item_list::Bytes;
+pub use status::{Ended, Status};
 use std::alloc::AllocError;
 use std::env;
 use std::process::ExitCode;
+pub use top::top;
+pub use words::Words;
 
 /// The words of the command line, after the program's name.
 fn words_of(rt: HostRuntime) -> Result<Words, NoMemory> {

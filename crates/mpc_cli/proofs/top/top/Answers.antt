@@ -1,4 +1,3 @@
-use Rattle.std.proofs.Common.{◌≡◌}
 use Rattle.mpc_cli.proofs.Complete.{complete}
 use Rattle.mpc_cli.proofs.top.top.Goals as goal
 
