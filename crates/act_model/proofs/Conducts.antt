@@ -15,7 +15,7 @@ use Rattle.act_model.specs.Turns.{Turn, Answers, IsTurn, Conduct}
 use Rattle.act_model.specs.Conducts.{Extends, HadMemory, IsStepped}
 
 -- the history stays, or gets one entry with a number that was not used
-abbrev Leaves : List Entry → List Entry → Type 0
+abbrev pub Leaves : List Entry → List Entry → Type 0
 Leaves past after = (after ≡ past) ⊎ ((entry : Entry) × (after ≡ entry ∷ past) × IsUnused past entry)
 
 refused_leaves : (o : Option Refusal) (k : Option Kept) (past : List Entry) (q : Request) (e : Entry) (r : Refusal) (after : List Entry) → after_early o past (after_kept k past q e) ≡ (Refused r, after) → after ≡ past
@@ -36,7 +36,7 @@ module _ (founder : Key) where
       let caller = unwrap_or (caller_of founder q.key) 0 in
       refused_leaves (early_refusal founder q) (kept past caller (unwrap_or q.number 0)) past q (new_entry caller past q t) r after is
 
-  leaves : (past : List Entry) (q : Request) (t : ℤ) (reply : Reply) (after : List Entry) → step founder past q t ≡ (reply, after) → Leaves past after
+  pub leaves : (past : List Entry) (q : Request) (t : ℤ) (reply : Reply) (after : List Entry) → step founder past q t ≡ (reply, after) → Leaves past after
   unfolding step
   leaves past q t reply after is =
       let caller = unwrap_or (caller_of founder q.key) 0 in

@@ -1,2 +1,3 @@
 pub mod Conducts
+pub mod Legal
 pub mod Padded

@@ -1,4 +1,5 @@
 pub mod Keys
+pub mod Acts
 pub mod History
 pub mod Observations
 pub mod Texts
@@ -7,3 +8,4 @@ pub mod Refusals
 pub mod Step
 pub mod Turns
 pub mod Conducts
+pub mod Legal

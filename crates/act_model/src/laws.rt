@@ -1,15 +1,17 @@
 //! Laws of histories and conducts, each the contract of a function that does nothing.
 
-ghost use Rattle.std.specs.Prelude.{◌≡◌, ℤ, List};
+ghost use Rattle.std.specs.Prelude.{◌≡◌, ℕ, ℤ, List, [], ◌∷◌, Some};
 ghost use Rattle.act_model.specs.declared.entry.Entry.{Entry};
 ghost use Rattle.act_model.specs.declared.reply.Refusal.{Refusal};
-ghost use Rattle.act_model.specs.declared.reply.Reply.TheVariants.{Refused};
+ghost use Rattle.act_model.specs.declared.reply.Reply.{Reply};
+ghost use Rattle.act_model.specs.declared.reply.Reply.TheVariants.{Done, Refused};
 ghost use Rattle.act_model.specs.declared.request.Key.{Key};
 ghost use Rattle.act_model.specs.declared.request.Request.{Request};
-ghost use Rattle.act_model.specs.History.{EachNumberOnce};
+ghost use Rattle.act_model.specs.History.{Kept, kept, EachNumberOnce};
 ghost use Rattle.act_model.specs.Step.{step};
 ghost use Rattle.act_model.specs.Turns.{Turn, Conduct};
 ghost use Rattle.act_model.specs.Conducts.{Extends, HadMemory, IsStepped};
+ghost use Rattle.act_model.specs.Legal.{IsLegal};
 
 /// A refusal changes nothing.
 pub fn a_refusal_changes_nothing()
@@ -33,4 +35,37 @@ pub fn each_once()
 pub fn no_faults()
     ensures { (founder : Key) (past after : List Entry) (turns : List Turn) →
         Conduct founder past turns after → HadMemory turns → IsStepped founder past turns after }
+{}
+
+/// A history that the office makes of a legal one is legal: after one step, and after a conduct. So
+/// is each that it makes from nothing, since the history without entries is legal.
+pub fn histories_are_legal()
+    ensures step { (founder : Key) (past after : List Entry) (request : Request) (reading : ℤ) (reply : Reply) →
+        IsLegal founder past → step founder past request reading ≡ (reply, after) → IsLegal founder after }
+    ensures conduct { (founder : Key) (past after : List Entry) (turns : List Turn) →
+        IsLegal founder past → Conduct founder past turns after → IsLegal founder after }
+    ensures from_nothing { (founder : Key) (after : List Entry) (turns : List Turn) →
+        Conduct founder [] turns after → IsLegal founder after }
+{}
+
+/// What stood before the newest entries of a legal history was a legal history too.
+pub fn prefixes_are_legal()
+    ensures { (founder : Key) (earlier later : List Entry) →
+        IsLegal founder later → Extends earlier later → IsLegal founder earlier }
+{}
+
+/// No two entries of a legal history have the same caller and number.
+pub fn legal_numbers_once()
+    ensures { (founder : Key) (history : List Entry) → IsLegal founder history → EachNumberOnce history }
+{}
+
+/// A kept reply doesn't change as a legal history grows. A number goes on to stand for the same
+/// entry with the same history before it, of which the reply is worked out. So a request that was
+/// done is answered with the text of that time whenever it is sent again, and leaves the history.
+pub fn kept_replies_stay()
+    ensures entry { (founder : Key) (earlier later : List Entry) (caller number : ℕ) (k : Kept) →
+        IsLegal founder later → Extends earlier later → kept earlier caller number ≡ Some k → kept later caller number ≡ Some k }
+    ensures resend { (founder : Key) (past later : List Entry) (request : Request) (first again : ℤ) (text : List ℕ) (entry : Entry) →
+        step founder past request first ≡ (Done text, entry ∷ past) →
+        IsLegal founder later → Extends (entry ∷ past) later → step founder later request again ≡ (Done text, later) }
 {}

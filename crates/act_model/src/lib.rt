@@ -5,12 +5,14 @@
 //! in them is an `ItemList`, whose value is the list.
 #![tactic(auto)]
 
+mod act;
 mod entry;
 pub mod laws;
 mod reply;
 mod request;
 mod texts;
 
+pub use act::{Act, ActFault, read_act};
 pub use entry::Entry;
 pub use reply::{Part, REFUSAL_BYTES, Refusal, Reply, refusal_line, reply_text, status};
 pub use request::{Body, Key, Request, Verb, body_bytes, is_resend, read_verb};

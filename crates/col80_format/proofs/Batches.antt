@@ -1,5 +1,5 @@
 -- The lines of a batch, one after the other.
-use Rattle.std.proofs.Common.{◌≡◌, ℕ, ◌+◌, true, false, List, [], ◌∷◌, ◌++◌, append_assoc, ap, ◌∙◌, map, Result, Ok, Err, refl, sym, subst}
+use Rattle.std.proofs.Common.{Bool, not, ◌≡◌, ℕ, ◌+◌, true, false, List, [], ◌∷◌, ◌++◌, append_assoc, ap, ◌∙◌, map, Result, Ok, Err, refl, sym, subst}
 use Rattle.std.specs.Prelude.{IfOk}
 use Rattle.std.specs.declared.alloc.AllocError.{AllocError}
 use Rattle.std.specs.List.{enumerate_from, AllZip}
@@ -42,6 +42,14 @@ says_first n text line behind cut filled = rw (cut, filled) refl
 -- no line at all
 pub says_no_more : (n : ℕ) (text : List ℕ) → text ≡ [] → said (enumerate_from n (lines text)) ≡ []
 says_no_more n text none = rw none refl
+
+pub filled_from : (filled blank : Bool) → filled ≡ not blank → filled ≡ true → blank ≡ false
+filled_from filled true is h = absurd cc
+filled_from filled false is h = refl
+
+pub blank_from : (filled blank : Bool) → filled ≡ not blank → filled ≡ false → blank ≡ true
+blank_from filled true is h = refl
+blank_from filled false is h = absurd cc
 
 -- a line that is read is put behind those before it
 pub more_said : (found : List Line) (n : ℕ) (text line behind : List ℕ) (read : Result Sighting RuleCode) (total : List Line) → lines text ≡ line ∷ lines behind → are_blanks line ≡ false

@@ -5,3 +5,4 @@ pub mod Chains
 pub mod NameLaws
 pub mod LineLaws
 pub mod RangeLaws
+pub mod LineTexts

@@ -70,7 +70,7 @@ among_mode modes mode h =
 day_given : (text : List ℕ) (read : ℤ × ℕ) → day_fraction_of text ≡ Ok read → IsDayAnswer text (Ok read)
 day_given text read h = subst (IsDayAnswer text) h (day_answered text)
 
-day_found : (text : List ℕ) (read : ℤ × ℕ) → IsDayAnswer text (Ok read) → day_fraction_of text ≡ Ok read
+pub day_found : (text : List ℕ) (read : ℤ × ℕ) → IsDayAnswer text (Ok read) → day_fraction_of text ≡ Ok read
 day_found text read is = sym (day_answer_only text (Ok read) is)
 
 time_given : (text : List ℕ) (read : ℕ × ℕ) → right_ascension_of text ≡ Ok read → ReadsTime text (Ok read)

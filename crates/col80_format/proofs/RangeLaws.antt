@@ -86,7 +86,7 @@ few_places text (Some mag) count is = (let spelled = is.1 in omega (arith, is.3,
 
 -- ---- decimals
 
-days_within : (text : List ℕ) (t : ℤ) (count : ℕ) → IsDayAnswer text (Ok (t, count)) → (1 ≤ count) × (count ≤ 6)
+pub days_within : (text : List ℕ) (t : ℤ) (count : ℕ) → IsDayAnswer text (Ok (t, count)) → (1 ≤ count) × (count ≤ 6)
 days_within text t count (inl is) = (let spelled = is.1 in (omega (arith, is.2.4, spelled.some), omega (arith, is.2.4, is.2.0)))
 days_within text t count (inr none) = absurd cc
 

@@ -6,3 +6,4 @@ pub mod Written
 pub mod Rules
 pub mod Reading
 pub mod Batch
+pub mod LineText

@@ -1,4 +1,5 @@
-ghost use Rattle.std.specs.Prelude.{◌≡◌, ◌+◌, ◌<◌, ◌≤◌, ◌∷◌, length, IfOk};
+ghost use Rattle.ascii_text.specs.Blanks.{are_blanks};
+ghost use Rattle.std.specs.Prelude.{not, ◌≡◌, ◌+◌, ◌<◌, ◌≤◌, ◌∷◌, length, IfOk};
 ghost use Rattle.std.specs.List.{enumerate_from, AllZip};
 ghost use Rattle.std.specs.Str.Lines.{lines, strip_carriage_return};
 ghost use Rattle.col80_format.specs.Batch.{is_header_line, is_front_line, begins_with_word, numbered_lines, behind_front, said, observation_lines, IsReadFrom, lines_of, AreInRange};
@@ -83,6 +84,13 @@ fn behind_headers(body: &[u8]) -> (&[u8], u32)
     (rest, number)
 }
 
+/// Whether the line says something.
+fn is_filled(line: &[u8]) -> bool
+    ensures { result ≡ not (are_blanks line.now) }
+{
+    !are_blanks(line)
+}
+
 /// The observation lines from here on, the first line of the text having this number.
 fn read_lines(alloc: Global, text: &[u8], first: u32) -> Result<Lines, NoMemory>
     requires { length text.now + first ≤ 4294967295 }
@@ -94,7 +102,7 @@ fn read_lines(alloc: Global, text: &[u8], first: u32) -> Result<Lines, NoMemory>
     let mut number = first;
     while !rest.is_empty() {
         let (line, behind) = next_line(rest);
-        if !are_blanks(line) {
+        if is_filled(line) {
             let read = read_line(line);
             found.push(Line { number, read })?;
         }

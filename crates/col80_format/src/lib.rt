@@ -3,13 +3,16 @@
 #![tactic(auto)]
 
 mod batch;
+mod form;
 pub mod laws;
 mod magnitude;
 mod names;
 mod reading;
+mod writing;
 
 pub use batch::split_batch;
 pub use reading::read_line;
+pub use writing::{Front, Letters, write_line};
 
 #[cfg(test)]
 mod tests;

@@ -1,6 +1,6 @@
 -- How a short text is kept.
-use Rattle.std.proofs.Common.{refl, ◌≡◌, ℕ, ◌-◌, min, List, ◌++◌, length, take, drop, replicate, ap, ◌∙◌, arith}
-use Rattle.std.proofs.lemmas.List.{take_min, drop-replicate, take_at, length-take, length-append, length-replicate}
+use Rattle.std.proofs.Common.{◌≤◌, refl, ◌≡◌, ℕ, ◌-◌, min, List, ◌++◌, length, take, drop, replicate, ap, ◌∙◌, arith}
+use Rattle.std.proofs.lemmas.List.{take_all, take_min, drop-replicate, take_at, length-take, length-append, length-replicate}
 use Rattle.obs_record.specs.Short.{IsShort, kept_short}
 
 -- the first bytes of the text, with the zeros that stood in the array after them
@@ -27,3 +27,11 @@ kept_is_short text =
       within = omega arith;
       zeros = rw (cut, ← left) refl;
     }
+
+-- a text that fits is kept whole
+pub kept_again : (text : List ℕ) (n : ℕ) → length text ≡ n → n ≤ 12 → take n (kept_short text).bytes ≡ text
+unfolding kept_short
+kept_again text n long fits =
+    let whole : take 12 text ≡ text = take_all 12 text (omega arith) in
+    let zeros : List ℕ = replicate {A = ℕ} (12 - length text) 0 in
+    rw whole (take_at text zeros n long)
