@@ -1,5 +1,5 @@
 -- What the step adds is legal, and what follows for legal histories.
-use Rattle.std.proofs.Common.{◌≡◌, ℕ, suc, ℤ, pos, List, [], ◌∷◌, ◌++◌, length, Bool, true, false, cond, Option, Some, None, refl, sym, ap, subst, ◌∙◌, inl, inr, arith}
+use Rattle.std.proofs.Common.{◌≡◌, ℕ, ℤ, pos, List, [], ◌∷◌, ◌++◌, length, Bool, true, false, cond, Option, Some, None, refl, sym, ap, subst, ◌∙◌, inl, inr, arith}
 use Rattle.std.specs.Prelude.{◌⊎◌, unwrap_or, not, is_none, int_lt, bytes_eq, ◌==◌, ◌&&◌}
 use Rattle.std.proofs.lemmas.Int.{ints}
 use Rattle.std.proofs.lemmas.Bool.Decides.{nat_tests}
@@ -19,9 +19,9 @@ use Rattle.act_model.specs.History.{Kept, caller_of, kept, next_moment, next_rec
 use Rattle.act_model.specs.Refusals.{early_refusal, first_row, is_unknown, is_act_number}
 use Rattle.act_model.specs.Replies.{entry_answer}
 use Rattle.act_model.specs.Step.{step, act_step, after_early, after_kept, kept_reply, new_entry, body_bytes, same_verb}
-use Rattle.act_model.specs.Turns.{Turn, Answers, Conduct}
+use Rattle.act_model.specs.Turns.{Turn, TakesReading, Answers, IsTurn, Conduct}
 use Rattle.act_model.specs.Conducts.{Extends}
-use Rattle.act_model.proofs.Conducts.{Leaves, leaves}
+use Rattle.act_model.proofs.Conducts.{Leaves, leaves, step_answers, conduct_more}
 use Rattle.act_model.specs.Legal.{entry_request, IsAdded, IsLegal}
 
 -- no number is below itself
@@ -217,3 +217,40 @@ module _ (founder : Key) where
   pub answered_again : (past : List Entry) (q : Request) (t t' : ℤ) (text : List ℕ) (e : Entry) (later : List Entry) → step founder past q t ≡ (Done text, e ∷ past)
       → IsLegal founder later → Extends (e ∷ past) later → step founder later q t' ≡ (Done text, later)
   answered_again past q t t' text e later is = again_after past q t t' text e later (step_adds founder past q t (Done text) (e ∷ past) is)
+
+-- a verb that isn't unknown is that of an act, so it takes a reading
+reading_taken : (verb : Verb) (t : ℤ) → is_unknown verb ≡ false → TakesReading verb (Some t)
+reading_taken Submit80 t known = tt
+reading_taken Unknown t known = absurd cc
+
+module _ (founder : Key) where
+  known_by : (past : List Entry) (q : Request) (t : ℤ) (reply : Reply) (e : Entry)
+      → Adds (early_refusal founder q) (kept past (unwrap_or (caller_of founder q.key) 0) (unwrap_or q.number 0)) past (new_entry (unwrap_or (caller_of founder q.key) 0) past q t) reply (e ∷ past)
+      → is_unknown q.verb ≡ false
+  known_by past q t reply e (inl same) = absurd (longer e past same)
+  known_by past q t reply e (inr (early, unused, answer, more)) =
+      (no_row (is_unknown q.verb) (not (is_act_number q.number)) (is_none (caller_of founder q.key)) (Unread part.Verb) (Unread part.Number) UnknownKey early).0
+
+  -- the turn in which an entry was added
+  entry_turn : (past : List Entry) (e : Entry) → Turn
+  entry_turn past e =
+      let request : Request = entry_request founder e in
+      record { request = request; reading = Some e.moment; reply = (step founder past request e.moment).0 }
+
+  added_turn : (past : List Entry) (e : Entry) → IsAdded founder past e → IsTurn founder past (entry_turn past e) (e ∷ past)
+  unfolding entry_turn
+  added_turn past e added =
+      let request : Request = entry_request founder e in
+      let reply : Reply = (step founder past request e.moment).0 in
+      let is : step founder past request e.moment ≡ (reply, e ∷ past) = ap (λ (h : List Entry). (reply, h)) added in
+      record {
+        reads = reading_taken e.verb e.moment (known_by past request e.moment reply e (step_adds founder past request e.moment reply (e ∷ past) is));
+        answers = step_answers founder past request e.moment reply (e ∷ past) is;
+      }
+
+  -- the turns in which a legal history came about
+  pub legal_reached : (history : List Entry) → IsLegal founder history → (turns : List Turn) × Conduct founder [] turns history
+  legal_reached [] legal = ([], refl)
+  legal_reached (e ∷ past) (added, legal) =
+      let before = legal_reached past legal in
+      (before.0 ++ entry_turn past e ∷ [], conduct_more founder [] before.0 past (entry_turn past e) (e ∷ past) before.1 (added_turn past e added))

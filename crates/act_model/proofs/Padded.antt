@@ -1,7 +1,6 @@
 -- A text that is kept in an array, with zeros behind it.
 use Rattle.std.proofs.Common.{◌≡◌, ℕ, ◌-◌, min, List, ◌++◌, length, take, drop, replicate, ap, ◌∙◌, arith}
 use Rattle.std.proofs.lemmas.List.{take_min, drop-replicate}
-use Rattle.act_model.specs.declared.request.Key.{Key}
 use Rattle.act_model.specs.Keys.{key_of}
 
 -- what is copied to the front of the array, and the zeros behind it

@@ -1,5 +1,5 @@
 -- What holds of every conduct.
-use Rattle.std.specs.Prelude.{◌≡◌, ◌≢◌, ℤ, pos, List, [], ◌∷◌, ◌++◌, unwrap_or}
+use Rattle.std.specs.Prelude.{◌≡◌, ◌≢◌, pos, List, [], ◌∷◌, ◌++◌, unwrap_or}
 use Rattle.std.specs.List.{AllByRecursion}
 use Rattle.act_model.specs.declared.request.Key.{Key}
 use Rattle.act_model.specs.declared.entry.Entry.{Entry}

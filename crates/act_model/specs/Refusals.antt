@@ -1,5 +1,5 @@
 -- Which refusal a request meets. Refusals are rows of a table: the first row whose condition holds is the answer.
-use Rattle.std.specs.Prelude.{ℕ, ◌-◌, ◌^◌, Bool, true, false, not, nat_lt, ◌&&◌, bytes_eq, codes, if◌then◌else◌, List, [], ◌∷◌, Option, Some, None, is_none}
+use Rattle.std.specs.Prelude.{ℕ, ◌^◌, Bool, true, false, not, nat_lt, ◌&&◌, bytes_eq, codes, if◌then◌else◌, List, [], ◌∷◌, Option, Some, None, is_none}
 use Rattle.act_model.specs.declared.request.Key.{Key}
 use Rattle.act_model.specs.declared.request.Verb.{Verb}
 use Rattle.act_model.specs.declared.request.Verb.TheVariants.{Submit80, Unknown}

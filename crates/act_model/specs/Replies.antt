@@ -4,7 +4,6 @@ use Rattle.obs_record.specs.declared.line.Line.{Line}
 use Rattle.obs_record.specs.declared.rule.RuleCode.{RuleCode}
 use Rattle.col80_format.specs.Batch.{lines_of}
 use Rattle.act_model.specs.declared.entry.Entry.{Entry}
-use Rattle.act_model.specs.declared.reply.Part.{Part}
 use Rattle.act_model.specs.declared.reply.Part.TheVariants as part
 use Rattle.act_model.specs.declared.reply.Refusal.{Refusal}
 use Rattle.act_model.specs.declared.reply.Refusal.TheVariants.{Unread, UnknownKey, OtherRequest, NoMemory}

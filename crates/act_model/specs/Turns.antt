@@ -1,5 +1,5 @@
 -- Turns of the office, one request each, and conducts: turns one after another.
-use Rattle.std.specs.Prelude.{◌≡◌, ℕ, ◌+◌, ℤ, pos, Bool, List, [], ◌∷◌, map, flat_map, filter_map, Option, Some, None, IfSome, unwrap_or}
+use Rattle.std.specs.Prelude.{◌≡◌, ℕ, ◌+◌, ℤ, pos, List, [], ◌∷◌, map, flat_map, filter_map, Option, Some, None, IfSome, unwrap_or}
 use Rattle.desk_frames.specs.Frames.{Frame}
 use Rattle.desk_frames.specs.Replies.{reply_frame}
 use Rattle.act_model.specs.declared.request.Key.{Key}
@@ -8,9 +8,9 @@ use Rattle.act_model.specs.declared.request.Verb.TheVariants.{Submit80, Unknown}
 use Rattle.act_model.specs.declared.request.Body.TheVariants.{Whole}
 use Rattle.act_model.specs.declared.request.Request.{Request}
 use Rattle.act_model.specs.declared.entry.Entry.{Entry}
-use Rattle.act_model.specs.declared.reply.Refusal.TheVariants.{Unread, UnknownKey, OtherRequest, NoMemory}
+use Rattle.act_model.specs.declared.reply.Refusal.TheVariants.{NoMemory}
 use Rattle.act_model.specs.declared.reply.Reply.{Reply}
-use Rattle.act_model.specs.declared.reply.Reply.TheVariants.{Done, Refused}
+use Rattle.act_model.specs.declared.reply.Reply.TheVariants.{Refused}
 use Rattle.act_model.specs.Keys.{key_of}
 use Rattle.act_model.specs.Refusals.{verb_of}
 use Rattle.act_model.specs.Replies.{status_of, text_of}

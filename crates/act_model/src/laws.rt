@@ -48,6 +48,12 @@ pub fn histories_are_legal()
         Conduct founder [] turns after → IsLegal founder after }
 {}
 
+/// Each legal history is one that the office can come to: some turns make it from nothing.
+pub fn legal_histories_are_reached()
+    ensures { (founder : Key) (history : List Entry) →
+        IsLegal founder history → (turns : List Turn) × Conduct founder [] turns history }
+{}
+
 /// What stood before the newest entries of a legal history was a legal history too.
 pub fn prefixes_are_legal()
     ensures { (founder : Key) (earlier later : List Entry) →

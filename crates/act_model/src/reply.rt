@@ -19,16 +19,19 @@ pub enum Part {
     Number,
 }
 
-/// Why the office refuses a request.
+/// Why the office refuses a request. A refused request changes nothing.
 #[derive(Clone, Copy, Debug, PartialEq, Eq)]
 pub enum Refusal {
     /// This part of the request could not be read.
     Unread(Part),
     /// Nobody on the roster has the key.
     UnknownKey,
-    /// The caller has used the number for another request, which has this receipt.
-    OtherRequest { receipt: u64 },
-    /// Want of memory.
+    /// The caller has used the number for another request.
+    OtherRequest {
+        /// The receipt of that request, counted from 1.
+        receipt: u64,
+    },
+    /// Want of memory. The same request may be done when it is sent again.
     NoMemory,
 }
 
@@ -41,7 +44,9 @@ pub enum Reply {
     Refused(Refusal),
 }
 
-/// The status of a reply, as HTTP numbers it.
+/// The status of a reply, as HTTP numbers them (RFC 9110, and RFC 4918 for want of memory): 200 for
+/// a request that was done, 400 for one that can't be read, 401 for a key that nobody has, 409 for a
+/// number that was used, and 507 for want of memory.
 pub fn status(reply: &Reply) -> u16
     ensures { result ≡ status_of reply.now }
 {
@@ -78,7 +83,8 @@ fn other_request_line(receipt: u64) -> ArrayVec<u8, REFUSAL_BYTES>
 }
 
 /// The line of a refusal: `refused`, its number in the office's table of refusals, its name, and
-/// what it carries. It takes no memory.
+/// what it carries, with a line feed at the end. It takes no memory, so a want of memory can be
+/// answered too.
 pub fn refusal_line(refusal: Refusal) -> ArrayVec<u8, REFUSAL_BYTES>
     ensures { result.items ≡ refusal_text refusal }
 {
@@ -91,7 +97,8 @@ pub fn refusal_line(refusal: Refusal) -> ArrayVec<u8, REFUSAL_BYTES>
     }
 }
 
-/// The text of a reply.
+/// The text of a reply: what was answered, or the line of the refusal. Err where there was no memory
+/// for the text, so a reply that says so is better written by `refusal_line`.
 pub fn reply_text(alloc: Global, reply: &Reply) -> Result<Bytes, NoMemory>
     ensures { IfOk result (λ text. text ≡ text_of reply.now) }
 {

@@ -6,11 +6,13 @@ ghost use Rattle.act_model.specs.Step.{body_bytes, is_resend, same_verb};
 use crate::entry::Entry;
 use item_list::Bytes;
 
-/// The key by which a caller is known to the office: a text of at most 34 bytes. The bytes from
-/// `len` on are 0. Keys on the office's roster are shorter, so a longer text is nobody's key.
+/// The key by which a caller is known to the office: a text of at most 34 bytes. Keys on the
+/// office's roster are shorter, so a longer text is nobody's key.
 #[derive(Clone, Copy, Debug)]
 pub struct Key {
+    /// How many bytes the text has, 0 to 34.
     pub len: u8,
+    /// The text, with zeros behind it.
     pub bytes: [u8; 34],
 }
 
@@ -28,7 +30,7 @@ impl Key {
         }
     }
 
-    /// The text of the key.
+    /// The text of the key, of at most 34 bytes.
     pub fn text(&self) -> &[u8]
         ensures { result.now ≡ key_text self.now }
     {
@@ -36,7 +38,7 @@ impl Key {
         &self.bytes[..len]
     }
 
-    /// Whether two keys are one.
+    /// Whether two keys are one: they have the same text.
     pub fn is(&self, other: &Key) -> bool
         ensures { result ≡ same_key self.now other.now }
     {
@@ -47,13 +49,13 @@ impl Key {
 /// What a request asks for.
 #[derive(Clone, Copy, Debug, PartialEq, Eq)]
 pub enum Verb {
-    /// To take in a batch of 80-column lines.
+    /// To take in a batch of 80-column lines, by the word `submit80`. It is an act.
     Submit80,
-    /// A word that names nothing.
+    /// A word that names nothing. It is no act.
     Unknown,
 }
 
-/// The verb that a word names.
+/// The verb that a word names, letter for letter; `Unknown` for any other word.
 pub fn read_verb(word: &[u8]) -> Verb
     ensures { result ≡ verb_of word.now }
 {
@@ -76,10 +78,14 @@ pub enum Body {
 /// A request: who asks, under which number of the asker's own, what is asked, and the text for it.
 #[derive(Debug, Drop)]
 pub struct Request {
+    /// The key of whoever asks.
     pub key: Key,
-    /// The number, or None for a text that spells none.
+    /// The number, or None for a text that spells none. An act has one of 1 to
+    /// 999,999,999,999,999,999.
     pub number: Option<u64>,
+    /// What is asked.
     pub verb: Verb,
+    /// The text for it.
     pub body: Body,
 }
 

@@ -17,7 +17,10 @@ fn is_named(sighting: &Sighting) -> bool
     sighting.perm.is_some() || sighting.prov.is_some()
 }
 
-/// The rule that a line breaks, or None for a line that the office accepts.
+/// The rule that a line breaks first, or None for a line that the office accepts.
+///
+/// A line that can't be read breaks the rule of its spelling. One that can breaks B3 where it stands
+/// under a number or a designation, since the office has given none yet.
 #[tactic(auto, unfolding(crate::specs::Observations::fault_of))]
 pub fn fault_of(line: &Line) -> Option<RuleCode>
     ensures { result ≡ fault_of line.now }
@@ -123,7 +126,7 @@ fn count_accepted(lines: &[Line]) -> u64
     accepted
 }
 
-/// How many of the lines the office accepts.
+/// How many of the lines the office accepts. The others are refused, line by line.
 pub fn accepted_in(lines: &Lines) -> u64
     ensures { result ≡ accepted_in lines.now }
 {
@@ -131,7 +134,9 @@ pub fn accepted_in(lines: &Lines) -> u64
 }
 
 /// The answer to a batch of these lines that became the entry with this receipt, where the office
-/// had so many observations before it.
+/// had so many observations before it: the receipt, how many lines were accepted and refused, and a
+/// line for each with the number of its observation or the rule that it breaks. Observations count
+/// from 1. Err where there was no memory for the text.
 #[tactic(auto, unfolding(crate::specs::Replies::batch_answer))]
 pub fn batch_answer(
     alloc: Global,

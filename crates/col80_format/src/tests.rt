@@ -1,6 +1,11 @@
+ghost use Rattle.std.specs.Prelude.{IsTrue};
+ghost use Rattle.obs_record.specs.Sighting.{IsShape};
+
 use super::*;
+use angle_fixed::{Dec, Ra};
 use item_list::NoMemory;
-use obs_record::{Coded, Lines, RuleCode, Shape, Short, TrackName, track_name};
+use obs_record::{Coded, Lines, RuleCode, Shape, Short, Sighting, TrackName, track_name};
+use obs_time::Instant;
 use packed_names::{Designation, HalfMonth, Number, Provisional};
 use std::alloc::Global;
 use std::convert::AsSlice;
@@ -271,4 +276,131 @@ fn splits_batches(rt: HostRuntime) -> Result<(), Fail> {
         assert_eq!(rt; lines_of(rt.alloc(), body)?.len(), count, "{body:?}");
     }
     Ok(())
+}
+
+/// An observation that came in fields: 2024-03-15T23:59:59.999Z, 150 and -5.5 degrees.
+fn sighting_in_fields(mag: Option<u32>, places: u8) -> Option<Sighting> {
+    Some(Sighting {
+        perm: None,
+        prov: None,
+        sub: Some(Short::new(b"AAA1")),
+        station: Short::new(b"703"),
+        time: Instant::new(1_710_547_199_999_000_000)?,
+        ra: Ra::new(1_350_000_000_000_000)?,
+        dec: Dec::new(-49_500_000_000_000)?,
+        mag,
+        band: Coded::Word(Short::new(b"V")),
+        mode: Coded::Word(Short::new(b"CCD")),
+        catalogue: Coded::Word(Short::new(b"Gaia3")),
+        note1: b'K',
+        shape: Shape::Psv { mag: places },
+    })
+}
+
+/// Whether a line can have these decimals.
+fn is_shape(shape: Shape) -> bool
+    ensures { IsTrue result → IsShape shape }
+{
+    match shape {
+        Shape::Eighty {
+            date,
+            ra,
+            dec,
+            mag,
+            ..
+        } => { date >= 1 && date <= 6 && ra <= 3 && dec <= 2 && mag <= 2 }
+        Shape::Psv { mag } => mag <= 6,
+    }
+}
+
+/// The line of an observation under the letters C and V. The object that is known has a number and a designation.
+fn line_of(s: &Sighting, is_known: bool) -> Option<[u8; 80]> {
+    if s.station.len != 3 || !is_shape(s.shape) {
+        return None;
+    }
+    if is_known {
+        let front = Front {
+            number: Some(Number(433)),
+            name: *b"K24E00A",
+            star: true,
+        };
+        let letters = Letters {
+            mode: b'C',
+            band: b'V',
+            catalogue: b'W',
+        };
+        return Some(write_line(s, front, letters));
+    }
+    let front = Front {
+        number: None,
+        name: *b"P10abcd",
+        star: false,
+    };
+    let letters = Letters {
+        mode: b'C',
+        band: b'V',
+        catalogue: b' ',
+    };
+    Some(write_line(s, front, letters))
+}
+
+#[test]
+fn writes_lines(rt: HostRuntime) {
+    let magnitudes: [(Option<u32>, u8, [u8; 80]); 7] = [
+        (
+            Some(20_250_000),
+            2,
+            *b"00433K24E00A* C2024 03 16.00000010 00 00.000-05 30 00.00         20.25VW     703",
+        ),
+        (
+            None,
+            0,
+            *b"00433K24E00A* C2024 03 16.00000010 00 00.000-05 30 00.00              VW     703",
+        ),
+        (
+            Some(20_255_000),
+            3,
+            *b"00433K24E00A* C2024 03 16.00000010 00 00.000-05 30 00.00         20.26VW     703",
+        ),
+        (
+            Some(20_254_999),
+            6,
+            *b"00433K24E00A* C2024 03 16.00000010 00 00.000-05 30 00.00         20.25VW     703",
+        ),
+        (
+            Some(9_950_000),
+            1,
+            *b"00433K24E00A* C2024 03 16.00000010 00 00.000-05 30 00.00         10.0 VW     703",
+        ),
+        (
+            Some(9_949_999),
+            1,
+            *b"00433K24E00A* C2024 03 16.00000010 00 00.000-05 30 00.00          9.9 VW     703",
+        ),
+        (
+            Some(500_000),
+            0,
+            *b"00433K24E00A* C2024 03 16.00000010 00 00.000-05 30 00.00          1   VW     703",
+        ),
+    ];
+    for (mag, places, wanted) in magnitudes {
+        let line = sighting_in_fields(mag, places).and_then(|s| line_of(&s, true));
+        assert_eq!(rt; line, Some(wanted));
+    }
+}
+
+#[test]
+fn writes_again_what_was_read(rt: HostRuntime) {
+    let rows: [(usize, &[u8]); 5] = [
+        (1, b""),
+        (45, b"-00 00 00.00"),
+        (14, b"K"),
+        (32, b"6"),
+        (66, b"     "),
+    ];
+    for (column, text) in rows {
+        let line = with(column, text);
+        let again = read_line(&line).ok().and_then(|s| line_of(&s, false));
+        assert_eq!(rt; again, Some(line));
+    }
 }

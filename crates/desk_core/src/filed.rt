@@ -11,7 +11,9 @@ use std::alloc::Global;
 /// An entry with its answer, as it was given.
 #[derive(Debug, Drop)]
 pub struct Filed {
+    /// The entry.
     pub entry: Entry,
+    /// The text that its caller was answered.
     pub answer: Bytes,
 }
 
@@ -36,7 +38,8 @@ pub fn find(filed: &[Filed], caller: u32, number: u64) -> Option<usize>
     None
 }
 
-/// The answer to a request under a number that stands for the entry at this place.
+/// The answer to a request under a number that stands for the entry at this place: the entry's own
+/// answer to the same request, and else a refusal. Err where there was no memory for a copy.
 pub fn kept_reply(
     alloc: Global,
     filed: &[Filed],

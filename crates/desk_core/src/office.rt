@@ -1,15 +1,19 @@
 ghost use Rattle.std.specs.Prelude.{◌≡◌, ◌+◌, ◌<◌, ◌^◌, ◌∷◌, [], IfOk, ℤ, length, true, false};
 ghost use Rattle.act_model.specs.Refusals.{is_unknown};
 ghost use Rattle.act_model.specs.Step.{body_bytes, new_entry, step};
+ghost use Rattle.col80_format.specs.Batch.{lines_of};
 ghost use Rattle.desk_core.specs.Office.{IsReadyAt};
 ghost use Rattle.desk_core.specs.Preparing.{Prepares};
 
 use crate::filed::{Filed, find, kept_reply, next_moment};
 use crate::prepared::{Prep, Prepared};
 use crate::refusals::early_refusal;
-use act_model::{Entry, Key, Part, Refusal, Reply, Request, accepted_in, batch_answer, body_bytes};
-use col80_format::split_batch;
+use act_model::{
+    Act, ActFault, Entry, Key, Part, Refusal, Reply, Request, Verb, accepted_in, batch_answer,
+    body_bytes, read_act,
+};
 use item_list::{Bytes, NoMemory};
+use obs_record::Lines;
 use obs_time::Instant;
 use std::alloc::{AllocError, Global};
 use std::marker::Model;
@@ -17,7 +21,10 @@ use std::marker::Model;
 /// The founding officer, the one caller that the office has.
 const FOUNDER: u32 = 0;
 
-/// The office in memory.
+/// The office in memory: the founding officer's key, and the history of what was accepted.
+///
+/// Contracts see the key, the history with its newest entry first, and for how many more entries
+/// there is room.
 #[derive(Drop)]
 pub struct Core {
     founder: Key,
@@ -39,7 +46,8 @@ impl Model for Core {
 }
 
 impl Core {
-    /// An office without entries.
+    /// An office without entries, founded by the officer with this key, who is caller 0. Want of
+    /// memory is its one error.
     pub fn new(alloc: Global, founder: Key) -> Result<Core, NoMemory>
         ensures founder { IfOk result (λ core. core.founder ≡ founder) }
         ensures empty { IfOk result (λ core. core.history ≡ []) }
@@ -51,7 +59,14 @@ impl Core {
         })
     }
 
-    /// Works out what the step answers to an act, and takes the memory for it. The history stays.
+    /// Works out what the step answers to an act at this moment, and takes the memory for it. The
+    /// history stays.
+    ///
+    /// The request has the verb of an act, and a body of fewer than 4,294,967,295 bytes. The reading
+    /// is the clock's, and may be before the last entry's moment. Answers `Refused` with the first
+    /// refusal that is tested before the history, else `Kept` where the caller has used the number,
+    /// else `Ready` with the entry and its answer; and `Refused` with `NoMemory` where memory for a
+    /// reply or an entry was wanting.
     pub fn prepare(&mut self, request: &Request, reading: Instant) -> Prep
         requires act { is_unknown request.now.verb ≡ false }
         requires short { length (body_bytes request.now.body) < 4_294_967_295 }
@@ -78,7 +93,8 @@ impl Core {
 
     /// The act that a request becomes, with room for its entry.
     fn ready(&mut self, request: &Request, reading: Instant) -> Result<Prepared, NoMemory>
-        requires { length (body_bytes request.now.body) < 4_294_967_295 }
+        requires act { is_unknown request.now.verb ≡ false }
+        requires short { length (body_bytes request.now.body) < 4_294_967_295 }
         ensures entry { IfOk result (λ act. act.entry ≡ new_entry 0 self.old.history request.now reading) }
         ensures at { IfOk result (λ act. IsReadyAt self.old.history act) }
         ensures room { IfOk result (λ act. 0 < self.new.spare) }
@@ -87,7 +103,7 @@ impl Core {
     {
         let alloc = *self.filed.allocator();
         let body = body_bytes(&request.body);
-        let lines = split_batch(alloc, body)?;
+        let lines = submitted(alloc, request.verb, body)?;
         let before = self.observations;
         if lines.len() > u64::MAX - before {
             return Err(AllocError);
@@ -106,7 +122,8 @@ impl Core {
         Ok(Prepared::new(entry, answer, kept, before + accepted_in(&lines)))
     }
 
-    /// The answer to a request whose verb is no act. The history stays.
+    /// The answer to a request whose verb is that of no act: it is refused, since the verb can't be
+    /// read. The history stays.
     pub fn answer(&self, request: &Request) -> Reply
         requires { is_unknown request.now.verb ≡ true }
         ensures { (reading : ℤ) → step self.now.founder self.now.history request.now reading ≡ (result, self.now.history) }
@@ -114,14 +131,16 @@ impl Core {
         Reply::Refused(Refusal::Unread(Part::Verb))
     }
 
-    /// How many entries the history has.
+    /// How many entries the history has, which is the receipt of the newest one.
     pub fn entries(&self) -> u64
         ensures { result ≡ length self.now.history }
     {
         self.filed.len() as u64
     }
 
-    /// Adds the entry of an act that was worked out at this history, and gives its answer. It takes no memory.
+    /// Adds the entry of an act, and gives the act's answer. It takes no memory.
+    ///
+    /// The act was worked out at this history, and `prepare` left room for its entry.
     pub fn commit(&mut self, prepared: Prepared) -> Reply
         requires ready { IsReadyAt self.old.history prepared }
         requires room { 0 < self.old.spare }
@@ -136,5 +155,18 @@ impl Core {
         });
         self.observations = observations;
         Reply::Done(answer)
+    }
+}
+
+// The lines that an act submits.
+fn submitted(alloc: Global, verb: Verb, body: &[u8]) -> Result<Lines, NoMemory>
+    requires act { is_unknown verb ≡ false }
+    requires short { length body.now < 4_294_967_295 }
+    ensures { IfOk result (λ lines. lines ≡ lines_of body.now) }
+{
+    match read_act(alloc, verb, body) {
+        Ok(Act::Submit80(lines)) => Ok(lines),
+        Err(ActFault::NoMemory) => Err(AllocError),
+        Err(ActFault::Unread) => unreachable!(),
     }
 }

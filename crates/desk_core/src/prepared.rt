@@ -5,6 +5,8 @@ use item_list::Bytes;
 use std::marker::Model;
 
 /// An act that is ready to become the next entry of the office: all memory that it needs is taken.
+///
+/// Contracts see its entry, its answer, and how many observations the office has with it.
 #[derive(Debug, Drop)]
 pub struct Prepared {
     entry: Entry,
@@ -57,13 +59,14 @@ impl Prepared {
     }
 }
 
-/// What preparing a request gives.
+/// What preparing a request gives. Nothing has changed the history yet.
 #[derive(Debug, Drop)]
 pub enum Prep {
-    /// The caller has used the number; this is the reply that is kept for it.
+    /// The caller has used the number. This is the reply that is kept for it: the answer of that
+    /// time to the same request, and the refusal `OtherRequest` to another one.
     Kept(Reply),
-    /// The request is refused, and changes nothing.
+    /// The request is refused, and changes nothing; for want of memory too.
     Refused(Refusal),
-    /// The act is ready to be added.
+    /// The act is ready to be added, at the history at which it was worked out.
     Ready(Prepared),
 }

@@ -49,3 +49,6 @@ fn main(rt: HostRuntime) -> ExitCode {
     }
     ExitCode::from(status.number())
 }
+
+#[cfg(test)]
+mod tests;

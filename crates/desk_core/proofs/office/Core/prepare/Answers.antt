@@ -1,7 +1,5 @@
-use Rattle.std.proofs.Common.{◌≡◌, List, Option, Some, None, ap, sym, subst, ◌∙◌}
-use Rattle.act_model.specs.declared.request.Key.{Key}
+use Rattle.std.proofs.Common.{List, Some, None, ap, sym, subst, ◌∙◌}
 use Rattle.act_model.specs.declared.reply.Reply.{Reply}
-use Rattle.act_model.specs.declared.entry.Entry.{Entry}
 use Rattle.desk_core.specs.Office.{Office}
 use Rattle.desk_core.specs.declared.filed.Filed.{Filed}
 use Rattle.desk_core.specs.Filed.{history_of, IsFiledAt}
