@@ -1,0 +1,2 @@
+pub mod StationLemmas
+pub mod CodeLemmas

@@ -1,0 +1,4 @@
+pub mod Rows
+pub mod Stations
+pub mod Codes
+pub mod Indexed
