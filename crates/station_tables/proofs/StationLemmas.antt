@@ -1,5 +1,5 @@
 -- The answers on station rows, over the entries of their index.
-use Rattle.std.proofs.Common.{◌≡◌, ℕ, ℤ, ◌≤ℤ◌, Bool, true, false, cond, T, ◌&&◌, ◌||◌, List, [], ◌∷◌, ◌++◌, map, filter, All, Option, None, Some, refl, sym, ap, ◌∙◌, subst, true≢false}
+use Rattle.std.proofs.Common.{◌≡◌, ℕ, ℤ, ◌≤ℤ◌, Bool, true, false, cond, T, ◌&&◌, ◌||◌, List, [], ◌∷◌, ◌++◌, map, filter, All, None, Some, refl, sym, ap, ◌∙◌, subst, true≢false}
 use Rattle.std.proofs.lemmas.Bool.Decides.{Decides-int_eq}
 use Rattle.std.proofs.lemmas.List.{map_push}
 use Rattle.std.proofs.lemmas.List.Elements.{All-head, All-tail}
@@ -13,7 +13,6 @@ use Rattle.obs_record.specs.declared.short.Short.{Short}
 use Rattle.station_tables.specs.contracts.keys.FirstDayPartialEq.TheImpl as first_days
 use Rattle.station_tables.specs.declared.keys.FirstDay.{FirstDay}
 use Rattle.station_tables.specs.declared.keys.LetterKey.{LetterKey}
-use Rattle.station_tables.specs.declared.serving.Serving.{Serving}
 use Rattle.station_tables.specs.declared.serving.Serving.TheVariants.{Unknown, Outside, Serving as InService}
 use Rattle.station_tables.specs.Rows.{StationRow}
 use Rattle.station_tables.specs.Stations.{is_code, holds_day, shares_day, serving_by, serving_of, overlaps, with_station_row}
