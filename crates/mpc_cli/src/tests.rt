@@ -5,6 +5,7 @@ use desk_io::{MemSink, MemSource, NoMemory, TickClock};
 use item_list::Bytes;
 use obs_time::Instant;
 use std::alloc::Global;
+use std::process::Abort;
 use std::test::Fail;
 
 /// A frame, the answer to it, and how many entries the history has behind it.
@@ -164,16 +165,46 @@ fn words_of(alloc: Global, texts: &[&str]) -> Result<Words, NoMemory> {
     Ok(words)
 }
 
+/// How a call ended, and the sink that took its answers.
+#[derive(Drop)]
+struct Ran {
+    ended: Ended,
+    sink: MemSink,
+}
+
+/// A call over these bytes, of which a read gives at most `greatest`. The read and the write that fail
+/// are counted from 1, and for 0 none fails.
 fn call(
     alloc: Global,
     texts: &[&str],
-    source: &mut MemSource,
-    sink: &mut MemSink,
-) -> Result<Ended, Fail> {
+    bytes: &[u8],
+    greatest: usize,
+    read: u64,
+    write: u64,
+) -> Result<Ran, Fail> {
     let words = words_of(alloc, texts)?;
+    let mut source = MemSource::new(alloc, bytes, greatest.max(1), &[read])?;
+    let mut sink = MemSink::new(alloc, 4096, &[write])?;
     let first = Instant::new(1_711_929_600_000_000_000).ok_or("out of range")?;
     let mut clock = TickClock::new(first, 1_000_000_000);
-    Ok(top(alloc, &words, source, sink, &mut clock))
+    let ended = top(alloc, &words, &mut source, &mut sink, &mut clock);
+    Ok(Ran { ended, sink })
+}
+
+fn expect(
+    rt: &impl Abort,
+    alloc: Global,
+    ran: &Ran,
+    status: &str,
+    added: u64,
+    taken: &[u8],
+    case: usize,
+) -> Result<(), Fail> {
+    let ended = format!(in alloc; "{}", ran.ended.status)?;
+    assert_eq!(rt; ended.as_str(), status, "case {case}");
+    assert_eq!(rt; ran.ended.added, added, "case {case}");
+    assert_eq!(rt; ran.sink.bytes(), taken, "case {case}");
+    Ok(())
 }
 
 /// The words of `run` with the founder's key.
@@ -184,116 +215,55 @@ const EMPTY_BATCH: &str = "+founder-1 1 submit80 0\n";
 const EMPTY_BATCH_ANSWER: &str = "200 31\nreceipt 1\naccepted 0 refused 0\n";
 
 #[test]
-fn ends(rt: HostRuntime) -> Result<(), Fail> {
+fn ends_of_a_run(rt: HostRuntime) -> Result<(), Fail> {
     let alloc = rt.alloc();
-    // The words, the source's bytes, the reads and the writes that fail; the status, the entries and
-    // the sink's bytes.
-    let cases: [(&[&str], &str, &[u64], &[u64], &str, u64, &str); 16] = [
-        (&RUN, "", &[], &[], "Done", 0, ""),
-        (&RUN, EMPTY_BATCH, &[], &[], "Done", 1, EMPTY_BATCH_ANSWER),
-        (
-            &["run", "--key=+founder-1"],
-            EMPTY_BATCH,
-            &[],
-            &[],
+    let two = "+founder-1 1 submit80 0\n+founder-1 2 submit80 00\n";
+    let cut = "+founder-1 1 station 70\n{\"code\"";
+    // The source's bytes, the read and the write that fail, the status, the entries, the sink's bytes.
+    let cases = [
+        ("", 0, 0, "Done", 0, ""),
+        (EMPTY_BATCH, 0, 0, "Done", 1, EMPTY_BATCH_ANSWER),
+        (cut, 0, 0, "BadFrame at 0", 0, ""),
+        (two, 0, 0, "BadFrame at 24", 1, EMPTY_BATCH_ANSWER),
+        (EMPTY_BATCH, 2, 0, "ReadFault", 1, EMPTY_BATCH_ANSWER),
+        (EMPTY_BATCH, 1, 0, "ReadFault", 0, ""),
+        (EMPTY_BATCH, 0, 1, "WriteFault", 1, ""),
+    ];
+    for (case, (bytes, read, write, status, added, taken)) in cases.iter().enumerate() {
+        let ran = call(alloc, &RUN, bytes.as_bytes(), 4096, *read, *write)?;
+        expect(&rt, alloc, &ran, status, *added, taken.as_bytes(), case)?;
+    }
+    Ok(())
+}
+
+#[test]
+fn words_of_run(rt: HostRuntime) -> Result<(), Fail> {
+    let alloc = rt.alloc();
+    let good: [&[&str]; 2] = [&RUN, &["run", "--key=+founder-1"]];
+    for (case, texts) in good.iter().enumerate() {
+        let ran = call(alloc, texts, EMPTY_BATCH.as_bytes(), 4096, 0, 0)?;
+        expect(
+            &rt,
+            alloc,
+            &ran,
             "Done",
             1,
-            EMPTY_BATCH_ANSWER,
-        ),
-        (
-            &RUN,
-            "+founder-1 1 station 70\n{\"code\"",
-            &[],
-            &[],
-            "BadFrame at 0",
-            0,
-            "",
-        ),
-        (
-            &RUN,
-            "+founder-1 1 submit80 0\n+founder-1 2 submit80 00\n",
-            &[],
-            &[],
-            "BadFrame at 24",
-            1,
-            EMPTY_BATCH_ANSWER,
-        ),
-        (
-            &RUN,
-            EMPTY_BATCH,
-            &[2],
-            &[],
-            "ReadFault",
-            1,
-            EMPTY_BATCH_ANSWER,
-        ),
-        (&RUN, EMPTY_BATCH, &[1], &[], "ReadFault", 0, ""),
-        (&RUN, EMPTY_BATCH, &[], &[1], "WriteFault", 1, ""),
-        (&["run"], EMPTY_BATCH, &[], &[], "Usage", 0, ""),
-        (&[], EMPTY_BATCH, &[], &[], "Usage", 0, ""),
-        (
-            &["tally", "--key", "+founder-1"],
-            EMPTY_BATCH,
-            &[],
-            &[],
-            "Usage",
-            0,
-            "",
-        ),
-        (
-            &["run", "--key", "+1234567"],
-            EMPTY_BATCH,
-            &[],
-            &[],
-            "Usage",
-            0,
-            "",
-        ),
-        (
-            &["run", "--key", "founder-1"],
-            EMPTY_BATCH,
-            &[],
-            &[],
-            "Usage",
-            0,
-            "",
-        ),
-        (
-            &["run", "--key", "+founder_1"],
-            EMPTY_BATCH,
-            &[],
-            &[],
-            "Usage",
-            0,
-            "",
-        ),
-        (
-            &["run", "--key", "+founder-1", "--key"],
-            EMPTY_BATCH,
-            &[],
-            &[],
-            "Usage",
-            0,
-            "",
-        ),
-        (
-            &["run", "--key=", "+founder-1"],
-            EMPTY_BATCH,
-            &[],
-            &[],
-            "Usage",
-            0,
-            "",
-        ),
+            EMPTY_BATCH_ANSWER.as_bytes(),
+            case,
+        )?;
+    }
+    let bad: [&[&str]; 7] = [
+        &["run"],
+        &[],
+        &["tally", "--key", "+founder-1"],
+        &["run", "--key", "+1234567"],
+        &["run", "--key", "founder-1"],
+        &["run", "--key=", "+founder-1"],
+        &["run", "--key", "+founder-1", "--key"],
     ];
-    for (texts, bytes, reads, writes, status, added, taken) in cases {
-        let mut source = MemSource::new(alloc, bytes.as_bytes(), 4096, reads)?;
-        let mut sink = MemSink::new(alloc, 4096, writes)?;
-        let ended = call(alloc, texts, &mut source, &mut sink)?;
-        let found = format!(in alloc; "{}", ended.status)?;
-        assert_eq!(rt; found.as_str(), status, "{texts:?} over {bytes:?}");
-        assert_eq!(rt; ended.added, added, "{texts:?} over {bytes:?}");
-        assert_eq!(rt; sink.bytes(), taken.as_bytes(), "{texts:?} over {bytes:?}");
+    for (case, texts) in bad.iter().enumerate() {
+        let ran = call(alloc, texts, EMPTY_BATCH.as_bytes(), 4096, 0, 0)?;
+        expect(&rt, alloc, &ran, "Usage", 0, b"", case)?;
     }
     Ok(())
 }
@@ -304,30 +274,23 @@ fn session_in_pieces(rt: HostRuntime) -> Result<(), Fail> {
     let bytes = session(alloc)?;
     let (taken, added) = answers(alloc, 10)?;
     for greatest in [1usize, 2, 3, 7, 64, 4096] {
-        let mut source = MemSource::new(alloc, bytes.as_slice(), greatest, &[])?;
-        let mut sink = MemSink::new(alloc, 4096, &[])?;
-        let ended = call(alloc, &RUN, &mut source, &mut sink)?;
-        assert_eq!(rt; ended.status.number(), 0, "pieces of {greatest}");
-        assert_eq!(rt; ended.added, added, "pieces of {greatest}");
-        assert_eq!(rt; sink.bytes(), taken.as_slice(), "pieces of {greatest}");
+        let ran = call(alloc, &RUN, &bytes, greatest, 0, 0)?;
+        expect(&rt, alloc, &ran, "Done", added, &taken, greatest)?;
     }
     Ok(())
 }
 
-// Each read gives one byte, so that as many bytes came as there were reads before the one that fails.
+// Each read gives 7 bytes, or what is left of the session.
 #[test]
 fn each_read_fails_in_turn(rt: HostRuntime) -> Result<(), Fail> {
     let alloc = rt.alloc();
     let bytes = session(alloc)?;
-    for came in 0..=bytes.len() {
-        let fails = [(came as u64).saturating_add(1)];
-        let mut source = MemSource::new(alloc, bytes.as_slice(), 1, &fails)?;
-        let mut sink = MemSink::new(alloc, 4096, &[])?;
-        let ended = call(alloc, &RUN, &mut source, &mut sink)?;
+    for reads in 0..=bytes.len().div_ceil(7) {
+        let came = reads.saturating_mul(7).min(bytes.len());
         let (taken, added) = answers(alloc, whole_in(came))?;
-        assert_eq!(rt; ended.status.number(), 6, "behind {came} bytes");
-        assert_eq!(rt; ended.added, added, "behind {came} bytes");
-        assert_eq!(rt; sink.bytes(), taken.as_slice(), "behind {came} bytes");
+        let failing = (reads as u64).saturating_add(1);
+        let ran = call(alloc, &RUN, &bytes, 7, failing, 0)?;
+        expect(&rt, alloc, &ran, "ReadFault", added, &taken, came)?;
     }
     Ok(())
 }
@@ -337,19 +300,22 @@ fn each_read_fails_in_turn(rt: HostRuntime) -> Result<(), Fail> {
 fn each_write_fails_in_turn(rt: HostRuntime) -> Result<(), Fail> {
     let alloc = rt.alloc();
     let bytes = session(alloc)?;
-    let (all, _) = answers(alloc, 10)?;
-    for failing in 0..20usize {
-        let fails = [(failing as u64).saturating_add(1)];
-        let mut source = MemSource::new(alloc, bytes.as_slice(), 4096, &[])?;
-        let mut sink = MemSink::new(alloc, 4096, &fails)?;
-        let ended = call(alloc, &RUN, &mut source, &mut sink)?;
-        let (whole, _) = answers(alloc, failing / 2)?;
-        let (more, added) = answers(alloc, (failing / 2).saturating_add(1))?;
-        assert_eq!(rt; ended.status.number(), 7, "write {failing}");
-        assert_eq!(rt; ended.added, added, "write {failing}");
-        assert!(rt; sink.bytes().starts_with(&whole), "write {failing}");
-        assert!(rt; all.starts_with(sink.bytes()), "write {failing}");
-        assert!(rt; sink.bytes().len() < more.len(), "write {failing}");
+    for before in 0..20usize {
+        let (whole, _) = answers(alloc, before / 2)?;
+        let (more, added) = answers(alloc, (before / 2).saturating_add(1))?;
+        let failing = (before as u64).saturating_add(1);
+        let ran = call(alloc, &RUN, &bytes, 4096, 0, failing)?;
+        let count = ran.sink.bytes().len();
+        assert!(rt; whole.len() <= count && count < more.len(), "{before}");
+        expect(
+            &rt,
+            alloc,
+            &ran,
+            "WriteFault",
+            added,
+            &more[..count],
+            before,
+        )?;
     }
     Ok(())
 }
