@@ -1,68 +1,70 @@
 -- What the step and conducts do to a history.
 use Rattle.std.proofs.Common.{◌≡◌, ◌≢◌, ℤ, pos, List, [], ◌∷◌, ◌++◌, Option, Some, None, refl, sym, ap, subst, ◌∙◌, append_assoc, inl, inr}
 use Rattle.std.specs.Prelude.{◌⊎◌, unwrap_or}
-use Rattle.act_model.specs.declared.request.Key.{Key}
+use Rattle.act_bodies.specs.declared.key.Key.{Key}
 use Rattle.act_model.specs.declared.request.Request.{Request}
 use Rattle.act_model.specs.declared.entry.Entry.{Entry}
 use Rattle.act_model.specs.declared.reply.Refusal.{Refusal}
-use Rattle.act_model.specs.declared.reply.Refusal.TheVariants.{Unread, UnknownKey, OtherRequest, NoMemory}
+use Rattle.act_model.specs.declared.reply.Refusal.TheVariants.{NoMemory}
 use Rattle.act_model.specs.declared.reply.Reply.{Reply}
 use Rattle.act_model.specs.declared.reply.Reply.TheVariants.{Done, Refused}
-use Rattle.act_model.specs.History.{Kept, caller_of, kept, IsUnused, EachNumberOnce}
-use Rattle.act_model.specs.Refusals.{early_refusal}
-use Rattle.act_model.specs.Step.{step, after_early, after_kept, new_entry}
+use Rattle.act_model.specs.History.{Kept, kept, IsUnused, EachNumberOnce}
+use Rattle.act_model.specs.Refusals.{early_refusal, late_refusal}
+use Rattle.act_model.specs.Step.{step, unless_refused, unless_kept, accepted_act, new_entry, asking}
 use Rattle.act_model.specs.Turns.{Turn, Answers, IsTurn, Conduct}
 use Rattle.act_model.specs.Conducts.{Extends, HadMemory, IsStepped}
+
+-- the three questions of the step, one behind the other: the early refusal, the number that was used, the late refusal
+abbrev pub after_all : Option Refusal → Option Kept → Option Refusal → List Entry → Request → Entry → Reply × List Entry
+after_all early used late past q e = unless_refused early past (unless_kept used past q (unless_refused late past (accepted_act past e)))
 
 -- the history stays, or gets one entry with a number that was not used
 abbrev pub Leaves : List Entry → List Entry → Type 0
 Leaves past after = (after ≡ past) ⊎ ((entry : Entry) × (after ≡ entry ∷ past) × IsUnused past entry)
 
-refused_leaves : (o : Option Refusal) (k : Option Kept) (past : List Entry) (q : Request) (e : Entry) (r : Refusal) (after : List Entry) → after_early o past (after_kept k past q e) ≡ (Refused r, after) → after ≡ past
-refused_leaves (Some x) k past q e r after is = sym (ap (λ (p : Reply × List Entry). p.1) is)
-refused_leaves None (Some k) past q e r after is = sym (ap (λ (p : Reply × List Entry). p.1) is)
-refused_leaves None None past q e r after is = let reply = ap (λ (p : Reply × List Entry). p.0) is in absurd cc
+refused_leaves : (early : Option Refusal) (used : Option Kept) (late : Option Refusal) (past : List Entry) (q : Request) (e : Entry) (r : Refusal) (after : List Entry)
+    → after_all early used late past q e ≡ (Refused r, after) → after ≡ past
+refused_leaves (Some x) used late past q e r after is = sym (ap (λ (p : Reply × List Entry). p.1) is)
+refused_leaves None (Some k) late past q e r after is = sym (ap (λ (p : Reply × List Entry). p.1) is)
+refused_leaves None None (Some x) past q e r after is = sym (ap (λ (p : Reply × List Entry). p.1) is)
+refused_leaves None None None past q e r after is = let reply = ap (λ (p : Reply × List Entry). p.0) is in absurd cc
 
-step_leaves : (o : Option Refusal) (k : Option Kept) (past : List Entry) (q : Request) (e : Entry) (reply : Reply) (after : List Entry) → k ≡ kept past e.caller e.number
-    → after_early o past (after_kept k past q e) ≡ (reply, after) → Leaves past after
-step_leaves (Some x) k past q e reply after unused is = inl (sym (ap (λ (p : Reply × List Entry). p.1) is))
-step_leaves None (Some k) past q e reply after unused is = inl (sym (ap (λ (p : Reply × List Entry). p.1) is))
-step_leaves None None past q e reply after unused is = inr (e, sym (ap (λ (p : Reply × List Entry). p.1) is), sym unused)
+step_leaves : (early : Option Refusal) (used : Option Kept) (late : Option Refusal) (past : List Entry) (q : Request) (e : Entry) (reply : Reply) (after : List Entry) → used ≡ kept past e.caller e.number
+    → after_all early used late past q e ≡ (reply, after) → Leaves past after
+step_leaves (Some x) used late past q e reply after unused is = inl (sym (ap (λ (p : Reply × List Entry). p.1) is))
+step_leaves None (Some k) late past q e reply after unused is = inl (sym (ap (λ (p : Reply × List Entry). p.1) is))
+step_leaves None None (Some x) past q e reply after unused is = inl (sym (ap (λ (p : Reply × List Entry). p.1) is))
+step_leaves None None None past q e reply after unused is = inr (e, sym (ap (λ (p : Reply × List Entry). p.1) is), sym unused)
 
 module _ (founder : Key) where
-  pub refusal_leaves : (past : List Entry) (q : Request) (t : ℤ) (r : Refusal) (after : List Entry) → step founder past q t ≡ (Refused r, after) → after ≡ past
+  -- the step, with its three questions
+  pub step_is : (past : List Entry) (q : Request) (t : ℤ) → let caller = asking founder past q in
+      step founder past q t ≡ after_all (early_refusal founder past q) (kept past caller (unwrap_or q.number 0)) (late_refusal founder past caller q) past q (new_entry caller past q t)
   unfolding step
+  step_is past q t = refl
+
+  pub refusal_leaves : (past : List Entry) (q : Request) (t : ℤ) (r : Refusal) (after : List Entry) → step founder past q t ≡ (Refused r, after) → after ≡ past
   refusal_leaves past q t r after is =
-      let caller = unwrap_or (caller_of founder q.key) 0 in
-      refused_leaves (early_refusal founder q) (kept past caller (unwrap_or q.number 0)) past q (new_entry caller past q t) r after is
+      let caller = asking founder past q in
+      refused_leaves (early_refusal founder past q) (kept past caller (unwrap_or q.number 0)) (late_refusal founder past caller q) past q (new_entry caller past q t) r after (sym (step_is past q t) ∙ is)
 
   pub leaves : (past : List Entry) (q : Request) (t : ℤ) (reply : Reply) (after : List Entry) → step founder past q t ≡ (reply, after) → Leaves past after
-  unfolding step
   leaves past q t reply after is =
-      let caller = unwrap_or (caller_of founder q.key) 0 in
-      step_leaves (early_refusal founder q) (kept past caller (unwrap_or q.number 0)) past q (new_entry caller past q t) reply after refl is
+      let caller = asking founder past q in
+      step_leaves (early_refusal founder past q) (kept past caller (unwrap_or q.number 0)) (late_refusal founder past caller q) past q (new_entry caller past q t) reply after refl (sym (step_is past q t) ∙ is)
 
   answer_leaves : (past : List Entry) (q : Request) (t : ℤ) (reply : Reply) (after : List Entry) → Answers founder past q t reply after → Leaves past after
-  answer_leaves past q t (Done text) after is = leaves past q t (Done text) after is
-  answer_leaves past q t (Refused (Unread what)) after is = leaves past q t (Refused (Unread what)) after is
-  answer_leaves past q t (Refused UnknownKey) after is = leaves past q t (Refused UnknownKey) after is
-  answer_leaves past q t (Refused (OtherRequest r)) after is = leaves past q t (Refused (OtherRequest r)) after is
-  answer_leaves past q t (Refused NoMemory) after is = inl is
-
-  -- what the step gives is an answer
-  pub step_answers : (past : List Entry) (q : Request) (t : ℤ) (reply : Reply) (after : List Entry) → step founder past q t ≡ (reply, after) → Answers founder past q t reply after
-  step_answers past q t (Done text) after is = is
-  step_answers past q t (Refused (Unread what)) after is = is
-  step_answers past q t (Refused UnknownKey) after is = is
-  step_answers past q t (Refused (OtherRequest r)) after is = is
-  step_answers past q t (Refused NoMemory) after is = refusal_leaves past q t NoMemory after is
+  answer_leaves past q t reply after (inl is) = leaves past q t reply after is
+  answer_leaves past q t reply after (inr (wants, same)) = inl same
 
   answer_steps : (past : List Entry) (q : Request) (t : ℤ) (reply : Reply) (after : List Entry) → reply ≢ Refused NoMemory → Answers founder past q t reply after → step founder past q t ≡ (reply, after)
-  answer_steps past q t (Done text) after had is = is
-  answer_steps past q t (Refused (Unread what)) after had is = is
-  answer_steps past q t (Refused UnknownKey) after had is = is
-  answer_steps past q t (Refused (OtherRequest r)) after had is = is
-  answer_steps past q t (Refused NoMemory) after had is = absurd (had refl)
+  answer_steps past q t reply after had (inl is) = is
+  answer_steps past q t reply after had (inr (wants, same)) = absurd (had wants)
+
+  -- an answer that is a refusal leaves the history, so that want of memory may stand in its place
+  pub answer_wanting : (past : List Entry) (q : Request) (t : ℤ) (r : Refusal) (after : List Entry) → Answers founder past q t (Refused r) after → Answers founder past q t (Refused NoMemory) after
+  answer_wanting past q t r after (inl is) = inr (refl, refusal_leaves past q t r after is)
+  answer_wanting past q t r after (inr (wants, same)) = inr (refl, same)
 
   extends_one : (past between after : List Entry) → Leaves past between → Extends between after → Extends past after
   extends_one past between after (inl same) (newer, is) = (newer, is ∙ ap (λ (h : List Entry). newer ++ h) same)

@@ -1,3 +1,3 @@
 pub mod Conducts
+pub mod Callers
 pub mod Legal
-pub mod Padded

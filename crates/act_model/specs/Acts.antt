@@ -1,12 +1,41 @@
 -- The act that a request asks for. It is a function of the verb and the body alone.
-use Rattle.std.specs.Prelude.{ℕ, List, Option, Some, None}
+use Rattle.std.specs.Prelude.{ℕ, Bool, true, false, List, Option, Some, None, Result, Ok, Err}
+use Rattle.act_bodies.specs.declared.enrol.Enrol.{Enrol as EnrolBody}
+use Rattle.act_bodies.specs.declared.station.Station.{Station as StationBody}
+use Rattle.act_bodies.specs.declared.code.Code.{Code as CodeBody}
+use Rattle.act_bodies.specs.Bodies.{enrol_of, station_of, code_of}
 use Rattle.col80_format.specs.Batch.{lines_of}
 use Rattle.act_model.specs.declared.request.Verb.{Verb}
-use Rattle.act_model.specs.declared.request.Verb.TheVariants.{Submit80, Unknown}
+use Rattle.act_model.specs.declared.request.Verb.TheVariants.{Enrol, Station, Code, Submit80, Unknown}
 use Rattle.act_model.specs.declared.act.Act.{Act}
 use Rattle.act_model.specs.declared.act.Act.TheVariants as act
+use Rattle.act_model.specs.declared.act.ActFault.{ActFault}
+use Rattle.act_model.specs.declared.act.ActFault.TheVariants.{Unread}
 
--- the act of a verb and a body: every body is one of Submit80, and a verb that names nothing is no act
-abbrev pub act_of : Verb → List ℕ → Option Act
-act_of Submit80 body = Some (act.Submit80 (lines_of body))
-act_of Unknown body = None
+-- what was asked, or the body isn't as the verb wants it
+abbrev pub read_as : {B : Type 0} → (B → Act) → Option B → Result Act ActFault
+read_as asked (Some body) = Ok (asked body)
+read_as asked None = Err Unread
+
+abbrev pub enrol_act : EnrolBody → Act
+enrol_act body = act.Enrol body.key body.name body.role
+
+abbrev pub station_act : StationBody → Act
+station_act body = act.Station body.code body.name body.from body.to
+
+abbrev pub code_act : CodeBody → Act
+code_act body = act.Code body.kind body.letter body.word
+
+-- The act of a verb and a body. Every body is one of a batch; an officer's act has the body that its verb wants; and a
+-- verb that names nothing is no act.
+unfoldable pub act_of : Verb → List ℕ → Result Act ActFault
+act_of Enrol body = read_as enrol_act (enrol_of body)
+act_of Station body = read_as station_act (station_of body)
+act_of Code body = read_as code_act (code_of body)
+act_of Submit80 body = Ok (act.Submit80 (lines_of body))
+act_of Unknown body = Err Unread
+
+-- the body isn't as the verb wants it
+abbrev pub is_unread : Result Act ActFault → Bool
+is_unread (Ok act) = false
+is_unread (Err fault) = true

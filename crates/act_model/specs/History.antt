@@ -1,16 +1,10 @@
 -- The office's history: its entries, the newest first. All that the office answers is worked out from it.
 use Rattle.std.specs.Prelude.{◌≡◌, ℕ, ◌+◌, ℤ, int_lt, Bool, ◌&&◌, ◌==◌, if◌then◌else◌, List, [], ◌∷◌, length, Option, Some, None}
-use Rattle.act_model.specs.declared.request.Key.{Key}
 use Rattle.act_model.specs.declared.entry.Entry.{Entry}
-use Rattle.act_model.specs.Keys.{same_key}
 
 -- the receipt of the entry that comes next: its place in the history, counted from 1
 abbrev pub next_receipt : List Entry → ℕ
 next_receipt past = length past + 1
-
--- the caller that has the key: the founding officer, who is caller 0
-abbrev pub caller_of : Key → Key → Option ℕ
-caller_of founder key = if same_key key founder then Some 0 else None
 
 -- the moment of the entry that comes next: the clock's reading, but never before the last entry's moment
 abbrev pub next_moment : List Entry → ℤ → ℤ

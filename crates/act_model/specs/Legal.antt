@@ -1,19 +1,20 @@
 -- Legal histories: every entry is one that the office would have taken in where it stands.
 use Rattle.std.specs.Prelude.{◌≡◌, List, [], ◌∷◌, Some}
-use Rattle.act_model.specs.declared.request.Key.{Key}
+use Rattle.act_bodies.specs.declared.key.Key.{Key}
 use Rattle.act_model.specs.declared.request.Body.TheVariants.{Whole}
 use Rattle.act_model.specs.declared.request.Request.{Request}
 use Rattle.act_model.specs.declared.entry.Entry.{Entry}
+use Rattle.act_model.specs.Roster.{members, key_at}
 use Rattle.act_model.specs.Step.{step}
 
--- the request of an entry: its caller's key, which is the founder's, its number, its verb and the whole body
-abbrev pub entry_request : Key → Entry → Request
-entry_request founder entry =
-    record { key = founder; number = Some entry.number; verb = entry.verb; body = Whole entry.body }
+-- the request of an entry that came at this history: the caller's key on the roster, the number, the verb and the whole body
+abbrev pub entry_request : Key → List Entry → Entry → Request
+entry_request founder past entry =
+    record { key = key_at founder (members past) entry.caller; number = Some entry.number; verb = entry.verb; body = Whole entry.body }
 
 -- the entry is what the step adds to the history for the entry's request, with the entry's moment as the reading
 abbrev pub IsAdded : Key → List Entry → Entry → Type 0
-IsAdded founder past entry = (step founder past (entry_request founder entry) entry.moment).1 ≡ entry ∷ past
+IsAdded founder past entry = (step founder past (entry_request founder past entry) entry.moment).1 ≡ entry ∷ past
 
 -- each entry is what the step adds to the history before it
 abbrev pub IsLegal : Key → List Entry → Type 0

@@ -1,5 +1,8 @@
-pub mod Keys
+pub mod Rows
+pub mod Requests
 pub mod Acts
+pub mod Roster
+pub mod OfficeTables
 pub mod History
 pub mod Observations
 pub mod Texts

@@ -1,17 +1,25 @@
 -- What the office answers to an act that it accepted, and the text and status of every reply.
-use Rattle.std.specs.Prelude.{ℕ, ◌+◌, List, [], ◌∷◌, ◌++◌, codes, decimal, Option, Some, None}
+use Rattle.std.specs.Prelude.{ℕ, ◌+◌, List, [], ◌∷◌, ◌++◌, flat_map, codes, decimal, Option, Some, None, Result, Ok, Err}
 use Rattle.obs_record.specs.declared.line.Line.{Line}
 use Rattle.obs_record.specs.declared.rule.RuleCode.{RuleCode}
-use Rattle.col80_format.specs.Batch.{lines_of}
+use Rattle.station_tables.specs.Rows.{TableRows}
+use Rattle.act_model.specs.declared.act.Act.{Act}
+use Rattle.act_model.specs.declared.act.Act.TheVariants as act
+use Rattle.act_model.specs.declared.act.ActFault.{ActFault}
 use Rattle.act_model.specs.declared.entry.Entry.{Entry}
+use Rattle.act_model.specs.declared.reply.Excess.TheVariants as excess
+use Rattle.act_model.specs.declared.reply.Fault.{Fault}
 use Rattle.act_model.specs.declared.reply.Part.TheVariants as part
 use Rattle.act_model.specs.declared.reply.Refusal.{Refusal}
-use Rattle.act_model.specs.declared.reply.Refusal.TheVariants.{Unread, UnknownKey, OtherRequest, NoMemory}
+use Rattle.act_model.specs.declared.reply.Refusal.TheVariants.{TooLarge, Unread, UnknownKey, OtherRequest, Role, NoLine, AlreadyThere, RosterFull, NoMemory}
 use Rattle.act_model.specs.declared.reply.Reply.{Reply}
 use Rattle.act_model.specs.declared.reply.Reply.TheVariants.{Done, Refused}
+use Rattle.act_model.specs.Acts.{act_of}
+use Rattle.act_model.specs.Roster.{members, next_caller}
+use Rattle.act_model.specs.OfficeTables.{tables_of}
 use Rattle.act_model.specs.History.{next_receipt}
 use Rattle.act_model.specs.Observations.{fault_of, accepted_in, refused_in, observations}
-use Rattle.act_model.specs.Texts.{line_of, receipt_line, counts_line, accepted_line, refused_line}
+use Rattle.act_model.specs.Texts.{line_of, receipt_line, caller_line, counts_line, accepted_line, refused_line}
 
 -- the answer to a line with this fault, where so many observations came before it
 abbrev pub line_answer : ℕ → ℕ → Option RuleCode → List ℕ
@@ -24,26 +32,44 @@ observations_with before None = before + 1
 observations_with before (Some rule) = before
 
 -- the answers to the lines of a batch, in their order
-abbrev pub line_answers : List Line → ℕ → List ℕ
-line_answers [] before = []
-line_answers (line ∷ lines) before =
-    line_answer before line.number (fault_of line) ++ line_answers lines (observations_with before (fault_of line))
+abbrev pub line_answers : TableRows → List Line → ℕ → List ℕ
+line_answers tables [] before = []
+line_answers tables (line ∷ lines) before =
+    line_answer before line.number (fault_of tables line) ++ line_answers tables lines (observations_with before (fault_of tables line))
 
 -- the answer to a batch of these lines that became the entry with this receipt, where so many observations came before it
-unfoldable pub batch_answer : ℕ → ℕ → List Line → List ℕ
-batch_answer receipt before lines =
-    receipt_line receipt ++ (counts_line (accepted_in lines) (refused_in lines) ++ line_answers lines before)
+-- and these were the tables
+unfoldable pub batch_answer : ℕ → TableRows → ℕ → List Line → List ℕ
+batch_answer receipt tables before lines =
+    receipt_line receipt ++ (counts_line (accepted_in tables lines) (refused_in tables lines) ++ line_answers tables lines before)
+
+-- the answer to an act that became the next entry of this history
+abbrev pub act_answer : List Entry → Result Act ActFault → List ℕ
+act_answer past (Ok (act.Submit80 lines)) = batch_answer (next_receipt past) (tables_of past) (observations past) lines
+act_answer past (Ok (act.Enrol key name role)) = receipt_line (next_receipt past) ++ caller_line (next_caller (members past))
+act_answer past _ = receipt_line (next_receipt past)
 
 -- the answer to an entry, worked out at the history before it
-abbrev pub entry_answer : List Entry → List ℕ → List ℕ
-entry_answer past body = batch_answer (next_receipt past) (observations past) (lines_of body)
+unfoldable pub entry_answer : List Entry → Entry → List ℕ
+entry_answer past entry = act_answer past (act_of entry.verb entry.body)
 
--- the line of a refusal: its number, its name, and what it carries
+-- the lines of the faults of a batch
+abbrev pub fault_lines : List Fault → List ℕ
+fault_lines faults = flat_map (λ fault. refused_line fault.line fault.rule) faults
+
+-- the line of a refusal: its number, its name, and what it carries; the faults of a batch follow in lines of their own
 abbrev pub refusal_text : Refusal → List ℕ
+refusal_text (TooLarge (excess.Length size)) = line_of (codes "refused 14 TooLarge bytes " ++ decimal size)
+refusal_text (TooLarge (excess.Lines count)) = line_of (codes "refused 14 TooLarge lines " ++ decimal count)
 refusal_text (Unread part.Verb) = line_of (codes "refused 1 Unread verb")
 refusal_text (Unread part.Number) = line_of (codes "refused 1 Unread number")
+refusal_text (Unread part.Body) = line_of (codes "refused 1 Unread body")
 refusal_text UnknownKey = line_of (codes "refused 2 UnknownKey")
 refusal_text (OtherRequest receipt) = line_of (codes "refused 3 OtherRequest receipt " ++ decimal receipt)
+refusal_text Role = line_of (codes "refused 4 Role")
+refusal_text (NoLine faults) = line_of (codes "refused 7 NoLine") ++ fault_lines faults
+refusal_text AlreadyThere = line_of (codes "refused 13 AlreadyThere")
+refusal_text RosterFull = line_of (codes "refused 13 RosterFull")
 refusal_text NoMemory = line_of (codes "refused 17 NoMemory")
 
 abbrev pub text_of : Reply → List ℕ
@@ -51,9 +77,14 @@ text_of (Done text) = text
 text_of (Refused refusal) = refusal_text refusal
 
 abbrev pub refusal_status : Refusal → ℕ
+refusal_status (TooLarge what) = 413
 refusal_status (Unread what) = 400
 refusal_status UnknownKey = 401
 refusal_status (OtherRequest receipt) = 409
+refusal_status Role = 403
+refusal_status (NoLine faults) = 422
+refusal_status AlreadyThere = 409
+refusal_status RosterFull = 409
 refusal_status NoMemory = 507
 
 abbrev pub status_of : Reply → ℕ

@@ -10,6 +10,10 @@ line_of text = text ++ 10 ∷ []
 abbrev pub receipt_line : ℕ → List ℕ
 receipt_line receipt = line_of (codes "receipt " ++ decimal receipt)
 
+-- `caller C`: the number of the caller that was enrolled
+abbrev pub caller_line : ℕ → List ℕ
+caller_line caller = line_of (codes "caller " ++ decimal caller)
+
 -- `accepted A refused B`
 abbrev pub counts_line : ℕ → ℕ → List ℕ
 counts_line accepted refused = line_of (codes "accepted " ++ decimal accepted ++ codes " refused " ++ decimal refused)

@@ -1,25 +1,23 @@
 -- Turns of the office, one request each, and conducts: turns one after another.
-use Rattle.std.specs.Prelude.{◌≡◌, ℕ, ◌+◌, ℤ, pos, List, [], ◌∷◌, map, flat_map, filter_map, Option, Some, None, IfSome, unwrap_or}
+use Rattle.std.specs.Prelude.{◌≡◌, ◌⊎◌, true, false, ℕ, ◌+◌, ℤ, pos, List, [], ◌∷◌, map, flat_map, filter_map, Option, Some, None, IfSome, unwrap_or}
 use Rattle.desk_frames.specs.Frames.{Frame}
 use Rattle.desk_frames.specs.Replies.{reply_frame}
-use Rattle.act_model.specs.declared.request.Key.{Key}
+use Rattle.act_bodies.specs.declared.key.Key.{Key}
 use Rattle.act_model.specs.declared.request.Verb.{Verb}
-use Rattle.act_model.specs.declared.request.Verb.TheVariants.{Submit80, Unknown}
-use Rattle.act_model.specs.declared.request.Body.TheVariants.{Whole}
 use Rattle.act_model.specs.declared.request.Request.{Request}
 use Rattle.act_model.specs.declared.entry.Entry.{Entry}
 use Rattle.act_model.specs.declared.reply.Refusal.TheVariants.{NoMemory}
 use Rattle.act_model.specs.declared.reply.Reply.{Reply}
 use Rattle.act_model.specs.declared.reply.Reply.TheVariants.{Refused}
-use Rattle.act_model.specs.Keys.{key_of}
-use Rattle.act_model.specs.Refusals.{verb_of}
+use Rattle.act_bodies.specs.Keys.{key_of}
+use Rattle.act_model.specs.Requests.{verb_of, is_unknown, body_of}
 use Rattle.act_model.specs.Replies.{status_of, text_of}
 use Rattle.act_model.specs.Step.{step}
 
 -- the request of a frame
 abbrev pub request_of : Frame → Request
 request_of frame =
-    record { key = key_of frame.key; number = Some frame.number; verb = verb_of frame.verb; body = Whole frame.body }
+    record { key = key_of frame.key; number = Some frame.number; verb = verb_of frame.verb; body = body_of frame.body }
 
 -- a request, the clock's reading where it took one, and the reply
 pub record Turn : Type 0 where
@@ -29,14 +27,13 @@ pub record Turn : Type 0 where
 
 -- a request whose verb is an act takes one reading of the clock, any other takes none
 abbrev pub TakesReading : Verb → Option ℤ → Type 0
-TakesReading Submit80 (Some reading) = Unit {0}
-TakesReading Submit80 None = ⊥
-TakesReading Unknown reading = reading ≡ None
+TakesReading verb (Some reading) = is_unknown verb ≡ false
+TakesReading verb None = is_unknown verb ≡ true
 
--- the reply is that of the step, or want of memory, which changes nothing
+-- the reply is that of the step; or it is want of memory, which changes nothing
 abbrev pub Answers : Key → List Entry → Request → ℤ → Reply → List Entry → Type 0
-Answers founder past request reading (Refused NoMemory) after = after ≡ past
-Answers founder past request reading reply after = step founder past request reading ≡ (reply, after)
+Answers founder past request reading reply after =
+    (step founder past request reading ≡ (reply, after)) ⊎ ((reply ≡ Refused NoMemory) × (after ≡ past))
 
 pub record IsTurn (founder : Key) (past : List Entry) (turn : Turn) (after : List Entry) : Type 0 where
   pub reads : TakesReading turn.request.verb turn.reading

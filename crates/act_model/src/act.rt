@@ -1,14 +1,46 @@
-ghost use Rattle.std.specs.Prelude.{◌≡◌, ◌<◌, ◌↔◌, length, Some, None, Err, IfOk};
+ghost use Rattle.std.specs.Prelude.{◌≡◌, ◌<◌, length, Ok, Err, IfOk};
 ghost use Rattle.act_model.specs.Acts.{act_of};
 
 use crate::request::Verb;
+use act_bodies::{BodyFault, Key, Rank, read_code, read_enrol, read_station};
 use col80_format::split_batch;
-use obs_record::Lines;
+use item_list::Bytes;
+use obs_record::{Lines, Short};
+use station_tables::Kind;
 use std::alloc::Global;
 
 /// An act: what a request with the verb of an act asks to be done, read from its body.
 #[derive(Debug, Drop)]
 pub enum Act {
+    /// To put a caller on the roster.
+    Enrol {
+        /// The key by which the caller will be known, 8 to 32 characters without a plus sign.
+        key: Key,
+        /// Who it is, 1 to 100 printable characters.
+        name: Bytes,
+        /// Whether it is an observer or an officer.
+        role: Rank,
+    },
+    /// To enter a station row.
+    Station {
+        /// The observatory code.
+        code: [u8; 3],
+        /// The station's name, 1 to 100 printable characters.
+        name: Bytes,
+        /// The first day on which it serves, in days since 1970-01-01.
+        from: i32,
+        /// The last day on which it serves, not before the first.
+        to: i32,
+    },
+    /// To enter a code row.
+    Code {
+        /// What the letter and the word name.
+        kind: Kind,
+        /// The letter of the 80-column format.
+        letter: u8,
+        /// The word of ADES, 1 to 11 characters.
+        word: Short,
+    },
     /// To take in the observation lines of a batch in the Minor Planet Center's 80-column format,
     /// each with its number and what it says or the first rule that it breaks.
     Submit80(Lines),
@@ -17,23 +49,86 @@ pub enum Act {
 /// Why no act was read.
 #[derive(Clone, Copy, Debug, PartialEq, Eq)]
 pub enum ActFault {
-    /// The verb is that of no act.
+    /// The verb is that of no act, or the body isn't as the verb wants it.
     Unread,
     /// Want of memory.
     NoMemory,
 }
 
+fn unread_body(fault: BodyFault) -> ActFault
+    ensures unread { result ≡ ActFault.Unread → fault ≡ BodyFault.Unread }
+{
+    match fault {
+        BodyFault::Unread => ActFault::Unread,
+        BodyFault::NoMemory => ActFault::NoMemory,
+    }
+}
+
+#[tactic(auto, unfolding(crate::specs::Acts::act_of))]
+fn read_enrolment(alloc: Global, body: &[u8]) -> Result<Act, ActFault>
+    ensures act { IfOk result (λ act. act_of Verb.Enrol body.now ≡ Ok act) }
+    ensures unread { result ≡ Err ActFault.Unread → act_of Verb.Enrol body.now ≡ Err ActFault.Unread }
+{
+    match read_enrol(alloc, body) {
+        Ok(enrol) => Ok(Act::Enrol {
+            key: enrol.key,
+            name: enrol.name,
+            role: enrol.role,
+        }),
+        Err(fault) => Err(unread_body(fault)),
+    }
+}
+
+#[tactic(auto, unfolding(crate::specs::Acts::act_of))]
+fn read_station_row(alloc: Global, body: &[u8]) -> Result<Act, ActFault>
+    ensures act { IfOk result (λ act. act_of Verb.Station body.now ≡ Ok act) }
+    ensures unread { result ≡ Err ActFault.Unread → act_of Verb.Station body.now ≡ Err ActFault.Unread }
+{
+    match read_station(alloc, body) {
+        Ok(station) => {
+            let code = station.code;
+            Ok(Act::Station {
+                code,
+                name: station.name,
+                from: station.from,
+                to: station.to,
+            })
+        }
+        Err(fault) => Err(unread_body(fault)),
+    }
+}
+
+#[tactic(auto, unfolding(crate::specs::Acts::act_of))]
+fn read_code_row(alloc: Global, body: &[u8]) -> Result<Act, ActFault>
+    ensures act { IfOk result (λ act. act_of Verb.Code body.now ≡ Ok act) }
+    ensures unread { result ≡ Err ActFault.Unread → act_of Verb.Code body.now ≡ Err ActFault.Unread }
+{
+    match read_code(alloc, body) {
+        Ok(code) => Ok(Act::Code {
+            kind: code.kind,
+            letter: code.letter,
+            word: code.word,
+        }),
+        Err(fault) => Err(unread_body(fault)),
+    }
+}
+
 /// The act of a verb and a body of fewer than 4,294,967,295 bytes.
 ///
-/// Every body is one for `Submit80`: a line that breaks a rule is an observation line that says so,
-/// and a body without observation lines has none. Answers `Unread` exactly for a verb that is no
-/// act, and takes memory for the lines.
+/// Bodies of officers' acts are JSON: an object with exactly the members of the verb. Every body is
+/// one for `Submit80`: a line that breaks a rule is an observation line that says so, and a body
+/// without observation lines has none. Answers `Unread` only for a verb that is no act and for a
+/// body that isn't as the verb wants it. Takes memory.
+#[tactic(auto, unfolding(crate::specs::Acts::act_of))]
 pub fn read_act(alloc: Global, verb: Verb, body: &[u8]) -> Result<Act, ActFault>
     requires { length body.now < 4_294_967_295 }
-    ensures act { IfOk result (λ act. act_of verb body.now ≡ Some act) }
-    ensures unread { (result ≡ Err ActFault.Unread) ↔ (act_of verb body.now ≡ None) }
+    ensures act { IfOk result (λ act. act_of verb body.now ≡ Ok act) }
+    ensures unread { result ≡ Err ActFault.Unread → act_of verb body.now ≡ Err ActFault.Unread }
 {
     match verb {
+        Verb::Enrol => read_enrolment(alloc, body),
+        Verb::Station => read_station_row(alloc, body),
+        Verb::Code => read_code_row(alloc, body),
         Verb::Submit80 => match split_batch(alloc, body) {
             Ok(lines) => Ok(Act::Submit80(lines)),
             Err(_) => Err(ActFault::NoMemory),

@@ -5,7 +5,7 @@ ghost use Rattle.act_model.specs.declared.entry.Entry.{Entry};
 ghost use Rattle.act_model.specs.declared.reply.Refusal.{Refusal};
 ghost use Rattle.act_model.specs.declared.reply.Reply.{Reply};
 ghost use Rattle.act_model.specs.declared.reply.Reply.TheVariants.{Done, Refused};
-ghost use Rattle.act_model.specs.declared.request.Key.{Key};
+ghost use Rattle.act_bodies.specs.declared.key.Key.{Key};
 ghost use Rattle.act_model.specs.declared.request.Request.{Request};
 ghost use Rattle.act_model.specs.History.{Kept, kept, EachNumberOnce};
 ghost use Rattle.act_model.specs.Step.{step};

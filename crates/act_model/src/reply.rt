@@ -1,10 +1,13 @@
-ghost use Rattle.std.specs.Prelude.{◌≡◌, ◌++◌, ◌≤◌, IfOk, length};
+ghost use Rattle.std.specs.Prelude.{◌≡◌, ◌++◌, ◌≤◌, IfOk, IfSome, IfNone, List, length, decimal};
+ghost use Rattle.act_model.specs.declared.reply.Fault.{Fault};
 ghost use Rattle.act_model.specs.Texts.{line_of};
-ghost use Rattle.act_model.specs.Replies.{status_of, text_of, refusal_text};
+ghost use Rattle.act_model.specs.Replies.{status_of, text_of, refusal_text, refusal_status, fault_lines};
 
+use crate::texts::push_fault_lines;
 use arrayvec::ArrayVec;
-use item_list::{Bytes, NoMemory};
+use item_list::{Bytes, ItemList, NoMemory};
 use itoa::Buffer;
+use obs_record::RuleCode;
 use std::alloc::Global;
 
 /// The most bytes that the line of a refusal has.
@@ -15,13 +18,38 @@ pub const REFUSAL_BYTES: usize = 64;
 pub enum Part {
     /// The verb is none of the office's.
     Verb,
-    /// An act's number is 0 or misspelt.
+    /// An act's number is 0, too great, or misspelt.
     Number,
+    /// The body isn't as the verb wants it.
+    Body,
 }
 
-/// Why the office refuses a request. A refused request changes nothing.
+/// What there is too much of in a request's body.
 #[derive(Clone, Copy, Debug, PartialEq, Eq)]
+pub enum Excess {
+    /// It has this many bytes, more than 1,048,576.
+    Length(u64),
+    /// It has this many line feeds, more than 10,000.
+    Lines(u64),
+}
+
+/// A line of a batch that isn't accepted.
+#[derive(Clone, Copy, Debug, PartialEq, Eq)]
+pub struct Fault {
+    /// The line's number in the batch, counted from 1.
+    pub line: u32,
+    /// The first rule that the line breaks.
+    pub rule: RuleCode,
+}
+
+/// The lines of a batch that aren't accepted, in their order.
+pub type Faults = ItemList<Fault>;
+
+/// Why the office refuses a request. A refused request changes nothing.
+#[derive(Debug, Drop)]
 pub enum Refusal {
+    /// The body is too large.
+    TooLarge(Excess),
     /// This part of the request could not be read.
     Unread(Part),
     /// Nobody on the roster has the key.
@@ -31,6 +59,15 @@ pub enum Refusal {
         /// The receipt of that request, counted from 1.
         receipt: u64,
     },
+    /// The act is one of officers, and the caller is an observer.
+    Role,
+    /// No line of the batch is accepted. These are its faults.
+    NoLine(Faults),
+    /// The key is on the roster, the station's days overlap with those of a row, or the letter or word
+    /// is in a row.
+    AlreadyThere,
+    /// The roster has all the callers that it may have.
+    RosterFull,
     /// Want of memory. The same request may be done when it is sent again.
     NoMemory,
 }
@@ -44,18 +81,32 @@ pub enum Reply {
     Refused(Refusal),
 }
 
+/// The status of a refusal, as HTTP numbers them (RFC 9110, and RFC 4918 for want of memory).
+pub fn refusal_status(refusal: &Refusal) -> u16
+    ensures { result ≡ refusal_status refusal.now }
+{
+    match refusal {
+        Refusal::TooLarge(_) => 413,
+        Refusal::Unread(_) => 400,
+        Refusal::UnknownKey => 401,
+        Refusal::Role => 403,
+        Refusal::NoLine(_) => 422,
+        Refusal::OtherRequest { .. } | Refusal::AlreadyThere | Refusal::RosterFull => 409,
+        Refusal::NoMemory => 507,
+    }
+}
+
 /// The status of a reply, as HTTP numbers them (RFC 9110, and RFC 4918 for want of memory): 200 for
-/// a request that was done, 400 for one that can't be read, 401 for a key that nobody has, 409 for a
-/// number that was used, and 507 for want of memory.
+/// a request that was done, 400 for one that can't be read, 401 for a key that nobody has, 403 for an
+/// observer who asks what officers may, 409 for a number that was used and for what is there already,
+/// 413 for a body that is too large, 422 for a batch without a line that is accepted, and 507 for want
+/// of memory.
 pub fn status(reply: &Reply) -> u16
     ensures { result ≡ status_of reply.now }
 {
     match reply {
         Reply::Done(_) => 200,
-        Reply::Refused(Refusal::Unread(_)) => 400,
-        Reply::Refused(Refusal::UnknownKey) => 401,
-        Reply::Refused(Refusal::OtherRequest { .. }) => 409,
-        Reply::Refused(Refusal::NoMemory) => 507,
+        Reply::Refused(refusal) => refusal_status(refusal),
     }
 }
 
@@ -69,41 +120,82 @@ fn line_in_place(words: &[u8]) -> ArrayVec<u8, REFUSAL_BYTES>
     line
 }
 
-fn other_request_line(receipt: u64) -> ArrayVec<u8, REFUSAL_BYTES>
-    ensures { result.items ≡ refusal_text (Refusal.OtherRequest receipt) }
+// The words, a number behind them, and the line feed.
+fn numbered_line(words: &[u8], number: u64) -> ArrayVec<u8, REFUSAL_BYTES>
+    requires { length words.now ≤ 40 }
+    ensures { result.items ≡ line_of (words.now ++ decimal number) }
 {
     let mut buffer = Buffer::new();
     let mut line = ArrayVec::new();
-    line.try_extend_from_slice(b"refused 3 OtherRequest receipt ")
-        .unwrap();
-    line.try_extend_from_slice(buffer.format(receipt).as_bytes())
+    line.try_extend_from_slice(words).unwrap();
+    line.try_extend_from_slice(buffer.format(number).as_bytes())
         .unwrap();
     line.push(b'\n');
     line
 }
 
-/// The line of a refusal: `refused`, its number in the office's table of refusals, its name, and
-/// what it carries, with a line feed at the end. It takes no memory, so a want of memory can be
-/// answered too.
-pub fn refusal_line(refusal: Refusal) -> ArrayVec<u8, REFUSAL_BYTES>
-    ensures { result.items ≡ refusal_text refusal }
+fn large_line(excess: Excess) -> ArrayVec<u8, REFUSAL_BYTES>
+    ensures { result.items ≡ refusal_text (Refusal.TooLarge excess) }
 {
-    match refusal {
-        Refusal::Unread(Part::Verb) => line_in_place(b"refused 1 Unread verb"),
-        Refusal::Unread(Part::Number) => line_in_place(b"refused 1 Unread number"),
-        Refusal::UnknownKey => line_in_place(b"refused 2 UnknownKey"),
-        Refusal::OtherRequest { receipt } => other_request_line(receipt),
-        Refusal::NoMemory => line_in_place(b"refused 17 NoMemory"),
+    match excess {
+        Excess::Length(size) => numbered_line(b"refused 14 TooLarge bytes ", size),
+        Excess::Lines(count) => numbered_line(b"refused 14 TooLarge lines ", count),
     }
 }
 
-/// The text of a reply: what was answered, or the line of the refusal. Err where there was no memory
+fn unread_line(part: Part) -> ArrayVec<u8, REFUSAL_BYTES>
+    ensures { result.items ≡ refusal_text (Refusal.Unread part) }
+{
+    match part {
+        Part::Verb => line_in_place(b"refused 1 Unread verb"),
+        Part::Number => line_in_place(b"refused 1 Unread number"),
+        Part::Body => line_in_place(b"refused 1 Unread body"),
+    }
+}
+
+/// The line of a refusal that has no more than one: `refused`, its number in the office's table of
+/// refusals, its name, and what it carries, with a line feed at the end. It takes no memory, so a want
+/// of memory can be answered too. None for `NoLine` alone, whose faults follow in lines of their own.
+pub fn refusal_line(refusal: &Refusal) -> Option<ArrayVec<u8, REFUSAL_BYTES>>
+    ensures text { IfSome result (λ line. line.items ≡ refusal_text refusal.now) }
+    ensures none { IfNone result ((faults : List Fault) × (refusal.now ≡ Refusal.NoLine faults)) }
+{
+    match refusal {
+        Refusal::TooLarge(excess) => Some(large_line(*excess)),
+        Refusal::Unread(part) => Some(unread_line(*part)),
+        Refusal::UnknownKey => Some(line_in_place(b"refused 2 UnknownKey")),
+        Refusal::OtherRequest { receipt } => {
+            Some(numbered_line(b"refused 3 OtherRequest receipt ", *receipt))
+        }
+        Refusal::Role => Some(line_in_place(b"refused 4 Role")),
+        Refusal::NoLine(_) => None,
+        Refusal::AlreadyThere => Some(line_in_place(b"refused 13 AlreadyThere")),
+        Refusal::RosterFull => Some(line_in_place(b"refused 13 RosterFull")),
+        Refusal::NoMemory => Some(line_in_place(b"refused 17 NoMemory")),
+    }
+}
+
+/// The text of the refusal of a batch without a line that is accepted: its line, and a line for each
+/// fault. Err where there was no memory for the text.
+pub fn no_line_text(alloc: Global, faults: &Faults) -> Result<Bytes, NoMemory>
+    ensures { IfOk result (λ text. text ≡ refusal_text (Refusal.NoLine faults.now)) }
+{
+    let mut out = Bytes::from_slice(alloc, b"refused 7 NoLine\n")?;
+    push_fault_lines(&mut out, faults.as_slice())?;
+    Ok(out)
+}
+
+/// The text of a reply: what was answered, or the lines of the refusal. Err where there was no memory
 /// for the text, so a reply that says so is better written by `refusal_line`.
 pub fn reply_text(alloc: Global, reply: &Reply) -> Result<Bytes, NoMemory>
     ensures { IfOk result (λ text. text ≡ text_of reply.now) }
 {
     match reply {
         Reply::Done(text) => Bytes::from_slice(alloc, text.as_slice()),
-        Reply::Refused(refusal) => Bytes::from_slice(alloc, refusal_line(*refusal).as_slice()),
+        Reply::Refused(Refusal::NoLine(faults)) => no_line_text(alloc, faults),
+        Reply::Refused(refusal) => match refusal_line(refusal) {
+            Some(line) => Bytes::from_slice(alloc, line.as_slice()),
+            None => unreachable!(),
+        },
     }
 }

@@ -1,65 +1,72 @@
-ghost use Rattle.std.specs.Prelude.{◌≡◌, IfSome, IsTrue, ◌↔◌};
-ghost use Rattle.act_model.specs.Keys.{key_of, key_text, same_key};
-ghost use Rattle.act_model.specs.Refusals.{verb_of};
-ghost use Rattle.act_model.specs.Step.{body_bytes, is_resend, same_verb};
+ghost use Rattle.std.specs.Prelude.{◌≡◌, ◌≤◌, length};
+ghost use Rattle.act_model.specs.Requests.{verb_of, is_unknown, is_officers, verb_code, same_verb, body_bytes, announced, line_feeds};
+ghost use Rattle.act_model.specs.Step.{is_resend};
 
 use crate::entry::Entry;
+use act_bodies::Key;
 use item_list::Bytes;
 
-/// The key by which a caller is known to the office: a text of at most 34 bytes. Keys on the
-/// office's roster are shorter, so a longer text is nobody's key.
-#[derive(Clone, Copy, Debug)]
-pub struct Key {
-    /// How many bytes the text has, 0 to 34.
-    pub len: u8,
-    /// The text, with zeros behind it.
-    pub bytes: [u8; 34],
-}
+/// The most bytes that the body of a request may have.
+pub const BODY_BYTES: u64 = 1_048_576;
 
-impl Key {
-    /// The key of a text, or of its first 34 bytes where it is longer.
-    pub fn new(text: &[u8]) -> Key
-        ensures { result ≡ key_of text.now }
-    {
-        let len = text.len().min(34);
-        let mut bytes = [0; 34];
-        bytes[..len].copy_from_slice(&text[..len]);
-        Key {
-            len: len as u8,
-            bytes,
-        }
-    }
-
-    /// The text of the key, of at most 34 bytes.
-    pub fn text(&self) -> &[u8]
-        ensures { result.now ≡ key_text self.now }
-    {
-        let len = usize::from(self.len).min(self.bytes.len());
-        &self.bytes[..len]
-    }
-
-    /// Whether two keys are one: they have the same text.
-    pub fn is(&self, other: &Key) -> bool
-        ensures { result ≡ same_key self.now other.now }
-    {
-        self.text() == other.text()
-    }
-}
+/// The most line feeds that the body of a request may have.
+pub const BODY_LINES: u64 = 10_000;
 
 /// What a request asks for.
 #[derive(Clone, Copy, Debug, PartialEq, Eq)]
 pub enum Verb {
+    /// To put an observer or an officer on the roster, by the word `enrol`. It is an act of officers.
+    Enrol,
+    /// To enter a station and the days on which it serves, by the word `station`. It is an act of officers.
+    Station,
+    /// To enter a letter and a word for a catalogue, a band or a mode, by the word `code`. It is an act of officers.
+    Code,
     /// To take in a batch of 80-column lines, by the word `submit80`. It is an act.
     Submit80,
     /// A word that names nothing. It is no act.
     Unknown,
 }
 
+impl Verb {
+    /// Whether the verb names nothing.
+    pub fn is_unknown(self) -> bool
+        ensures { result ≡ is_unknown self }
+    {
+        matches!(self, Verb::Unknown)
+    }
+
+    /// Whether the verb is one of officers alone.
+    pub fn is_officers(self) -> bool
+        ensures { result ≡ is_officers self }
+    {
+        matches!(self, Verb::Enrol | Verb::Station | Verb::Code)
+    }
+
+    /// The number of the verb of an act, 1 to 4, and 0 for no act.
+    pub fn code(self) -> u8
+        ensures { result ≡ verb_code self }
+    {
+        match self {
+            Verb::Enrol => 1,
+            Verb::Station => 2,
+            Verb::Code => 3,
+            Verb::Submit80 => 4,
+            Verb::Unknown => 0,
+        }
+    }
+}
+
 /// The verb that a word names, letter for letter; `Unknown` for any other word.
 pub fn read_verb(word: &[u8]) -> Verb
     ensures { result ≡ verb_of word.now }
 {
-    if word == b"submit80".as_slice() {
+    if word == b"enrol".as_slice() {
+        Verb::Enrol
+    } else if word == b"station".as_slice() {
+        Verb::Station
+    } else if word == b"code".as_slice() {
+        Verb::Code
+    } else if word == b"submit80".as_slice() {
         Verb::Submit80
     } else {
         Verb::Unknown
@@ -71,8 +78,47 @@ pub fn read_verb(word: &[u8]) -> Verb
 pub enum Body {
     /// All of it.
     Whole(Bytes),
+    /// It has this many bytes, more than 1,048,576, and was read and thrown away.
+    TooLong(u64),
     /// There was no memory for it, so it was read and thrown away.
     NoRoom,
+}
+
+impl Body {
+    /// The bytes of the body, none where they were thrown away.
+    pub fn bytes(&self) -> &[u8]
+        ensures { result.now ≡ body_bytes self.now }
+    {
+        match self {
+            Body::Whole(bytes) => bytes.as_slice(),
+            Body::TooLong(_) | Body::NoRoom => &[],
+        }
+    }
+
+    /// How many bytes the body was announced with; 0 for one for which there was no memory.
+    pub fn announced(&self) -> u64
+        ensures { result ≡ announced self.now }
+    {
+        match self {
+            Body::Whole(bytes) => bytes.len(),
+            Body::TooLong(size) => *size,
+            Body::NoRoom => 0,
+        }
+    }
+}
+
+/// How many line feeds a body has.
+#[tactic(auto, unfolding(crate::specs::Requests::line_feeds))]
+pub fn line_feeds(bytes: &[u8]) -> u64
+    ensures { result ≡ line_feeds bytes.now }
+{
+    let mut feeds = 0;
+    for byte in bytes {
+        if *byte == b'\n' {
+            feeds += 1;
+        }
+    }
+    feeds
 }
 
 /// A request: who asks, under which number of the asker's own, what is asked, and the text for it.
@@ -89,28 +135,15 @@ pub struct Request {
     pub body: Body,
 }
 
-/// The bytes of a body, none where there was no room for them.
-pub fn body_bytes(body: &Body) -> &[u8]
-    ensures { result.now ≡ body_bytes body.now }
-{
-    match body {
-        Body::Whole(bytes) => bytes.as_slice(),
-        Body::NoRoom => &[],
-    }
-}
-
 fn same_verb(a: Verb, b: Verb) -> bool
     ensures { result ≡ same_verb a b }
 {
-    matches!(
-        (a, b),
-        (Verb::Submit80, Verb::Submit80) | (Verb::Unknown, Verb::Unknown)
-    )
+    a.code() == b.code()
 }
 
 /// Whether the request is the one that became the entry: the same verb and the same body.
 pub fn is_resend(request: &Request, entry: &Entry) -> bool
     ensures { result ≡ is_resend request.now entry.now }
 {
-    same_verb(request.verb, entry.verb) && body_bytes(&request.body) == entry.body.as_slice()
+    same_verb(request.verb, entry.verb) && request.body.bytes() == entry.body.as_slice()
 }

@@ -1,6 +1,6 @@
 -- The keys by which callers are known.
-use Rattle.std.specs.Prelude.{ℕ, ◌-◌, min, ◌++◌, List, length, take, replicate, Bool, bytes_eq}
-use Rattle.act_model.specs.declared.request.Key.{Key}
+use Rattle.std.specs.Prelude.{ℕ, ◌-◌, min, ◌==◌, [], ◌∷◌, ◌++◌, List, length, take, replicate, Bool, false, bytes_eq}
+use Rattle.act_bodies.specs.declared.key.Key.{Key}
 
 -- how many bytes of a key are kept
 abbrev pub kept_bytes : ℕ
@@ -18,3 +18,8 @@ key_text key = take key.len key.bytes
 -- two keys are one
 abbrev pub same_key : Key → Key → Bool
 same_key a b = bytes_eq (key_text a) (key_text b)
+
+-- the text begins with a plus, as that of the founding officer's key does
+abbrev pub begins_with_plus : List ℕ → Bool
+begins_with_plus [] = false
+begins_with_plus (first ∷ rest) = first == 43

@@ -1,7 +1,7 @@
 -- A text that is kept in an array, with zeros behind it.
 use Rattle.std.proofs.Common.{◌≡◌, ℕ, ◌-◌, min, List, ◌++◌, length, take, drop, replicate, ap, ◌∙◌, arith}
 use Rattle.std.proofs.lemmas.List.{take_min, drop-replicate}
-use Rattle.act_model.specs.Keys.{key_of}
+use Rattle.act_bodies.specs.Keys.{key_of}
 
 -- what is copied to the front of the array, and the zeros behind it
 pub padded : (size n : ℕ) (text front : List ℕ) → n ≡ min (length text) size → front ≡ take n text

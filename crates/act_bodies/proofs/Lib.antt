@@ -1,0 +1,4 @@
+pub mod Padded
+pub mod Readings
+pub mod EnrolLaws
+pub mod StationLaws

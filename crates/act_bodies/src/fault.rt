@@ -1,0 +1,8 @@
+/// Why a body was not read.
+#[derive(Clone, Copy, Debug, PartialEq, Eq)]
+pub enum BodyFault {
+    /// It isn't the body of such an act.
+    Unread,
+    /// Want of memory.
+    NoMemory,
+}

@@ -1,0 +1,63 @@
+-- Requests: their verbs and their bodies.
+use Rattle.std.specs.Prelude.{ℕ, ◌==◌, Bool, true, false, ◌&&◌, bytes_eq, codes, if◌then◌else◌, List, [], length, nat_lt, count_by}
+use Rattle.act_model.specs.declared.request.Verb.{Verb}
+use Rattle.act_model.specs.declared.request.Verb.TheVariants.{Enrol, Station, Code, Submit80, Unknown}
+use Rattle.act_model.specs.declared.request.Body.{Body}
+use Rattle.act_model.specs.declared.request.Body.TheVariants.{Whole, TooLong, NoRoom}
+use Rattle.act_model.specs.declared.request.TheConstants.{BODY_BYTES}
+
+-- the verb that a word names
+abbrev pub verb_of : List ℕ → Verb
+verb_of word =
+    if bytes_eq word (codes "enrol") then Enrol
+    else (if bytes_eq word (codes "station") then Station
+    else (if bytes_eq word (codes "code") then Code
+    else (if bytes_eq word (codes "submit80") then Submit80
+    else Unknown)))
+
+-- a verb that names nothing
+abbrev pub is_unknown : Verb → Bool
+is_unknown Enrol = false
+is_unknown Station = false
+is_unknown Code = false
+is_unknown Submit80 = false
+is_unknown Unknown = true
+
+-- a verb of officers alone
+abbrev pub is_officers : Verb → Bool
+is_officers Enrol = true
+is_officers Station = true
+is_officers Code = true
+is_officers Submit80 = false
+is_officers Unknown = false
+
+-- the number of a verb of an act, and 0 for no act
+abbrev pub verb_code : Verb → ℕ
+verb_code Enrol = 1
+verb_code Station = 2
+verb_code Code = 3
+verb_code Submit80 = 4
+verb_code Unknown = 0
+
+abbrev pub same_verb : Verb → Verb → Bool
+same_verb a b = verb_code a == verb_code b
+
+-- the bytes of a body that is there
+abbrev pub body_bytes : Body → List ℕ
+body_bytes (Whole bytes) = bytes
+body_bytes (TooLong size) = []
+body_bytes NoRoom = []
+
+-- how many bytes a body was announced with; nothing is said of one for which there was no room
+abbrev pub announced : Body → ℕ
+announced (Whole bytes) = length bytes
+announced (TooLong size) = size
+announced NoRoom = 0
+
+-- the body of a request that came with these bytes: one that is too long isn't kept
+abbrev pub body_of : List ℕ → Body
+body_of bytes = if nat_lt BODY_BYTES (length bytes) then TooLong (length bytes) else Whole bytes
+
+-- how many line feeds a body has
+unfoldable pub line_feeds : List ℕ → ℕ
+line_feeds bytes = count_by (λ byte. byte == 10) bytes

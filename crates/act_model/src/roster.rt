@@ -1,0 +1,15 @@
+//! The callers on the roster.
+
+use act_bodies::{Key, Rank};
+
+/// How many callers the roster may have, the founding officer included.
+pub const CALLERS: u64 = 4_294_967_295;
+
+/// A caller that was enrolled.
+#[derive(Clone, Copy, Debug)]
+pub struct Member {
+    /// The key by which the caller is known.
+    pub key: Key,
+    /// Whether it is an observer or an officer.
+    pub rank: Rank,
+}
