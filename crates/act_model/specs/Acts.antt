@@ -1,5 +1,5 @@
 -- The act that a request asks for. It is a function of the verb and the body alone.
-use Rattle.std.specs.Prelude.{ℕ, Bool, true, false, List, Option, Some, None, Result, Ok, Err}
+use Rattle.std.specs.Prelude.{ℕ, Bool, true, false, List, Option, Some, None, Result, Ok, Err, ◌≤ℤ◌}
 use Rattle.act_bodies.specs.declared.enrol.Enrol.{Enrol as EnrolBody}
 use Rattle.act_bodies.specs.declared.station.Station.{Station as StationBody}
 use Rattle.act_bodies.specs.declared.code.Code.{Code as CodeBody}
@@ -39,3 +39,10 @@ act_of Unknown body = Err Unread
 abbrev pub is_unread : Result Act ActFault → Bool
 is_unread (Ok act) = false
 is_unread (Err fault) = true
+
+-- a station's last day isn't before its first
+abbrev pub IsForward : Act → Type 0
+IsForward (act.Enrol key name role) = Unit {0}
+IsForward (act.Station code name from to) = from ≤ℤ to
+IsForward (act.Code kind letter word) = Unit {0}
+IsForward (act.Submit80 lines) = Unit {0}

@@ -1,5 +1,5 @@
 ghost use Rattle.std.specs.Prelude.{◌≡◌, ◌<◌, length, Ok, Err, IfOk};
-ghost use Rattle.act_model.specs.Acts.{act_of};
+ghost use Rattle.act_model.specs.Acts.{act_of, IsForward};
 
 use crate::request::Verb;
 use act_bodies::{BodyFault, Key, Rank, read_code, read_enrol, read_station};
@@ -68,6 +68,7 @@ fn unread_body(fault: BodyFault) -> ActFault
 fn read_enrolment(alloc: Global, body: &[u8]) -> Result<Act, ActFault>
     ensures act { IfOk result (λ act. act_of Verb.Enrol body.now ≡ Ok act) }
     ensures unread { result ≡ Err ActFault.Unread → act_of Verb.Enrol body.now ≡ Err ActFault.Unread }
+    ensures forward { IfOk result IsForward }
 {
     match read_enrol(alloc, body) {
         Ok(enrol) => Ok(Act::Enrol {
@@ -83,6 +84,7 @@ fn read_enrolment(alloc: Global, body: &[u8]) -> Result<Act, ActFault>
 fn read_station_row(alloc: Global, body: &[u8]) -> Result<Act, ActFault>
     ensures act { IfOk result (λ act. act_of Verb.Station body.now ≡ Ok act) }
     ensures unread { result ≡ Err ActFault.Unread → act_of Verb.Station body.now ≡ Err ActFault.Unread }
+    ensures forward { IfOk result IsForward }
 {
     match read_station(alloc, body) {
         Ok(station) => {
@@ -102,6 +104,7 @@ fn read_station_row(alloc: Global, body: &[u8]) -> Result<Act, ActFault>
 fn read_code_row(alloc: Global, body: &[u8]) -> Result<Act, ActFault>
     ensures act { IfOk result (λ act. act_of Verb.Code body.now ≡ Ok act) }
     ensures unread { result ≡ Err ActFault.Unread → act_of Verb.Code body.now ≡ Err ActFault.Unread }
+    ensures forward { IfOk result IsForward }
 {
     match read_code(alloc, body) {
         Ok(code) => Ok(Act::Code {
@@ -124,6 +127,7 @@ pub fn read_act(alloc: Global, verb: Verb, body: &[u8]) -> Result<Act, ActFault>
     requires { length body.now < 4_294_967_295 }
     ensures act { IfOk result (λ act. act_of verb body.now ≡ Ok act) }
     ensures unread { result ≡ Err ActFault.Unread → act_of verb body.now ≡ Err ActFault.Unread }
+    ensures forward { IfOk result IsForward }
 {
     match verb {
         Verb::Enrol => read_enrolment(alloc, body),

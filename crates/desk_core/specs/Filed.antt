@@ -15,7 +15,7 @@ history_of filed = entries_of (reverse filed)
 -- each answer is that of its entry at the history before it; the newest first
 abbrev pub AreAnswered : List Filed → Type 0
 AreAnswered [] = Unit {0}
-AreAnswered (newest ∷ older) = (newest.answer ≡ entry_answer (entries_of older) newest.entry.body) × AreAnswered older
+AreAnswered (newest ∷ older) = (newest.answer ≡ entry_answer (entries_of older) newest.entry) × AreAnswered older
 
 -- the entry at this place, and the history of what was filed before it
 pub record IsFiledAt (filed : List Filed) (place : ℕ) (k : Kept) : Type 0 where

@@ -1,3 +1,4 @@
-pub mod Office
 pub mod Filed
+pub mod Office
 pub mod Preparing
+pub mod Refusing

@@ -1,6 +1,6 @@
 -- What preparing a request answers, by cases on the answer.
-use Rattle.std.specs.Prelude.{◌≡◌, ℕ, ◌<◌, ℤ, List, ◌∷◌}
-use Rattle.act_model.specs.declared.request.Key.{Key}
+use Rattle.std.specs.Prelude.{◌≡◌, ◌⊎◌, ℕ, ◌<◌, ℤ, List, ◌∷◌}
+use Rattle.act_bodies.specs.declared.key.Key.{Key}
 use Rattle.act_model.specs.declared.request.Request.{Request}
 use Rattle.act_model.specs.declared.entry.Entry.{Entry}
 use Rattle.act_model.specs.declared.reply.Refusal.TheVariants.{NoMemory}
@@ -10,11 +10,11 @@ use Rattle.desk_core.specs.declared.prepared.Prep.{Prep}
 use Rattle.desk_core.specs.declared.prepared.Prep.TheVariants as prep
 use Rattle.desk_core.specs.Office.{IsReadyAt}
 
--- A kept reply and a refusal are the step's, which leaves the history. An act that is ready is what the step adds, and
--- there is room for it. Want of memory says nothing.
+-- A kept reply and a refusal are the step's, which leaves the history; but want of memory may come of itself. An act that
+-- is ready is what the step adds, and there is room for it.
 abbrev pub Prepares : Key → List Entry → Request → ℤ → ℕ → Prep → Type 0
 Prepares founder past request reading spare (prep.Kept reply) = step founder past request reading ≡ (reply, past)
-Prepares founder past request reading spare (prep.Refused NoMemory) = Unit {0}
-Prepares founder past request reading spare (prep.Refused refusal) = step founder past request reading ≡ (Refused refusal, past)
-Prepares founder past request reading spare (prep.Ready act) =
-    (step founder past request reading ≡ (Done act.answer, act.entry ∷ past)) × IsReadyAt past act × (0 < spare)
+Prepares founder past request reading spare (prep.Refused refusal) =
+    (step founder past request reading ≡ (Refused refusal, past)) ⊎ (refusal ≡ NoMemory)
+Prepares founder past request reading spare (prep.Ready ready) =
+    (step founder past request reading ≡ (Done ready.answer, ready.entry ∷ past)) × IsReadyAt past ready × (0 < spare)

@@ -6,6 +6,7 @@ mod filed;
 mod office;
 mod prepared;
 mod refusals;
+mod roster;
 
 pub use office::Core;
 pub use prepared::{Prep, Prepared};

@@ -1,66 +1,78 @@
 ghost use Rattle.std.specs.Prelude.{◌≡◌};
 
-use act_model::{Entry, Refusal, Reply};
+use act_model::{Entry, Member, Refusal, Reply};
 use item_list::Bytes;
+use station_tables::Tables;
 use std::marker::Model;
+
+/// What changes with an act beside the history.
+#[derive(Drop)]
+pub enum Change {
+    /// A caller is enrolled.
+    Enrolled(Member),
+    /// These are the tables.
+    Tabled(Tables),
+    /// So many observations are there.
+    Observed(u64),
+}
 
 /// An act that is ready to become the next entry of the office: all memory that it needs is taken.
 ///
-/// Contracts see its entry, its answer, and how many observations the office has with it.
-#[derive(Debug, Drop)]
+/// Contracts see its entry, its answer, and what changes with it.
+#[derive(Drop)]
 pub struct Prepared {
     entry: Entry,
     answer: Bytes,
     kept: Bytes,
-    observations: u64,
+    change: Change,
 }
 
 impl Model for Prepared {
     ghost use Rattle.std.specs.Prelude.{◌≡◌};
-    ghost use Rattle.desk_core.specs.Office.{Act};
+    ghost use Rattle.desk_core.specs.Office.{Ready};
 
-    ghost Value = { Act };
+    ghost Value = { Ready };
 
-    ghost view = { λ p. record { entry = p.entry; answer = p.answer; observations = p.observations } };
+    ghost view = { λ p. record { entry = p.entry; answer = p.answer; change = p.change } };
 
     ghost invariant = { λ p. p.kept ≡ p.answer };
 }
 
 impl Prepared {
     /// An act of this entry and this answer, of which a second copy is kept.
-    pub(crate) fn new(entry: Entry, answer: Bytes, kept: Bytes, observations: u64) -> Prepared
+    pub(crate) fn new(entry: Entry, answer: Bytes, kept: Bytes, change: Change) -> Prepared
         requires { kept ≡ answer }
         ensures entry { result.entry ≡ entry }
         ensures answer { result.answer ≡ answer }
-        ensures observations { result.observations ≡ observations }
+        ensures change { result.change ≡ change }
     {
         Prepared {
             entry,
             answer,
             kept,
-            observations,
+            change,
         }
     }
 
-    /// The entry, the answer, the answer to keep, and the observations behind it.
-    pub(crate) fn into_parts(self) -> (Entry, Bytes, Bytes, u64)
+    /// The entry, the answer, the answer to keep, and what changes beside the history.
+    pub(crate) fn into_parts(self) -> (Entry, Bytes, Bytes, Change)
         ensures entry { result.0 ≡ self.entry }
         ensures answer { result.1 ≡ self.answer }
         ensures kept { result.2 ≡ self.answer }
-        ensures observations { result.3 ≡ self.observations }
+        ensures change { result.3 ≡ self.change }
     {
         let Prepared {
             entry,
             answer,
             kept,
-            observations,
+            change,
         } = self;
-        (entry, answer, kept, observations)
+        (entry, answer, kept, change)
     }
 }
 
 /// What preparing a request gives. Nothing has changed the history yet.
-#[derive(Debug, Drop)]
+#[derive(Drop)]
 pub enum Prep {
     /// The caller has used the number. This is the reply that is kept for it: the answer of that
     /// time to the same request, and the refusal `OtherRequest` to another one.
