@@ -23,12 +23,12 @@ split_at filed place f there =
     let next : drop place filed ≡ f ∷ drop (place + 1) filed = drop-cons filed place f within ∙ rw add-one (ap (λ (g : Filed). g ∷ drop (suc place) filed) is) in
     sym (take-append-drop place filed) ∙ ap (λ (rest : List Filed). take place filed ++ rest) next
 
-answered_behind : (newer : List Filed) (f : Filed) (older : List Filed) → AreAnswered (newer ++ f ∷ older) → f.answer ≡ entry_answer (entries_of older) f.entry.body
+answered_behind : (newer : List Filed) (f : Filed) (older : List Filed) → AreAnswered (newer ++ f ∷ older) → f.answer ≡ entry_answer (entries_of older) f.entry
 answered_behind [] f older answered = answered.0
 answered_behind (g ∷ newer) f older answered = answered_behind newer f older answered.1
 
 pub answered_at : (filed : List Filed) (place : ℕ) (f : Filed) → slice_get filed place ≡ Some f → AreAnswered (reverse filed)
-    → f.answer ≡ entry_answer (history_of (take place filed)) f.entry.body
+    → f.answer ≡ entry_answer (history_of (take place filed)) f.entry
 answered_at filed place f there answered =
     let behind = drop (place + 1) filed in
     let turned : reverse filed ≡ reverse behind ++ (f ∷ reverse (take place filed)) =
@@ -44,10 +44,10 @@ pub kept_again : (filed : List Filed) (place : ℕ) (f : Filed) (q : Request) (t
 kept_again filed place f q text within answered here resend is k at =
     let same : at.at ≡ f = sym (get_or_from_slice_get filed place at.at f at.there) ∙ sym here in
     let entry : k.entry ≡ f.entry = at.entry ∙ ap (λ (g : Filed). g.entry) same in
-    let old : f.answer ≡ entry_answer (history_of (take place filed)) f.entry.body = answered_at filed place f (at.there ∙ ap (λ (g : Filed). Some g) same) answered in
-    let given : text ≡ entry_answer k.before k.entry.body = is ∙ old ∙ ap (λ (e : Entry). entry_answer (history_of (take place filed)) e.body) (sym entry) ∙ ap (λ (h : List Entry). entry_answer h k.entry.body) (sym at.before) in
+    let old : f.answer ≡ entry_answer (history_of (take place filed)) f.entry = answered_at filed place f (at.there ∙ ap (λ (g : Filed). Some g) same) answered in
+    let given : text ≡ entry_answer k.before k.entry = is ∙ old ∙ ap (λ (e : Entry). entry_answer (history_of (take place filed)) e) (sym entry) ∙ ap (λ (h : List Entry). entry_answer h k.entry) (sym at.before) in
     let resent : is_resend q k.entry ≡ true = ap (is_resend q) entry ∙ resend in
-    ap (λ (t : List ℕ). Done t) given ∙ sym (ap (λ (b : Bool). cond b (Done (entry_answer k.before k.entry.body)) (Refused (OtherRequest (next_receipt k.before)))) resent)
+    ap (λ (t : List ℕ). Done t) given ∙ sym (ap (λ (b : Bool). cond b (Done (entry_answer k.before k.entry)) (Refused (OtherRequest (next_receipt k.before)))) resent)
 
 pub kept_other : (filed : List Filed) (place : ℕ) (f : Filed) (q : Request) → place < length filed → f ≡ get_or filed place f → is_resend q f.entry ≡ false
     → (k : Kept) → IsFiledAt filed place k → Refused (OtherRequest (place + 1)) ≡ kept_reply q k
@@ -56,4 +56,4 @@ kept_other filed place f q within here other k at =
     let entry : k.entry ≡ f.entry = at.entry ∙ ap (λ (g : Filed). g.entry) same in
     let receipt : place + 1 ≡ next_receipt k.before = sym (receipt_at filed place within) ∙ ap (λ (h : List Entry). next_receipt h) (sym at.before) in
     let not_resent : is_resend q k.entry ≡ false = ap (is_resend q) entry ∙ other in
-    ap (λ (r : ℕ). Refused (OtherRequest r)) receipt ∙ sym (ap (λ (b : Bool). cond b (Done (entry_answer k.before k.entry.body)) (Refused (OtherRequest (next_receipt k.before)))) not_resent)
+    ap (λ (r : ℕ). Refused (OtherRequest r)) receipt ∙ sym (ap (λ (b : Bool). cond b (Done (entry_answer k.before k.entry)) (Refused (OtherRequest (next_receipt k.before)))) not_resent)

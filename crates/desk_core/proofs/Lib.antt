@@ -1,3 +1,4 @@
 pub mod FiledLemmas
 pub mod Kept
+pub mod RosterLemmas
 pub mod Steps

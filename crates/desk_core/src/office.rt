@@ -1,25 +1,27 @@
-ghost use Rattle.std.specs.Prelude.{◌≡◌, ◌+◌, ◌<◌, ◌≤◌, ◌^◌, ◌∷◌, [], IfOk, ℤ, length, true, false, Ok};
+ghost use Rattle.std.specs.Prelude.{◌≡◌, ◌<◌, ◌≤◌, ◌∷◌, [], IfOk, IfNone, ℤ, length, true, false, None, Ok};
 ghost use Rattle.act_model.specs.declared.request.TheConstants.{BODY_BYTES};
 ghost use Rattle.act_model.specs.Requests.{is_unknown, body_bytes};
-ghost use Rattle.act_model.specs.Acts.{act_of, is_unread};
+ghost use Rattle.act_model.specs.Acts.{act_of, is_unread, IsForward};
 ghost use Rattle.act_model.specs.Roster.{members, caller_of};
 ghost use Rattle.act_model.specs.Rows.{first_row};
 ghost use Rattle.act_model.specs.Refusals.{early_refusal, late_refusal};
 ghost use Rattle.act_model.specs.Replies.{act_answer};
-ghost use Rattle.act_model.specs.Step.{new_entry, step};
+ghost use Rattle.act_model.specs.OfficeTables.{tables_of};
+ghost use Rattle.act_model.specs.History.{next_receipt};
+ghost use Rattle.act_model.specs.Step.{asking, new_entry, step};
 ghost use Rattle.desk_core.specs.Office.{IsReadyAt, IsChange};
 ghost use Rattle.desk_core.specs.Preparing.{Prepares};
+ghost use Rattle.desk_core.specs.Refusing.{asked_rows};
 
 use crate::filed::{Filed, find, kept_reply, next_moment};
 use crate::prepared::{Change, Prep, Prepared};
-use crate::refusals::{act_refusal, is_observer, size_refusal, spelling_refusal};
+use crate::refusals::{act_refusal, is_barred, size_refusal, spelling_refusal};
 use crate::roster::{caller_of, rank_at};
 use act_model::{
     Act, ActFault, Entry, Key, Member, Part, Refusal, Reply, Request, accepted_in, batch_answer,
     enrol_answer, read_act, receipt_answer,
 };
 use item_list::{Bytes, NoMemory};
-use obs_record::Lines;
 use obs_time::Instant;
 use station_tables::Tables;
 use std::alloc::{AllocError, Global};
@@ -119,7 +121,204 @@ impl Core {
         if let Some(refusal) = self.late_refusal(alloc, caller, request, &act)? {
             return Ok(Prep::Refused(refusal));
         }
-        let prepared = self.ready(alloc, caller, request, reading, act)?;
+        let prepared = self.ready(alloc, caller, request, reading, &act)?;
         Ok(Prep::Ready(prepared))
+    }
+
+    /// The number of the caller with the key.
+    fn caller(&self, key: &Key) -> Option<u32>
+        ensures { result ≡ caller_of self.now.founder (members self.now.history) key.now }
+    {
+        caller_of(&self.founder, self.members.as_slice(), key)
+    }
+
+    /// The number of whoever asks.
+    fn asking(&self, request: &Request) -> u32
+        ensures { result ≡ asking self.now.founder self.now.history request.now }
+    {
+        self.caller(&request.key).unwrap_or(0)
+    }
+
+    /// The first refusal that is tested before the number is looked up.
+    fn early_refusal(&self, alloc: Global, request: &Request) -> Result<Option<Refusal>, NoMemory>
+        ensures first { IfOk result (λ refusal. refusal ≡ early_refusal self.now.founder self.now.history request.now) }
+        ensures short { IfOk result (λ refusal. IfNone refusal (length (body_bytes request.now.body) ≤ BODY_BYTES)) }
+        ensures read { IfOk result (λ refusal. IfNone refusal (is_unread (act_of request.now.verb (body_bytes request.now.body)) ≡ false)) }
+    {
+        if let Some(refusal) = size_refusal(request) {
+            return Ok(Some(refusal));
+        }
+        if let Some(refusal) = spelling_refusal(alloc, request)? {
+            return Ok(Some(refusal));
+        }
+        if self.caller(&request.key).is_none() {
+            return Ok(Some(Refusal::UnknownKey));
+        }
+        Ok(None)
+    }
+
+    /// The first refusal of an act that is tested behind the number.
+    fn late_refusal(
+        &self,
+        alloc: Global,
+        caller: u32,
+        request: &Request,
+        act: &Act,
+    ) -> Result<Option<Refusal>, NoMemory>
+        requires { act_of request.now.verb (body_bytes request.now.body) ≡ Ok act.now }
+        ensures { IfOk result (λ refusal. refusal ≡ late_refusal self.now.founder self.now.history caller request.now) }
+    {
+        if is_barred(request.verb, rank_at(self.members.as_slice(), caller)) {
+            return Ok(Some(Refusal::Role));
+        }
+        act_refusal(
+            alloc,
+            &self.founder,
+            self.members.as_slice(),
+            &self.tables,
+            act,
+        )
+    }
+
+    /// The receipt of the entry that comes next.
+    fn next_receipt(&self) -> u64
+        ensures { result ≡ next_receipt self.now.history }
+    {
+        self.filed.len() as u64 + 1
+    }
+
+    /// The answer to an act that becomes the next entry.
+    fn answer_to(&self, alloc: Global, act: &Act) -> Result<Bytes, NoMemory>
+        ensures { IfOk result (λ text. text ≡ act_answer self.now.history (Ok act.now)) }
+    {
+        let receipt = self.next_receipt();
+        match act {
+            Act::Enrol { .. } => enrol_answer(alloc, receipt, self.members.len() as u64 + 1),
+            Act::Station { .. } | Act::Code { .. } => receipt_answer(alloc, receipt),
+            Act::Submit80(lines) => {
+                if lines.len() > u64::MAX - self.observations {
+                    return Err(AllocError);
+                }
+                batch_answer(alloc, receipt, &self.tables, self.observations, lines)
+            }
+        }
+    }
+
+    /// What an act changes, with the memory for it.
+    fn change_by(&self, act: &Act) -> Result<Change, NoMemory>
+        requires forward { IsForward act.now }
+        requires free { first_row (asked_rows self.now.founder (members self.now.history) (tables_of self.now.history) act.now) ≡ None }
+        ensures { IfOk result (IsChange self.now.history (Ok act.now)) }
+    {
+        match act {
+            Act::Enrol { key, role, .. } => Ok(Change::Enrolled(Member {
+                key: *key,
+                rank: *role,
+            })),
+            Act::Station { code, from, to, .. } => {
+                let tables = self.tables.with_station(*code, *from, *to)?;
+                Ok(Change::Tabled(tables))
+            }
+            Act::Code { kind, letter, word } => {
+                let tables = self.tables.with_code(*kind, *letter, *word)?;
+                Ok(Change::Tabled(tables))
+            }
+            Act::Submit80(lines) => {
+                let accepted = accepted_in(&self.tables, lines);
+                let Some(count) = self.observations.checked_add(accepted) else {
+                    return Err(AllocError);
+                };
+                Ok(Change::Observed(count))
+            }
+        }
+    }
+
+    /// The act that a request becomes, with room for its entry.
+    fn ready(
+        &mut self,
+        alloc: Global,
+        caller: u32,
+        request: &Request,
+        reading: Instant,
+        act: &Act,
+    ) -> Result<Prepared, NoMemory>
+        requires act { act_of request.now.verb (body_bytes request.now.body) ≡ Ok act.now }
+        requires forward { IsForward act.now }
+        requires free { first_row (asked_rows self.old.founder (members self.old.history) (tables_of self.old.history) act.now) ≡ None }
+        ensures entry { IfOk result (λ ready. ready.entry ≡ new_entry caller self.old.history request.now reading) }
+        ensures at { IfOk result (λ ready. IsReadyAt self.old.history ready) }
+        ensures room { IfOk result (λ ready. 0 < self.new.spare) }
+        ensures history { self.new.history ≡ self.old.history }
+        ensures founder { self.new.founder ≡ self.old.founder }
+    {
+        let answer = self.answer_to(alloc, act)?;
+        let kept = Bytes::from_slice(alloc, answer.as_slice())?;
+        let change = self.change_by(act)?;
+        let entry = Entry {
+            caller,
+            number: request.number.unwrap_or(0),
+            moment: next_moment(self.filed.as_slice(), reading),
+            verb: request.verb,
+            body: Bytes::from_slice(alloc, request.body.bytes())?,
+        };
+        self.filed.reserve(1)?;
+        self.members.reserve(1)?;
+        Ok(Prepared::new(entry, answer, kept, change))
+    }
+
+    /// The answer to a request whose verb is that of no act: it is refused, since the verb can't be
+    /// read, or since its body is too large. The history stays.
+    pub fn answer(&self, request: &Request) -> Reply
+        requires { is_unknown request.now.verb ≡ true }
+        ensures { (reading : ℤ) → step self.now.founder self.now.history request.now reading ≡ (result, self.now.history) }
+    {
+        match size_refusal(request) {
+            Some(refusal) => Reply::Refused(refusal),
+            None => Reply::Refused(Refusal::Unread(Part::Verb)),
+        }
+    }
+
+    /// How many entries the history has, which is the receipt of the newest one.
+    pub fn entries(&self) -> u64
+        ensures { result ≡ length self.now.history }
+    {
+        self.filed.len() as u64
+    }
+
+    /// Adds the entry of an act, and gives the act's answer. It takes no memory.
+    ///
+    /// The act was worked out at this history, and `prepare` left room for its entry.
+    pub fn commit(&mut self, prepared: Prepared) -> Reply
+        requires ready { IsReadyAt self.old.history prepared }
+        requires room { 0 < self.old.spare }
+        ensures reply { result ≡ Reply.Done prepared.answer }
+        ensures history { self.new.history ≡ prepared.entry ∷ self.old.history }
+        ensures founder { self.new.founder ≡ self.old.founder }
+    {
+        let (entry, answer, kept, change) = prepared.into_parts();
+        self.filed.push_reserved(Filed {
+            entry,
+            answer: kept,
+        });
+        match change {
+            Change::Enrolled(member) => self.members.push_reserved(member),
+            Change::Tabled(tables) => self.tables = tables,
+            Change::Observed(count) => self.observations = count,
+        }
+        Reply::Done(answer)
+    }
+}
+
+// What an act asks to be done, where its body is one that its verb has.
+fn asked(alloc: Global, request: &Request) -> Result<Act, NoMemory>
+    requires short { length (body_bytes request.now.body) ≤ BODY_BYTES }
+    requires read { is_unread (act_of request.now.verb (body_bytes request.now.body)) ≡ false }
+    ensures act { IfOk result (λ act. act_of request.now.verb (body_bytes request.now.body) ≡ Ok act) }
+    ensures forward { IfOk result IsForward }
+{
+    match read_act(alloc, request.verb, request.body.bytes()) {
+        Ok(act) => Ok(act),
+        Err(ActFault::NoMemory) => Err(AllocError),
+        Err(ActFault::Unread) => unreachable!(),
     }
 }

@@ -1,12 +1,12 @@
 //! The refusals of requests, in the order of the office's table.
 
-ghost use Rattle.std.specs.Prelude.{◌≡◌, ◌≤◌, ◌<◌, not, length, reverse, Ok, IfOk};
+ghost use Rattle.std.specs.Prelude.{◌≡◌, ◌≤◌, ◌<◌, ◌&&◌, not, false, length, reverse, IfNone, IfOk};
 ghost use Rattle.act_model.specs.declared.request.TheConstants.{BODY_BYTES};
 ghost use Rattle.act_model.specs.declared.roster.TheConstants.{CALLERS};
-ghost use Rattle.act_model.specs.Requests.{body_bytes};
+ghost use Rattle.act_model.specs.Requests.{body_bytes, is_officers};
 ghost use Rattle.act_model.specs.Rows.{first_row};
 ghost use Rattle.act_model.specs.Acts.{act_of, is_unread};
-ghost use Rattle.act_model.specs.Roster.{is_observer, rank_at, next_caller};
+ghost use Rattle.act_model.specs.Roster.{is_observer};
 ghost use Rattle.act_model.specs.Refusals.{is_act_number};
 ghost use Rattle.desk_core.specs.Refusing.{size_rows, spelling_rows, enrol_rows, row_rows, batch_rows, asked_rows};
 
@@ -22,7 +22,8 @@ use std::alloc::{AllocError, Global};
 
 /// The refusal of a request whose body is too large.
 pub fn size_refusal(request: &Request) -> Option<Refusal>
-    ensures { result ≡ first_row (size_rows request.now) }
+    ensures row { result ≡ first_row (size_rows request.now) }
+    ensures short { IfNone result (length (body_bytes request.now.body) ≤ BODY_BYTES) }
 {
     let size = request.body.announced();
     if size > BODY_BYTES {
@@ -47,6 +48,7 @@ fn is_act_number(number: Option<u64>) -> bool
 
 /// Whether the body is as the verb wants it. Every body is one of a batch. Err where there was no
 /// memory to read it.
+#[tactic(auto, unfolding(act_model::specs::Acts::act_of))]
 fn is_readable(alloc: Global, verb: Verb, body: &[u8]) -> Result<bool, NoMemory>
     requires { length body.now ≤ BODY_BYTES }
     ensures { IfOk result (λ readable. readable ≡ not (is_unread (act_of verb body.now))) }
@@ -64,7 +66,8 @@ fn is_readable(alloc: Global, verb: Verb, body: &[u8]) -> Result<bool, NoMemory>
 /// The refusal of a request that can't be read.
 pub fn spelling_refusal(alloc: Global, request: &Request) -> Result<Option<Refusal>, NoMemory>
     requires { length (body_bytes request.now.body) ≤ BODY_BYTES }
-    ensures { IfOk result (λ refusal. refusal ≡ first_row (spelling_rows request.now)) }
+    ensures row { IfOk result (λ refusal. refusal ≡ first_row (spelling_rows request.now)) }
+    ensures read { IfOk result (λ refusal. IfNone refusal (is_unread (act_of request.now.verb (body_bytes request.now.body)) ≡ false)) }
 {
     if request.verb.is_unknown() {
         return Ok(Some(Refusal::Unread(Part::Verb)));
@@ -78,11 +81,11 @@ pub fn spelling_refusal(alloc: Global, request: &Request) -> Result<Option<Refus
     Ok(None)
 }
 
-/// Whether the rank is that of an observer.
-pub fn is_observer(rank: Rank) -> bool
-    ensures { result ≡ is_observer rank }
+/// Whether the verb is one of officers alone, and the caller an observer.
+pub fn is_barred(verb: Verb, rank: Rank) -> bool
+    ensures { result ≡ is_officers verb && is_observer rank }
 {
-    matches!(rank, Rank::Observer)
+    verb.is_officers() && matches!(rank, Rank::Observer)
 }
 
 /// The refusal of an enrolment with this key.

@@ -35,11 +35,9 @@ pub fn caller_of(founder: &Key, members: &[Member], key: &Key) -> Option<u32>
 pub fn rank_at(members: &[Member], caller: u32) -> Rank
     ensures { result ≡ rank_at (reverse members.now) caller }
 {
-    if caller == 0 {
+    let place = caller as usize;
+    if place == 0 || members.len() < place {
         return Rank::Officer;
     }
-    match members.get(caller as usize - 1) {
-        Some(member) => member.rank,
-        None => Rank::Officer,
-    }
+    members[place - 1].rank
 }
