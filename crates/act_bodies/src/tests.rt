@@ -1,0 +1,7 @@
+//! Bodies with the values that were worked out for them by hand, and bodies that are none.
+
+mod codes;
+mod enrols;
+mod keys;
+mod levels;
+mod stations;

@@ -3,3 +3,7 @@ pub mod Cases
 pub mod Texts
 pub mod Rounding
 pub mod Written
+pub mod DegreesFound
+pub mod DegreeReaders
+pub mod DegreeCases
+pub mod DegreesWritten

@@ -80,7 +80,7 @@ time_text_again text units count wide right =
 
 -- ---- declinations
 
-nat_abs-signed : (minus : Bool) (n : ℕ) → nat_abs (signed minus n) ≡ n
+pub nat_abs-signed : (minus : Bool) (n : ℕ) → nat_abs (signed minus n) ≡ n
 nat_abs-signed false n = refl
 nat_abs-signed true zero = refl
 nat_abs-signed true (suc n) = refl

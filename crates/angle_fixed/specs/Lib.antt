@@ -1,7 +1,9 @@
 pub mod Angles
 pub mod Answer
+pub mod Degrees
 pub mod Reading
 pub mod Sexagesimal
+pub mod WrittenDegrees
 pub mod Writing
 pub use Rattle.ascii_text.specs.Blanks
 pub use Rattle.ascii_text.specs.Digits

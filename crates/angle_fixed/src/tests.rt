@@ -64,3 +64,67 @@ fn writes(rt: HostRuntime) -> Result<(), Fail> {
     );
     Ok(())
 }
+
+// A degree is 9,000,000,000,000 units, and its twelfth decimal 9.
+#[test]
+fn reads_ra_in_degrees(rt: HostRuntime) {
+    for (text, answer) in [
+        (b"359.999999999999".as_slice(), Ok(3_239_999_999_999_991)),
+        (b"150.0".as_slice(), Ok(1_350_000_000_000_000)),
+        (b"007.5".as_slice(), Ok(67_500_000_000_000)),
+        (b"150.0000000000001".as_slice(), Err(AngleFault::Decimals)),
+        (b"400.0000000000001".as_slice(), Err(AngleFault::Decimals)),
+        (b"360".as_slice(), Err(AngleFault::Range)),
+        (b"360.0".as_slice(), Err(AngleFault::Range)),
+        (b"999".as_slice(), Err(AngleFault::Range)),
+        (b"1234".as_slice(), Err(AngleFault::Spelling)),
+        (b"".as_slice(), Err(AngleFault::Spelling)),
+        (b".5".as_slice(), Err(AngleFault::Spelling)),
+        (b"5.".as_slice(), Err(AngleFault::Spelling)),
+        (b"5.x".as_slice(), Err(AngleFault::Spelling)),
+        (b"5.0000000000000x".as_slice(), Err(AngleFault::Spelling)),
+        (b" 5".as_slice(), Err(AngleFault::Spelling)),
+    ] {
+        assert_eq!(rt; read_ra_degrees(text).map(|ra| ra.units()), answer);
+    }
+}
+
+#[test]
+fn reads_dec_in_degrees(rt: HostRuntime) {
+    for (text, answer) in [
+        (b"-0.000000000001".as_slice(), Ok(-9)),
+        (b"-5.5".as_slice(), Ok(-49_500_000_000_000)),
+        (b"+90".as_slice(), Ok(810_000_000_000_000)),
+        (b"90.000".as_slice(), Ok(810_000_000_000_000)),
+        (b"90.000000000001".as_slice(), Err(AngleFault::Range)),
+        (b"-90.000000000001".as_slice(), Err(AngleFault::Range)),
+        (b"+-5".as_slice(), Err(AngleFault::Spelling)),
+        (b"+".as_slice(), Err(AngleFault::Spelling)),
+        (b"123.4".as_slice(), Err(AngleFault::Spelling)),
+    ] {
+        assert_eq!(rt; read_dec_degrees(text).map(|dec| dec.units()), answer);
+    }
+}
+
+// 838,296,262,500,000 is 9 * 93,144,029,166,666 + 6, and 213,753,075,000,000 is 9 * 23,750,341,666,666 + 6.
+#[test]
+fn writes_degrees(rt: HostRuntime) -> Result<(), Fail> {
+    for (units, text) in [
+        (838_296_262_500_000, b"93.144029166667 "),
+        (3_239_999_999_999_999, b"0.000000000000  "),
+        (3_239_999_999_999_991, b"359.999999999999"),
+    ] {
+        let ra = Ra::new(units).ok_or("the units are within the circle")?;
+        assert_eq!(rt; write_ra_degrees(ra), *text);
+    }
+    for (units, text) in [
+        (-9, b"-00.000000000001"),
+        (-4, b"-00.000000000000"),
+        (0, b"+00.000000000000"),
+        (213_753_075_000_000, b"+23.750341666667"),
+    ] {
+        let dec = Dec::new(units).ok_or("the units are within 90 degrees")?;
+        assert_eq!(rt; write_dec_degrees(dec), *text);
+    }
+    Ok(())
+}

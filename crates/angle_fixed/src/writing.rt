@@ -17,7 +17,7 @@ use ascii_text::reading::Decimals;
 use ascii_text::writing::{put_blanks, put_decimals, put_digits};
 
 // How many steps are nearest to the value; of two that are equally near the greater.
-fn nearest(value: u64, step: u64) -> u64
+pub(crate) fn nearest(value: u64, step: u64) -> u64
     requires value { value < 2 ^ 62 }
     requires some { 0 < step }
     requires step { step < 2 ^ 62 }
@@ -118,7 +118,7 @@ fn has_minus(dec: Dec, minus: bool) -> bool
     if units == 0 { minus } else { units < 0 }
 }
 
-fn sign_byte(minus: bool) -> u8
+pub(crate) fn sign_byte(minus: bool) -> u8
     ensures { result ≡ sign_byte minus }
 {
     if minus { b'-' } else { b'+' }

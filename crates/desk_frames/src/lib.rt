@@ -25,7 +25,7 @@ pub const NUMBER_DIGITS: usize = 18;
 pub const VERB_BYTES: usize = 12;
 
 /// The most digits that the length in a head has.
-pub const LENGTH_DIGITS: usize = 9;
+pub const LENGTH_DIGITS: usize = 10;
 
 /// The most bytes that a head has, its three blanks and its line feed among them.
 pub const HEAD_BYTES: usize = KEY_BYTES + NUMBER_DIGITS + VERB_BYTES + LENGTH_DIGITS + 4;

@@ -13,7 +13,7 @@ fn whole<'a>(key: &'a [u8], number: u64, verb: &'a [u8], length: u64, size: usiz
 
 #[test]
 fn heads_at_the_front(rt: HostRuntime) {
-    let cases: [(&[u8], Front); 22] = [
+    let cases: [(&[u8], Front); 23] = [
         (
             b"+founder-1 1 submit80 411\nCOD 703\n",
             whole(b"+founder-1", 1, b"submit80", 411, 26),
@@ -27,14 +27,15 @@ fn heads_at_the_front(rt: HostRuntime) {
             whole(b"+founder-1", 2, b"tally", 0, 21),
         ),
         (b"k 0 v 0\n", whole(b"k", 0, b"v", 0, 8)),
+        (b"k 0 v 9999999999\n", whole(b"k", 0, b"v", 9999999999, 17)),
         (
-            b"abcdefghijklmnopqrstuvwxyz0123456 123456789012345678 abcdefghijkl 123456789\n",
+            b"abcdefghijklmnopqrstuvwxyz0123456 123456789012345678 abcdefghijkl 1234567890\n",
             whole(
                 b"abcdefghijklmnopqrstuvwxyz0123456",
                 123456789012345678,
                 b"abcdefghijkl",
-                123456789,
-                76,
+                1234567890,
+                77,
             ),
         ),
         (b"", Front::Part),
@@ -51,7 +52,7 @@ fn heads_at_the_front(rt: HostRuntime) {
         (b"+founder-1 1 Tally", Front::Bad),
         (b"+founder-1 1 abcdefghijklm", Front::Bad),
         (b"+founder-1 1 tally 00", Front::Bad),
-        (b"+founder-1 1 tally 1234567890", Front::Bad),
+        (b"+founder-1 1 tally 12345678901", Front::Bad),
         (b"+founder-1 1 tally 0\r\n", Front::Bad),
         (b"+founder-1 1 tally \n", Front::Bad),
     ];

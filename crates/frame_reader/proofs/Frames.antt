@@ -10,7 +10,7 @@ use Rattle.frame_reader.specs.declared.frame.Ending.TheVariants as endings
 use Rattle.frame_reader.specs.declared.frame.FrameBody.{FrameBody}
 use Rattle.frame_reader.specs.declared.frame.ReadFrame.{ReadFrame}
 use Rattle.frame_reader.specs.declared.head.HeldHead.{HeldHead}
-use Rattle.frame_reader.specs.Frames.{parts_of, Ends, IsFrameRead, IsHeadRead, IsBodyRead, IsCut}
+use Rattle.frame_reader.specs.Frames.{parts_of, Ends, IfKept, IsFrameRead, IsHeadRead, IsTextRead, IsCut}
 
 -- the frame that a head and a body make
 abbrev pub whole : HeldHead → FrameBody → ReadFrame
@@ -31,7 +31,7 @@ module _ (goes_on : (h : HeadParts) (rest more : List ℕ) → headed h rest ++ 
 
     pub frame_read : (a b c : Option (List ℕ)) (start middle rest : List ℕ) (head : HeldHead) (body : FrameBody)
         → (first : List ℕ) × Consumes a b first × IsHeadRead (start ++ first) head middle
-        → (second : List ℕ) × Consumes b c second × IsBodyRead (middle ++ second) head.length body rest
+        → (second : List ℕ) × Consumes b c second × IsTextRead (middle ++ second) head.length (IfKept body) rest
         → (piece : List ℕ) × Consumes a c piece × IsFrameRead (start ++ piece) (whole head body) rest
     frame_read a b c start middle rest head body first second =
         let h = parts_of head in
@@ -46,7 +46,7 @@ module _ (goes_on : (h : HeadParts) (rest more : List ℕ) → headed h rest ++ 
             key = refl;
             number = refl;
             verb = refl;
-            body = second.2.kept;
+            body = second.2.told;
             size = ap (λ (n : ℕ). n + h.length) first.2.size ∙ size_of_frame h text long;
           },
         )

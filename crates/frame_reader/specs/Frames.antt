@@ -1,9 +1,10 @@
 -- Frames that are read out of a source: what each answer says of the bytes that were read ahead and those that came behind them.
-use Rattle.std.specs.Prelude.{◌≡◌, ℕ, ◌<◌, ◌≤◌, ◌⊎◌, List, [], ◌++◌, length, drop, Some, None, Result, Ok, Err}
+use Rattle.std.specs.Prelude.{◌≡◌, ℕ, ◌<◌, ◌≤◌, ◌⊎◌, List, [], ◌++◌, length, drop, Result, Ok, Err, IfSome}
 use Rattle.std.specs.declared.option.Option.{Option}
 use Rattle.std.specs.Io.KnownBytes.{IsAtEnd}
 use Rattle.desk_frames.specs.declared.TheConstants.{HEAD_BYTES}
 use Rattle.desk_frames.specs.Frames.{Frame, IsFrame, framed, NoFrame, NeverFrame, HeadParts, IsHead, headed}
+use Rattle.frame_reader.specs.declared.TheConstants.{BODY_BYTES}
 use Rattle.frame_reader.specs.declared.frame.FrameBody.{FrameBody}
 use Rattle.frame_reader.specs.declared.frame.FrameBody.TheVariants as bodies
 use Rattle.frame_reader.specs.declared.frame.ReadFrame.{ReadFrame}
@@ -17,17 +18,14 @@ use Rattle.frame_reader.specs.declared.head.HeldFront.TheVariants as fronts
 
 -- ---- frames
 
--- a body that was kept is this text
+-- what is told of a body is true of its text: what was kept is all of it, what is too long to be kept has this length, and room was
+-- wanting only for what isn't too long
 abbrev pub IfKept : FrameBody → List ℕ → Type 0
-IfKept (bodies.Whole bytes) text = bytes ≡ text
-IfKept bodies.NoRoom text = Unit {0}
+IfKept (bodies.Whole bytes) text = (bytes ≡ text) × (length text ≤ BODY_BYTES)
+IfKept (bodies.TooLong size) text = (size ≡ length text) × (BODY_BYTES < size)
+IfKept bodies.NoRoom text = length text ≤ BODY_BYTES
 
--- a body, where it was kept
-abbrev pub body_of : Option (List ℕ) → FrameBody
-body_of (Some bytes) = bodies.Whole bytes
-body_of None = bodies.NoRoom
-
--- a frame stands at the front of the bytes, before this rest, and was read: each of its parts, its body where it was kept, and how many bytes it has
+-- a frame stands at the front of the bytes, before this rest, and was read: each of its parts, what is told of its body, and how many bytes it has
 pub record IsFrameRead (front : List ℕ) (read : ReadFrame) (rest : List ℕ) : Type 0 where
   pub frame : Frame
   pub good : IsFrame frame
@@ -90,23 +88,27 @@ abbrev pub ReadsHead : List ℕ → List ℕ → Option (List ℕ) → Result He
 ReadsHead front rest left (Ok head) = IsHeadRead front head rest
 ReadsHead front rest left (Err ending) = Ends front rest left ending
 
--- a body of so many bytes stands at the front, before this rest, and was read
-pub record IsBodyRead (front : List ℕ) (size : ℕ) (body : FrameBody) (rest : List ℕ) : Type 0 where
+-- a text of so many bytes stands at the front, before this rest, and was read; what is told of it is true
+pub record IsTextRead (front : List ℕ) (size : ℕ) (IsTold : List ℕ → Type 0) (rest : List ℕ) : Type 0 where
   pub text : List ℕ
   pub stands : front ≡ text ++ rest
   pub long : length text ≡ size
-  pub kept : IfKept body text
+  pub told : IsTold text
 
--- why a body isn't read whole
+-- what was kept of a text is all of it
+abbrev pub IsAllOf : Option (List ℕ) → List ℕ → Type 0
+IsAllOf kept text = IfSome kept (λ bytes. bytes ≡ text)
+
+-- why a text isn't read whole
 abbrev pub IsCut : Option (List ℕ) → Ending → Type 0
 IsCut left endings.End = ⊥
 IsCut left endings.Bad = IsAtEnd left
 IsCut left endings.Failed = Unit {0}
 
--- a body was read, or fewer bytes have come than it has
-abbrev pub ReadsBody : List ℕ → ℕ → List ℕ → Option (List ℕ) → Result FrameBody Ending → Type 0
-ReadsBody front size rest left (Ok body) = IsBodyRead front size body rest
-ReadsBody front size rest left (Err ending) = (length front < size) × IsCut left ending
+-- a text was read, of which an answer tells something, or fewer bytes have come than it has
+abbrev pub ReadsText : {X : Type 0} → (X → List ℕ → Type 0) → List ℕ → ℕ → List ℕ → Option (List ℕ) → Result X Ending → Type 0
+ReadsText IsTold front size rest left (Ok x) = IsTextRead front size (IsTold x) rest
+ReadsText IsTold front size rest left (Err ending) = (length front < size) × IsCut left ending
 
 -- head and body were read, or it is said why no frame is
 abbrev pub ReadsWhole : List ℕ → List ℕ → Option (List ℕ) → Result ReadFrame Ending → Type 0

@@ -8,8 +8,10 @@ use item_list::Bytes;
 /// The body of a frame that was read.
 #[derive(Debug, Drop)]
 pub enum FrameBody {
-    /// All of its bytes.
+    /// All of its bytes, at most `BODY_BYTES`.
     Whole(Bytes),
+    /// It is longer than `BODY_BYTES`: this many bytes. It was read to its end and thrown away.
+    TooLong(u64),
     /// Memory for it was refused. It was read to its end and thrown away.
     NoRoom,
 }

@@ -5,19 +5,16 @@ ghost use Rattle.std.specs.Io.KnownBytes.{Consumes, IsAtEnd};
 ghost use Rattle.desk_io.specs.Outside.{Rises};
 ghost use Rattle.desk_frames.specs.Frames.{NoFrame};
 ghost use Rattle.frame_reader.specs.Reading.{Grows, work};
-ghost use Rattle.frame_reader.specs.Frames.{ReadsFrame, OnFrame, Ends, ReadsHead, ReadsBody, ReadsWhole, IsCut, body_of};
+ghost use Rattle.frame_reader.specs.Frames.{ReadsFrame, OnFrame, Ends, IfKept, ReadsHead, IsAllOf, ReadsText, ReadsWhole, IsCut};
 
-use crate::BUFFER_BYTES;
 use crate::frame::{Ending, FrameBody, NextFrame, ReadFrame};
 use crate::head::{HeldFront, HeldHead, held_front};
+use crate::{BODY_BYTES, BUFFER_BYTES};
 use desk_frames::laws;
 use desk_io::{Failed, NoMemory, Source};
 use item_list::Bytes;
 use std::alloc::Global;
 use std::marker::Model;
-
-// The most bytes for which memory is taken before they have come.
-const FIRST_BYTES: usize = 1_048_576;
 
 /// A reader of frames. It is seen as the bytes that it has read ahead and not yet used.
 #[derive(Drop)]
@@ -112,30 +109,52 @@ impl FrameReader {
         }
     }
 
-    // Reads a body of this length to its end. It takes memory for what has come, and not for more of
-    // what is said to come than `FIRST_BYTES`; where memory is refused it throws the body away.
-    fn read_body<S: Source>(&mut self, source: &mut S, size: u64) -> Result<FrameBody, Ending>
+    // Reads a text of this length to its end, behind what is kept so far. Where nothing is to be kept,
+    // or memory is refused, it throws the text away.
+    fn read_text<S: Source>(
+        &mut self,
+        source: &mut S,
+        size: u64,
+        room: Option<Bytes>,
+    ) -> Result<Option<Bytes>, Ending>
+        requires { IfSome room (λ bytes. bytes ≡ []) }
         ensures came { (piece : List ℕ) × Consumes (S.left source.old) (S.left source.new) piece
-            × ReadsBody (self.old ++ piece) size self.new (S.left source.new) result }
+            × ReadsText IsAllOf (self.old ++ piece) size self.new (S.left source.new) result }
         ensures counts { S.faults source.old ≤ S.faults source.new }
         ensures cause { result ≡ Err Ending.Failed → Rises (S.faults source.old) (S.faults source.new) }
         ensures work { work (S.reads source.new) self.new ≤ work (S.reads source.old) self.old }
     {
         let mut missing = size as usize;
-        let mut body = Bytes::with_capacity(
-            *self.buffer.allocator(),
-            missing.min(FIRST_BYTES),
-        ).ok();
+        let mut kept = room;
         while missing > 0 {
             self.read_ahead(source)?;
             let pending = self.pending();
             let count = pending.len().min(missing);
             let (text, _) = pending.split_at(count);
-            body = extended(body, text);
+            kept = extended(kept, text);
             self.skip(count);
             missing -= count;
         }
-        Ok(kept(body))
+        Ok(kept)
+    }
+
+    // Reads a body of this length to its end. No memory is taken for one that is too long to be kept.
+    fn read_body<S: Source>(&mut self, source: &mut S, size: u64) -> Result<FrameBody, Ending>
+        ensures came { (piece : List ℕ) × Consumes (S.left source.old) (S.left source.new) piece
+            × ReadsText IfKept (self.old ++ piece) size self.new (S.left source.new) result }
+        ensures counts { S.faults source.old ≤ S.faults source.new }
+        ensures cause { result ≡ Err Ending.Failed → Rises (S.faults source.old) (S.faults source.new) }
+        ensures work { work (S.reads source.new) self.new ≤ work (S.reads source.old) self.old }
+    {
+        if size > BODY_BYTES {
+            self.read_text(source, size, None)?;
+            return Ok(FrameBody::TooLong(size));
+        }
+        let room = Bytes::with_capacity(*self.buffer.allocator(), size as usize).ok();
+        match self.read_text(source, size, room)? {
+            Some(bytes) => Ok(FrameBody::Whole(bytes)),
+            None => Ok(FrameBody::NoRoom),
+        }
     }
 
     // Reads until a head stands at the front, and uses it.
@@ -201,7 +220,8 @@ impl FrameReader {
 
     /// The next frame of the source, behind the bytes that were read ahead.
     ///
-    /// Memory that is refused is told by the frame's body, and the next frame is read all the same.
+    /// That a body is too long, or that memory for it was refused, is told by the frame's body, and the
+    /// next frame is read all the same.
     /// After `Bad` and `Failed` it isn't told which bytes were used.
     pub fn next_frame<S: Source>(&mut self, source: &mut S) -> NextFrame
         // What the answer says of the bytes that were read ahead and of those that came behind them.
@@ -230,16 +250,6 @@ fn extended(body: Option<Bytes>, text: &[u8]) -> Option<Bytes>
     let mut bytes = body?;
     bytes.extend_from_slice(text).ok()?;
     Some(bytes)
-}
-
-// The body as it is told: there is no room for it where memory was refused.
-fn kept(body: Option<Bytes>) -> FrameBody
-    ensures { result ≡ body_of body }
-{
-    match body {
-        Some(bytes) => FrameBody::Whole(bytes),
-        None => FrameBody::NoRoom,
-    }
 }
 
 // Reads once into a buffer, behind the bytes that it keeps at its front.

@@ -31,6 +31,7 @@ fn expect_frame(
         FrameBody::Whole(bytes) => {
             assert_eq!(rt; bytes.as_slice(), body.as_bytes(), "body, case {case}");
         }
+        FrameBody::TooLong(_) => panic!(rt; "too long, case {case}"),
         FrameBody::NoRoom => panic!(rt; "no room, case {case}"),
     }
 }
@@ -89,34 +90,66 @@ fn frames_in_pieces(rt: HostRuntime) -> Result<(), Fail> {
     Ok(())
 }
 
+// What is told of a body: how long it is, and whether it was kept.
+#[derive(Clone, Copy, Debug, PartialEq, Eq)]
+enum Told {
+    Whole(u64),
+    TooLong(u64),
+    NoRoom,
+    NoFrame,
+}
+
+fn body_told(answer: &NextFrame) -> Told {
+    let NextFrame::Frame(read) = answer else {
+        return Told::NoFrame;
+    };
+    match &read.body {
+        FrameBody::Whole(bytes) => Told::Whole(bytes.len()),
+        FrameBody::TooLong(size) => Told::TooLong(*size),
+        FrameBody::NoRoom => Told::NoRoom,
+    }
+}
+
+// A frame with this head that takes so many bytes, and behind it a frame without a body.
+fn long_session(alloc: Global, head: &[u8], size: usize) -> Result<MemSource, Fail> {
+    let mut bytes = Vec::from_slice(alloc, head)?;
+    bytes.resize(size, b'x')?;
+    bytes.extend_from_slice(b"k 1 v 0\n")?;
+    Ok(MemSource::new(alloc, &bytes, 60_000, &[])?)
+}
+
 #[test]
-fn body_longer_than_the_buffer(rt: HostRuntime) -> Result<(), Fail> {
-    let mut bytes = Vec::from_slice(rt.alloc(), b"k 0 v 150000\n")?;
-    bytes.resize(150_013, b'x')?;
-    bytes.extend_from_slice(b"k 1 v 0\n\n")?;
-    let mut source = MemSource::new(rt.alloc(), &bytes, 40_000, &[])?;
-    let mut reader = FrameReader::new(rt.alloc())?;
-    match reader.next_frame(&mut source) {
-        NextFrame::Frame(read) => {
-            assert_eq!(rt; read.size, 150_013);
-            match &read.body {
-                FrameBody::Whole(body) => {
-                    assert_eq!(rt; body.len(), 150_000);
-                    assert!(rt; body.iter().all(|byte| *byte == b'x'));
-                }
-                FrameBody::NoRoom => return Err("no room".into()),
-            }
-        }
-        _ => return Err("no frame".into()),
+fn long_bodies(rt: HostRuntime) -> Result<(), Fail> {
+    // A head, how many bytes its frame takes, and what is told of its body.
+    let cases: [(&[u8], usize, Told); 3] = [
+        (b"k 0 v 150000\n", 150_013, Told::Whole(150_000)),
+        (b"k 0 v 1048576\n", 1_048_590, Told::Whole(1_048_576)),
+        (b"k 0 v 1048577\n", 1_048_591, Told::TooLong(1_048_577)),
+    ];
+    for (head, size, want) in cases {
+        let mut source = long_session(rt.alloc(), head, size)?;
+        let mut reader = FrameReader::new(rt.alloc())?;
+        assert_eq!(rt; body_told(&reader.next_frame(&mut source)), want);
+        assert_eq!(rt; body_told(&reader.next_frame(&mut source)), Told::Whole(0));
+        assert_eq!(rt; body_told(&reader.next_frame(&mut source)), Told::NoFrame);
     }
-    match reader.next_frame(&mut source) {
-        NextFrame::Frame(read) => assert_eq!(rt; read.number, 1),
-        _ => return Err("no second frame".into()),
+    Ok(())
+}
+
+#[test]
+fn frames_that_never_come(rt: HostRuntime) -> Result<(), Fail> {
+    let cases: [&[u8]; 4] = [
+        b"k 0 v 9999999999\nabc",
+        b"k 0 v 10000000000\n",
+        b"k 0 v 01\nx",
+        b"\n",
+    ];
+    for bytes in cases {
+        let mut source = MemSource::new(rt.alloc(), bytes, 64, &[])?;
+        let mut reader = FrameReader::new(rt.alloc())?;
+        assert!(rt; matches!(reader.next_frame(&mut source), NextFrame::Bad));
     }
-    match reader.next_frame(&mut source) {
-        NextFrame::Bad => Ok(()),
-        _ => Err("a line feed is no frame".into()),
-    }
+    Ok(())
 }
 
 #[test]

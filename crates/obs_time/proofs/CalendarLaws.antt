@@ -7,7 +7,7 @@ use Rattle.jiff_core.proofs.SignedLemmas.{signed_arith}
 use Rattle.jiff_core.proofs.CalendarLemmas.{days_from_civil-day_count, day_count-lt_year, day_count-lt_month, day_count-day_of_year, day_count-day}
 use Rattle.obs_time.specs.declared.civil.Civil.{Civil}
 use Rattle.obs_time.specs.Instants.{nanos_of_a_day}
-use Rattle.obs_time.specs.Dates.{DateExists, IsObservedYear, IsCivilOf, day_number, day_of, moment}
+use Rattle.obs_time.specs.Dates.{DateExists, IsObservedYear, IsCivilOf, day_number, day_of, ns_of_day, moment}
 use Rattle.obs_time.specs.DateText.{WrittenDate}
 use Rattle.obs_time.specs.Calendar.{last_begun, year_of, month_of, date_of_day}
 use Rattle.obs_time.specs.Written.{date_part}
@@ -62,6 +62,10 @@ date_of_day_number date exists low high =
 -- the day that a moment lies in
 pub day_of_moment : (day : ℤ) (ns : ℕ) → ns < nanos_of_a_day → day_of (moment day ns) ≡ day
 day_of_moment day ns below = omega (arith, signed_arith)
+
+-- and the nanoseconds of that day before it
+pub ns_of_moment : (day : ℤ) (ns : ℕ) → ns < nanos_of_a_day → ns_of_day (moment day ns) ≡ ns
+ns_of_moment day ns below = omega (arith, signed_arith)
 
 -- the date of a moment
 pub date_of_moment : (t : ℤ) (civil : Civil) → IsCivilOf t civil → 1800 ≤ civil.year → civil.year ≤ 2200 → date_part civil ≡ date_of_day (day_of t)

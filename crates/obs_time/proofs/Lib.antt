@@ -9,3 +9,6 @@ pub mod WritingLaws
 pub mod YearLaws
 pub mod TextLaws
 pub mod CalendarLaws
+pub mod IsoLemmas
+pub mod IsoLaws
+pub mod IsoTextLaws

@@ -37,7 +37,7 @@ existing_date year month day observed =
     )
 
 -- a test that holds exactly where a fact does, by cases
-cases_of_test : (b : Bool) (P : Type 0) → ((b ≡ true) ↔ P) → ((b ≡ true) × P) ⊎ ((b ≡ false) × (P → ⊥))
+pub cases_of_test : (b : Bool) (P : Type 0) → ((b ≡ true) ↔ P) → ((b ≡ true) × P) ⊎ ((b ≡ false) × (P → ⊥))
 cases_of_test true P h = inl (refl, h.0 refl)
 cases_of_test false P h = inr (refl, λ p. both_ways false refl (h.1 p))
 

@@ -7,11 +7,14 @@ use Rattle.ascii_text.specs.Digits.{decimals_text}
 use Rattle.ascii_text.specs.Blanks.{blanks}
 use Rattle.obs_time.specs.declared.civil.Civil.{Civil}
 use Rattle.obs_time.specs.Instants.{nanos_of_a_day}
-use Rattle.obs_time.specs.Dates.{DateExists, IsCivilOf, day_number}
-use Rattle.obs_time.specs.DateText.{HasDigits, date_text}
+use Rattle.obs_time.specs.Dates.{DateExists, IsCivilOf, day_number, day_of, ns_of_day}
+use Rattle.obs_time.specs.DateText.{WrittenDate, HasDigits, date_text}
 use Rattle.obs_time.specs.DayText.{decimal_unit}
 use Rattle.obs_time.specs.Rounding.{rounded}
-use Rattle.obs_time.specs.WrittenText.{IsTextOf}
+use Rattle.obs_time.specs.WrittenText.{IsTextOf, day_text_of}
+use Rattle.obs_time.specs.Calendar.{date_of_day}
+use Rattle.obs_time.specs.Written.{date_part}
+use Rattle.obs_time.proofs.CalendarLaws.{ns_of_moment}
 use Rattle.obs_time.proofs.DayLemmas.{unit_whole, unit_positive, part_exact}
 use Rattle.obs_time.proofs.RoundingLemmas.{rounded_part}
 
@@ -49,3 +52,13 @@ text_of t count civil value text some few is year value_is spelling =
         exact = is.exact;
       };
     }
+
+-- that text, worked out
+pub text_is : (t : ℤ) (count : ℕ) (civil : Civil) (value : ℕ) (text : List ℕ) → IsCivilOf (rounded t (decimal_unit count)) civil → date_part civil ≡ date_of_day (day_of (rounded t (decimal_unit count)))
+    → value ≡ civil.ns_of_day / decimal_unit count → text ≡ date_text 32 (date_part civil) (decimals_text count value ++ blanks (6 - count)) → text ≡ day_text_of t count
+unfolding day_text_of
+text_is t count civil value text is date value_is spelling =
+    let ns : ns_of_day (rounded t (decimal_unit count)) ≡ civil.ns_of_day = ap ns_of_day is.exact ∙ ns_of_moment (day_number civil.year civil.month civil.day) civil.ns_of_day is.time in
+    let same : value ≡ ns_of_day (rounded t (decimal_unit count)) / decimal_unit count = value_is ∙ ap (λ (n : ℕ). n / decimal_unit count) (sym ns) in
+    spelling ∙ ap (λ (d : WrittenDate). date_text 32 d (decimals_text count value ++ blanks (6 - count))) date
+    ∙ ap (λ (v : ℕ). date_text 32 (date_of_day (day_of (rounded t (decimal_unit count)))) (decimals_text count v ++ blanks (6 - count))) same

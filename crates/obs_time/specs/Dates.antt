@@ -1,6 +1,6 @@
 -- Dates of the Gregorian calendar, and the date and time of day of a moment.
-use Rattle.std.specs.Prelude.{◌≡◌, ℕ, ◌<◌, ℤ, pos, neg_ℤ, ◌+ℤ◌, ◌*ℤ◌, ◌≤ℤ◌}
-use Rattle.std.specs.Int.{IsInRange, int_div_euclid}
+use Rattle.std.specs.Prelude.{◌≡◌, ℕ, ◌<◌, ℤ, pos, neg_ℤ, ◌+ℤ◌, ◌*ℤ◌, ◌≤ℤ◌, unsigned_abs}
+use Rattle.std.specs.Int.{IsInRange, int_div_euclid, int_rem_euclid}
 use Rattle.jiff_core.specs.Calendar.{IsDate, days_from_civil}
 use Rattle.obs_time.specs.declared.civil.Civil.{Civil}
 use Rattle.obs_time.specs.Instants.{nanos_of_a_day}
@@ -20,6 +20,10 @@ moment day ns_of_day = (day *ℤ pos nanos_of_a_day) +ℤ pos ns_of_day
 -- the number of the day that a moment lies in
 abbrev pub day_of : ℤ → ℤ
 day_of t = int_div_euclid t (pos nanos_of_a_day)
+
+-- the nanoseconds of that day before it
+abbrev pub ns_of_day : ℤ → ℕ
+ns_of_day t = unsigned_abs (int_rem_euclid t (pos nanos_of_a_day))
 
 -- the years that observations may have
 abbrev pub IsObservedYear : ℕ → Type 0

@@ -7,3 +7,4 @@ pub mod Rounding
 pub mod Written
 pub mod Calendar
 pub mod WrittenText
+pub mod IsoText

@@ -10,6 +10,8 @@ mod days;
 mod fault;
 mod half_months;
 mod instant;
+mod iso;
+mod iso_texts;
 mod rounding;
 mod writing;
 
@@ -19,6 +21,8 @@ pub use days::read_day_fraction;
 pub use fault::TimeFault;
 pub use half_months::half_month;
 pub use instant::Instant;
+pub use iso::read_iso;
+pub use iso_texts::write_iso;
 pub use writing::write_day_fraction;
 
 #[cfg(test)]

@@ -2,7 +2,9 @@
 
 ghost use Rattle.std.specs.Prelude.{◌≡◌, ◌≤◌, ◌≤ℤ◌, ◌+ℤ◌, pos};
 ghost use Rattle.obs_time.specs.Instants.{first_instant, last_instant};
-ghost use Rattle.obs_time.specs.Dates.{IsCivilOf};
+ghost use Rattle.obs_time.specs.Dates.{IsCivilOf, day_of};
+ghost use Rattle.obs_time.specs.Calendar.{date_of_day};
+ghost use Rattle.obs_time.specs.Written.{date_part};
 ghost use Rattle.obs_time.specs.DayText.{decimal_unit};
 ghost use Rattle.obs_time.specs.Rounding.{rounded};
 
@@ -32,6 +34,7 @@ pub(crate) fn rounded_civil(t: Instant, count: usize) -> Civil
     requires { count ≤ 6 }
     ensures civil { IsCivilOf (rounded t (decimal_unit count)) result }
     ensures year { result.year ≤ 2200 }
+    ensures date { date_part result ≡ date_of_day (day_of (rounded t (decimal_unit count))) }
 {
     let ns = rounded(t, count);
     civil_at(

@@ -80,6 +80,76 @@ fn writes_days(rt: HostRuntime) -> Result<(), Fail> {
     Ok(())
 }
 
+fn read_ns(text: &[u8]) -> Result<i64, TimeFault> {
+    match read_iso(text) {
+        Ok(t) => Ok(t.ns()),
+        Err(fault) => Err(fault),
+    }
+}
+
+#[test]
+fn reads_iso_times(rt: HostRuntime) {
+    let rows: [(&[u8], i64); 7] = [
+        (b"2024-03-15T23:59:59.999Z", 1_710_547_199_999_000_000),
+        (b"2024-02-29T12:00:00Z", 1_709_208_000_000_000_000),
+        (b"1970-01-01T00:00:00Z", 0),
+        (b"1970-01-01T00:00:00.000000001Z", 1),
+        (b"1969-12-31T23:59:59.5Z", -500_000_000),
+        (b"1800-01-01T00:00:00Z", -5_364_662_400_000_000_000),
+        (b"2199-12-31T23:59:59.999999999Z", 7_258_118_399_999_999_999),
+    ];
+    for (text, want) in rows {
+        assert_eq!(rt; read_ns(text), Ok(want));
+    }
+}
+
+#[test]
+fn refuses_iso_times(rt: HostRuntime) {
+    let rows: [(&[u8], TimeFault); 19] = [
+        (b"1799-12-31T23:59:59Z", TimeFault::Range),
+        (b"2200-01-01T00:00:00Z", TimeFault::Range),
+        (b"2024-03-15T24:00:00Z", TimeFault::Range),
+        (b"2024-03-15T23:60:00Z", TimeFault::Range),
+        (b"2024-03-15T23:59:60Z", TimeFault::Range),
+        (b"2024-13-01T24:00:00Z", TimeFault::Range),
+        (b"2024-02-30T00:00:00Z", TimeFault::NoSuchDate),
+        (b"2023-02-29T12:00:00Z", TimeFault::NoSuchDate),
+        (b"2024-03-15T23:59:59.0123456789Z", TimeFault::Decimals),
+        (b"2024-03-15T24:59:59.0123456789Z", TimeFault::Decimals),
+        (b"2024-03-15T23:59:59.Z", TimeFault::Spelling),
+        (b"2024-03-15T23:59:59", TimeFault::Spelling),
+        (b"2024-03-15t23:59:59Z", TimeFault::Spelling),
+        (b"2024-03-15T23:59:59z", TimeFault::Spelling),
+        (b"2024-3-15T23:59:59Z", TimeFault::Spelling),
+        (b" 2024-03-15T23:59:59Z", TimeFault::Spelling),
+        (b"2024-03-15T23:59:59Z ", TimeFault::Spelling),
+        (b"2024-03-15T23:59:59.12345678901x", TimeFault::Spelling),
+        (b"", TimeFault::Spelling),
+    ];
+    for (text, fault) in rows {
+        assert_eq!(rt; read_ns(text), Err(fault));
+    }
+}
+
+#[test]
+fn writes_iso_times(rt: HostRuntime) -> Result<(), Fail> {
+    let rows: [(i64, &[u8; 30]); 5] = [
+        (1_710_471_466_080_000_000, b"2024-03-15T02:57:46.080000000Z"),
+        (0, b"1970-01-01T00:00:00.000000000Z"),
+        (-1, b"1969-12-31T23:59:59.999999999Z"),
+        (
+            -5_364_662_400_000_000_000,
+            b"1800-01-01T00:00:00.000000000Z",
+        ),
+        (7_258_118_399_999_999_999, b"2199-12-31T23:59:59.999999999Z"),
+    ];
+    for (ns, text) in rows {
+        let t = Instant::new(ns).ok_or("the years 1800 to 2199")?;
+        assert_eq!(rt; &write_iso(t), text);
+    }
+    Ok(())
+}
+
 #[test]
 fn half_months(rt: HostRuntime) -> Result<(), Fail> {
     let rows: [(i64, Option<(u16, u8)>); 6] = [

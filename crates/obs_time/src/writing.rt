@@ -7,7 +7,8 @@ ghost use Rattle.obs_time.specs.Dates.{DateExists};
 ghost use Rattle.obs_time.specs.DateText.{date_text};
 ghost use Rattle.obs_time.specs.DayText.{decimal_unit, day_fraction_of};
 ghost use Rattle.obs_time.specs.Rounding.{rounded, IsNearest};
-ghost use Rattle.obs_time.specs.WrittenText.{IsTextOf};
+ghost use Rattle.obs_time.specs.Written.{date_part};
+ghost use Rattle.obs_time.specs.WrittenText.{IsTextOf, day_text_of};
 
 use crate::days::decimal_unit;
 use crate::rounding::rounded_civil;
@@ -26,6 +27,7 @@ const MOST_DECIMALS: usize = 6;
 pub fn write_day_fraction(t: Instant, decimals: u8) -> [u8; 17]
     requires some { 1 ≤ decimals }
     requires few { decimals ≤ 6 }
+    ensures exact { result ≡ day_text_of t decimals }
     ensures text { IsTextOf t decimals result }
     // Reading the text gives the rounded moment, where that is in range.
     ensures again { IsInstantNs (rounded t (decimal_unit decimals))
@@ -39,24 +41,25 @@ pub fn write_day_fraction(t: Instant, decimals: u8) -> [u8; 17]
     let count = decimals as usize;
     let civil = rounded_civil(t, count);
     let mut out = ArrayVec::<u8, 17>::new();
-    put_date(&mut out, civil);
+    put_date(&mut out, b' ', civil);
     let value = civil.ns_of_day / decimal_unit(count);
     put_decimals(&mut out, Decimals { count, value });
     put_blanks(&mut out, MOST_DECIMALS - count);
     out.into_inner().unwrap()
 }
 
-/// Writes `YYYY MM DD` at the start of a text.
-fn put_date(out: &mut ArrayVec<u8, 17>, civil: Civil)
+/// Writes the date at the start of a text, `YYYY MM DD` with this byte between its parts.
+pub(crate) fn put_date<const N: usize>(out: &mut ArrayVec<u8, N>, separator: u8, civil: Civil)
     requires empty { array_vec_len out.old ≡ 0 }
+    requires room { 10 ≤ N }
     requires year { civil.year < 10 ^ 4 }
     requires date { DateExists civil.year civil.month civil.day }
-    ensures text { (rest : List ℕ) → out.new.items ++ rest ≡ date_text 32 (record { year = civil.year; month = civil.month; day = civil.day }) rest }
+    ensures text { (rest : List ℕ) → out.new.items ++ rest ≡ date_text separator (date_part civil) rest }
     ensures len { array_vec_len out.new ≡ 10 }
 {
     put_digits(out, Radix::Ten, 4, u64::from(civil.year));
-    out.push(b' ');
+    out.push(separator);
     put_digits(out, Radix::Ten, 2, u64::from(civil.month));
-    out.push(b' ');
+    out.push(separator);
     put_digits(out, Radix::Ten, 2, u64::from(civil.day));
 }

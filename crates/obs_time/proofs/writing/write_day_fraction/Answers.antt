@@ -2,20 +2,34 @@ use Rattle.std.proofs.Common.{◌≡◌, sym, length, rules, ap, ◌∙◌, ◌/
 use Rattle.std.specs.Prelude.{IsOk}
 use Rattle.ascii_text.specs.Digits.{decimals_text}
 use Rattle.ascii_text.specs.Blanks.{blanks}
+use Rattle.obs_time.specs.DateText.{date_text}
+use Rattle.obs_time.specs.DayText.{decimal_unit}
+use Rattle.obs_time.specs.Written.{date_part}
 use Rattle.obs_time.proofs.RoundingLemmas.{rounded_nearest}
 use Rattle.obs_time.proofs.DayLemmas.{unit_positive}
-use Rattle.obs_time.proofs.WritingLaws.{text_of}
+use Rattle.obs_time.proofs.WritingLaws.{text_of, text_is}
 use Rattle.obs_time.proofs.TextLaws.{text_is_read, one_text, text_is_kept}
 use Rattle.obs_time.proofs.writing.write_day_fraction.Goals as goal
 
+-- what is written are the date and the decimals, and blanks behind them
+spelled : (c : goal.After-unwrap) → c.unwrap.result ≡ date_text 32 (date_part c.rounded_civil-civil.result) (decimals_text c.args.decimals (c.rounded_civil-civil.result.ns_of_day / c.decimal_unit.result) ++ blanks (6 - c.args.decimals))
+spelled c =
+    let count = c.args.decimals in
+    let value = c.rounded_civil-civil.result.ns_of_day / c.decimal_unit.result in
+    let out = rw c.unwrap.ensures at c.into_inner.ensures.ok in
+    out ∙ c.put_blanks.ensures.text ∙ ap (λ (x : List ℕ). x ++ blanks (6 - count)) c.put_decimals.ensures.text
+    ∙ append_assoc c.put_date.new.out.items (decimals_text count value) (blanks (6 - count)) ∙ c.put_date.ensures.text (decimals_text count value ++ blanks (6 - count))
+
+value_is : (c : goal.After-unwrap) → c.rounded_civil-civil.result.ns_of_day / c.decimal_unit.result ≡ c.rounded_civil-civil.result.ns_of_day / decimal_unit c.args.decimals
+value_is c = ap (λ (k : ℕ). c.rounded_civil-civil.result.ns_of_day / k) c.decimal_unit.ensures.value
+
+pub returns-clause-exact : goal.returns-clause-exact
+returns-clause-exact c =
+    text_is c.args.t c.args.decimals c.rounded_civil-civil.result (c.rounded_civil-civil.result.ns_of_day / c.decimal_unit.result) c.unwrap.result c.rounded_civil-civil.ensures.civil c.rounded_civil-civil.ensures.date (value_is c) (spelled c)
+
 pub returns-clause-text : goal.returns-clause-text
 returns-clause-text c =
-    let civil = c.rounded_civil-civil.result in
-    let count = c.args.decimals in
-    let value = civil.ns_of_day / c.decimal_unit.result in
-    let out = rw c.unwrap.ensures at c.into_inner.ensures.ok in
-    let parts = c.put_blanks.ensures.text ∙ ap (λ (x : List ℕ). x ++ blanks (6 - count)) c.put_decimals.ensures.text ∙ append_assoc c.put_date.new.out.items (decimals_text count value) (blanks (6 - count)) in
-    text_of c.args.t count civil value c.unwrap.result c.requires.some c.requires.few c.rounded_civil-civil.ensures.civil c.rounded_civil-civil.ensures.year (ap (λ (k : ℕ). civil.ns_of_day / k) c.decimal_unit.ensures.value) (out ∙ parts ∙ c.put_date.ensures.text (decimals_text count value ++ blanks (6 - count)))
+    text_of c.args.t c.args.decimals c.rounded_civil-civil.result (c.rounded_civil-civil.result.ns_of_day / c.decimal_unit.result) c.unwrap.result c.requires.some c.requires.few c.rounded_civil-civil.ensures.civil c.rounded_civil-civil.ensures.year (value_is c) (spelled c)
 
 seventeen : (c : goal.After-unwrap) → length c.unwrap.result ≡ 17
 seventeen c =
