@@ -2,7 +2,7 @@
 use Rattle.std.proofs.Common.{◌≡◌, ℕ, List, [], length, Option, refl, ap, arith}
 use Rattle.desk_frames.specs.Frames.{IsSession}
 use Rattle.desk_frames.proofs.Streams.{one_session}
-use Rattle.act_model.specs.declared.request.Key.{Key}
+use Rattle.act_bodies.specs.declared.key.Key.{Key}
 use Rattle.mpc_cli.specs.declared.status.Status.{Status}
 use Rattle.mpc_cli.specs.declared.status.Status.TheVariants.{Done, Usage, BadFrame, ReadFault, WriteFault, NoMemory}
 use Rattle.mpc_cli.specs.Serving.{Readings}

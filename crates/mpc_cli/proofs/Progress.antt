@@ -8,7 +8,7 @@ use Rattle.desk_frames.specs.Frames.{Frame, IsFrame, framed, NoFrame, NeverFrame
 use Rattle.desk_frames.proofs.Streams.{frame_before, no_frame_in_nothing}
 use Rattle.frame_reader.specs.declared.frame.ReadFrame.{ReadFrame}
 use Rattle.frame_reader.specs.Frames.{IsFrameRead, NoFrameComes}
-use Rattle.act_model.specs.declared.request.Key.{Key}
+use Rattle.act_bodies.specs.declared.key.Key.{Key}
 use Rattle.act_model.specs.declared.entry.Entry.{Entry}
 use Rattle.act_model.specs.declared.reply.Reply.{Reply}
 use Rattle.act_model.specs.declared.request.Request.{Request}

@@ -1,36 +1,64 @@
 -- How turns follow one another.
-use Rattle.std.proofs.Common.{◌≡◌, ℕ, ◌+◌, ℤ, List, [], ◌∷◌, ◌++◌, length, Option, Some, None, refl, sym, ap, subst, ◌∙◌, add-zero, zero-add, arith}
-use Rattle.std.specs.Prelude.{IfSome, option_to_list}
+use Rattle.std.proofs.Common.{◌≡◌, true, false, ℕ, ◌+◌, ℤ, pos, List, [], ◌∷◌, ◌++◌, length, Option, Some, None, refl, sym, ap, subst, ◌∙◌, add-zero, zero-add, inl, inr, arith}
+use Rattle.std.specs.Prelude.{IfSome, option_to_list, unwrap_or}
 use Rattle.std.specs.List.{AllByRecursion, cons_option}
 use Rattle.std.proofs.lemmas.List.Elements.{filter_map-append}
 use Rattle.std.proofs.lemmas.Grind.{flat_map-append}
 use Rattle.std.proofs.lemmas.List.{append-nil, map-append, length-append}
 use Rattle.desk_frames.specs.Frames.{Frame, IsFrame, framed}
 use Rattle.desk_frames.proofs.Streams.{stream_before, stream_append}
-use Rattle.act_model.specs.declared.request.Key.{Key}
+use Rattle.act_bodies.specs.declared.key.Key.{Key}
 use Rattle.act_model.specs.declared.request.Verb.{Verb}
-use Rattle.act_model.specs.declared.request.Verb.TheVariants.{Submit80}
 use Rattle.act_model.specs.declared.request.Request.{Request}
 use Rattle.act_model.specs.declared.entry.Entry.{Entry}
+use Rattle.act_model.specs.declared.reply.Refusal.{Refusal}
 use Rattle.act_model.specs.declared.reply.Refusal.TheVariants.{NoMemory}
 use Rattle.act_model.specs.declared.reply.Reply.{Reply}
 use Rattle.act_model.specs.declared.reply.Reply.TheVariants.{Refused}
 use Rattle.act_model.specs.Turns.{Turn, TakesReading, Answers, AreReadings, request_of, readings_of, written_reply, written}
-use Rattle.act_model.proofs.Conducts.{conduct_more}
+use Rattle.act_model.specs.Requests.{is_unknown}
+use Rattle.act_model.proofs.Conducts.{conduct_more, refusal_leaves, answer_wanting}
 use Rattle.mpc_cli.specs.Serving.{Readings, LaterBy, TakesTurn, Served}
 
 module _ (founder : Key) (past : List Entry) where
   -- the turn of an act, with the clock's next reading
-  pub act_turn : (q : Request) (reading : ℤ) (reply : Reply) (next : List Entry) (before after : Readings) → q.verb ≡ Submit80
+  pub act_turn : (q : Request) (reading : ℤ) (reply : Reply) (next : List Entry) (before after : Readings) → is_unknown q.verb ≡ false
       → IfSome (before 0) (λ t. reading ≡ t) → LaterBy 1 before after → Answers founder past q reading reply next → TakesTurn founder past q reply next before after
-  act_turn q reading reply next before after verb told later answers =
+  act_turn q reading reply next before after act told later answers =
       record {
         reading = Some reading;
-        reads = subst (λ (v : Verb). TakesReading v (Some reading)) (sym verb) tt;
+        reads = act;
         answers = answers;
         told = (told, tt);
         later = later;
       }
+
+  -- the turn of a request that is no act
+  pub query_turn : (q : Request) (reply : Reply) (next : List Entry) (clock : Readings) → is_unknown q.verb ≡ true → Answers founder past q (pos 0) reply next → TakesTurn founder past q reply next clock clock
+  query_turn q reply next clock unknown answers =
+      record {
+        reading = None;
+        reads = unknown;
+        answers = answers;
+        told = tt;
+        later = λ k. ap clock (sym (add-zero k));
+      }
+
+  -- want of memory may stand in the place of a refusal
+  pub turn_wanting : (q : Request) (refusal : Refusal) (next : List Entry) (before after : Readings) → TakesTurn founder past q (Refused refusal) next before after → TakesTurn founder past q (Refused NoMemory) next before after
+  turn_wanting q refusal next before after t =
+      record {
+        reading = t.reading;
+        reads = t.reads;
+        answers = answer_wanting founder past q (unwrap_or t.reading (pos 0)) refusal next t.answers;
+        told = t.told;
+        later = t.later;
+      }
+
+  -- want of memory leaves the history
+  turn_leaves : (q : Request) (next : List Entry) (reading : ℤ) → Answers founder past q reading (Refused NoMemory) next → next ≡ past
+  turn_leaves q next reading (inl is) = refusal_leaves founder past q reading NoMemory next is
+  turn_leaves q next reading (inr (wants, same)) = same
 
   -- a request that had no room stands for the one that came
   pub turn_for : (q came : Request) (next : List Entry) (before after : Readings) → q.verb ≡ came.verb → TakesTurn founder past q (Refused NoMemory) next before after → TakesTurn founder past came (Refused NoMemory) next before after
@@ -38,7 +66,7 @@ module _ (founder : Key) (past : List Entry) where
       record {
         reading = t.reading;
         reads = subst (λ (v : Verb). TakesReading v t.reading) verb t.reads;
-        answers = t.answers;
+        answers = inr (refl, turn_leaves q next (unwrap_or t.reading (pos 0)) t.answers);
         told = t.told;
         later = t.later;
       }

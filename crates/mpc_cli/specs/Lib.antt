@@ -1,5 +1,6 @@
 pub mod Words
 pub mod Serving
+pub mod Spoken
 pub mod Runs
 pub mod Numbers
 pub mod Steps

@@ -2,7 +2,7 @@
 use Rattle.std.specs.Prelude.{◌≡◌, ℕ, ◌+◌, ◌<◌, ℤ, pos, List, [], ◌++◌, length, map, take, Option, unwrap_or, option_to_list}
 use Rattle.std.specs.List.{AllByRecursion}
 use Rattle.desk_frames.specs.Frames.{Frame, IsFrame, framed, streamed}
-use Rattle.act_model.specs.declared.request.Key.{Key}
+use Rattle.act_bodies.specs.declared.key.Key.{Key}
 use Rattle.act_model.specs.declared.request.Request.{Request}
 use Rattle.act_model.specs.declared.entry.Entry.{Entry}
 use Rattle.act_model.specs.declared.reply.Reply.{Reply}

@@ -8,14 +8,14 @@ use Rattle.frame_reader.specs.declared.frame.FrameBody.{FrameBody}
 use Rattle.frame_reader.specs.declared.frame.FrameBody.TheVariants as kept
 use Rattle.frame_reader.specs.declared.frame.ReadFrame.{ReadFrame}
 use Rattle.frame_reader.specs.Frames.{IsOver, NoFrameComes}
-use Rattle.act_model.specs.declared.request.Key.{Key}
+use Rattle.act_bodies.specs.declared.key.Key.{Key}
 use Rattle.act_model.specs.declared.request.Body.{Body}
-use Rattle.act_model.specs.declared.request.Body.TheVariants.{Whole, NoRoom}
+use Rattle.act_model.specs.declared.request.Body.TheVariants.{Whole, TooLong, NoRoom}
 use Rattle.act_model.specs.declared.request.Request.{Request}
 use Rattle.act_model.specs.declared.entry.Entry.{Entry}
 use Rattle.act_model.specs.declared.reply.Reply.{Reply}
-use Rattle.act_model.specs.Keys.{key_of}
-use Rattle.act_model.specs.Refusals.{verb_of}
+use Rattle.act_bodies.specs.Keys.{key_of}
+use Rattle.act_model.specs.Requests.{verb_of}
 use Rattle.act_model.specs.Turns.{request_of, written_reply}
 use Rattle.mpc_cli.specs.declared.serving.Turned.{Turned}
 use Rattle.mpc_cli.specs.declared.serving.Turned.TheVariants.{Answered, Over, NoMore, ReadFailed, WriteFailed}
@@ -25,17 +25,13 @@ use Rattle.mpc_cli.specs.Runs.{offset_at}
 -- the body of a request, as it was read
 abbrev pub body_read : FrameBody → Body
 body_read (kept.Whole bytes) = Whole bytes
+body_read (kept.TooLong size) = TooLong size
 body_read kept.NoRoom = NoRoom
 
 -- the request of a frame, as it was read
 abbrev pub request_read : ReadFrame → Request
 request_read read =
     record { key = key_of read.key.items; number = Some read.number; verb = verb_of read.verb.items; body = body_read read.body }
-
--- a body that was kept is shorter than this
-abbrev pub IsShorter : ℕ → FrameBody → Type 0
-IsShorter limit (kept.Whole bytes) = length bytes < limit
-IsShorter limit kept.NoRoom = Unit {0}
 
 -- a reply was written whole, or a front of it and not all
 abbrev pub Writes : Option (List ℕ) → Option (List ℕ) → Reply → Result ℕ Failed → Type 0

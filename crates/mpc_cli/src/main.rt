@@ -6,6 +6,7 @@
 #![tactic(auto)]
 
 mod serving;
+mod spoken;
 mod status;
 mod top;
 mod turns;
@@ -50,5 +51,3 @@ fn main(rt: HostRuntime) -> ExitCode {
     ExitCode::from(status.number())
 }
 
-#[cfg(test)]
-mod tests;

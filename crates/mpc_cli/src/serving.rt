@@ -1,20 +1,21 @@
 //! Reading frames and answering them, one after the other.
 
-ghost use Rattle.std.specs.Prelude.{◌≡◌, ◌≤◌, ◌<◌, ◌^◌, ℕ, List, Option, Some, [], length, IfOk, OnOk, OnErr};
+ghost use Rattle.std.specs.Prelude.{◌≡◌, ◌≤◌, ◌<◌, ◌^◌, ℕ, List, Option, Some, [], length, IfOk, OnErr};
 ghost use Rattle.std.specs.Io.KnownBytes.{Appends};
-ghost use Rattle.desk_io.specs.Outside.{Rises, AppendsPart};
+ghost use Rattle.desk_io.specs.Outside.{Rises};
 ghost use Rattle.frame_reader.specs.Frames.{IsFrameRead};
-ghost use Rattle.act_model.specs.Turns.{written_reply};
-ghost use Rattle.mpc_cli.specs.Steps.{request_read, IsShorter, AnswersFrame, TakesStep, OnAnswered};
+ghost use Rattle.mpc_cli.specs.Steps.{request_read, AnswersFrame, TakesStep, OnAnswered};
 ghost use Rattle.frame_reader.specs.Reading.{work};
 ghost use Rattle.mpc_cli.specs.Runs.{Ends, IsServed};
 
+use crate::spoken::{speak, write_spoken};
 use crate::status::Status;
 use crate::turns::take_turn;
-use act_model::{Body, Key, Reply, Request, read_verb, refusal_line, status};
+use act_model::{Body, Key, Request, read_verb};
 use desk_core::Core;
 use desk_io::{Clock, Failed, Sink, Source};
-use frame_reader::{FrameBody, FrameReader, NextFrame, ReadFrame, write_reply_frame};
+use frame_reader::{FrameBody, FrameReader, NextFrame, ReadFrame};
+use std::alloc::Global;
 
 /// What became of the next frame.
 #[derive(Debug, Drop)]
@@ -40,33 +41,20 @@ fn request_of(read: ReadFrame) -> Request
         verb: read_verb(read.verb.as_slice()),
         body: match read.body {
             FrameBody::Whole(bytes) => Body::Whole(bytes),
+            FrameBody::TooLong(size) => Body::TooLong(size),
             FrameBody::NoRoom => Body::NoRoom,
         },
     }
 }
 
-fn write_reply<K: Sink>(sink: &mut K, reply: &Reply) -> Result<(), Failed>
-    ensures whole { OnOk result (Appends (K.taken sink.old) (K.taken sink.new) (written_reply reply.now)) }
-    ensures part { OnErr result (AppendsPart (K.taken sink.old) (K.taken sink.new) (written_reply reply.now)) }
-    ensures counts { K.faults sink.old ≤ K.faults sink.new }
-    ensures cause { OnErr result (Rises (K.faults sink.old) (K.faults sink.new)) }
-{
-    match reply {
-        Reply::Done(text) => write_reply_frame(sink, status(reply), text.as_slice()),
-        Reply::Refused(refusal) => {
-            write_reply_frame(sink, status(reply), refusal_line(*refusal).as_slice())
-        }
-    }
-}
-
 /// Answers a frame that was read. Says how many bytes it has.
 fn answer_frame<K: Sink, C: Clock>(
+    alloc: Global,
     core: &mut Core,
     read: ReadFrame,
     sink: &mut K,
     clock: &mut C,
 ) -> Result<u64, Failed>
-    requires { IsShorter 1_000_000_000 read.body }
     ensures answers { (front rest : List ℕ) (r : IsFrameRead front read rest) → AnswersFrame core.old.founder core.old.history core.new.history
         (C.reading clock.old) (C.reading clock.new) (K.taken sink.old) (K.taken sink.new) r.frame result }
     ensures size { IfOk result (λ size. size ≡ read.size) }
@@ -77,12 +65,16 @@ fn answer_frame<K: Sink, C: Clock>(
     let size = read.size;
     let request = request_of(read);
     let reply = take_turn(core, &request, clock);
-    write_reply(sink, &reply)?;
-    Ok(size)
+    let spoken = speak(alloc, reply);
+    match write_spoken(sink, &spoken) {
+        Ok(()) => Ok(size),
+        Err(failed) => Err(failed),
+    }
 }
 
 /// Reads the next frame and answers it.
 fn serve_next<S: Source, K: Sink, C: Clock>(
+    alloc: Global,
     core: &mut Core,
     reader: &mut FrameReader,
     source: &mut S,
@@ -99,7 +91,7 @@ fn serve_next<S: Source, K: Sink, C: Clock>(
     ensures nearer { OnAnswered result (work (S.reads source.new) reader.new < work (S.reads source.old) reader.old) }
 {
     match reader.next_frame(source) {
-        NextFrame::Frame(read) => match answer_frame(core, read, sink, clock) {
+        NextFrame::Frame(read) => match answer_frame(alloc, core, read, sink, clock) {
             Ok(size) => Turned::Answered(size),
             Err(Failed) => Turned::WriteFailed,
         },
@@ -111,6 +103,7 @@ fn serve_next<S: Source, K: Sink, C: Clock>(
 
 /// Answers the frames of the source to its end, or to where it has none.
 pub fn serve<S: Source, K: Sink, C: Clock>(
+    alloc: Global,
     core: &mut Core,
     reader: &mut FrameReader,
     source: &mut S,
@@ -128,7 +121,7 @@ pub fn serve<S: Source, K: Sink, C: Clock>(
 {
     let mut offset = 0u64;
     'frames: loop {
-        match serve_next(core, reader, source, sink, clock) {
+        match serve_next(alloc, core, reader, source, sink, clock) {
             Turned::Answered(size) => offset = offset.saturating_add(size),
             Turned::Over => return Status::Done,
             Turned::NoMore => return Status::BadFrame { offset },

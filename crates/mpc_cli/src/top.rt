@@ -3,7 +3,7 @@
 ghost use Rattle.std.specs.Prelude.{◌≡◌, ◌≤◌, ◌↔◌, ℕ, List, Option, Some, None};
 ghost use Rattle.std.specs.Io.KnownBytes.{Appends, Keeps};
 ghost use Rattle.desk_io.specs.Outside.{Rises};
-ghost use Rattle.act_model.specs.Keys.{key_of};
+ghost use Rattle.act_bodies.specs.Keys.{key_of};
 ghost use Rattle.mpc_cli.specs.Words.{run_key};
 ghost use Rattle.mpc_cli.specs.Runs.{Ends, IsWhole, IsDoneOrWants, IsNotBegun};
 
@@ -47,7 +47,7 @@ fn run<S: Source, K: Sink, C: Clock>(
     let Ok(mut core) = Core::new(alloc, founder) else {
         return not_begun(Status::NoMemory);
     };
-    let status = serve(&mut core, &mut reader, source, sink, clock);
+    let status = serve(alloc, &mut core, &mut reader, source, sink, clock);
     Ended {
         status,
         added: core.entries(),
