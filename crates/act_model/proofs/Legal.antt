@@ -242,6 +242,7 @@ act_keeps_callers founder past (Ok (act.Enrol new name role)) key caller none fo
 act_keeps_callers founder past (Ok (act.Station code name from to)) key caller none found = found
 act_keeps_callers founder past (Ok (act.Code kind letter word)) key caller none found = found
 act_keeps_callers founder past (Ok (act.Submit80 lines)) key caller none found = found
+act_keeps_callers founder past (Ok (act.SubmitPsv lines)) key caller none found = found
 act_keeps_callers founder past (Err fault) key caller none found = found
 
 module _ (founder : Key) where

@@ -6,7 +6,7 @@ use Rattle.obs_record.specs.declared.sighting.Coded.{Coded}
 use Rattle.obs_record.specs.declared.sighting.Coded.TheVariants.{Nothing, Letter, Word}
 use Rattle.obs_record.specs.declared.sighting.Sighting.{Sighting}
 use Rattle.obs_record.specs.declared.rule.RuleCode.{RuleCode}
-use Rattle.obs_record.specs.declared.rule.RuleCode.TheVariants.{T1, T2, T4, T5, B3}
+use Rattle.obs_record.specs.declared.rule.RuleCode.TheVariants.{T1, T2, T3, T4, T5, B3}
 use Rattle.station_tables.specs.declared.kind.Kind.{Kind}
 use Rattle.station_tables.specs.declared.kind.Kind.TheVariants as kinds
 use Rattle.station_tables.specs.declared.serving.Serving.{Serving}
@@ -57,6 +57,7 @@ abbrev pub office_rules : TableRows → Sighting → List (Bool × RuleCode)
 office_rules tables s =
     (is_unknown_station (station_serving tables s), T1)
     ∷ (is_outside (station_serving tables s), T2)
+    ∷ (not (is_in_row tables kinds.Catalogue s.catalogue), T3)
     ∷ (not (is_in_row tables kinds.Band s.band), T4)
     ∷ (not (is_in_row tables kinds.Mode s.mode), T5)
     ∷ (is_named s, B3)
@@ -95,6 +96,7 @@ faults_in tables lines = filter_map (line_fault tables) lines
 -- how many observations there are behind an act: a batch adds its accepted lines, judged by the tables of its time
 abbrev pub with_accepted : TableRows → Result Act ActFault → ℕ → ℕ
 with_accepted tables (Ok (act.Submit80 lines)) before = before + accepted_in tables lines
+with_accepted tables (Ok (act.SubmitPsv lines)) before = before + accepted_in tables lines
 with_accepted tables _ before = before
 
 -- how many observations the history has

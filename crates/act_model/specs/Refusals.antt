@@ -7,11 +7,12 @@ use Rattle.act_model.specs.declared.request.Request.{Request}
 use Rattle.act_model.specs.declared.act.Act.{Act}
 use Rattle.act_model.specs.declared.act.Act.TheVariants as act
 use Rattle.act_model.specs.declared.act.ActFault.{ActFault}
+use Rattle.act_model.specs.declared.act.ActFault.TheVariants as fault
 use Rattle.act_model.specs.declared.entry.Entry.{Entry}
 use Rattle.act_model.specs.declared.reply.Excess.TheVariants as excess
 use Rattle.act_model.specs.declared.reply.Part.TheVariants as part
 use Rattle.act_model.specs.declared.reply.Refusal.{Refusal}
-use Rattle.act_model.specs.declared.reply.Refusal.TheVariants.{TooLarge, Unread, UnknownKey, Role, NoLine, AlreadyThere, RosterFull}
+use Rattle.act_model.specs.declared.reply.Refusal.TheVariants.{TooLarge, Unread, UnknownKey, Role, Header, NoLine, AlreadyThere, RosterFull}
 use Rattle.act_model.specs.declared.request.TheConstants.{BODY_BYTES, BODY_LINES}
 use Rattle.act_model.specs.declared.roster.TheConstants.{CALLERS}
 use Rattle.act_model.specs.Requests.{is_unknown, is_officers, body_bytes, announced, line_feeds}
@@ -50,7 +51,11 @@ act_rows founder past (Ok (act.Station code name from to)) = (overlaps (tables_o
 act_rows founder past (Ok (act.Code kind letter word)) = (has_code (tables_of past).codes kind letter word, AlreadyThere) ∷ []
 act_rows founder past (Ok (act.Submit80 lines)) =
     (accepted_in (tables_of past) lines == 0, NoLine (faults_in (tables_of past) lines)) ∷ []
-act_rows founder past (Err fault) = []
+act_rows founder past (Ok (act.SubmitPsv lines)) =
+    (accepted_in (tables_of past) lines == 0, NoLine (faults_in (tables_of past) lines)) ∷ []
+act_rows founder past (Err (fault.Header what line)) = (true, Header what line) ∷ []
+act_rows founder past (Err fault.Unread) = []
+act_rows founder past (Err fault.NoMemory) = []
 
 -- the refusals that an act of a caller meets behind them, where the caller's number wasn't used
 abbrev pub late_rows : Key → List Entry → ℕ → Request → List (Bool × Refusal)

@@ -11,7 +11,7 @@ use Rattle.act_model.specs.declared.reply.Excess.TheVariants as excess
 use Rattle.act_model.specs.declared.reply.Fault.{Fault}
 use Rattle.act_model.specs.declared.reply.Part.TheVariants as part
 use Rattle.act_model.specs.declared.reply.Refusal.{Refusal}
-use Rattle.act_model.specs.declared.reply.Refusal.TheVariants.{TooLarge, Unread, UnknownKey, OtherRequest, Role, NoLine, AlreadyThere, RosterFull, NoMemory}
+use Rattle.act_model.specs.declared.reply.Refusal.TheVariants.{TooLarge, Unread, UnknownKey, OtherRequest, Role, Header, NoLine, AlreadyThere, RosterFull, NoMemory}
 use Rattle.act_model.specs.declared.reply.Reply.{Reply}
 use Rattle.act_model.specs.declared.reply.Reply.TheVariants.{Done, Refused}
 use Rattle.act_model.specs.Acts.{act_of}
@@ -19,7 +19,7 @@ use Rattle.act_model.specs.Roster.{members, next_caller}
 use Rattle.act_model.specs.OfficeTables.{tables_of}
 use Rattle.act_model.specs.History.{next_receipt}
 use Rattle.act_model.specs.Observations.{fault_of, accepted_in, refused_in, observations}
-use Rattle.act_model.specs.Texts.{line_of, receipt_line, caller_line, counts_line, accepted_line, refused_line}
+use Rattle.act_model.specs.Texts.{line_of, header_name, receipt_line, caller_line, counts_line, accepted_line, refused_line}
 
 -- the answer to a line with this fault, where so many observations came before it
 abbrev pub line_answer : ℕ → ℕ → Option RuleCode → List ℕ
@@ -46,6 +46,7 @@ batch_answer receipt tables before lines =
 -- the answer to an act that became the next entry of this history
 abbrev pub act_answer : List Entry → Result Act ActFault → List ℕ
 act_answer past (Ok (act.Submit80 lines)) = batch_answer (next_receipt past) (tables_of past) (observations past) lines
+act_answer past (Ok (act.SubmitPsv lines)) = batch_answer (next_receipt past) (tables_of past) (observations past) lines
 act_answer past (Ok (act.Enrol key name role)) = receipt_line (next_receipt past) ++ caller_line (next_caller (members past))
 act_answer past _ = receipt_line (next_receipt past)
 
@@ -67,6 +68,7 @@ refusal_text (Unread part.Body) = line_of (codes "refused 1 Unread body")
 refusal_text UnknownKey = line_of (codes "refused 2 UnknownKey")
 refusal_text (OtherRequest receipt) = line_of (codes "refused 3 OtherRequest receipt " ++ decimal receipt)
 refusal_text Role = line_of (codes "refused 4 Role")
+refusal_text (Header fault line) = line_of (codes "refused 6 Header " ++ header_name fault ++ codes " line " ++ decimal line)
 refusal_text (NoLine faults) = line_of (codes "refused 7 NoLine") ++ fault_lines faults
 refusal_text AlreadyThere = line_of (codes "refused 13 AlreadyThere")
 refusal_text RosterFull = line_of (codes "refused 13 RosterFull")
@@ -82,6 +84,7 @@ refusal_status (Unread what) = 400
 refusal_status UnknownKey = 401
 refusal_status (OtherRequest receipt) = 409
 refusal_status Role = 403
+refusal_status (Header fault line) = 422
 refusal_status (NoLine faults) = 422
 refusal_status AlreadyThere = 409
 refusal_status RosterFull = 409

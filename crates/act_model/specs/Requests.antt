@@ -1,7 +1,7 @@
 -- Requests: their verbs and their bodies.
 use Rattle.std.specs.Prelude.{ℕ, ◌==◌, Bool, true, false, ◌&&◌, bytes_eq, codes, if◌then◌else◌, List, [], length, nat_lt, count_by}
 use Rattle.act_model.specs.declared.request.Verb.{Verb}
-use Rattle.act_model.specs.declared.request.Verb.TheVariants.{Enrol, Station, Code, Submit80, Unknown}
+use Rattle.act_model.specs.declared.request.Verb.TheVariants.{Enrol, Station, Code, Submit80, SubmitPsv, Unknown}
 use Rattle.act_model.specs.declared.request.Body.{Body}
 use Rattle.act_model.specs.declared.request.Body.TheVariants.{Whole, TooLong, NoRoom}
 use Rattle.act_model.specs.declared.request.TheConstants.{BODY_BYTES}
@@ -13,7 +13,8 @@ verb_of word =
     else (if bytes_eq word (codes "station") then Station
     else (if bytes_eq word (codes "code") then Code
     else (if bytes_eq word (codes "submit80") then Submit80
-    else Unknown)))
+    else (if bytes_eq word (codes "submitpsv") then SubmitPsv
+    else Unknown))))
 
 -- a verb that names nothing
 abbrev pub is_unknown : Verb → Bool
@@ -21,6 +22,7 @@ is_unknown Enrol = false
 is_unknown Station = false
 is_unknown Code = false
 is_unknown Submit80 = false
+is_unknown SubmitPsv = false
 is_unknown Unknown = true
 
 -- a verb of officers alone
@@ -29,6 +31,7 @@ is_officers Enrol = true
 is_officers Station = true
 is_officers Code = true
 is_officers Submit80 = false
+is_officers SubmitPsv = false
 is_officers Unknown = false
 
 -- the number of a verb of an act, and 0 for no act
@@ -37,6 +40,7 @@ verb_code Enrol = 1
 verb_code Station = 2
 verb_code Code = 3
 verb_code Submit80 = 4
+verb_code SubmitPsv = 5
 verb_code Unknown = 0
 
 abbrev pub same_verb : Verb → Verb → Bool

@@ -1,10 +1,20 @@
 -- The lines of which answers are made. Each ends in a line feed.
 use Rattle.std.specs.Prelude.{ℕ, List, [], ◌∷◌, ◌++◌, codes, decimal}
 use Rattle.obs_record.specs.declared.rule.RuleCode.{RuleCode}
+use Rattle.obs_record.specs.declared.rule.HeaderFault.{HeaderFault}
+use Rattle.obs_record.specs.declared.rule.HeaderFault.TheVariants.{H1, H2, H3, H4, H5}
 use Rattle.obs_record.specs.Rules.{rule_name}
 
 abbrev pub line_of : List ℕ → List ℕ
 line_of text = text ++ 10 ∷ []
+
+-- the name of a fault of headers
+abbrev pub header_name : HeaderFault → List ℕ
+header_name H1 = codes "H1"
+header_name H2 = codes "H2"
+header_name H3 = codes "H3"
+header_name H4 = codes "H4"
+header_name H5 = codes "H5"
 
 -- `receipt R`
 abbrev pub receipt_line : ℕ → List ℕ

@@ -1,11 +1,13 @@
-ghost use Rattle.std.specs.Prelude.{◌≡◌, ◌<◌, length, Ok, Err, IfOk};
+ghost use Rattle.std.specs.Prelude.{◌≡◌, ℕ, ◌<◌, length, Ok, Err, IfOk};
+ghost use Rattle.obs_record.specs.declared.rule.HeaderFault.{HeaderFault};
 ghost use Rattle.act_model.specs.Acts.{act_of, IsForward};
 
 use crate::request::Verb;
 use act_bodies::{BodyFault, Key, Rank, read_code, read_enrol, read_station};
+use ades_psv::{PsvFault, read_psv};
 use col80_format::split_batch;
 use item_list::Bytes;
-use obs_record::{Lines, Short};
+use obs_record::{HeaderFault, Lines, Short};
 use station_tables::Kind;
 use std::alloc::Global;
 
@@ -44,6 +46,8 @@ pub enum Act {
     /// To take in the observation lines of a batch in the Minor Planet Center's 80-column format,
     /// each with its number and what it says or the first rule that it breaks.
     Submit80(Lines),
+    /// The same of a batch of ADES 2017 in its PSV form.
+    SubmitPsv(Lines),
 }
 
 /// Why no act was read.
@@ -51,12 +55,20 @@ pub enum Act {
 pub enum ActFault {
     /// The verb is that of no act, or the body isn't as the verb wants it.
     Unread,
+    /// A batch in PSV form has this fault of its headers, in this line.
+    Header {
+        /// The fault.
+        fault: HeaderFault,
+        /// The line's number, counted from 1.
+        line: u32,
+    },
     /// Want of memory.
     NoMemory,
 }
 
 fn unread_body(fault: BodyFault) -> ActFault
     ensures unread { result ≡ ActFault.Unread → fault ≡ BodyFault.Unread }
+    ensures plain { (what : HeaderFault) (line : ℕ) → result ≡ ActFault.Header what line → ⊥ }
 {
     match fault {
         BodyFault::Unread => ActFault::Unread,
@@ -68,6 +80,7 @@ fn unread_body(fault: BodyFault) -> ActFault
 fn read_enrolment(alloc: Global, body: &[u8]) -> Result<Act, ActFault>
     ensures act { IfOk result (λ act. act_of Verb.Enrol body.now ≡ Ok act) }
     ensures unread { result ≡ Err ActFault.Unread → act_of Verb.Enrol body.now ≡ Err ActFault.Unread }
+    ensures plain { (fault : HeaderFault) (line : ℕ) → result ≡ Err (ActFault.Header fault line) → ⊥ }
     ensures forward { IfOk result IsForward }
 {
     match read_enrol(alloc, body) {
@@ -84,6 +97,7 @@ fn read_enrolment(alloc: Global, body: &[u8]) -> Result<Act, ActFault>
 fn read_station_row(alloc: Global, body: &[u8]) -> Result<Act, ActFault>
     ensures act { IfOk result (λ act. act_of Verb.Station body.now ≡ Ok act) }
     ensures unread { result ≡ Err ActFault.Unread → act_of Verb.Station body.now ≡ Err ActFault.Unread }
+    ensures plain { (fault : HeaderFault) (line : ℕ) → result ≡ Err (ActFault.Header fault line) → ⊥ }
     ensures forward { IfOk result IsForward }
 {
     match read_station(alloc, body) {
@@ -104,6 +118,7 @@ fn read_station_row(alloc: Global, body: &[u8]) -> Result<Act, ActFault>
 fn read_code_row(alloc: Global, body: &[u8]) -> Result<Act, ActFault>
     ensures act { IfOk result (λ act. act_of Verb.Code body.now ≡ Ok act) }
     ensures unread { result ≡ Err ActFault.Unread → act_of Verb.Code body.now ≡ Err ActFault.Unread }
+    ensures plain { (fault : HeaderFault) (line : ℕ) → result ≡ Err (ActFault.Header fault line) → ⊥ }
     ensures forward { IfOk result IsForward }
 {
     match read_code(alloc, body) {
@@ -116,17 +131,34 @@ fn read_code_row(alloc: Global, body: &[u8]) -> Result<Act, ActFault>
     }
 }
 
+#[tactic(auto, unfolding(crate::specs::Acts::act_of))]
+fn read_psv_batch(alloc: Global, body: &[u8]) -> Result<Act, ActFault>
+    requires { length body.now < 4_294_967_295 }
+    ensures act { IfOk result (λ act. act_of Verb.SubmitPsv body.now ≡ Ok act) }
+    ensures readable { result ≡ Err ActFault.Unread → act_of Verb.SubmitPsv body.now ≡ Err ActFault.Unread }
+    ensures header { (fault : HeaderFault) (line : ℕ) → result ≡ Err (ActFault.Header fault line) → act_of Verb.SubmitPsv body.now ≡ Err (ActFault.Header fault line) }
+    ensures forward { IfOk result IsForward }
+{
+    match read_psv(alloc, body) {
+        Ok(lines) => Ok(Act::SubmitPsv(lines)),
+        Err(PsvFault::Header { fault, line }) => Err(ActFault::Header { fault, line }),
+        Err(PsvFault::NoMemory) => Err(ActFault::NoMemory),
+    }
+}
+
 /// The act of a verb and a body of fewer than 4,294,967,295 bytes.
 ///
 /// Bodies of officers' acts are JSON: an object with exactly the members of the verb. Every body is
 /// one for `Submit80`: a line that breaks a rule is an observation line that says so, and a body
 /// without observation lines has none. Answers `Unread` only for a verb that is no act and for a
-/// body that isn't as the verb wants it. Takes memory.
+/// body that isn't as the verb wants it, and `Header` only for a batch in PSV form with that fault of its
+/// headers, the first. Takes memory.
 #[tactic(auto, unfolding(crate::specs::Acts::act_of))]
 pub fn read_act(alloc: Global, verb: Verb, body: &[u8]) -> Result<Act, ActFault>
     requires { length body.now < 4_294_967_295 }
     ensures act { IfOk result (λ act. act_of verb body.now ≡ Ok act) }
     ensures unread { result ≡ Err ActFault.Unread → act_of verb body.now ≡ Err ActFault.Unread }
+    ensures header { (fault : HeaderFault) (line : ℕ) → result ≡ Err (ActFault.Header fault line) → act_of verb body.now ≡ Err (ActFault.Header fault line) }
     ensures forward { IfOk result IsForward }
 {
     match verb {
@@ -137,6 +169,7 @@ pub fn read_act(alloc: Global, verb: Verb, body: &[u8]) -> Result<Act, ActFault>
             Ok(lines) => Ok(Act::Submit80(lines)),
             Err(_) => Err(ActFault::NoMemory),
         },
+        Verb::SubmitPsv => read_psv_batch(alloc, body),
         Verb::Unknown => Err(ActFault::Unread),
     }
 }

@@ -1,13 +1,13 @@
 ghost use Rattle.std.specs.Prelude.{◌≡◌, ◌++◌, ◌≤◌, IfOk, IfSome, IfNone, List, length, decimal};
 ghost use Rattle.act_model.specs.declared.reply.Fault.{Fault};
-ghost use Rattle.act_model.specs.Texts.{line_of};
+ghost use Rattle.act_model.specs.Texts.{line_of, header_name};
 ghost use Rattle.act_model.specs.Replies.{status_of, text_of, refusal_text, refusal_status, fault_lines};
 
 use crate::texts::push_fault_lines;
 use arrayvec::ArrayVec;
 use item_list::{Bytes, ItemList, NoMemory};
 use itoa::Buffer;
-use obs_record::RuleCode;
+use obs_record::{HeaderFault, RuleCode};
 use std::alloc::Global;
 
 /// The most bytes that the line of a refusal has.
@@ -61,6 +61,13 @@ pub enum Refusal {
     },
     /// The act is one of officers, and the caller is an observer.
     Role,
+    /// The batch has a fault of its headers, in this line.
+    Header {
+        /// The fault.
+        fault: HeaderFault,
+        /// The line's number in the batch, counted from 1.
+        line: u32,
+    },
     /// No line of the batch is accepted. These are its faults.
     NoLine(Faults),
     /// The key is on the roster, the station's days overlap with those of a row, or the letter or word
@@ -90,7 +97,7 @@ pub fn refusal_status(refusal: &Refusal) -> u16
         Refusal::Unread(_) => 400,
         Refusal::UnknownKey => 401,
         Refusal::Role => 403,
-        Refusal::NoLine(_) => 422,
+        Refusal::Header { .. } | Refusal::NoLine(_) => 422,
         Refusal::OtherRequest { .. } | Refusal::AlreadyThere | Refusal::RosterFull => 409,
         Refusal::NoMemory => 507,
     }
@@ -99,8 +106,8 @@ pub fn refusal_status(refusal: &Refusal) -> u16
 /// The status of a reply, as HTTP numbers them (RFC 9110, and RFC 4918 for want of memory): 200 for
 /// a request that was done, 400 for one that can't be read, 401 for a key that nobody has, 403 for an
 /// observer who asks what officers may, 409 for a number that was used and for what is there already,
-/// 413 for a body that is too large, 422 for a batch without a line that is accepted, and 507 for want
-/// of memory.
+/// 413 for a body that is too large, 422 for a batch with a fault of its headers or without a line that
+/// is accepted, and 507 for want of memory.
 pub fn status(reply: &Reply) -> u16
     ensures { result ≡ status_of reply.now }
 {
@@ -143,6 +150,33 @@ fn large_line(excess: Excess) -> ArrayVec<u8, REFUSAL_BYTES>
     }
 }
 
+fn header_name(fault: HeaderFault) -> &'static [u8]
+    ensures name { result.now ≡ header_name fault }
+    ensures short { length result.now ≡ 2 }
+{
+    match fault {
+        HeaderFault::H1 => b"H1",
+        HeaderFault::H2 => b"H2",
+        HeaderFault::H3 => b"H3",
+        HeaderFault::H4 => b"H4",
+        HeaderFault::H5 => b"H5",
+    }
+}
+
+fn header_line(fault: HeaderFault, number: u32) -> ArrayVec<u8, REFUSAL_BYTES>
+    ensures { result.items ≡ refusal_text (Refusal.Header fault number) }
+{
+    let mut buffer = Buffer::new();
+    let mut line = ArrayVec::new();
+    line.try_extend_from_slice(b"refused 6 Header ").unwrap();
+    line.try_extend_from_slice(header_name(fault)).unwrap();
+    line.try_extend_from_slice(b" line ").unwrap();
+    line.try_extend_from_slice(buffer.format(u64::from(number)).as_bytes())
+        .unwrap();
+    line.push(b'\n');
+    line
+}
+
 fn unread_line(part: Part) -> ArrayVec<u8, REFUSAL_BYTES>
     ensures { result.items ≡ refusal_text (Refusal.Unread part) }
 {
@@ -168,6 +202,7 @@ pub fn refusal_line(refusal: &Refusal) -> Option<ArrayVec<u8, REFUSAL_BYTES>>
             Some(numbered_line(b"refused 3 OtherRequest receipt ", *receipt))
         }
         Refusal::Role => Some(line_in_place(b"refused 4 Role")),
+        Refusal::Header { fault, line } => Some(header_line(*fault, *line)),
         Refusal::NoLine(_) => None,
         Refusal::AlreadyThere => Some(line_in_place(b"refused 13 AlreadyThere")),
         Refusal::RosterFull => Some(line_in_place(b"refused 13 RosterFull")),

@@ -23,6 +23,8 @@ pub enum Verb {
     Code,
     /// To take in a batch of 80-column lines, by the word `submit80`. It is an act.
     Submit80,
+    /// To take in a batch of ADES in PSV form, by the word `submitpsv`. It is an act.
+    SubmitPsv,
     /// A word that names nothing. It is no act.
     Unknown,
 }
@@ -42,7 +44,7 @@ impl Verb {
         matches!(self, Verb::Enrol | Verb::Station | Verb::Code)
     }
 
-    /// The number of the verb of an act, 1 to 4, and 0 for no act.
+    /// The number of the verb of an act, 1 to 5, and 0 for no act.
     pub fn code(self) -> u8
         ensures { result ≡ verb_code self }
     {
@@ -51,6 +53,7 @@ impl Verb {
             Verb::Station => 2,
             Verb::Code => 3,
             Verb::Submit80 => 4,
+            Verb::SubmitPsv => 5,
             Verb::Unknown => 0,
         }
     }
@@ -68,6 +71,8 @@ pub fn read_verb(word: &[u8]) -> Verb
         Verb::Code
     } else if word == b"submit80".as_slice() {
         Verb::Submit80
+    } else if word == b"submitpsv".as_slice() {
+        Verb::SubmitPsv
     } else {
         Verb::Unknown
     }

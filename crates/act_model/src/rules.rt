@@ -45,6 +45,9 @@ fn office_fault(tables: &Tables, sighting: &Sighting) -> Option<RuleCode>
         Serving::Outside => return Some(RuleCode::T2),
         Serving::Serving => {}
     }
+    if !is_in_row(tables, Kind::Catalogue, sighting.catalogue) {
+        return Some(RuleCode::T3);
+    }
     if !is_in_row(tables, Kind::Band, sighting.band) {
         return Some(RuleCode::T4);
     }
@@ -60,9 +63,9 @@ fn office_fault(tables: &Tables, sighting: &Sighting) -> Option<RuleCode>
 /// The rule that a line breaks first, or None for a line that the office accepts.
 ///
 /// One that can't be read breaks the rule of its spelling. One that can is judged by the tables: T1
-/// where no station row has its code, T2 where none of the code's rows holds the day of UTC, T4 and
-/// T5 where the letter or word of its band or mode is in no row. Then it breaks B3 where it stands
-/// under a number or a designation, since the office has given none yet.
+/// where no station row has its code, T2 where none of the code's rows holds the day of UTC, T3, T4
+/// and T5 where the word or letter of its catalogue, band or mode is in no row. Then it breaks B3 where
+/// it stands under a number or a designation, since the office has given none yet.
 #[tactic(auto, unfolding(crate::specs::Observations::fault_of))]
 pub fn fault_of(tables: &Tables, line: &Line) -> Option<RuleCode>
     ensures { result ≡ fault_of tables.now line.now }

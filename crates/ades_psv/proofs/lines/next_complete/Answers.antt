@@ -1,0 +1,26 @@
+use Rattle.std.proofs.Common.{◌≡◌, [], ℕ, List, All, eqb, false}
+use Rattle.ades_psv.specs.Feeding.{complete_lines, unended}
+use Rattle.ades_psv.proofs.LineCuts.{complete_cut, complete_none, unended_cut, unended_whole, behind_cut}
+use Rattle.ades_psv.proofs.lines.next_complete.Goals as goal
+
+no_line : (text line : List ℕ) → line ≡ text → All (λ b. eqb b 10 ≡ false) line → complete_lines text ≡ []
+no_line text line is none = complete_none text (rw is at none)
+
+all_left : (text line : List ℕ) → line ≡ text → All (λ b. eqb b 10 ≡ false) line → unended text ≡ text
+all_left text line is none = unended_whole text (rw is at none)
+
+pub returns-in-None-clause-no_line : goal.returns-in-None-clause-no_line
+returns-in-None-clause-no_line c = no_line c.args.text.now c.cut.result.0.now (rw c.in-None.is at c.cut.ensures.whole) c.cut.ensures.first
+
+pub returns-in-None-clause-all_left : goal.returns-in-None-clause-all_left
+returns-in-None-clause-all_left c = all_left c.args.text.now c.cut.result.0.now (rw c.in-None.is at c.cut.ensures.whole) c.cut.ensures.first
+
+pub returns-in-Some-clause-line : goal.returns-in-Some-clause-line
+returns-in-Some-clause-line c =
+    rw c.without_return.ensures (complete_cut c.args.text.now c.cut.result.0.now c.in-Some.behind.now (rw c.in-Some.is at c.cut.ensures.parts) c.cut.ensures.first)
+
+pub returns-in-Some-clause-rest : goal.returns-in-Some-clause-rest
+returns-in-Some-clause-rest c = unended_cut c.args.text.now c.cut.result.0.now c.in-Some.behind.now (rw c.in-Some.is at c.cut.ensures.parts) c.cut.ensures.first
+
+pub returns-in-Some-clause-behind : goal.returns-in-Some-clause-behind
+returns-in-Some-clause-behind c = behind_cut c.args.text.now c.cut.result.0.now c.in-Some.behind.now (rw c.in-Some.is at c.cut.ensures.parts)

@@ -1,0 +1,52 @@
+-- The columns that a column header names.
+use Rattle.std.specs.Prelude.{ℕ, Bool, false, not, ◌&&◌, ◌||◌, if◌then◌else◌, ◌==◌, List, [], ◌∷◌, length, codes, Option, Some, None}
+use Rattle.std.specs.List.{list_any, position_from}
+use Rattle.obs_record.specs.declared.rule.HeaderFault.{HeaderFault}
+use Rattle.obs_record.specs.declared.rule.HeaderFault.TheVariants.{H3, H4, H5}
+use Rattle.ades_psv.specs.declared.columns.Columns.{Columns}
+use Rattle.ades_psv.specs.Cells.{is_word, cells}
+
+-- where the column of this name stands, counted from 0
+abbrev pub place_of : List ℕ → List (List ℕ) → Option ℕ
+place_of name names = position_from (is_word name) 0 names
+
+-- a column has this name
+abbrev pub has_column : List ℕ → List (List ℕ) → Bool
+has_column name names = list_any (is_word name) names
+
+-- the name isn't empty, and stands among the others
+abbrev pub stands_again : List ℕ → List (List ℕ) → Bool
+stands_again name others = not (length name == 0) && has_column name others
+
+-- a name that isn't empty stands twice
+unfoldable pub has_twice : List (List ℕ) → Bool
+has_twice [] = false
+has_twice (name ∷ names) = stands_again name names || has_twice names
+
+-- where the columns that are read stand, and how many columns there are
+unfoldable pub columns_named : List (List ℕ) → Columns
+columns_named names = record {
+  perm = place_of (codes "permID") names;
+  prov = place_of (codes "provID") names;
+  sub = place_of (codes "trkSub") names;
+  mode = place_of (codes "mode") names;
+  station = place_of (codes "stn") names;
+  time = place_of (codes "obsTime") names;
+  ra = place_of (codes "ra") names;
+  dec = place_of (codes "dec") names;
+  catalogue = place_of (codes "astCat") names;
+  mag = place_of (codes "mag") names;
+  band = place_of (codes "band") names;
+  count = length names;
+}
+
+-- the columns of a column header
+abbrev pub columns_of : List ℕ → Columns
+columns_of line = columns_named (cells line)
+
+-- the first of H3, H4 and H5 that a column header with these names breaks
+unfoldable pub column_fault : List (List ℕ) → Option HeaderFault
+column_fault names =
+    if not (has_column (codes "ra") names && has_column (codes "dec") names) then Some H3
+    else (if has_column (codes "pos1") names then Some H4
+    else (if has_twice names then Some H5 else None))

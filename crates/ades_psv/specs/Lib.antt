@@ -1,0 +1,13 @@
+pub mod Steps
+pub mod Cells
+pub mod Columns
+pub mod Headers
+pub mod Magnitudes
+pub mod Written
+pub mod Names
+pub mod Rules
+pub mod Reading
+pub mod Batch
+pub mod Feeding
+pub mod Walking
+pub mod Listing

@@ -1,0 +1,91 @@
+//! The columns that a column header names.
+
+ghost use Rattle.std.specs.Prelude.{◌≡◌, IfOk};
+ghost use Rattle.ades_psv.specs.Cells.{cells};
+ghost use Rattle.ades_psv.specs.Columns.{has_column, has_twice, columns_named, columns_of, column_fault};
+
+use crate::cells::{count_cells, first_cell, place_of};
+use item_list::NoMemory;
+use obs_record::HeaderFault;
+use std::alloc::Global;
+use std::collections::BTreeSet;
+
+/// Where the columns that are read stand, counted from 0.
+#[derive(Clone, Copy)]
+pub(crate) struct Columns {
+    pub(crate) perm: Option<usize>,
+    pub(crate) prov: Option<usize>,
+    pub(crate) sub: Option<usize>,
+    pub(crate) mode: Option<usize>,
+    pub(crate) station: Option<usize>,
+    pub(crate) time: Option<usize>,
+    pub(crate) ra: Option<usize>,
+    pub(crate) dec: Option<usize>,
+    pub(crate) catalogue: Option<usize>,
+    pub(crate) mag: Option<usize>,
+    pub(crate) band: Option<usize>,
+    /// How many columns there are, those that aren't read among them.
+    pub(crate) count: usize,
+}
+
+/// The columns of a column header.
+#[tactic(auto, unfolding(crate::specs::Columns::columns_named))]
+pub(crate) fn columns_of(line: &[u8]) -> Columns
+    ensures { result ≡ columns_of line.now }
+{
+    Columns {
+        perm: place_of(b"permID", line),
+        prov: place_of(b"provID", line),
+        sub: place_of(b"trkSub", line),
+        mode: place_of(b"mode", line),
+        station: place_of(b"stn", line),
+        time: place_of(b"obsTime", line),
+        ra: place_of(b"ra", line),
+        dec: place_of(b"dec", line),
+        catalogue: place_of(b"astCat", line),
+        mag: place_of(b"mag", line),
+        band: place_of(b"band", line),
+        count: count_cells(line),
+    }
+}
+
+/// Whether a name that isn't empty stands twice in a column header.
+fn has_twice(alloc: Global, line: &[u8]) -> Result<bool, NoMemory>
+    ensures { IfOk result (λ twice. twice ≡ has_twice (cells line.now)) }
+{
+    let mut seen = BTreeSet::new(alloc);
+    let mut rest = line;
+    'names: loop {
+        let (name, behind) = first_cell(rest);
+        if !name.is_empty() && !seen.insert(name)? {
+            return Ok(true);
+        }
+        let Some(behind) = behind else {
+            return Ok(false);
+        };
+        rest = behind;
+    }
+}
+
+/// Whether a column has this name.
+fn has_column(name: &[u8], line: &[u8]) -> bool
+    ensures { result ≡ has_column name.now (cells line.now) }
+{
+    place_of(name, line).is_some()
+}
+
+/// The first of H3, H4 and H5 that a column header breaks: it lacks the right ascension or the declination, it has a
+/// position of the observer, or a column stands twice.
+#[tactic(auto, unfolding(crate::specs::Columns::column_fault))]
+pub(crate) fn column_fault(alloc: Global, line: &[u8]) -> Result<Option<HeaderFault>, NoMemory>
+    ensures { IfOk result (λ fault. fault ≡ column_fault (cells line.now)) }
+{
+    if !(has_column(b"ra", line) && has_column(b"dec", line)) {
+        return Ok(Some(HeaderFault::H3));
+    }
+    if has_column(b"pos1", line) {
+        return Ok(Some(HeaderFault::H4));
+    }
+    let twice = has_twice(alloc, line)?;
+    Ok(twice.then_some(HeaderFault::H5))
+}

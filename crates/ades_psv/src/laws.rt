@@ -1,0 +1,26 @@
+//! Laws of the format, for all batches and lines. Nothing runs here: what the functions promise is the law.
+
+ghost use Rattle.std.specs.Prelude.{◌≡◌, ℕ, ◌++◌, List, Some, Err, Result};
+ghost use Rattle.obs_record.specs.declared.rule.HeaderFault.{HeaderFault};
+ghost use Rattle.obs_record.specs.declared.rule.RuleCode.{RuleCode};
+ghost use Rattle.obs_record.specs.declared.sighting.Sighting.{Sighting};
+ghost use Rattle.ades_psv.specs.declared.columns.Columns.{Columns};
+ghost use Rattle.ades_psv.specs.Rules.{IsReading};
+ghost use Rattle.ades_psv.specs.Batch.{psv_lines_of};
+ghost use Rattle.ades_psv.specs.Feeding.{complete_fault, unfed, fed_all, joined, finished};
+
+/// In whatever pieces a batch comes, it says the same.
+pub fn any_pieces()
+    ensures { (pieces : List (List ℕ)) → finished (fed_all unfed pieces) ≡ psv_lines_of (joined pieces) }
+{}
+
+/// The first fault in the complete lines of the front of a batch is the fault of the batch, whatever may follow.
+pub fn faults_stay()
+    ensures { (text more : List ℕ) (fault : HeaderFault × ℕ) → complete_fault text ≡ Some fault → psv_lines_of (text ++ more) ≡ Err fault }
+{}
+
+/// A data line below a column header has one reading, and no two.
+pub fn one_reading()
+    ensures some { (columns : Columns) (line : List ℕ) → (reading : Result Sighting RuleCode) × IsReading columns line reading }
+    ensures only { (columns : Columns) (line : List ℕ) (one other : Result Sighting RuleCode) → IsReading columns line one → IsReading columns line other → one ≡ other }
+{}
