@@ -5,16 +5,21 @@ use Rattle.act_bodies.specs.declared.key.Key.{Key}
 use Rattle.act_model.specs.declared.act.Act.{Act}
 use Rattle.act_model.specs.declared.act.Act.TheVariants as act
 use Rattle.act_model.specs.declared.act.ActFault.{ActFault}
+use Rattle.act_model.specs.declared.act.ActFault.TheVariants as fault
+use Rattle.obs_record.specs.declared.rule.HeaderFault.{HeaderFault}
+use Rattle.act_bodies.specs.Bodies.{enrol_of, station_of, code_of}
+use Rattle.act_model.specs.declared.request.Verb.{Verb}
+use Rattle.act_model.specs.declared.request.Verb.TheVariants.{Enrol, Station, Code, Submit80, SubmitPsv, Unknown}
 use Rattle.act_model.specs.declared.request.Request.{Request}
 use Rattle.act_model.specs.declared.entry.Entry.{Entry}
 use Rattle.act_model.specs.declared.reply.Part.TheVariants as part
 use Rattle.act_model.specs.declared.reply.Refusal.{Refusal}
-use Rattle.act_model.specs.declared.reply.Refusal.TheVariants.{Unread, UnknownKey, Role, NoMemory}
+use Rattle.act_model.specs.declared.reply.Refusal.TheVariants.{Unread, UnknownKey, Role, Header, NoMemory}
 use Rattle.act_model.specs.declared.reply.Reply.{Reply}
 use Rattle.act_model.specs.declared.reply.Reply.TheVariants.{Done, Refused}
 use Rattle.act_model.specs.Rows.{first_row}
 use Rattle.act_model.specs.Requests.{is_unknown, is_officers, body_bytes}
-use Rattle.act_model.specs.Acts.{act_of, is_unread}
+use Rattle.act_model.specs.Acts.{read_as, enrol_act, station_act, code_act, act_of, is_unread}
 use Rattle.act_model.specs.Roster.{members, caller_of, rank_at, is_observer}
 use Rattle.act_model.specs.OfficeTables.{tables_of}
 use Rattle.act_model.specs.History.{Kept, kept}
@@ -37,6 +42,20 @@ row_behind : {A : Type 0} (xs ys : List (Bool × A)) → first_row xs ≡ None �
 row_behind [] ys none = refl
 row_behind ((true, x) ∷ xs) ys none = absurd cc
 row_behind ((false, x) ∷ xs) ys none = row_behind xs ys none
+
+-- a body of JSON has no headers
+no_header : {B : Type 0} (made : B → Act) (body : Option B) (what : HeaderFault) (line : ℕ) → read_as made body ≡ Err (fault.Header what line) → ⊥
+no_header made (Some b) what line is = absurd cc
+no_header made None what line is = absurd cc
+
+header_of_batch : (verb : Verb) (body : List ℕ) (what : HeaderFault) (line : ℕ) → act_of verb body ≡ Err (fault.Header what line) → is_officers verb ≡ false
+unfolding act_of
+header_of_batch Enrol body what line is = absurd (no_header enrol_act (enrol_of body) what line is)
+header_of_batch Station body what line is = absurd (no_header station_act (station_of body) what line is)
+header_of_batch Code body what line is = absurd (no_header code_act (code_of body) what line is)
+header_of_batch Submit80 body what line is = refl
+header_of_batch SubmitPsv body what line is = refl
+header_of_batch Unknown body what line is = refl
 
 -- whether there is nothing, by the test for something
 pub none_by_some : (o o' : Option ℕ) (none is : Bool) → o ≡ o' → is_some o ≡ not none → none ≡ is → is_none o' ≡ is
@@ -86,6 +105,7 @@ module _ (founder : Key) (past : List Entry) (q : Request) where
   act_rows_are (act.Station code name from to) = refl
   act_rows_are (act.Code kind letter word) = refl
   act_rows_are (act.Submit80 lines) = refl
+  act_rows_are (act.SubmitPsv lines) = refl
 
   late_is : (caller : ℕ) (asked : Act) → act_of q.verb (body_bytes q.body) ≡ Ok asked
       → late_refusal founder past caller q ≡ cond (is_officers q.verb && is_observer (rank_at (members past) caller)) (Some Role) (first_row (asked_rows founder (members past) (tables_of past) asked))
@@ -103,6 +123,16 @@ module _ (founder : Key) (past : List Entry) (q : Request) where
       → late_refusal founder past caller q ≡ first_row (asked_rows founder (members past) (tables_of past) asked)
   late_asked caller asked is free =
       late_is caller asked is ∙ ap (λ (b : Bool). cond b (Some Role) (first_row (asked_rows founder (members past) (tables_of past) asked))) free
+
+  -- a batch with a fault of its headers is no officers' act
+  late_header_is : (caller : ℕ) (what : HeaderFault) (line : ℕ) → act_of q.verb (body_bytes q.body) ≡ Err (fault.Header what line) → is_officers q.verb ≡ false → late_refusal founder past caller q ≡ Some (Header what line)
+  unfolding late_refusal
+  late_header_is caller what line is free =
+      ap (λ (r : Result Act ActFault). cond (is_officers q.verb && is_observer (rank_at (members past) caller)) (Some Role) (first_row (act_rows founder past r))) is
+      ∙ ap (λ (b : Bool). cond (b && is_observer (rank_at (members past) caller)) (Some Role) (Some (Header what line))) free
+
+  pub late_header : (caller : ℕ) (what : HeaderFault) (line : ℕ) → act_of q.verb (body_bytes q.body) ≡ Err (fault.Header what line) → Some (Header what line) ≡ late_refusal founder past caller q
+  late_header caller what line is = sym (late_header_is caller what line is (header_of_batch q.verb (body_bytes q.body) what line is))
 
   -- where nothing is refused, none of the act's rows holds
   pub asked_free : (caller : ℕ) (asked : Act) → act_of q.verb (body_bytes q.body) ≡ Ok asked → None ≡ late_refusal founder past caller q

@@ -1,3 +1,4 @@
+pub mod Asking
 pub mod Filed
 pub mod Office
 pub mod Preparing

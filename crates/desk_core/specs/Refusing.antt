@@ -55,3 +55,4 @@ asked_rows founder enrolled tables (act.Enrol key name role) = enrol_rows founde
 asked_rows founder enrolled tables (act.Station code name from to) = row_rows (overlaps tables.stations code from to)
 asked_rows founder enrolled tables (act.Code kind letter word) = row_rows (has_code tables.codes kind letter word)
 asked_rows founder enrolled tables (act.Submit80 lines) = batch_rows tables lines
+asked_rows founder enrolled tables (act.SubmitPsv lines) = batch_rows tables lines

@@ -2,6 +2,7 @@
 //! be refused for want of memory and the one that can't be.
 #![tactic(auto)]
 
+mod asked;
 mod filed;
 mod office;
 mod prepared;

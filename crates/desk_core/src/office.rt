@@ -13,13 +13,14 @@ ghost use Rattle.desk_core.specs.Office.{IsReadyAt, IsChange};
 ghost use Rattle.desk_core.specs.Preparing.{Prepares};
 ghost use Rattle.desk_core.specs.Refusing.{asked_rows};
 
+use crate::asked::{Asked, read_asked};
 use crate::filed::{Filed, find, kept_reply, next_moment};
 use crate::prepared::{Change, Prep, Prepared};
 use crate::refusals::{act_refusal, is_barred, size_refusal, spelling_refusal};
 use crate::roster::{caller_of, rank_at};
 use act_model::{
-    Act, ActFault, Entry, Key, Member, Part, Refusal, Reply, Request, accepted_in, batch_answer,
-    enrol_answer, read_act, receipt_answer,
+    Act, Entry, Key, Member, Part, Refusal, Reply, Request, accepted_in, batch_answer,
+    enrol_answer, receipt_answer,
 };
 use item_list::{Bytes, NoMemory};
 use obs_time::Instant;
@@ -117,7 +118,12 @@ impl Core {
             let reply = kept_reply(alloc, self.filed.as_slice(), place, request)?;
             return Ok(Prep::Kept(reply));
         }
-        let act = asked(alloc, request)?;
+        let act = match read_asked(alloc, request)? {
+            Asked::Act(act) => act,
+            Asked::Header { fault, line } => {
+                return Ok(Prep::Refused(Refusal::Header { fault, line }));
+            }
+        };
         if let Some(refusal) = self.late_refusal(alloc, caller, request, &act)? {
             return Ok(Prep::Refused(refusal));
         }
@@ -195,7 +201,7 @@ impl Core {
         match act {
             Act::Enrol { .. } => enrol_answer(alloc, receipt, self.members.len() as u64 + 1),
             Act::Station { .. } | Act::Code { .. } => receipt_answer(alloc, receipt),
-            Act::Submit80(lines) => {
+            Act::Submit80(lines) | Act::SubmitPsv(lines) => {
                 if lines.len() > u64::MAX - self.observations {
                     return Err(AllocError);
                 }
@@ -223,7 +229,7 @@ impl Core {
                 let tables = self.tables.with_code(*kind, *letter, *word)?;
                 Ok(Change::Tabled(tables))
             }
-            Act::Submit80(lines) => {
+            Act::Submit80(lines) | Act::SubmitPsv(lines) => {
                 let accepted = accepted_in(&self.tables, lines);
                 let Some(count) = self.observations.checked_add(accepted) else {
                     return Err(AllocError);
@@ -306,19 +312,5 @@ impl Core {
             Change::Observed(count) => self.observations = count,
         }
         Reply::Done(answer)
-    }
-}
-
-// What an act asks to be done, where its body is one that its verb has.
-fn asked(alloc: Global, request: &Request) -> Result<Act, NoMemory>
-    requires short { length (body_bytes request.now.body) ≤ BODY_BYTES }
-    requires read { is_unread (act_of request.now.verb (body_bytes request.now.body)) ≡ false }
-    ensures act { IfOk result (λ act. act_of request.now.verb (body_bytes request.now.body) ≡ Ok act) }
-    ensures forward { IfOk result IsForward }
-{
-    match read_act(alloc, request.verb, request.body.bytes()) {
-        Ok(act) => Ok(act),
-        Err(ActFault::NoMemory) => Err(AllocError),
-        Err(ActFault::Unread) => unreachable!(),
     }
 }

@@ -1,6 +1,6 @@
 //! The refusals of requests, in the order of the office's table.
 
-ghost use Rattle.std.specs.Prelude.{◌≡◌, ◌≤◌, ◌<◌, ◌&&◌, not, false, length, reverse, IfNone, IfOk};
+ghost use Rattle.std.specs.Prelude.{◌≡◌, ◌≤◌, ◌<◌, ◌&&◌, not, true, false, ℕ, List, length, reverse, IfNone, IfOk};
 ghost use Rattle.act_model.specs.declared.request.TheConstants.{BODY_BYTES};
 ghost use Rattle.act_model.specs.declared.roster.TheConstants.{CALLERS};
 ghost use Rattle.act_model.specs.Requests.{body_bytes, is_officers};
@@ -46,19 +46,27 @@ fn is_act_number(number: Option<u64>) -> bool
     }
 }
 
+/// Whether the verb is one that submits a batch.
+#[tactic(auto, unfolding(act_model::specs::Acts::act_of))]
+fn submits(verb: Verb) -> bool
+    ensures { result ≡ true → (body : List ℕ) → is_unread (act_of verb body) ≡ false }
+{
+    matches!(verb, Verb::Submit80 | Verb::SubmitPsv)
+}
+
 /// Whether the body is as the verb wants it. Every body is one of a batch. Err where there was no
 /// memory to read it.
-#[tactic(auto, unfolding(act_model::specs::Acts::act_of))]
 fn is_readable(alloc: Global, verb: Verb, body: &[u8]) -> Result<bool, NoMemory>
     requires { length body.now ≤ BODY_BYTES }
     ensures { IfOk result (λ readable. readable ≡ not (is_unread (act_of verb body.now))) }
 {
-    if matches!(verb, Verb::Submit80) {
+    if submits(verb) {
         return Ok(true);
     }
     match read_act(alloc, verb, body) {
         Ok(_) => Ok(true),
         Err(ActFault::Unread) => Ok(false),
+        Err(ActFault::Header { .. }) => Ok(true),
         Err(ActFault::NoMemory) => Err(AllocError),
     }
 }
@@ -147,6 +155,6 @@ pub fn act_refusal(
         Act::Code { kind, letter, word } => {
             Ok(row_refusal(tables.has_code(*kind, *letter, *word)))
         }
-        Act::Submit80(lines) => batch_refusal(alloc, tables, lines),
+        Act::Submit80(lines) | Act::SubmitPsv(lines) => batch_refusal(alloc, tables, lines),
     }
 }
