@@ -97,6 +97,48 @@ const RULES_ANSWER: &str = concat!(
     "line 11 refused S1\n",
 );
 
+/// A batch of ADES: lines of an unknown catalogue, of a known one, of an unknown band, and of an unknown
+/// mode; then lines that break two of the rules.
+const PSV: &str = concat!(
+    "# version=2017\n",
+    "# observatory\n",
+    "! mpcCode 703\n",
+    "trkSub|mode|stn|obsTime|ra|dec|astCat|mag|band\n",
+    "AAA1|CCD|703|2024-03-15T23:59:59Z|150.0|-5.5|Gaia2\n",
+    "AAA1|CCD|703|2024-03-16T00:10:00Z|150.0|-5.5|Gaia3\n",
+    "AAA1|CCD|703|2024-03-16T00:20:00Z|150.0|-5.5|Gaia3|20.1|R\n",
+    "AAA1|VID|703|2024-03-16T00:20:00Z|150.0|-5.5|Gaia3|20.1|V\n",
+    "AAA1|VID|703|2024-03-16T00:20:00Z|150.0|-5.5|Gaia2|20.1|R\n",
+    "AAA1|CCD|568|2024-03-16T00:20:00Z|150.0|-5.5|Gaia2|20.1|R\n",
+    "AAA1|VID|703|2024-03-16T00:20:00Z|150.0|-5.5|Gaia3|20.1|R\n",
+);
+
+const PSV_ANSWER: &str = concat!(
+    "200 154\n",
+    "receipt 8\n",
+    "accepted 1 refused 6\n",
+    "line 5 refused T3\n",
+    "line 6 obs 7\n",
+    "line 7 refused T4\n",
+    "line 8 refused T5\n",
+    "line 9 refused T3\n",
+    "line 10 refused T1\n",
+    "line 11 refused T4\n",
+);
+
+/// A batch of ADES whose one line is out of range, and one without the columns that it must have.
+const PSV_FAULTY: &str = concat!(
+    "# version=2017\n",
+    "trkSub|mode|stn|obsTime|ra|dec|astCat\n",
+    "AAA1|CCD|703|2024-03-15T23:59:59Z|150.0|-95.5|Gaia3\n",
+);
+
+const PSV_HEADLESS: &str = concat!(
+    "# version=2017\n",
+    "stn|obsTime|deltaRA\n",
+    "AAA1|CCD\n",
+);
+
 const ROLE: &str = "403 15\nrefused 4 Role\n";
 
 const THERE: &str = "409 24\nrefused 13 AlreadyThere\n";
@@ -257,8 +299,36 @@ const REFUSALS: [Exchange; 14] = [
     },
 ];
 
+/// Batches of ADES, and what is refused of them.
+const ADES: [Exchange; 4] = [
+    Exchange {
+        head: "observer-1 3 submitpsv 482\n",
+        body: PSV,
+        answer: PSV_ANSWER,
+        entries: 8,
+    },
+    Exchange {
+        head: "observer-1 4 submitpsv 0\n",
+        body: "",
+        answer: "422 27\nrefused 6 Header H1 line 1\n",
+        entries: 8,
+    },
+    Exchange {
+        head: "observer-1 4 submitpsv 105\n",
+        body: PSV_FAULTY,
+        answer: "422 35\nrefused 7 NoLine\nline 3 refused S7\n",
+        entries: 8,
+    },
+    Exchange {
+        head: "observer-1 4 submitpsv 44\n",
+        body: PSV_HEADLESS,
+        answer: "422 27\nrefused 6 Header H3 line 2\n",
+        entries: 8,
+    },
+];
+
 /// How many frames the session has: the office is set up, batches come, and refusals.
-const FRAMES: usize = 24;
+const FRAMES: usize = 28;
 
 /// The frame at a place of the session, and its answer.
 fn exchange_at(place: usize) -> Option<Exchange> {
@@ -268,7 +338,10 @@ fn exchange_at(place: usize) -> Option<Exchange> {
     if place < 10 {
         return BATCHES.get(place.saturating_sub(5)).copied();
     }
-    REFUSALS.get(place.saturating_sub(10)).copied()
+    if place < 24 {
+        return REFUSALS.get(place.saturating_sub(10)).copied();
+    }
+    ADES.get(place.saturating_sub(24)).copied()
 }
 
 /// The bytes of all frames, one at once after the other.
