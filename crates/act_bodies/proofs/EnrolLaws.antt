@@ -28,14 +28,20 @@ key_is_plain (first ∷ rest) h =
     let bytes = and_parts _ _ (and_parts _ _ h).1 in
     ne_eqb first 43 (λ plus. false≢true (subst (λ (b : ℕ). (is_alphanumeric b || eqb b 45) ≡ true) plus bytes.0))
 
+fits_in_34 : (n : ℕ) → n ≤ 32 → n ≤ 34
+fits_in_34 n long = omega (arith, long)
+
+-- the text of a key on the roster fits
+key_fits : (text : List ℕ) → IsTrue (is_key text) → length text ≤ 34
+key_fits text h = fits_in_34 (length text) (leb-true (length text) 32 (and_parts _ _ (and_parts _ _ h).0).1)
+
 -- the key that a body names is one on the roster
 pub key_in-is_key : (value : Data) (key : Key) → key_in value ≡ Some key → IsTrue (is_key (key_text key))
 unfolding key_in
 key_in-is_key value key found =
     let named = bind_some (text_in (codes "key") value) (λ text. cond (is_key text) (Some (key_of text)) None) key found in
     let tested = cond_some (is_key named.0) (key_of named.0) key named.2 in
-    let long = leb-true (length named.0) 32 (and_parts _ _ (and_parts _ _ tested.0).0).1 in
-    let kept = key_text-key_of named.0 (omega (arith, long)) in
+    let kept = key_text-key_of named.0 (key_fits named.0 tested.0) in
     subst (λ (k : Key). IsTrue (is_key (key_text k))) tested.1 (rw kept tested.0)
 
 -- the key of a caller whom an object enrols is one on the roster
