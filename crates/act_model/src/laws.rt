@@ -7,6 +7,7 @@ ghost use Rattle.act_model.specs.declared.reply.Reply.{Reply};
 ghost use Rattle.act_model.specs.declared.reply.Reply.TheVariants.{Done, Refused};
 ghost use Rattle.act_bodies.specs.declared.key.Key.{Key};
 ghost use Rattle.act_model.specs.declared.request.Request.{Request};
+ghost use Rattle.act_model.specs.Roster.{members, caller_of};
 ghost use Rattle.act_model.specs.History.{Kept, kept, EachNumberOnce};
 ghost use Rattle.act_model.specs.Step.{step};
 ghost use Rattle.act_model.specs.Turns.{Turn, Conduct};
@@ -63,6 +64,13 @@ pub fn prefixes_are_legal()
 /// No two entries of a legal history have the same caller and number.
 pub fn legal_numbers_once()
     ensures { (founder : Key) (history : List Entry) → IsLegal founder history → EachNumberOnce history }
+{}
+
+/// A caller keeps the number: a key stands for the same caller in every later legal history, since a key
+/// that is on the roster isn't enrolled again.
+pub fn callers_stay()
+    ensures { (founder key : Key) (earlier later : List Entry) (caller : ℕ) →
+        IsLegal founder later → Extends earlier later → caller_of founder (members earlier) key ≡ Some caller → caller_of founder (members later) key ≡ Some caller }
 {}
 
 /// A kept reply doesn't change as a legal history grows. A number goes on to stand for the same
