@@ -107,9 +107,9 @@ parts_made whole None rest written e = absurd cc
 parts_made whole (Some decimals) (byte ∷ rest) written e = absurd cc
 parts_made whole (Some decimals) [] written e = (decimals, refl, refl, cc)
 
-found_within : (count value : ℕ) (many : Bool) (decimals : ℕ × ℕ) → ltb 6 count ≡ many → Some decimals ≡ cond many None (Some (count, value)) → (count ≤ 6) × (decimals ≡ (count, value))
-found_within count value true decimals m e = absurd cc
-found_within count value false decimals m e = (grind (arith, nat_tests), cc)
+found_within : (count value : ℕ) (many : Bool) (found : Option (ℕ × ℕ)) (decimals : ℕ × ℕ) → ltb 6 count ≡ many → found ≡ Some decimals → found ≡ cond many None (Some (count, value)) → (count ≤ 6) × (decimals ≡ (count, value))
+found_within count value true found decimals m e f = absurd cc
+found_within count value false found decimals m e f = (grind (arith, nat_tests), cc)
 
 -- a whole number, decimals, and nothing behind them
 magnitude_made : (text rest left : List ℕ) (whole decimals : ℕ × ℕ) (count value : ℕ) → TakesWhole text (whole, rest) → rest ≡ decimals_text count value ++ left → left ≡ []
@@ -135,7 +135,7 @@ magnitude_takes text written e =
     let b = bind_some (decimals_within 6 a.0.1) (λ decimals. written_from a.0.0 decimals.0 decimals.1) written a.2 in
     let parts = parts_made a.0.0 b.0.0 b.0.1 written b.2 in
     let taken = decimals_within_takes 6 a.0.1 b.0 b.1 in
-    let within = found_within taken.count taken.value (ltb 6 taken.count) parts.0 refl (sym parts.1 ∙ taken.found) in
+    let within = found_within taken.count taken.value (ltb 6 taken.count) b.0.0 parts.0 refl parts.1 taken.found in
     magnitude_made text a.0.1 b.0.1 a.0.0 parts.0 taken.count taken.value (whole_takes text a.0 a.1) taken.text_is parts.2 within taken.below written parts.3
 
 -- ---- the field

@@ -1,10 +1,12 @@
 //! Laws of the format, for all batches and lines. Nothing runs here: what the functions promise is the law.
 
-ghost use Rattle.std.specs.Prelude.{◌≡◌, ℕ, ◌++◌, List, Some, Err, Result};
+ghost use Rattle.std.specs.Prelude.{◌≡◌, ◌↔◌, ℕ, true, ◌∷◌, ◌++◌, List, codes, Some, Err, Result};
+ghost use Rattle.ascii_text.specs.Blanks.{blanks};
 ghost use Rattle.obs_record.specs.declared.rule.HeaderFault.{HeaderFault};
 ghost use Rattle.obs_record.specs.declared.rule.RuleCode.{RuleCode};
 ghost use Rattle.obs_record.specs.declared.sighting.Sighting.{Sighting};
 ghost use Rattle.ades_psv.specs.declared.columns.Columns.{Columns};
+ghost use Rattle.ades_psv.specs.Headers.{is_version};
 ghost use Rattle.ades_psv.specs.Rules.{IsReading};
 ghost use Rattle.ades_psv.specs.Batch.{psv_lines_of};
 ghost use Rattle.ades_psv.specs.Feeding.{complete_fault, unfed, fed_all, joined, finished};
@@ -17,6 +19,11 @@ pub fn any_pieces()
 /// The first fault in the complete lines of the front of a batch is the fault of the batch, whatever may follow.
 pub fn faults_stay()
     ensures { (text more : List ℕ) (fault : HeaderFault × ℕ) → complete_fault text ≡ Some fault → psv_lines_of (text ++ more) ≡ Err fault }
+{}
+
+/// The line of the version is `#`, blanks, `version=2017` and blanks, no blank being asked for.
+pub fn version_line()
+    ensures { (line : List ℕ) → (is_version line ≡ true) ↔ ((before : ℕ) × (after : ℕ) × (line ≡ 35 ∷ (blanks before ++ (codes "version=2017" ++ blanks after)))) }
 {}
 
 /// A data line below a column header has one reading, and no two.

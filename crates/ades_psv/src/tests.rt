@@ -1,0 +1,558 @@
+use super::*;
+use item_list::NoMemory;
+use obs_record::{
+    Coded, HeaderFault, Line, Lines, RuleCode, Shape, Short, Sighting, TrackName, track_name,
+};
+use packed_names::{Designation, HalfMonth, Number, Provisional, Survey};
+use std::alloc::Global;
+use std::test::*;
+
+/// What is said of a batch that isn't long.
+fn said(alloc: Global, body: &[u8]) -> Result<Lines, PsvFault> {
+    if body.len() > 9999 {
+        return Ok(Lines::new(alloc));
+    }
+    read_psv(alloc, body)
+}
+
+/// What the only line of a batch says, which stands below this column header.
+fn read_below(alloc: Global, columns: &[u8], line: &[u8]) -> Result<Line, Fail> {
+    let mut body = Vec::new(alloc);
+    body.extend_from_slice(b"# version=2017\n")?;
+    body.extend_from_slice(columns)?;
+    body.push(b'\n')?;
+    body.extend_from_slice(line)?;
+    let lines = said(alloc, &body).ok().ok_or("the headers have no fault")?;
+    if lines.len() != 1 {
+        return Err("the batch has one line".into());
+    }
+    Ok(*lines.get(0).ok_or("the batch has a line")?)
+}
+
+/// The columns of an observation under a temporary designation.
+const COLUMNS: &[u8] = b"trkSub|mode|stn|obsTime|ra|dec|astCat|mag|band";
+
+/// The fields of a line below them that breaks no rule.
+const FIELDS: [&[u8]; 9] = [
+    b"AAA1",
+    b"CCD",
+    b"703",
+    b"2024-03-15T23:59:59.999Z",
+    b"150.0",
+    b"-5.5",
+    b"Gaia3",
+    b"20.25",
+    b"V",
+];
+
+/// The line of these fields with another text in one of them.
+fn line_with(alloc: Global, place: usize, text: &[u8]) -> Result<Vec<u8>, NoMemory> {
+    let mut line = Vec::new(alloc);
+    for (k, field) in FIELDS.iter().enumerate() {
+        if k > 0 {
+            line.push(b'|')?;
+        }
+        line.extend_from_slice(if k == place { text } else { *field })?;
+    }
+    Ok(line)
+}
+
+/// A field, another text in it, and the rule that the line then breaks.
+fn fields() -> [(usize, &'static [u8], Option<RuleCode>); 79] {
+    [
+        (0, b"AAA1", None),
+        // temporary designation
+        (0, b"ABCDEFGH", None),
+        (0, b"  A~!1  ", None),
+        (0, b"ABCDEFGHI", Some(RuleCode::S12)),
+        (0, b"A B", Some(RuleCode::S12)),
+        (0, b"\xc8", Some(RuleCode::S12)),
+        (0, b"\x7f", Some(RuleCode::S2)),
+        (0, b"", Some(RuleCode::S11)),
+        (0, b"   ", Some(RuleCode::S11)),
+        // mode
+        (1, b"", Some(RuleCode::S11)),
+        (1, b"a mode of more than twelve bytes", None),
+        (1, b"\xc8", None),
+        (1, b"\x1f", Some(RuleCode::S2)),
+        // station
+        (2, b"", Some(RuleCode::S11)),
+        (2, b"\x80", None),
+        (2, b"\xff", None),
+        (2, b"\t703", Some(RuleCode::S2)),
+        // time
+        (3, b"2024-03-16T12:00:00Z", None),
+        (3, b" 2024-03-16T12:00:00.123456789Z ", None),
+        (3, b"2024-03-16T12:00:00.1234567890Z", Some(RuleCode::S5)),
+        (3, b"2024-03-16T12:00:00.Z", Some(RuleCode::S5)),
+        (3, b"2024-03-16T12:00:00", Some(RuleCode::S5)),
+        (3, b"2024-03-16 12:00:00Z", Some(RuleCode::S5)),
+        (3, b"2024-02-30T12:00:00Z", Some(RuleCode::S5)),
+        (3, b"2024-03-16T24:00:00Z", Some(RuleCode::S5)),
+        (3, b"2024-03-16T12:00:60Z", Some(RuleCode::S5)),
+        (3, b"1800-01-01T00:00:00Z", None),
+        (3, b"1799-12-31T23:59:59Z", Some(RuleCode::S5)),
+        (3, b"2199-12-31T23:59:59Z", None),
+        (3, b"2200-01-01T00:00:00Z", Some(RuleCode::S5)),
+        (3, b"2024-03-16T12:00:00\xc8", Some(RuleCode::S5)),
+        (3, b"", Some(RuleCode::S11)),
+        // right ascension
+        (4, b"150.000000000000", None),
+        (4, b"150.0000000000001", Some(RuleCode::S6)),
+        (4, b"359.999999999999", None),
+        (4, b"360", Some(RuleCode::S6)),
+        (4, b"000", None),
+        (4, b"0000", Some(RuleCode::S6)),
+        (4, b"+1", Some(RuleCode::S6)),
+        (4, b"150.", Some(RuleCode::S6)),
+        (4, b".5", Some(RuleCode::S6)),
+        (4, b"\xc8", Some(RuleCode::S6)),
+        (4, b"", Some(RuleCode::S11)),
+        // declination
+        (5, b"5.5", None),
+        (5, b"+5.5", None),
+        (5, b"90", None),
+        (5, b"-90.000000000000", None),
+        (5, b"90.000000000001", Some(RuleCode::S7)),
+        (5, b"-5.0000000000001", Some(RuleCode::S7)),
+        (5, b"005", Some(RuleCode::S7)),
+        (5, b"--5", Some(RuleCode::S7)),
+        (5, b"\xc8", Some(RuleCode::S7)),
+        (5, b"", Some(RuleCode::S11)),
+        // catalogue
+        (6, b"", Some(RuleCode::S11)),
+        (6, b"\xc8", None),
+        // magnitude
+        (7, b"0", None),
+        (7, b"05", None),
+        (7, b" 20.123456 ", None),
+        (7, b"99.99", None),
+        (7, b"99.990000", None),
+        (7, b"99.990001", Some(RuleCode::S9)),
+        (7, b"99.991", Some(RuleCode::S9)),
+        (7, b"100", Some(RuleCode::S9)),
+        (7, b"20.1234567", Some(RuleCode::S9)),
+        (7, b"20.", Some(RuleCode::S9)),
+        (7, b".5", Some(RuleCode::S9)),
+        (7, b"-1", Some(RuleCode::S9)),
+        (7, b"2x", Some(RuleCode::S9)),
+        (7, b"\xc8", Some(RuleCode::S9)),
+        // a band without a magnitude is kept
+        (7, b"", None),
+        // band
+        (8, b"", Some(RuleCode::S11)),
+        (8, b"\xc8", None),
+        // more fields than columns, though they are empty
+        (8, b"V|", Some(RuleCode::S10)),
+        (8, b"V|x", Some(RuleCode::S10)),
+        // several rules at once
+        (2, b"|\x7f|x", Some(RuleCode::S2)),
+        (3, b"x|400", Some(RuleCode::S5)),
+        (4, b"x|95", Some(RuleCode::S6)),
+        (5, b"x||100", Some(RuleCode::S7)),
+        (7, b"100||", Some(RuleCode::S9)),
+    ]
+}
+
+#[test]
+fn breaks_the_first_rule(rt: HostRuntime) -> Result<(), Fail> {
+    for (place, text, rule) in fields() {
+        let line = line_with(rt.alloc(), place, text)?;
+        let read = read_below(rt.alloc(), COLUMNS, &line)?;
+        assert_eq!(rt;
+            (read.number, read.read.err()),
+            (3, rule),
+            "{text:?} in field {place}"
+        );
+    }
+    Ok(())
+}
+
+/// Whole lines below the same columns, and the rule that each breaks.
+fn lines() -> [(&'static [u8], Option<RuleCode>); 9] {
+    [
+        (b"AAA2|CCD|703|2024-03-16T12:00:00Z|150.2|-5.5|Gaia3", None),
+        (
+            b" AAA2 |CCD |703|2024-03-16T12:00:00Z| 150.2 |-5.5|  Gaia3",
+            None,
+        ),
+        (
+            b"AAA2|CCD|703|2024-03-16T12:00:00Z|150.2|-5.5|Gaia3||V",
+            None,
+        ),
+        (
+            b"AAA2|CCD|703|2024-03-16T12:00:00Z|150.2|-5.5",
+            Some(RuleCode::S11),
+        ),
+        (b"AAA2", Some(RuleCode::S11)),
+        (b"AAA2||703|x|150.2|-5.5|Gaia3", Some(RuleCode::S5)),
+        (
+            b"AAA2||703|2024-03-16T12:00:00Z|150.2|-5.5|Gaia3|||",
+            Some(RuleCode::S10),
+        ),
+        (
+            b"ABCDEFGHI||703|2024-03-16T12:00:00Z|150.2|-5.5|Gaia3",
+            Some(RuleCode::S11),
+        ),
+        // a carriage return that no line feed follows belongs to the line
+        (
+            b"AAA2|CCD|703|2024-03-16T12:00:00Z|150.2|-5.5|Gaia3\r",
+            Some(RuleCode::S2),
+        ),
+    ]
+}
+
+#[test]
+fn reads_lines_with_fewer_fields(rt: HostRuntime) -> Result<(), Fail> {
+    for (line, rule) in lines() {
+        let read = read_below(rt.alloc(), COLUMNS, line)?;
+        assert_eq!(rt; read.read.err(), rule, "{line:?}");
+    }
+    Ok(())
+}
+
+/// A temporary designation.
+fn temporary(text: &[u8]) -> TrackName {
+    TrackName::Sub(Short::new(text))
+}
+
+/// The fields permID, provID and trkSub, and the name that they give.
+fn names() -> [(&'static [u8], Result<TrackName, RuleCode>); 16] {
+    let half = HalfMonth {
+        year: 2024,
+        index: 4,
+    };
+    let first = Designation::Provisional(Provisional { half, order: 1 });
+    let survey = Designation::Survey(Survey::PalomarLeiden, 2040);
+    [
+        (b"433||", Ok(TrackName::Number(Number(433)))),
+        (b" 433 || ", Ok(TrackName::Number(Number(433)))),
+        (b"15396335||", Ok(TrackName::Number(Number(15_396_335)))),
+        (b"15396336||", Err(RuleCode::S3)),
+        (b"0||", Err(RuleCode::S3)),
+        (b"00433||", Err(RuleCode::S3)),
+        (b"2024 EA||", Err(RuleCode::S3)),
+        (b"\xc8||", Err(RuleCode::S3)),
+        (b"|2024 EA|", Ok(TrackName::Designation(first))),
+        (b"| 2040 P-L |", Ok(TrackName::Designation(survey))),
+        (b"|433|", Err(RuleCode::S3)),
+        (b"|K24E00A|", Err(RuleCode::S3)),
+        (b"|2024 EA0|", Err(RuleCode::S3)),
+        (b"433|2024 EA|AAA1", Ok(TrackName::Number(Number(433)))),
+        (b"||AAA1", Ok(temporary(b"AAA1"))),
+        (b"|2024 EA|ABCDEFGHI", Err(RuleCode::S12)),
+    ]
+}
+
+#[test]
+fn reads_names(rt: HostRuntime) -> Result<(), Fail> {
+    for (text, name) in names() {
+        let mut line = Vec::from_slice(rt.alloc(), text)?;
+        line.extend_from_slice(b"|CCD|703|2024-03-15T23:59:59.999Z|150.0|-5.5|Gaia3")?;
+        let columns = b"permID|provID|trkSub|mode|stn|obsTime|ra|dec|astCat";
+        let read = read_below(rt.alloc(), columns, &line)?;
+        assert_eq!(rt; read.read.map(|s| track_name(&s)), name, "{text:?}");
+    }
+    Ok(())
+}
+
+/// A batch of four lines in two tracklets.
+const BATCH: &[u8] = b"# version=2017
+# observatory
+! mpcCode 703
+trkSub|mode|stn|obsTime|ra|dec|astCat|mag|band
+AAA1|CCD|703|2024-03-15T23:59:59.999Z|150.0|-5.5|Gaia3|20.25|V
+AAA1|CCD|703|2024-03-16T00:30:00Z|150.01|-5.5|Gaia3|20.3|V
+AAA2|CCD|703|2024-03-16T12:00:00Z|150.2|-5.5|Gaia3
+AAA2|CCD|703|2024-03-16T12:30:00Z|150.21|-5.5|Gaia3
+";
+
+/// The word of a field.
+fn word(text: &[u8]) -> Coded {
+    Coded::Word(Short::new(text))
+}
+
+#[test]
+fn reads_the_fields(rt: HostRuntime) -> Result<(), Fail> {
+    let lines = said(rt.alloc(), BATCH).ok().ok_or("no fault")?;
+    let numbers: [u32; 4] = [5, 6, 7, 8];
+    assert_eq!(rt; lines.len(), 4);
+    for (line, number) in lines.iter().zip(numbers) {
+        assert_eq!(rt; (line.number, line.read.is_ok()), (number, true));
+    }
+    let first = lines.get(0).and_then(|line| line.read.ok()).ok_or("read")?;
+    assert_eq!(rt;
+        (first.perm, first.prov, first.sub),
+        (None, None, Some(Short::new(b"AAA1")))
+    );
+    // 2024-03-15T23:59:59.999Z, 150 and -5.5 degrees of 9,000,000,000,000 units
+    assert_eq!(rt; first.time.ns(), 1_710_547_199_999_000_000);
+    assert_eq!(rt;
+        (first.ra.units(), first.dec.units()),
+        (1_350_000_000_000_000, -49_500_000_000_000)
+    );
+    assert_eq!(rt;
+        (first.mag, first.shape),
+        (Some(20_250_000), Shape::Psv { mag: 2 })
+    );
+    assert_eq!(rt;
+        (first.band, first.mode, first.catalogue),
+        (word(b"V"), word(b"CCD"), word(b"Gaia3"))
+    );
+    assert_eq!(rt; (first.station, first.note1), (Short::new(b"703"), b' '));
+    let third = lines.get(2).and_then(|line| line.read.ok()).ok_or("read")?;
+    assert_eq!(rt;
+        (third.mag, third.band, third.shape),
+        (None, Coded::Nothing, Shape::Psv { mag: 0 })
+    );
+    Ok(())
+}
+
+/// Batches whose headers have a fault, which it is, and its line.
+fn faulty() -> [(&'static [u8], HeaderFault, u32); 32] {
+    [
+        (b"", HeaderFault::H1, 1),
+        (b"\n  \r\n\n", HeaderFault::H1, 1),
+        (b"# version=2010", HeaderFault::H1, 1),
+        (
+            b"\n  \n# version=2010\n# version=2017\n",
+            HeaderFault::H1,
+            3,
+        ),
+        (b" # version=2017\n", HeaderFault::H1, 1),
+        (b"# version = 2017\n", HeaderFault::H1, 1),
+        (b"# version=2017x\n", HeaderFault::H1, 1),
+        (b"# version=2017\r", HeaderFault::H1, 1),
+        (b"! mpcCode 703\n# version=2017\n", HeaderFault::H1, 1),
+        (b"ra|dec\n", HeaderFault::H1, 1),
+        (b"# version=2017", HeaderFault::H2, 1),
+        (b"#version=2017\r\n", HeaderFault::H2, 1),
+        (b"#   version=2017   \n", HeaderFault::H2, 1),
+        (
+            b"# version=2017\n# observatory\n! mpcCode 703",
+            HeaderFault::H2,
+            3,
+        ),
+        (
+            b"# version=2017\n# observatory\n! mpcCode 703\n",
+            HeaderFault::H2,
+            3,
+        ),
+        (
+            b"# version=2017\n\n! mpcCode 703\n   \n\n",
+            HeaderFault::H2,
+            5,
+        ),
+        (b"# version=2017\nra|dec\n# second\n", HeaderFault::H2, 3),
+        (
+            b"# version=2017\nra|dec\n# version=2017",
+            HeaderFault::H2,
+            3,
+        ),
+        (b"# version=2017\nstn|obsTime|deltaRA\n", HeaderFault::H3, 2),
+        (b"# version=2017\nra|DEC", HeaderFault::H3, 2),
+        (b"# version=2017\ndec|stn\n", HeaderFault::H3, 2),
+        (b"# version=2017\nra|dec|pos1\n", HeaderFault::H4, 2),
+        (b"# version=2017\nra|pos1|ra\n", HeaderFault::H3, 2),
+        (b"# version=2017\nra|dec|ra|pos1\n", HeaderFault::H4, 2),
+        (
+            b"# version=2017\ntrkSub|mode|stn|obsTime|ra|dec|astCat|mag|band|pos1\n",
+            HeaderFault::H4,
+            2,
+        ),
+        (
+            b"# version=2017\ntrkSub|mode|stn|obsTime|ra|dec|astCat|mag|band|ra\n",
+            HeaderFault::H5,
+            2,
+        ),
+        (
+            b"# version=2017\n\n! x\n ra | dec |x| ra\n",
+            HeaderFault::H5,
+            4,
+        ),
+        (
+            b"# version=2017\nra|dec|rmsRA|stn|remarks| rmsRA\n",
+            HeaderFault::H5,
+            2,
+        ),
+        (
+            b"# version=2017\nra|dec\nAAA1\n#\n! x\nra|dec|dec\n",
+            HeaderFault::H5,
+            6,
+        ),
+        // the first fault counts
+        (
+            b"# version=2017\nra\n# second\nra|dec|dec\n",
+            HeaderFault::H3,
+            2,
+        ),
+        (
+            b"# version=2017\nra|dec|dec\nAAA1\n# second\n",
+            HeaderFault::H5,
+            2,
+        ),
+        (b"# version=2010\nra|dec|dec\n", HeaderFault::H1, 1),
+    ]
+}
+
+#[test]
+fn finds_the_first_fault(rt: HostRuntime) {
+    for (body, fault, line) in faulty() {
+        assert_eq!(rt;
+            said(rt.alloc(), body).err(),
+            Some(PsvFault::Header { fault, line }),
+            "{body:?}"
+        );
+    }
+}
+
+/// Batches without a fault in their headers, and the numbers of their lines, 0 for none.
+fn sound() -> [(&'static [u8], [u32; 2]); 8] {
+    [
+        (b"# version=2017\nra|dec\n", [0, 0]),
+        (b"# version=2017\nra|dec", [0, 0]),
+        (
+            b"\n#version=2017\r\n\r\n! x\r\n ra || dec || \r\n! y\r\n \r\nAAA1\r\n",
+            [8, 0],
+        ),
+        (
+            b"# version=2017\ntrkSub|mode|stn|obsTime|ra|dec|astCat|mag|band|rmsRA\nAAA1",
+            [3, 0],
+        ),
+        (b"# version=2017\nra|dec\nAAA1\n!\n \nAAA1\n!", [3, 6]),
+        (
+            b"# version=2017\nra|dec\nAAA1\n# second\n# third\n! x\ndec|ra\nAAA1",
+            [3, 8],
+        ),
+        (b"# version=2017\nra|dec\n version=2017\n # x\n", [3, 4]),
+        (b"# version=2017\nra|dec|Ra|RA|ra1|ra 1\nra|dec\n", [3, 0]),
+    ]
+}
+
+/// The number of a line, 0 where there is none.
+fn number_at(lines: &Lines, place: u64) -> u32 {
+    lines.get(place).map_or(0, |line| line.number)
+}
+
+#[test]
+fn passes_over_headers_and_blank_lines(rt: HostRuntime) -> Result<(), Fail> {
+    for (body, numbers) in sound() {
+        let lines = said(rt.alloc(), body).ok().ok_or("no fault")?;
+        let found = [number_at(&lines, 0), number_at(&lines, 1)];
+        assert_eq!(rt; found, numbers, "{body:?}");
+        assert!(rt; lines.len() <= 2);
+    }
+    Ok(())
+}
+
+/// A batch of two headers with other columns.
+const TWO_HEADERS: &[u8] = b"# version=2017
+trkSub|mode|stn|obsTime|ra|dec|astCat
+AAA1|CCD|703|2024-03-15T23:59:59.999Z|150.0|-5.5|Gaia3
+# second
+
+ra|notes|dec| trkSub |astCat|stn|  mode|obsTime|remarks
+150.0||-5.5|AAA1|Gaia3|703| CCD|2024-03-15T23:59:59.999Z
+150.0|\xc8| -5.5 |AAA1 | Gaia3|703|CCD|2024-03-15T23:59:59.999Z|\xc8
+";
+
+#[test]
+fn reads_each_line_below_its_columns(rt: HostRuntime) -> Result<(), Fail> {
+    let lines = said(rt.alloc(), TWO_HEADERS).ok().ok_or("no fault")?;
+    assert_eq!(rt; lines.len(), 3);
+    let first: Option<Sighting> = lines.get(0).and_then(|line| line.read.ok());
+    assert!(rt; first.is_some());
+    for line in lines.iter() {
+        assert_eq!(rt; line.read.ok(), first);
+    }
+    Ok(())
+}
+
+/// What is said of a batch that isn't long and comes in pieces of this size.
+fn said_in_pieces(alloc: Global, body: &[u8], size: usize) -> Result<Lines, PsvFault> {
+    if body.len() > 9999 || size == 0 {
+        return Ok(Lines::new(alloc));
+    }
+    let mut reader = PsvReader::new(alloc)?;
+    let mut rest = body;
+    'pieces: while !rest.is_empty() {
+        let (piece, behind) = rest.split_at(rest.len().min(size));
+        reader.feed(piece)?;
+        rest = behind;
+    }
+    reader.finish()
+}
+
+/// Whether the same is said.
+fn is_same(one: &Result<Lines, PsvFault>, other: &Result<Lines, PsvFault>) -> bool {
+    match (one, other) {
+        (Ok(lines), Ok(others)) => lines.as_slice() == others.as_slice(),
+        (Err(fault), Err(other)) => fault == other,
+        _ => false,
+    }
+}
+
+#[test]
+fn says_the_same_in_any_pieces(rt: HostRuntime) {
+    let bodies: [&[u8]; 4] = [
+        BATCH,
+        TWO_HEADERS,
+        b"\r\n# version=2017\r\n! x\r\nra|dec\r\nAAA1\r",
+        b"# version=2017\nra\r\n# second",
+    ];
+    for body in bodies {
+        let whole = said(rt.alloc(), body);
+        for size in [1, 2, 3, 7] {
+            let fed = said_in_pieces(rt.alloc(), body, size);
+            assert!(rt; is_same(&fed, &whole), "{body:?} in pieces of {size}");
+        }
+    }
+    for (body, fault, line) in faulty() {
+        let fed = said_in_pieces(rt.alloc(), body, 3);
+        assert_eq!(rt;
+            fed.err(),
+            Some(PsvFault::Header { fault, line }),
+            "{body:?}"
+        );
+    }
+}
+
+/// The faults that a reader tells at the end of a text, at a piece behind it, and when it is finished; nothing was wrong at
+/// the text's front.
+fn told(alloc: Global, front: &[u8], end: &[u8]) -> Result<[Option<PsvFault>; 3], PsvFault> {
+    if front.len() > 99 || end.len() > 99 {
+        return Ok([None; 3]);
+    }
+    let mut reader = PsvReader::new(alloc)?;
+    reader.feed(front)?;
+    let Err(PsvFault::Header { fault, line }) = reader.feed(end) else {
+        return Ok([None; 3]);
+    };
+    let again = reader.feed(b"\n# version=2017\nra|dec\n").err();
+    let finished = reader.finish().err();
+    Ok([Some(PsvFault::Header { fault, line }), again, finished])
+}
+
+#[test]
+fn tells_a_fault_at_its_line_feed(rt: HostRuntime) {
+    let rows: [(&[u8], &[u8], HeaderFault, u32); 4] = [
+        (b"# version=2010", b"\n# version=2017", HeaderFault::H1, 1),
+        (b"# version=2017\nra", b"\r\n", HeaderFault::H3, 2),
+        (
+            b"# version=2017\nra|dec\nx\n#\nra|dec|pos1",
+            b"\nx\n",
+            HeaderFault::H4,
+            5,
+        ),
+        (
+            b"# version=2017\n!\nra|dec|",
+            b"dec\n#\nra\n",
+            HeaderFault::H5,
+            3,
+        ),
+    ];
+    for (front, end, fault, line) in rows {
+        let fault = Some(PsvFault::Header { fault, line });
+        assert_eq!(rt; told(rt.alloc(), front, end), Ok([fault; 3]), "{front:?}");
+    }
+}
