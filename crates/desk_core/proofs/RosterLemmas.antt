@@ -41,6 +41,7 @@ rank_outside (m ∷ older) caller out =
     differs : (caller ≡ 0) ⊎ (length (m ∷ older) < caller) → (caller == next_caller older) ≡ false
     differs (inl zero) = grind (arith, nat_tests)
     differs (inr past) = grind (arith, nat_tests)
+
     farther : (caller ≡ 0) ⊎ (length (m ∷ older) < caller) → (caller ≡ 0) ⊎ (length older < caller)
     farther (inl zero) = inl zero
     farther (inr past) = inr (omega arith)

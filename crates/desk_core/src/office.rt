@@ -54,9 +54,9 @@ impl Model for Core {
     ghost Value = { Office };
 
     ghost view = { λ c. record {
-        founder = c.founder;
-        history = history_of c.filed.items;
-        spare = min (vec_capacity c.filed - vec_len c.filed) (vec_capacity c.members - vec_len c.members);
+      founder = c.founder;
+      history = history_of c.filed.items;
+      spare = min (vec_capacity c.filed - vec_len c.filed) (vec_capacity c.members - vec_len c.members);
     } };
 
     ghost invariant = { λ c.

@@ -122,11 +122,7 @@ fn row_refusal(is_there: bool) -> Option<Refusal>
 }
 
 /// The refusal of a batch without a line that is accepted.
-fn batch_refusal(
-    alloc: Global,
-    tables: &Tables,
-    lines: &Lines,
-) -> Result<Option<Refusal>, NoMemory>
+fn batch_refusal(alloc: Global, tables: &Tables, lines: &Lines) -> Result<Option<Refusal>, NoMemory>
     ensures { IfOk result (λ refusal. refusal ≡ first_row (batch_rows tables.now lines.now)) }
 {
     if accepted_in(tables, lines) > 0 {

@@ -47,6 +47,7 @@ module _ (founder : Key) (past next : List Entry) (before after : Readings) (rea
     where
       verb : (request_read read).verb ≡ (request_of r.frame).verb
       verb = ap verb_of r.verb
+
       by : (body_read read.body ≡ body_of r.frame.body) ⊎ (read.body ≡ kept.NoRoom) → TakesTurn founder past (request_of r.frame) reply next before after
       by (inl same) =
           let request : request_read read ≡ request_of r.frame =

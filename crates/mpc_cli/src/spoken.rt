@@ -6,9 +6,7 @@ ghost use Rattle.desk_frames.specs.Replies.{reply_frame};
 ghost use Rattle.desk_io.specs.Outside.{Rises, AppendsPart};
 ghost use Rattle.mpc_cli.specs.Spoken.{text_bytes, IsSpoken, Speaks, SpeaksRefusal};
 
-use act_model::{
-    REFUSAL_BYTES, Refusal, Reply, no_line_text, refusal_line, refusal_status,
-};
+use act_model::{REFUSAL_BYTES, Refusal, Reply, no_line_text, refusal_line, refusal_status};
 use arrayvec::ArrayVec;
 use desk_io::{Failed, Sink};
 use frame_reader::write_reply_frame;

@@ -133,11 +133,7 @@ const PSV_FAULTY: &str = concat!(
     "AAA1|CCD|703|2024-03-15T23:59:59Z|150.0|-95.5|Gaia3\n",
 );
 
-const PSV_HEADLESS: &str = concat!(
-    "# version=2017\n",
-    "stn|obsTime|deltaRA\n",
-    "AAA1|CCD\n",
-);
+const PSV_HEADLESS: &str = concat!("# version=2017\n", "stn|obsTime|deltaRA\n", "AAA1|CCD\n",);
 
 const ROLE: &str = "403 15\nrefused 4 Role\n";
 
@@ -485,15 +481,7 @@ fn words_of_run(rt: HostRuntime) -> Result<(), Fail> {
     let good: [&[&str]; 2] = [&RUN, &["run", "--key=+founder-1"]];
     for (case, texts) in good.iter().enumerate() {
         let ran = call(alloc, texts, FIRST.as_bytes(), 4096, 0, 0)?;
-        expect(
-            &rt,
-            alloc,
-            &ran,
-            "Done",
-            1,
-            FIRST_ANSWER.as_bytes(),
-            case,
-        )?;
+        expect(&rt, alloc, &ran, "Done", 1, FIRST_ANSWER.as_bytes(), case)?;
     }
     let bad: [&[&str]; 7] = [
         &["run"],
