@@ -1,6 +1,7 @@
 #!/usr/bin/env python3
-"""Makes a session of 64 frames of about 0.8 MB of good 80-column lines each, runs the built program on it, and prints
-its megabytes per second and its peak memory beside those of `wc -l` and `sha256sum` on the same file in the same run.
+"""Makes two sessions, each of the office's setup and 64 frames of good lines: one of 80-column lines, about 0.8 MB a frame,
+and one of ADES in PSV form, about 0.6 MB a frame. Runs the built program on each, and prints its megabytes per second and its
+peak memory beside those of `wc -l` and `sha256sum` on the same file in the same run.
 
 Build the program first: (cd crates/mpc_cli && rt run -- run --key +founder-1 </dev/null). Then: python3 bench/session.py
 """
@@ -16,7 +17,17 @@ LINES = 9876  # 81 bytes each with the line feed: 0.8 MB
 PROGRAM = os.path.join(os.path.dirname(os.path.abspath(__file__)), "../crates/mpc_cli/out/mpc_cli")
 
 
-def line(frame, number):
+SETUP = [
+    ("station", '{"code":"703","from":"1998-01-01","name":"Catalina","to":"2199-12-31"}'),
+    ("code", '{"kind":"mode","letter":"C","word":"CCD"}'),
+    ("code", '{"kind":"band","letter":"V","word":"V"}'),
+    ("code", '{"kind":"catalogue","letter":"W","word":"Gaia3"}'),
+    ("enrol", '{"key":"observer-1","name":"Ann","role":"observer"}'),
+]
+HEADER = "# version=2017\ntrkSub|mode|stn|obsTime|ra|dec|astCat|mag|band\n"
+
+
+def columns(frame, number):
     day = 1 + number % 28
     fraction = (number * 7919 + frame) % 100000
     seconds = number % 60
@@ -31,11 +42,27 @@ def line(frame, number):
     return text + "\n"
 
 
-def make(path):
+def fields(frame, number):
+    day = 1 + number % 28
+    seconds = number % 60
+    minutes = (number // 60) % 60
+    units = (number * 7919 + frame) % 1000000
+    return (
+        f"W{frame:02}{number:04}|CCD|703|2024-03-{day:02}T06:{minutes:02}:{seconds:02}Z"
+        f"|93.{units:06}|+23.{units:06}|Gaia3|19.{number % 10}|V\n"
+    )
+
+
+def make(path, verb):
     with open(path, "w", newline="") as out:
+        for place, (act, body) in enumerate(SETUP):
+            out.write(f"+founder-1 {place + 1} {act} {len(body)}\n{body}")
         for frame in range(FRAMES):
-            body = "".join(line(frame, number) for number in range(LINES))
-            out.write(f"+founder-1 {frame + 1} submit80 {len(body)}\n{body}")
+            if verb == "submit80":
+                body = "".join(columns(frame, number) for number in range(LINES))
+            else:
+                body = HEADER + "".join(fields(frame, number) for number in range(LINES))
+            out.write(f"observer-1 {frame + 1} {verb} {len(body)}\n{body}")
     return os.path.getsize(path)
 
 
@@ -52,20 +79,25 @@ def run(words, path):
         return seconds, used.ru_maxrss, sink.read()
 
 
+def measure(path, verb):
+    size = make(path, verb)
+    print(f"{verb}: {FRAMES} frames, {size / 1e6:.1f} MB")
+    for words in (["wc", "-l"], ["sha256sum"], [PROGRAM, "run", "--key", "+founder-1"]):
+        best = min((run(words, path) for _ in range(3)), key=lambda r: r[0])
+        seconds, peak, text = best
+        name = os.path.basename(words[0])
+        print(f"{name:10} {size / 1e6 / seconds:8.1f} MB/s   peak {peak / 1e3:7.1f} MB, {peak * 1024 / size:.2f} bytes a byte")
+        if name == "mpc_cli":
+            accepted = text.count(b" obs ")
+            if accepted != FRAMES * LINES:
+                sys.exit(f"{accepted} lines were accepted, not {FRAMES * LINES}")
+
+
 def main():
     with tempfile.TemporaryDirectory() as folder:
         path = os.path.join(folder, "session")
-        size = make(path)
-        print(f"session: {FRAMES} frames, {size / 1e6:.1f} MB")
-        for words in (["wc", "-l"], ["sha256sum"], [PROGRAM, "run", "--key", "+founder-1"]):
-            best = min((run(words, path) for _ in range(3)), key=lambda r: r[0])
-            seconds, peak, text = best
-            name = os.path.basename(words[0])
-            print(f"{name:10} {size / 1e6 / seconds:8.1f} MB/s   peak {peak / 1e3:7.1f} MB, {peak * 1024 / size:.2f} bytes a byte")
-            if name == "mpc_cli":
-                accepted = text.count(b" obs ")
-                if accepted != FRAMES * LINES:
-                    sys.exit(f"{accepted} lines were accepted, not {FRAMES * LINES}")
+        for verb in ("submit80", "submitpsv"):
+            measure(path, verb)
 
 
 main()
