@@ -1,27 +1,29 @@
--- The answers on station rows, over the entries of their index.
-use Rattle.std.proofs.Common.{◌≡◌, ℕ, ℤ, ◌≤ℤ◌, Bool, true, false, cond, T, ◌&&◌, ◌||◌, List, [], ◌∷◌, ◌++◌, map, filter, All, None, Some, refl, sym, ap, ◌∙◌, subst, true≢false}
-use Rattle.std.proofs.lemmas.Bool.Decides.{Decides-int_eq}
+-- The answers on station rows, over the rows of one code.
+use Rattle.std.proofs.Common.{◌≡◌, ◌≢◌, ℕ, ℤ, Bool, true, false, cond, ◌&&◌, ◌||◌, List, [], ◌∷◌, ◌++◌, map, filter, take, Some, refl, sym, ap, ◌∙◌}
 use Rattle.std.proofs.lemmas.List.{map_push}
-use Rattle.std.proofs.lemmas.List.Elements.{All-head, All-tail}
 use Rattle.std.proofs.lemmas.Slice.Eq.{bytes_eq-Decides}
+use Rattle.std.specs.Prelude.{◌==◌, unwrap_or}
 use Rattle.std.specs.List.{list_any}
 use Rattle.std.specs.Map.{lookup}
-use Rattle.std.specs.Ordering.{int_eq}
-use Rattle.std.specs.Prelude.{int_le}
 use Rattle.std.specs.Str.{bytes_eq}
 use Rattle.obs_record.specs.declared.short.Short.{Short}
-use Rattle.station_tables.specs.contracts.keys.FirstDayPartialEq.TheImpl as first_days
-use Rattle.station_tables.specs.declared.keys.FirstDay.{FirstDay}
+use Rattle.station_tables.specs.declared.keys.StationCode.{StationCode}
 use Rattle.station_tables.specs.declared.keys.LetterKey.{LetterKey}
 use Rattle.station_tables.specs.declared.serving.Serving.TheVariants.{Unknown, Outside, Serving as InService}
+use Rattle.station_tables.specs.declared.stations.Row.{Row}
 use Rattle.station_tables.specs.Rows.{StationRow}
 use Rattle.station_tables.specs.Stations.{is_code, holds_day, shares_day, serving_by, serving_of, overlaps, with_station_row}
-use Rattle.station_tables.specs.Indexed.{IsForward, station_row, code_row, rows_of}
+use Rattle.station_tables.specs.Indexed.{station_row, has_code, shares_days, IsByCode, code_row, rows_of}
 
--- a test of the rows is a test of the entries
-pub list_any-map : {X Y : Type 0} (p : Y → Bool) (f : X → Y) (xs : List X) → list_any p (map f xs) ≡ list_any (λ x. p (f x)) xs
+-- ---- tests of lists
+
+list_any-map : {X Y : Type 0} (p : Y → Bool) (f : X → Y) (xs : List X) → list_any p (map f xs) ≡ list_any (λ x. p (f x)) xs
 list_any-map p f [] = refl
 list_any-map p f (x ∷ xs) = ap (λ b. p (f x) || b) (list_any-map p f xs)
+
+list_any-same : {X : Type 0} (p q : X → Bool) → ((x : X) → p x ≡ q x) → (xs : List X) → list_any p xs ≡ list_any q xs
+list_any-same p q same [] = refl
+list_any-same p q same (x ∷ xs) = λ j. same x j || list_any-same p q same xs j
 
 -- a test of the rows that another test keeps is both tests in one
 either_kept : {X : Type 0} (p q : X → Bool) (x : X) (xs kept : List X) (rest : Bool) → list_any q kept ≡ rest
@@ -33,99 +35,92 @@ any-filter : {X : Type 0} (p q : X → Bool) (xs : List X) → list_any q (filte
 any-filter p q [] = refl
 any-filter p q (x ∷ xs) = either_kept p q x xs (filter p xs) (list_any (λ y. p y && q y) xs) (any-filter p q xs)
 
--- some row is kept where some row passes
-some-filter : {X : Type 0} (p : X → Bool) (xs : List X) → list_any (λ _. true) (filter p xs) ≡ list_any p xs
-some-filter p [] = refl
-some-filter p (x ∷ xs) =
-    elim (p x) as (λ b. list_any (λ _. true) (cond b (x ∷ filter p xs) (filter p xs)) ≡ b || list_any p xs) [ true ↦ refl | false ↦ some-filter p xs ]
+filter-map : {X Y : Type 0} (p : Y → Bool) (f : X → Y) (xs : List X) → map f (filter (λ x. p (f x)) xs) ≡ filter p (map f xs)
+filter-map p f [] = refl
+filter-map p f (x ∷ xs) =
+    elim (p (f x)) as (λ b. map f (cond b (x ∷ filter (λ y. p (f y)) xs) (filter (λ y. p (f y)) xs)) ≡ cond b (f x ∷ filter p (map f xs)) (filter p (map f xs)))
+    [ true ↦ ap (λ ys. f x ∷ ys) (filter-map p f xs) | false ↦ filter-map p f xs ]
 
--- how rows of one code stand, by two tests
-serving_by-tests : (rows : List StationRow) (date : ℤ)
-    → serving_by rows date ≡ cond (list_any (holds_day date) rows) InService (cond (list_any (λ _. true) rows) Outside Unknown)
-serving_by-tests [] date = refl
-serving_by-tests (row ∷ rows) date = refl
+filter-none : {X : Type 0} (xs : List X) → filter (λ _. false) xs ≡ []
+filter-none [] = refl
+filter-none (x ∷ xs) = filter-none xs
 
--- how a code stands, by the outcomes of two tests of the entries
-pub serving_of-tests : (entries : List (FirstDay × ℤ)) (code : Short) (date : ℤ) (held known : Bool)
-    → held ≡ list_any (λ entry. is_code code entry.0.code && holds_day date (station_row entry)) entries
-    → known ≡ list_any (λ entry. is_code code entry.0.code) entries
-    → serving_of (map station_row entries) code date ≡ cond held InService (cond known Outside Unknown)
+filter-push : {X : Type 0} (p : X → Bool) (xs : List X) (x : X) → filter p (xs ++ x ∷ []) ≡ filter p xs ++ cond (p x) (x ∷ []) []
+filter-push p [] x = refl
+filter-push p (y ∷ xs) x =
+    elim (p y) as (λ b. cond b (y ∷ filter p (xs ++ x ∷ [])) (filter p (xs ++ x ∷ [])) ≡ cond b (y ∷ filter p xs) (filter p xs) ++ cond (p x) (x ∷ []) [])
+    [ true ↦ ap (λ ys. y ∷ ys) (filter-push p xs x) | false ↦ filter-push p xs x ]
+
+append-none : {X : Type 0} (xs : List X) → xs ++ [] ≡ xs
+append-none [] = refl
+append-none (x ∷ xs) = ap (λ ys. x ∷ ys) (append-none xs)
+
+-- ---- codes
+
+alike : (x y : Bool) → (x ≡ true → y ≡ true) → (y ≡ true → x ≡ true) → x ≡ y
+alike true y there back = sym (there refl)
+alike false true there back = back refl
+alike false false there back = refl
+
+bytes_eq-flip : (a b : List ℕ) → bytes_eq a b ≡ bytes_eq b a
+bytes_eq-flip a b =
+    alike (bytes_eq a b) (bytes_eq b a) (λ h. (bytes_eq-Decides b a).1 (sym ((bytes_eq-Decides a b).0 h))) (λ h. (bytes_eq-Decides a b).1 (sym ((bytes_eq-Decides b a).0 h)))
+
+-- ---- the answers
+
+-- rows of one code, of which there is one
+pub serving_by-rows : (rows : List Row) (date : ℤ) → rows ≢ []
+    → serving_by (map station_row rows) date ≡ cond (list_any (λ row. holds_day date (station_row row)) rows) InService Outside
+serving_by-rows [] date some = absurd (some refl)
+serving_by-rows (row ∷ rows) date some = ap (λ b. cond b InService Outside) (list_any-map (holds_day date) station_row (row ∷ rows))
+
+-- the rows of the code that a text is
+pub serving_of-code : (rows : List Row) (text : Short) (code : List ℕ) (date : ℤ) → text.len ≡ 3 → code ≡ take 3 text.bytes
+    → serving_by (map station_row (filter (has_code code) rows)) date ≡ serving_of (map station_row rows) text date
 unfolding serving_of
-serving_of-tests entries code date held known held_is known_is =
-    let has : StationRow → Bool = λ row. is_code code row.code in
-    let rows : List StationRow = map station_row entries in
-    let kept : List StationRow = filter has rows in
-    let by_held : list_any (holds_day date) kept ≡ held =
-    any-filter has (holds_day date) rows ∙ list_any-map (λ row. has row && holds_day date row) station_row entries ∙ sym held_is in
-    let by_known : list_any (λ _. true) kept ≡ known = some-filter has rows ∙ list_any-map has station_row entries ∙ sym known_is in
-    serving_by-tests kept date
-    ∙ ap (λ b. cond b InService (cond (list_any (λ _. true) kept) Outside Unknown)) by_held
-    ∙ ap (λ b. cond held InService (cond b Outside Unknown)) by_known
+serving_of-code rows text code date size same =
+    ap (λ kept. serving_by (map station_row kept) date) (λ j. filter (λ row. (sym size j == 3) && bytes_eq (same j) row.code) rows)
+    ∙ ap (λ kept. serving_by kept date) (filter-map (λ row. is_code text row.code) station_row rows)
 
-first_true : (x y : Bool) → (x && y) ≡ true → x ≡ true
-first_true true y h = refl
-first_true false y h = h
+-- a text that is no code
+pub serving_of-none : (rows : List StationRow) (text : Short) (date : ℤ) → (text.len == 3) ≡ false → Unknown ≡ serving_of rows text date
+unfolding serving_of
+serving_of-none rows text date size =
+    sym (ap (λ kept. serving_by kept date) ((λ j. filter (λ row. size j && bytes_eq (take 3 text.bytes) row.code) rows) ∙ filter-none rows))
 
-second_true : (x y : Bool) → (x && y) ≡ true → y ≡ true
-second_true true y h = h
-second_true false y h = absurd (true≢false (sym h))
+-- a row of the code shares a day
+pub overlaps-code : (rows : List Row) (code : List ℕ) (from to : ℤ)
+    → list_any (shares_days from to) (filter (has_code code) rows) ≡ overlaps (map station_row rows) code from to
+unfolding overlaps
+overlaps-code rows code from to =
+    any-filter (has_code code) (shares_days from to) rows
+    ∙ list_any-same (λ row. has_code code row && shares_days from to row) (λ row. shares_day code from to (station_row row))
+    (λ row. ap (λ b. b && shares_days from to row) (bytes_eq-flip code row.code)) rows
+    ∙ sym (list_any-map (shares_day code from to) station_row rows)
 
-both_true : (x y : Bool) → x ≡ true → y ≡ true → (x && y) ≡ true
-both_true true y p q = q
-both_true false y p q = p
+-- ---- the index
 
-left_false : (x y : Bool) → (x || y) ≡ false → x ≡ false
-left_false true y h = h
-left_false false y h = refl
+-- one more row at the end, and in the index behind those of its code
+pub with_one : (entries longer : List (StationCode × List Row)) (rows of_code : List Row) (row : Row)
+    → IsByCode entries rows → of_code ≡ filter (has_code row.code) rows ++ row ∷ []
+    → ((code : List ℕ) → lookup (λ key. bytes_eq code key.code) longer ≡ cond (bytes_eq row.code code) (Some of_code) (lookup (λ key. bytes_eq code key.code) entries))
+    → IsByCode longer (rows ++ row ∷ [])
+with_one entries longer rows of_code row indexed more updates code =
+    ap (λ found. unwrap_or found []) (updates code) ∙ found (bytes_eq row.code code) refl ∙ sym (filter-push (has_code code) rows row)
+  where
+    found : (b : Bool) → bytes_eq row.code code ≡ b
+        → unwrap_or (cond b (Some of_code) (lookup (λ key. bytes_eq code key.code) entries)) [] ≡ filter (has_code code) rows ++ cond (has_code code row) (row ∷ []) []
+    found true same =
+        let code_is : row.code ≡ code = (bytes_eq-Decides row.code code).0 same in
+        more ∙ (λ j. filter (has_code (code_is j)) rows ++ row ∷ [])
+        ∙ ap (λ b. filter (has_code code) rows ++ cond b (row ∷ []) []) (sym (bytes_eq-flip code row.code ∙ same))
+    found false other =
+        indexed code ∙ sym (append-none (filter (has_code code) rows))
+        ∙ ap (λ b. filter (has_code code) rows ++ cond b (row ∷ []) []) (sym (bytes_eq-flip code row.code ∙ other))
 
-right_false : (x y : Bool) → (x || y) ≡ false → y ≡ false
-right_false true y h = absurd (true≢false h)
-right_false false y h = h
-
-true_from_T : (b : Bool) → T b → b ≡ true
-true_from_T true h = refl
-true_from_T false h = absurd h
-
-module _ (code : List ℕ) (from to : ℤ) (forward : from ≤ℤ to) where
-  -- a row that begins on the same day has this day in common
-  shares_first : (entry : FirstDay × ℤ) → IsForward entry → (first_days.ghosts).eq (record { code = code; from = from }) entry.0 ≡ true
-      → shares_day code from to (station_row entry) ≡ true
-  shares_first entry entry_forward same =
-      let same_code : code ≡ entry.0.code = (bytes_eq-Decides code entry.0.code).0 (first_true (bytes_eq code entry.0.code) (int_eq from entry.0.from) same) in
-      let same_day : from ≡ entry.0.from = (Decides-int_eq from entry.0.from).0 (second_true (bytes_eq code entry.0.code) (int_eq from entry.0.from) same) in
-      let starts : entry.0.from ≤ℤ to = subst (λ day. day ≤ℤ to) same_day forward in
-      let ends : from ≤ℤ entry.1 = subst (λ day. day ≤ℤ entry.1) (sym same_day) entry_forward in
-      both_true (bytes_eq entry.0.code code) (int_le entry.0.from to && int_le from entry.1) ((bytes_eq-Decides entry.0.code code).1 (sym same_code))
-      (both_true (int_le entry.0.from to) (int_le from entry.1) (true_from_T (int_le entry.0.from to) starts.le) (true_from_T (int_le from entry.1) ends.le))
-
-  -- so one that shares no day begins on another
-  begins_elsewhere : (entry : FirstDay × ℤ) → IsForward entry → shares_day code from to (station_row entry) ≡ false
-      → (first_days.ghosts).eq (record { code = code; from = from }) entry.0 ≡ false
-  begins_elsewhere entry entry_forward apart = by ((first_days.ghosts).eq (record { code = code; from = from }) entry.0) refl
-    where
-      by : (b : Bool) → (first_days.ghosts).eq (record { code = code; from = from }) entry.0 ≡ b → b ≡ false
-      by true same = absurd (true≢false (sym (shares_first entry entry_forward same) ∙ apart))
-      by false same = refl
-
-  -- where no row overlaps, none begins on the first day
-  lookup-apart : (entries : List (FirstDay × ℤ)) → All IsForward entries → list_any (shares_day code from to) (map station_row entries) ≡ false
-      → lookup ((first_days.ghosts).eq (record { code = code; from = from })) entries ≡ None
-  lookup-apart [] others apart = refl
-  lookup-apart (entry ∷ entries) others apart =
-      let here = left_false (shares_day code from to (station_row entry)) (list_any (shares_day code from to) (map station_row entries)) apart in
-      let rest = right_false (shares_day code from to (station_row entry)) (list_any (shares_day code from to) (map station_row entries)) apart in
-      ap (λ b. cond b (Some entry.1) (lookup ((first_days.ghosts).eq (record { code = code; from = from })) entries)) (begins_elsewhere entry (All-head IsForward entry entries others) here)
-      ∙ lookup-apart entries (All-tail IsForward entry entries others) rest
-
-  -- the same in the word of the tables
-  pub lookup-overlaps : (entries : List (FirstDay × ℤ)) → All IsForward entries → overlaps (map station_row entries) code from to ≡ false
-      → lookup ((first_days.ghosts).eq (record { code = code; from = from })) entries ≡ None
-  unfolding overlaps
-  lookup-overlaps = lookup-apart
-
--- the rows with one more station row at the end
-pub rows_of-station : (stations longer : List (FirstDay × ℤ)) (words copy : List (LetterKey × Short)) (entry : FirstDay × ℤ)
-    → longer ≡ stations ++ entry ∷ [] → copy ≡ words → rows_of longer copy ≡ with_station_row (rows_of stations words) (station_row entry)
-rows_of-station stations longer words copy entry more same =
-    let rows : map station_row longer ≡ map station_row stations ++ station_row entry ∷ [] = ap (map station_row) more ∙ map_push station_row stations entry in
+-- the tables' rows with one more station row
+pub rows_of-station : (stations longer : List Row) (words copy : List (LetterKey × Short)) (row : Row)
+    → longer ≡ stations ++ row ∷ [] → copy ≡ words → rows_of longer copy ≡ with_station_row (rows_of stations words) (station_row row)
+rows_of-station stations longer words copy row more same =
+    let rows : map station_row longer ≡ map station_row stations ++ station_row row ∷ [] = ap (map station_row) more ∙ map_push station_row stations row in
     λ j. record { stations = rows j; codes = map code_row (same j) }

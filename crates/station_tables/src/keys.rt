@@ -6,11 +6,10 @@ ghost use Rattle.station_tables.specs.Indexed.{word_key};
 use crate::kind::Kind;
 use obs_record::Short;
 
-/// The first day of a station's row. No two rows of a code begin on the same day.
+/// The code of a station.
 #[derive(Clone, Copy, PartialEq, Eq, Hash)]
-pub(crate) struct FirstDay {
+pub(crate) struct StationCode {
     pub(crate) code: [u8; 3],
-    pub(crate) from: i32,
 }
 
 /// The letter of a code row. No two rows of a kind have the same letter.

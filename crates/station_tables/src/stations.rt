@@ -1,89 +1,173 @@
-//! The station rows in their index.
+//! The station rows, in the order in which they were entered, and by their code.
 
-ghost use Rattle.std.specs.Prelude.{◌≡◌, false, ◌&&◌, ◌≤ℤ◌, [], ◌∷◌, ◌++◌, map, All, IfOk};
+ghost use Rattle.std.specs.Prelude.{◌≡◌, ◌&&◌, ◌==◌, true, false, [], ◌∷◌, ◌++◌, map, filter, take, IfOk, IfSome, IfNone};
 ghost use Rattle.std.specs.List.{list_any};
-ghost use Rattle.station_tables.specs.Stations.{is_code, holds_day, shares_day, serving_of, overlaps};
-ghost use Rattle.station_tables.specs.Indexed.{IsForward, station_row};
+ghost use Rattle.station_tables.specs.Stations.{holds_day, shares_day, serving_by, serving_of, overlaps};
+ghost use Rattle.station_tables.specs.Indexed.{station_row, has_code, shares_days};
 
-use crate::keys::FirstDay;
+use crate::keys::StationCode;
 use crate::serving::Serving;
 use indexmap::IndexMap;
 use item_list::NoMemory;
 use obs_record::Short;
+use std::alloc::Global;
+use std::marker::Model;
 
-/// The last day of each station row by its code and first day, in the order in which the rows were entered.
-pub(crate) type StationIndex = IndexMap<FirstDay, i32>;
+/// For how many rows the memory is taken at first.
+const FIRST_ROOM: usize = 16;
 
-/// A copy of the index.
-pub(crate) fn copied(index: &StationIndex) -> Result<StationIndex, NoMemory>
-    ensures { IfOk result (λ copy. copy.entries ≡ index.now.entries) }
-{
-    index.clone()
+/// A station's row: the first and the last day on which the code serves.
+#[derive(Clone, Copy)]
+pub(crate) struct Row {
+    pub(crate) code: [u8; 3],
+    pub(crate) from: i32,
+    pub(crate) to: i32,
 }
 
-/// A copy of the index with one more row at the end.
-pub(crate) fn with_row(
-    index: &StationIndex,
-    code: [u8; 3],
-    from: i32,
-    to: i32,
-) -> Result<StationIndex, NoMemory>
-    requires forward { from ≤ℤ to }
-    requires others_forward { All IsForward index.now.entries }
-    requires apart { overlaps (map station_row index.now.entries) code from to ≡ false }
-    ensures { IfOk result (λ longer. longer.entries ≡ index.now.entries ++ (record { code = code; from = from }, to) ∷ []) }
-{
-    let mut longer = copied(index)?;
-    longer.insert(FirstDay { code, from }, to)?;
-    Ok(longer)
+/// The rows of one code, in the order in which they were entered.
+#[derive(Drop)]
+pub(crate) struct CodeRows {
+    rows: Vec<Row>,
 }
 
-/// Whether the text is this station code.
-fn is_code(text: Short, code: [u8; 3]) -> bool
-    ensures { result ≡ is_code text code }
-{
-    text.len == 3 && text.bytes[..3] == code[..]
+impl Model for CodeRows {
+    ghost use Rattle.std.specs.Prelude.{List};
+    ghost use Rattle.station_tables.specs.declared.stations.Row.{Row};
+
+    ghost Value = { List Row };
+
+    ghost view = { λ list. list.rows.items };
 }
 
-/// Whether a row has the code.
-fn any_has(index: &StationIndex, code: Short) -> bool
-    ensures { result ≡ list_any (λ entry. is_code code entry.0.code) index.now.entries }
-{
-    index.iter().any(|(first, _last)| is_code(code, first.code))
-}
+impl Clone for CodeRows {
+    ghost use Rattle.std.specs.Prelude.{◌≡◌};
 
-/// Whether a row has the code and holds the day.
-fn any_holds(index: &StationIndex, code: Short, date: i32) -> bool
-    ensures { result ≡ list_any (λ entry. is_code code entry.0.code && holds_day date (station_row entry)) index.now.entries }
-{
-    index.iter().any(|(first, last)| is_code(code, first.code)
-        && first.from <= date
-        && date <= *last)
-}
+    ghost is_clone = { λ list copy. copy ≡ list };
 
-/// Whether a row of the code has a day in common with these days.
-fn any_shares(index: &StationIndex, code: [u8; 3], from: i32, to: i32) -> bool
-    ensures { result ≡ list_any (λ entry. shares_day code from to (station_row entry)) index.now.entries }
-{
-    index.iter().any(|(first, last)| first.code == code && first.from <= to && from <= *last)
-}
-
-/// How a station code stands on a day.
-pub(crate) fn serving(index: &StationIndex, code: Short, date: i32) -> Serving
-    ensures { result ≡ serving_of (map station_row index.now.entries) code date }
-{
-    if any_holds(index, code, date) {
-        Serving::Serving
-    } else if any_has(index, code) {
-        Serving::Outside
-    } else {
-        Serving::Unknown
+    fn clone(&self) -> Result<CodeRows, NoMemory> {
+        Ok(CodeRows {
+            rows: self.rows.clone()?,
+        })
     }
 }
 
-/// Whether a row of the code has a day in common with these days.
-pub(crate) fn overlaps(index: &StationIndex, code: [u8; 3], from: i32, to: i32) -> bool
-    ensures { result ≡ overlaps (map station_row index.now.entries) code from to }
+/// The station rows.
+#[derive(Drop)]
+pub(crate) struct StationRows {
+    rows: Vec<Row>,
+    by_code: IndexMap<StationCode, CodeRows>,
+}
+
+impl Model for StationRows {
+    ghost use Rattle.std.specs.Prelude.{List};
+    ghost use Rattle.station_tables.specs.declared.stations.Row.{Row};
+    ghost use Rattle.station_tables.specs.Indexed.{IsByCode};
+
+    ghost Value = { List Row };
+
+    ghost view = { λ s. s.rows.items };
+
+    ghost invariant = { λ s. IsByCode s.by_code.entries s.rows.items };
+}
+
+/// The code that a text is, where it has 3 bytes.
+fn code_in(text: Short) -> Option<StationCode>
+    ensures some { IfSome result (λ key. (text.len ≡ 3) × (key.code ≡ take 3 text.bytes)) }
+    ensures none { IfNone result ((text.len == 3) ≡ false) }
 {
-    any_shares(index, code, from, to)
+    if text.len != 3 {
+        return None;
+    }
+    let bytes = text.bytes;
+    Some(StationCode {
+        code: [bytes[0], bytes[1], bytes[2]],
+    })
+}
+
+fn any_holds(rows: &[Row], date: i32) -> bool
+    ensures { result ≡ list_any (λ row. holds_day date (station_row row)) rows.now }
+{
+    rows.iter().any(|row| row.from <= date && date <= row.to)
+}
+
+fn any_shares(rows: &[Row], from: i32, to: i32) -> bool
+    ensures { result ≡ list_any (shares_days from to) rows.now }
+{
+    rows.iter().any(|row| row.from <= to && from <= row.to)
+}
+
+/// How rows of one code stand on a day.
+fn serving_by(rows: &[Row], date: i32) -> Serving
+    ensures { result ≡ serving_by (map station_row rows.now) date }
+{
+    if rows.is_empty() {
+        Serving::Unknown
+    } else if any_holds(rows, date) {
+        Serving::Serving
+    } else {
+        Serving::Outside
+    }
+}
+
+impl StationRows {
+    /// No rows.
+    pub(crate) fn new(alloc: Global) -> Result<StationRows, NoMemory>
+        ensures { IfOk result (λ rows. rows ≡ []) }
+    {
+        Ok(StationRows {
+            rows: Vec::with_capacity(alloc, FIRST_ROOM)?,
+            by_code: IndexMap::with_capacity(alloc, FIRST_ROOM)?,
+        })
+    }
+
+    /// A copy of the rows.
+    pub(crate) fn copied(&self) -> Result<StationRows, NoMemory>
+        ensures { IfOk result (λ copy. copy ≡ self.now) }
+    {
+        Ok(StationRows {
+            rows: self.rows.clone()?,
+            by_code: self.by_code.clone()?,
+        })
+    }
+
+    // The rows of a code, in their order.
+    fn of_code(&self, code: StationCode) -> &[Row]
+        ensures { result.now ≡ filter (has_code code.code) self.now }
+    {
+        match self.by_code.get(&code) {
+            Some(list) => list.rows.as_slice(),
+            None => &[],
+        }
+    }
+
+    /// A copy of the rows with one more at the end.
+    pub(crate) fn with_row(&self, row: Row) -> Result<StationRows, NoMemory>
+        ensures { IfOk result (λ longer. longer ≡ self.now ++ row ∷ []) }
+    {
+        let code = row.code;
+        let key = StationCode { code };
+        let mut of_code = Vec::from_slice(*self.rows.allocator(), self.of_code(key))?;
+        of_code.push(row)?;
+        let mut longer = self.copied()?;
+        longer.rows.push(row)?;
+        longer.by_code.insert(key, CodeRows { rows: of_code })?;
+        Ok(longer)
+    }
+
+    /// How a station code stands on a day.
+    pub(crate) fn serving(&self, code: Short, date: i32) -> Serving
+        ensures { result ≡ serving_of (map station_row self.now) code date }
+    {
+        match code_in(code) {
+            Some(key) => serving_by(self.of_code(key), date),
+            None => Serving::Unknown,
+        }
+    }
+
+    /// Whether a row of the code has a day in common with these days.
+    pub(crate) fn overlaps(&self, code: [u8; 3], from: i32, to: i32) -> bool
+        ensures { result ≡ overlaps (map station_row self.now) code from to }
+    {
+        any_shares(self.of_code(StationCode { code }), from, to)
+    }
 }

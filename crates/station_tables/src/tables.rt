@@ -7,7 +7,7 @@ ghost use Rattle.station_tables.specs.Codes.{has_letter, has_word, word_of, lett
 use crate::codes::{self, LetterIndex, WordIndex};
 use crate::kind::Kind;
 use crate::serving::Serving;
-use crate::stations::{self, StationIndex};
+use crate::stations::{Row, StationRows};
 use indexmap::IndexMap;
 use item_list::NoMemory;
 use obs_record::Short;
@@ -22,7 +22,7 @@ const FIRST_ROOM: usize = 16;
 /// Days are counted from 1970-01-01, and are negative before it.
 #[derive(Drop)]
 pub struct Tables {
-    stations: StationIndex,
+    stations: StationRows,
     words: WordIndex,
     letters: LetterIndex,
 }
@@ -32,11 +32,11 @@ impl Model for Tables {
 
     ghost Value = { TableRows };
 
-    ghost use Rattle.station_tables.specs.Indexed.{rows_of, IsIndexed};
+    ghost use Rattle.station_tables.specs.Indexed.{rows_of, IsPaired};
 
-    ghost view = { λ t. rows_of t.stations.entries t.words.entries };
+    ghost view = { λ t. rows_of t.stations t.words.entries };
 
-    ghost invariant = { λ t. IsIndexed t.stations.entries t.words.entries t.letters.entries };
+    ghost invariant = { λ t. IsPaired t.words.entries t.letters.entries };
 }
 
 impl Tables {
@@ -49,7 +49,7 @@ impl Tables {
         ensures { IfOk result (λ tables. tables ≡ no_rows) }
     {
         Ok(Tables {
-            stations: IndexMap::with_capacity(alloc, FIRST_ROOM)?,
+            stations: StationRows::new(alloc)?,
             words: IndexMap::with_capacity(alloc, FIRST_ROOM)?,
             letters: IndexMap::with_capacity(alloc, FIRST_ROOM)?,
         })
@@ -67,7 +67,7 @@ impl Tables {
         ensures { IfOk result (λ tables. tables ≡ with_station_row self.now (record { code = code; from = from; to = to })) }
     {
         Ok(Tables {
-            stations: stations::with_row(&self.stations, code, from, to)?,
+            stations: self.stations.with_row(Row { code, from, to })?,
             words: codes::words_copied(&self.words)?,
             letters: codes::letters_copied(&self.letters)?,
         })
@@ -84,7 +84,7 @@ impl Tables {
         ensures { IfOk result (λ tables. tables ≡ with_code_row self.now (record { kind = kind; letter = letter; word = word })) }
     {
         Ok(Tables {
-            stations: stations::copied(&self.stations)?,
+            stations: self.stations.copied()?,
             words: codes::with_word(&self.words, kind, letter, word)?,
             letters: codes::with_letter(&self.letters, &self.words, kind, letter, word)?,
         })
@@ -94,7 +94,7 @@ impl Tables {
     pub fn overlaps(&self, code: [u8; 3], from: i32, to: i32) -> bool
         ensures { result ≡ overlaps self.now.stations code from to }
     {
-        stations::overlaps(&self.stations, code, from, to)
+        self.stations.overlaps(code, from, to)
     }
 
     /// Whether a row of the kind has the letter or the word.
@@ -108,7 +108,7 @@ impl Tables {
     pub fn station(&self, code: Short, date: i32) -> Serving
         ensures { result ≡ serving_of self.now.stations code date }
     {
-        stations::serving(&self.stations, code, date)
+        self.stations.serving(code, date)
     }
 
     /// The word of the first row of the kind that has the letter. None exactly where no row of the kind has it.
