@@ -1,0 +1,3 @@
+pub mod Takes
+pub mod Unbroken
+pub mod Taken

@@ -1,0 +1,22 @@
+//! The designations of the half-months: which comes next, and by which observation each object was discovered.
+//!
+//! The Minor Planet Center names a new object after the half-month of its discovery, and counts the objects of a
+//! half-month in the order in which they are named: `2024 EA`, `2024 EB`, and so on. A designation that was given stays
+//! given, whatever becomes of its object's observations.
+//!
+//! ```text
+//! rows.reserve()?;
+//! if let Some(_) = rows.next(half) {
+//!     let given = rows.take(half, discovery);
+//! }
+//! ```
+#![tactic(auto)]
+
+pub mod laws;
+mod rows;
+mod taken;
+
+pub use rows::Rows;
+
+#[cfg(test)]
+mod tests;

@@ -1,0 +1,121 @@
+//! The rows of the half-months.
+
+ghost use Rattle.std.specs.Prelude.{◌≡◌, ◌↔◌, ◌+◌, ◌<◌, ◌≤◌, [], ◌∷◌, map, IsSome, IsNone, IfSome, IfOk};
+ghost use Rattle.std.specs.List.{Contains};
+ghost use Rattle.packed_names.specs.Ranges.{IsHalfMonth, IsProvisional, IsDesignation, limit_of};
+ghost use Rattle.packed_names.specs.declared.name.Designation.TheVariants as designations;
+ghost use Rattle.designate_core.specs.Takes.{given_in, next_in, next_of, discovery_of, designations_given};
+
+use crate::taken::{self, Taken};
+use item_list::NoMemory;
+use packed_names::{Designation, HalfMonth, Provisional, limit};
+use std::alloc::Global;
+use std::marker::Model;
+
+/// The designations that were given, by half-months: each half-month has a row of them, with the orders 1, 2, 3 and so
+/// on, to at most its limit.
+///
+/// Contracts see the list of all takes, the newest first, and for how many more takes memory is there.
+#[derive(Drop)]
+pub struct Rows {
+    taken: Vec<Taken>,
+}
+
+impl Model for Rows {
+    ghost use Rattle.std.specs.Prelude.{◌-◌, reverse, vec_len, vec_capacity};
+    ghost use Rattle.designate_core.specs.Takes.{RowsValue};
+
+    ghost Value = { RowsValue };
+
+    ghost use Rattle.designate_core.specs.Taken.{takes_of, AreGivenInRow};
+
+    ghost view = { λ r. record { takes = takes_of r.taken.items; spare = vec_capacity r.taken - vec_len r.taken } };
+
+    ghost invariant = { λ r. AreGivenInRow (reverse r.taken.items) };
+}
+
+impl Rows {
+    /// Rows in which no designation was given.
+    ///
+    /// # Errors
+    ///
+    /// Memory was refused.
+    pub fn new(alloc: Global) -> Result<Rows, NoMemory>
+        ensures { IfOk result (λ rows. rows.takes ≡ []) }
+    {
+        Ok(Rows {
+            taken: Vec::new(alloc),
+        })
+    }
+
+    /// Takes the memory for one more take. What was given stays, whatever the answer.
+    ///
+    /// # Errors
+    ///
+    /// Memory was refused.
+    pub fn reserve(&mut self) -> Result<(), NoMemory>
+        ensures room { IfOk result (λ _. 1 ≤ self.new.spare) }
+        ensures kept { self.old.spare ≤ self.new.spare }
+        ensures takes { self.new.takes ≡ self.old.takes }
+    {
+        self.taken.reserve(1)
+    }
+
+    /// The designation that is given next in a half-month: its order is one more than the count of those that were given
+    /// in it. None exactly where that count is the half-month's limit.
+    pub fn next(&self, half: HalfMonth) -> Option<Provisional>
+        requires { IsHalfMonth half }
+        ensures next { result ≡ next_of half self.now.takes }
+        ensures full { IsNone result ↔ (given_in half self.now.takes ≡ limit_of half) }
+        ensures free { IfSome result (λ _. given_in half self.now.takes < limit_of half) }
+        ensures name { IfSome result IsProvisional }
+    {
+        let given = self.given(half);
+        if given < limit(half) {
+            Some(Provisional {
+                half,
+                order: given + 1,
+            })
+        } else {
+            None
+        }
+    }
+
+    /// Gives the next designation of a half-month, which isn't full, to the object of this discovery observation. It takes
+    /// no memory: `reserve` has left room.
+    pub fn take(&mut self, half: HalfMonth, discovery: u64) -> Provisional
+        requires half { IsHalfMonth half }
+        requires free { given_in half self.old.takes < limit_of half }
+        requires room { 1 ≤ self.old.spare }
+        ensures given { result ≡ next_in half self.old.takes }
+        ensures takes { self.new.takes ≡ record { half = half; discovery = discovery } ∷ self.old.takes }
+        ensures spare { self.old.spare ≤ self.new.spare + 1 }
+        ensures name { IsProvisional result }
+    {
+        let given = Provisional {
+            half,
+            order: self.given(half) + 1,
+        };
+        self.taken.push_reserved(Taken { given, discovery });
+        given
+    }
+
+    /// How many designations were given in a half-month.
+    pub fn given(&self, half: HalfMonth) -> u32
+        requires { IsHalfMonth half }
+        ensures count { result ≡ given_in half self.now.takes }
+        ensures within { result ≤ limit_of half }
+    {
+        taken::given_in(self.taken.as_slice(), half)
+    }
+
+    /// The number of the observation by which the object of a designation was discovered. None exactly for designations
+    /// that weren't given here, the surveys' among them.
+    pub fn find(&self, d: Designation) -> Option<u64>
+        ensures discovery { result ≡ discovery_of d self.now.takes }
+        ensures given { IsSome result ↔ Contains (map designations.Provisional (designations_given self.now.takes)) d }
+        ensures name { IfSome result (λ _. IsDesignation d) }
+    {
+        taken::discovery_of(self.taken.as_slice(), d)
+    }
+}
