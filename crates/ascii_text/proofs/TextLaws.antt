@@ -2,7 +2,7 @@
 use Rattle.ascii_text.specs.Laws.{TextLaws}
 use Rattle.ascii_text.proofs.BlankTexts.{digit_run-nil, digit_run-other, digit_run-blanks, length-blanks, are_blanks-blanks, are_blanks_takes, no_point-blanks, trimmed_is, trimmed_only, trimmed_end-blanks}
 use Rattle.ascii_text.proofs.DigitTexts.{digits_again, digits_takes, length-digits_text, length-decimals_text}
-use Rattle.ascii_text.proofs.NumberTexts.{behind-cons, behind_takes, digit_run-digits_text, run_again, run_takes, decimals_again, decimals_takes, decimals_within_again, decimals_within_takes, number_again, number_takes}
+use Rattle.ascii_text.proofs.NumberTexts.{digit_run-all, behind-cons, behind_takes, digit_run-digits_text, run_again, run_takes, decimals_again, decimals_takes, decimals_within_again, decimals_within_takes, number_again, number_takes}
 use Rattle.ascii_text.proofs.Trimming.{trimmed_end-other}
 use Rattle.ascii_text.proofs.NumberReaders.{reads_number}
 
@@ -15,6 +15,7 @@ text_laws = record {
   behind_takes = behind_takes;
   digit_run-nil = digit_run-nil;
   digit_run-other = digit_run-other;
+  digit_run-all = digit_run-all;
   digit_run-blanks = digit_run-blanks;
   digit_run-digits_text = digit_run-digits_text;
   run_again = run_again;

@@ -1,6 +1,7 @@
 -- What holds of the texts themselves, whoever reads or writes them.
 use Rattle.std.specs.Prelude.{◌≡◌, ◌≢◌, ℕ, ◌+◌, ◌^◌, ◌<◌, ◌≤◌, nat_lt, true, false, if◌then◌else◌, List, [], ◌∷◌, ◌++◌, length, decimal, slice_index, Option, Some, None}
 use Rattle.std.specs.Char.{is_ascii_digit}
+use Rattle.std.specs.Str.Parse.{AllDigits}
 use Rattle.ascii_text.specs.declared.digits.Radix.{Radix}
 use Rattle.ascii_text.specs.declared.digits.Radix.TheVariants.{Ten}
 use Rattle.ascii_text.specs.Bytes.{blank, point}
@@ -49,6 +50,7 @@ pub record TextLaws : Type 0 where
   -- how many digits stand at the front
   pub digit_run-nil : digit_run [] ≡ 0
   pub digit_run-other : (byte : ℕ) (rest : List ℕ) → is_ascii_digit byte ≡ false → digit_run (byte ∷ rest) ≡ 0
+  pub digit_run-all : (digits rest : List ℕ) → AllDigits 10 digits → digit_run (digits ++ rest) ≡ length digits + digit_run rest
   pub digit_run-blanks : (n : ℕ) → digit_run (blanks n) ≡ 0
   pub digit_run-digits_text : (count n : ℕ) (rest : List ℕ) → n < 10 ^ count
       → digit_run (digits_text Ten count n ++ rest) ≡ count + digit_run rest
