@@ -5,6 +5,7 @@ ghost use Rattle.packed_names.specs.declared.name.Name.{Name};
 ghost use Rattle.packed_names.specs.Packed.{IsPackedAs};
 ghost use Rattle.packed_names.specs.Printed.{IsPrintedAs};
 ghost use Rattle.packed_names.specs.Order.{designation_cmp};
+ghost use Rattle.packed_names.specs.Laws.{NameLaws};
 
 use crate::name::Designation;
 use std::cmp::Ordering;
@@ -21,6 +22,13 @@ pub fn packed_one_to_one()
 pub fn printed_one_to_one()
     ensures one_name { (one other : Name) (text : List ℕ) → IsPrintedAs one text → IsPrintedAs other text → one ≡ other }
     ensures one_text { (name : Name) (one other : List ℕ) → IsPrintedAs name one → IsPrintedAs name other → one ≡ other }
+{
+    ascii_text::laws::texts();
+}
+
+/// A text is answered with a name exactly where it is the name's packed form, or its printed form.
+pub fn names()
+    ensures { NameLaws }
 {
     ascii_text::laws::texts();
 }
