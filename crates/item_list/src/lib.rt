@@ -2,7 +2,7 @@
 //! see it as the list of its items, and not its capacity or its place in memory.
 #![tactic(auto)]
 
-ghost use Rattle.std.specs.Prelude.{◌≡◌, ◌+◌, ◌<◌, ◌≤◌, ◌↔◌, List, [], ◌∷◌, ◌++◌, length, IsTrue, IsNone, IfOk, OnOk, OnErr, slice_get, option_copied};
+ghost use Rattle.std.specs.Prelude.{◌≡◌, ◌+◌, ◌<◌, ◌≤◌, ◌↔◌, List, [], ◌∷◌, ◌++◌, length, take, IsTrue, IsNone, IfOk, OnOk, OnErr, slice_get, option_copied};
 ghost use Rattle.std.specs.Slice.Iter.{iter_rest};
 
 use std::alloc::{AllocError, Global};
@@ -84,6 +84,13 @@ impl<T> ItemList<T> {
 }
 
 impl<T: Drop> ItemList<T> {
+    /// Keeps so many items from the front, all of them where there are no more.
+    pub fn truncate(&mut self, count: u64)
+        ensures { self.new ≡ take count self.old }
+    {
+        self.items.truncate(count as usize);
+    }
+
     /// Puts an item at the end. Where memory is refused the list is as it was, and the item is let go.
     pub fn push(&mut self, item: T) -> Result<(), NoMemory>
         ensures ok { OnOk result (self.new ≡ self.old ++ item ∷ []) }
@@ -130,6 +137,11 @@ mod tests {
             assert_eq!(rt; list.get(place).copied(), wanted, "at {place}");
         }
         assert_eq!(rt; list.len(), 5);
+        list.truncate(9);
+        assert_eq!(rt; list.len(), 5);
+        list.truncate(2);
+        assert_eq!(rt; list.as_slice(), [7, 8].as_slice());
+        list.extend_from_slice(&[9, 1, 2])?;
         let copy = ItemList::from_slice(rt.alloc(), list.as_slice())?;
         assert_eq!(rt; copy.iter().copied().max(), Some(9));
         let none: ItemList<u16> = ItemList::new(rt.alloc());

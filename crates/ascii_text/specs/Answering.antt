@@ -1,4 +1,5 @@
--- The laws that hold of every reader: it answers, its answer is the only right one, and a text spells one thing.
+-- What holds of every reader: it answers, its answer is the only right one, and a text spells one thing. A clause can't range
+-- over all types, so these laws stand beside the words that they are of.
 use Rattle.std.proofs.Common.{◌≡◌, Option, Some, None, Result, refl, sym, ap, ◌∙◌, inl, inr}
 use Rattle.std.proofs.lemmas.Option.{same_Some, none-some}
 use Rattle.ascii_text.specs.Judged.{answer_of, Answers, IsReader}

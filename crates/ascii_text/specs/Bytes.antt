@@ -1,0 +1,29 @@
+-- The bytes that the formats' rules name.
+use Rattle.std.specs.Prelude.{ℕ}
+
+-- a space, the only byte that counts as a blank
+abbrev pub blank : ℕ
+blank = 32
+
+-- the point before decimals
+abbrev pub point : ℕ
+point = 46
+
+-- the signs before a number
+abbrev pub plus_sign : ℕ
+plus_sign = 43
+
+abbrev pub minus_sign : ℕ
+minus_sign = 45
+
+-- the end of a line, LF
+abbrev pub line_feed : ℕ
+line_feed = 10
+
+-- CR, which may stand before a line feed and then belongs to the line's end
+abbrev pub carriage_return : ℕ
+carriage_return = 13
+
+-- the bar between the fields of a line
+abbrev pub vertical_bar : ℕ
+vertical_bar = 124

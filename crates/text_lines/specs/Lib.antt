@@ -1,0 +1,6 @@
+pub mod Steps
+pub mod Rules
+pub mod Lines
+pub mod Pieces
+pub mod Laws
+pub mod Judging
