@@ -101,6 +101,11 @@ impl EightyReader {
         ensures range { IfOk result AreInRange }
     {
         text_lines::laws::lines();
+        ascii_text::laws::texts();
+        angle_fixed::laws::angles();
+        obs_time::laws::times();
+        packed_names::laws::names();
+        obs_record::laws::records();
         let mut seen = self.seen;
         if !self.rest.is_empty() {
             see_line(&mut seen, self.rest.as_slice())?;
