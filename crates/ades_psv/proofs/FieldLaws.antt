@@ -26,7 +26,7 @@ use Rattle.obs_record.specs.declared.rule.RuleCode.TheVariants.{S3, S12}
 use Rattle.obs_record.specs.Short.{kept_short}
 use Rattle.ades_psv.specs.Magnitudes.{is_empty}
 use Rattle.ades_psv.specs.Names.{IsNumberField, IsDesignationField, IsTemporary, IsTemporaryField, name_of, number_from, number_in, designation_from, designation_in, is_visible, temporary_in}
-use Rattle.ades_psv.specs.Steps.{or_breaks}
+use Rattle.text_lines.specs.Steps.{or_breaks}
 use Rattle.ades_psv.specs.Reading.{some_of, unless_empty}
 use Rattle.ades_psv.proofs.Judging.{IsFieldOf}
 

@@ -1,13 +1,9 @@
 pub mod CellLaws
 pub mod NameSets
-pub mod LineCuts
-pub mod WalkLaws
 pub mod MagnitudeLaws
-pub mod ListingLaws
 pub mod Judging
 pub mod FieldLaws
 pub mod LineLaws
 pub mod RangeLaws
-pub mod Growing
-pub mod Ending
-pub mod Readers
+pub mod Cutting
+pub mod SaidLaws

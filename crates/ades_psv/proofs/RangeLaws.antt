@@ -12,11 +12,11 @@ use Rattle.obs_record.specs.declared.sighting.Sighting.{Sighting}
 use Rattle.obs_record.specs.Short.{IsShort, kept_short}
 use Rattle.obs_record.specs.Sighting.{IsPrintable, IsCoded, IsShape, IsSighting}
 use Rattle.obs_record.proofs.Texts.{kept_is_short}
-use Rattle.ades_psv.specs.declared.columns.Columns.{Columns}
-use Rattle.ades_psv.specs.Cells.{field}
+use Rattle.text_lines.specs.Rules.{KeepsEach}
+use Rattle.ades_psv.specs.Fields.{Fields}
 use Rattle.ades_psv.specs.Magnitudes.{IsMagnitudeField, is_empty}
 use Rattle.ades_psv.specs.Names.{IsNumberField, IsDesignationField, IsTemporaryField}
-use Rattle.ades_psv.specs.Rules.{HasFields, line_rules, KeepsEach, IsSightingOf}
+use Rattle.ades_psv.specs.Rules.{Keeps, HasFields, line_rules, IsSightingOf}
 
 -- ---- names
 
@@ -70,22 +70,22 @@ pub record TypesHold (s : Sighting) : Type 0 where
   pub ra : s.ra < circle
   pub dec : (neg_ℤ (pos quarter) ≤ℤ s.dec) × (s.dec ≤ℤ pos quarter)
 
-pub sighting_within : (columns : Columns) (line : List ℕ) (s : Sighting) → KeepsEach line_rules columns line → IsSightingOf columns line s → TypesHold s → IsSighting s
-sighting_within columns line s kept is types =
-    let has : HasFields columns line = kept.1.1.1.1.1.1.1.0 in
+pub sighting_within : (fields : Fields) (s : Sighting) → KeepsEach (Keeps fields) line_rules → IsSightingOf fields s → TypesHold s → IsSighting s
+sighting_within fields s kept is types =
+    let has : HasFields fields = kept.1.1.1.1.1.1.1.0 in
     record {
-      number = number_within (field columns.perm line) s.perm is.perm;
-      designation = designation_within (field columns.prov line) s.prov is.prov;
-      temporary = temporary_within (field columns.sub line) s.sub is.sub;
-      named = named_so (field columns.perm line) (field columns.prov line) (field columns.sub line) s.perm s.prov s.sub is.perm is.prov is.sub has.name;
-      station = subst IsShort (sym is.station) (kept_is_short (field columns.station line));
+      number = number_within fields.perm s.perm is.perm;
+      designation = designation_within fields.prov s.prov is.prov;
+      temporary = temporary_within fields.sub s.sub is.sub;
+      named = named_so fields.perm fields.prov fields.sub s.perm s.prov s.sub is.perm is.prov is.sub has.name;
+      station = subst IsShort (sym is.station) (kept_is_short fields.station);
       time = types.time;
       ra = types.ra;
       dec = types.dec;
-      magnitude = magnitude_within (field columns.mag line) s.mag is.places is.mag;
-      band = subst IsCoded (sym is.band) (coded_by (is_empty (field columns.band line)) (field columns.band line));
-      mode = subst IsCoded (sym is.mode) (kept_is_short (field columns.mode line));
-      catalogue = subst IsCoded (sym is.catalogue) (kept_is_short (field columns.catalogue line));
+      magnitude = magnitude_within fields.mag s.mag is.places is.mag;
+      band = subst IsCoded (sym is.band) (coded_by (is_empty fields.band) fields.band);
+      mode = subst IsCoded (sym is.mode) (kept_is_short fields.mode);
+      catalogue = subst IsCoded (sym is.catalogue) (kept_is_short fields.catalogue);
       note1 = subst IsPrintable (sym is.note1) (lit≤ tt, lit≤ tt);
-      shape = subst IsShape (sym is.shape) (few_places (field columns.mag line) s.mag is.places is.mag);
+      shape = subst IsShape (sym is.shape) (few_places fields.mag s.mag is.places is.mag);
     }

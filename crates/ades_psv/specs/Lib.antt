@@ -1,7 +1,8 @@
-pub mod Steps
+pub mod Answers
 pub mod Cells
 pub mod Columns
 pub mod Headers
+pub mod Fields
 pub mod Magnitudes
 pub mod Written
 pub mod Names
@@ -9,5 +10,6 @@ pub mod Rules
 pub mod Reading
 pub mod Batch
 pub mod Feeding
+pub mod Cutting
 pub mod Walking
-pub mod Listing
+pub mod Readers

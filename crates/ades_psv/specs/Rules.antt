@@ -12,8 +12,8 @@ use Rattle.obs_record.specs.declared.sighting.Coded.TheVariants.{Nothing, Word}
 use Rattle.obs_record.specs.declared.sighting.Shape.TheVariants.{Psv}
 use Rattle.obs_record.specs.declared.sighting.Sighting.{Sighting}
 use Rattle.obs_record.specs.Short.{kept_short}
-use Rattle.ades_psv.specs.declared.columns.Columns.{Columns}
-use Rattle.ades_psv.specs.Cells.{cells, field}
+use Rattle.text_lines.specs.Rules.{Judges}
+use Rattle.ades_psv.specs.Fields.{Fields}
 use Rattle.ades_psv.specs.Magnitudes.{IsMagnitudeField, is_empty}
 use Rattle.ades_psv.specs.Names.{IsNumberField, IsDesignationField, IsTemporaryField}
 
@@ -38,69 +38,57 @@ abbrev pub IsDec : List ℕ → ℤ → Type 0
 IsDec text dec = ReadsDecDegrees text (Ok dec)
 
 -- no field is missing: those that each line has, one of the three names, and a band where there is a magnitude
-pub record HasFields (columns : Columns) (line : List ℕ) : Type 0 where
-  pub station : field columns.station line ≢ []
-  pub mode : field columns.mode line ≢ []
-  pub time : field columns.time line ≢ []
-  pub ra : field columns.ra line ≢ []
-  pub dec : field columns.dec line ≢ []
-  pub catalogue : field columns.catalogue line ≢ []
-  pub name : (field columns.perm line ≢ []) ⊎ (field columns.prov line ≢ []) ⊎ (field columns.sub line ≢ [])
-  pub band : field columns.mag line ≢ [] → field columns.band line ≢ []
+pub record HasFields (fields : Fields) : Type 0 where
+  pub station : fields.station ≢ []
+  pub mode : fields.mode ≢ []
+  pub time : fields.time ≢ []
+  pub ra : fields.ra ≢ []
+  pub dec : fields.dec ≢ []
+  pub catalogue : fields.catalogue ≢ []
+  pub name : (fields.perm ≢ []) ⊎ (fields.prov ≢ []) ⊎ (fields.sub ≢ [])
+  pub band : fields.mag ≢ [] → fields.band ≢ []
 
 -- the line keeps the rule; rules other than these aren't of a data line's spelling, and every line keeps them
-abbrev pub Keeps : RuleCode → Columns → List ℕ → Type 0
-Keeps S2 columns line = All IsTextByte line
-Keeps S3 columns line =
-    ((number : Option Number) × IsNumberField (field columns.perm line) number)
-    × ((designation : Option Designation) × IsDesignationField (field columns.prov line) designation)
-Keeps S5 columns line = IsEmptyOr IsTime (field columns.time line)
-Keeps S6 columns line = IsEmptyOr IsRa (field columns.ra line)
-Keeps S7 columns line = IsEmptyOr IsDec (field columns.dec line)
-Keeps S9 columns line = (mag : Option ℕ) × (count : ℕ) × IsMagnitudeField (field columns.mag line) mag count
-Keeps S10 columns line = length (cells line) ≤ columns.count
-Keeps S11 columns line = HasFields columns line
-Keeps S12 columns line = (short : Option Short) × IsTemporaryField (field columns.sub line) short
-Keeps rule columns line = Unit {0}
+abbrev pub Keeps : Fields → RuleCode → Type 0
+Keeps fields S2 = All IsTextByte fields.line
+Keeps fields S3 =
+    ((number : Option Number) × IsNumberField fields.perm number)
+    × ((designation : Option Designation) × IsDesignationField fields.prov designation)
+Keeps fields S5 = IsEmptyOr IsTime fields.time
+Keeps fields S6 = IsEmptyOr IsRa fields.ra
+Keeps fields S7 = IsEmptyOr IsDec fields.dec
+Keeps fields S9 = (mag : Option ℕ) × (count : ℕ) × IsMagnitudeField fields.mag mag count
+Keeps fields S10 = fields.count ≤ fields.columns
+Keeps fields S11 = HasFields fields
+Keeps fields S12 = (short : Option Short) × IsTemporaryField fields.sub short
+Keeps fields rule = Unit {0}
 
 -- the rules of a data line, in the order in which they are tested
 abbrev pub line_rules : List RuleCode
 line_rules = S2 ∷ S3 ∷ S5 ∷ S6 ∷ S7 ∷ S9 ∷ S10 ∷ S11 ∷ S12 ∷ []
-
--- the line keeps each of the rules
-abbrev pub KeepsEach : List RuleCode → Columns → List ℕ → Type 0
-KeepsEach [] columns line = Unit {0}
-KeepsEach (next ∷ more) columns line = Keeps next columns line × KeepsEach more columns line
-
--- the first of the rules that the line breaks: it is the next one, or the next is kept and it is the first of the others
-abbrev pub IsFirstBroken : List RuleCode → Columns → List ℕ → RuleCode → Type 0
-IsFirstBroken [] columns line rule = ⊥
-IsFirstBroken (next ∷ more) columns line rule =
-    ((¬ Keeps next columns line) × (rule ≡ next)) ⊎ (Keeps next columns line × IsFirstBroken more columns line rule)
 
 -- what a field says whose words the tables of the office have: nothing where it is empty
 abbrev pub coded : List ℕ → Coded
 coded text = if is_empty text then Nothing else Word (kept_short text)
 
 -- the observation is that of the fields
-pub record IsSightingOf (columns : Columns) (line : List ℕ) (s : Sighting) : Type 0 where
-  pub perm : IsNumberField (field columns.perm line) s.perm
-  pub prov : IsDesignationField (field columns.prov line) s.prov
-  pub sub : IsTemporaryField (field columns.sub line) s.sub
-  pub station : s.station ≡ kept_short (field columns.station line)
-  pub time : IsTime (field columns.time line) s.time
-  pub ra : IsRa (field columns.ra line) s.ra
-  pub dec : IsDec (field columns.dec line) s.dec
+pub record IsSightingOf (fields : Fields) (s : Sighting) : Type 0 where
+  pub perm : IsNumberField fields.perm s.perm
+  pub prov : IsDesignationField fields.prov s.prov
+  pub sub : IsTemporaryField fields.sub s.sub
+  pub station : s.station ≡ kept_short fields.station
+  pub time : IsTime fields.time s.time
+  pub ra : IsRa fields.ra s.ra
+  pub dec : IsDec fields.dec s.dec
   pub places : ℕ
-  pub mag : IsMagnitudeField (field columns.mag line) s.mag places
-  pub band : s.band ≡ coded (field columns.band line)
-  pub mode : s.mode ≡ Word (kept_short (field columns.mode line))
-  pub catalogue : s.catalogue ≡ Word (kept_short (field columns.catalogue line))
+  pub mag : IsMagnitudeField fields.mag s.mag places
+  pub band : s.band ≡ coded fields.band
+  pub mode : s.mode ≡ Word (kept_short fields.mode)
+  pub catalogue : s.catalogue ≡ Word (kept_short fields.catalogue)
   -- there is no note 1
   pub note1 : s.note1 ≡ 32
   pub shape : s.shape ≡ Psv places
 
 -- the reading of a data line: the observation of its fields where it keeps every rule, else the first rule that it breaks
-abbrev pub IsReading : Columns → List ℕ → Result Sighting RuleCode → Type 0
-IsReading columns line (Ok s) = KeepsEach line_rules columns line × IsSightingOf columns line s
-IsReading columns line (Err rule) = IsFirstBroken line_rules columns line rule
+abbrev pub IsReading : Fields → Result Sighting RuleCode → Type 0
+IsReading fields read = Judges (Keeps fields) line_rules (IsSightingOf fields) read
