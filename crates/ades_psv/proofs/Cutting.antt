@@ -88,7 +88,7 @@ put_more columns fields cell more =
 
 put_all_is : (columns : Columns) (fields : Fields) (cs : List (List ℕ)) → put_all columns fields cs ≡ with_cells columns fields cs
 put_all_is columns fields [] =
-    let count : fields.count + length [] ≡ fields.count = omega arith in
+    let count : fields.count + length {A = List ℕ} [] ≡ fields.count = omega arith in
     sym (rw (none_found columns.perm fields.count fields.perm,
         none_found columns.prov fields.count fields.prov,
         none_found columns.sub fields.count fields.sub,

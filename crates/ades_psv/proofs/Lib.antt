@@ -7,3 +7,5 @@ pub mod LineLaws
 pub mod RangeLaws
 pub mod Cutting
 pub mod SaidLaws
+pub mod Walks
+pub mod Options

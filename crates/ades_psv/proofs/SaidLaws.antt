@@ -14,11 +14,11 @@ use Rattle.ades_psv.specs.Walking.{said_behind, HasRead}
 
 -- data lines that stand before what is said
 abbrev pub behind : List DataLine → Place × List DataLine → Said
-behind data end = Ok (end.0, data ++ end.1)
+behind found end = Ok (end.0, found ++ end.1)
 
-before_behind : (line : DataLine) (data : List DataLine) (r : Said) → ((r >>= behind data) >>= before line) ≡ (r >>= behind (line ∷ data))
-before_behind line data (Ok more) = refl
-before_behind line data (Err fault) = refl
+before_behind : (line : DataLine) (found : List DataLine) (r : Said) → ((r >>= behind found) >>= before line) ≡ (r >>= behind (line ∷ found))
+before_behind line found (Ok more) = refl
+before_behind line found (Err fault) = refl
 
 bind_before : (line : DataLine) (r : Said) (go : Place → Said)
     → ((r >>= λ end. go end.0 >>= behind end.1) >>= before line) ≡ ((r >>= before line) >>= λ end. go end.0 >>= behind end.1)

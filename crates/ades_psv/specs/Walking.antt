@@ -17,8 +17,12 @@ pub record HasRead (before : Reached) (lines : List (List ℕ)) (after : Reached
   pub count : after.count ≡ before.count + length lines
   pub found : after.found ≡ before.found ++ map read_of data_lines
 
--- the lines were read, or the first fault in them was met; or memory was refused
+-- this is the first fault in the lines; or memory was refused
+abbrev pub Fails : Reached → List (List ℕ) → PsvFault → Type 0
+Fails before lines (faults.Header fault line) = said_behind before lines ≡ Err (fault, line)
+Fails before lines faults.NoMemory = Unit {0}
+
+-- the lines were read, or they fail
 abbrev pub Reads : {A : Type 0} → Reached → List (List ℕ) → Reached → Result A PsvFault → Type 0
 Reads before lines after (Ok x) = HasRead before lines after
-Reads before lines after (Err (faults.Header fault line)) = said_behind before lines ≡ Err (fault, line)
-Reads before lines after (Err faults.NoMemory) = Unit {0}
+Reads before lines after (Err fault) = Fails before lines fault

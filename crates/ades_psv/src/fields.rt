@@ -66,7 +66,8 @@ fn put_in<'a>(column: Option<usize>, place: usize, cell: &'a [u8], found: &'a [u
 #[tactic(auto, unfolding(crate::specs::Cutting::put))]
 fn put<'a>(columns: &Columns, fields: &Fields<'a>, cell: &'a [u8]) -> Fields<'a>
     requires { fields.now.count < 9223372036854775808 }
-    ensures { seen result ≡ put columns.now (seen fields.now) cell.now }
+    ensures cells { seen result ≡ put columns.now (seen fields.now) cell.now }
+    ensures count { result.count ≡ fields.now.count + 1 }
 {
     let place = fields.count;
     Fields {
