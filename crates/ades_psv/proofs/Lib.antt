@@ -9,3 +9,4 @@ pub mod Cutting
 pub mod SaidLaws
 pub mod Walks
 pub mod Options
+pub mod Readers

@@ -12,20 +12,28 @@ ghost use Rattle.ades_psv.specs.Rules.{IsReading};
 ghost use Rattle.ades_psv.specs.Batch.{psv_lines_of};
 ghost use Rattle.ades_psv.specs.Feeding.{unfed, fed, fed_all, finished};
 
+use text_lines::laws;
+
 /// In whatever pieces a batch comes, it says the same.
 pub fn any_pieces()
     ensures { (pieces : List (List ℕ)) → finished (fed_all unfed pieces) ≡ psv_lines_of (joined pieces) }
-{}
+{
+    laws::lines();
+}
 
 /// What a reader has come to rests on the text that was fed, and not on its pieces.
 pub fn one_text()
     ensures { (pieces : List (List ℕ)) → fed_all unfed pieces ≡ fed unfed (joined pieces) }
-{}
+{
+    laws::lines();
+}
 
 /// The first fault in the complete lines of the front of a batch is the fault of the batch, whatever may follow.
 pub fn faults_stay()
     ensures { (text more : List ℕ) (fault : HeaderFault × ℕ) → fed unfed text ≡ Err fault → psv_lines_of (text ++ more) ≡ Err fault }
-{}
+{
+    laws::lines();
+}
 
 /// The line of the version is `#`, blanks, `version=2017` and blanks, no blank being asked for.
 pub fn version_line()

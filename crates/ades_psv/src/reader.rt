@@ -16,6 +16,7 @@ use item_list::{Bytes, NoMemory};
 use obs_record::{HeaderFault, Lines};
 use std::alloc::Global;
 use std::marker::Model;
+use text_lines::laws;
 use text_lines::pieces::line_end;
 
 /// A reader of a batch that comes in pieces.
@@ -56,11 +57,13 @@ fn read_piece(
     requires room { reached.old.count + length rest.old + length piece.now < 4294967295 }
     ensures exact { Reads reached.old (complete_lines (rest.old ++ piece.now)) reached.new result }
     ensures rest { OnOk result (rest.new ≡ unfinished (rest.old ++ piece.now)) }
+    ensures alone { OnOk result (unfinished rest.new ≡ rest.new) }
     ensures few { OnOk result (reached.new.count + length rest.new ≤ reached.old.count + length rest.old + length piece.now) }
     ensures kept_found { take (length reached.old.found) reached.new.found ≡ reached.old.found }
     ensures kept_rest { OnErr result (take (length rest.old) rest.new ≡ rest.old) }
     ensures range { AreInRange reached.old.found → AreInRange reached.new.found }
 {
+    laws::lines();
     let Some((front, behind)) = line_end(piece) else {
         rest.extend_from_slice(piece)?;
         return Ok(());
@@ -166,6 +169,7 @@ pub fn read_psv(alloc: Global, body: &[u8]) -> Result<Lines, PsvFault>
     ensures lines { IfOk result (λ found. AreReadFrom body.now found) }
     ensures range { IfOk result AreInRange }
 {
+    laws::lines();
     let mut reader = PsvReader::new(alloc)?;
     reader.feed(body)?;
     reader.finish()
