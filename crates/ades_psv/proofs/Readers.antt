@@ -2,7 +2,9 @@
 use Rattle.std.proofs.Common.{◌≡◌, ℕ, ◌+◌, ◌<◌, List, [], ◌∷◌, ◌++◌, append_assoc, length, length-append, map, All, Option, Some, None, Result, Ok, Err, eqb, false, refl, sym, ap, subst, ◌∙◌, arith}
 use Rattle.std.specs.Prelude.{IsOk, IfOk}
 use Rattle.std.specs.List.{AllZip, enumerate_from}
-use Rattle.std.specs.Str.Lines.{lines}
+use Rattle.std.specs.Str.Lines.{lines, lines_of_parts}
+use Rattle.std.proofs.Math.Dec.{eqb-suc-zero}
+use Rattle.std.proofs.lemmas.List.Splits.{slice_split_none}
 use Rattle.std.proofs.lemmas.List.{append-nil}
 use Rattle.std.proofs.lemmas.List.Elements.{All-nil}
 use Rattle.obs_record.specs.declared.line.Line.{Line}
@@ -72,6 +74,44 @@ pub fed_fault : (before : Reached) (rest piece : List ℕ) (told : Option (Heade
 fed_fault before rest piece told old fault view none fails = rw (← view, none) (sym (feeds_fault before rest piece fault fails))
 
 -- ---- the end
+
+-- a text that no line feed ends is one line
+one_part : (text : List ℕ) → 0 < length text → lines_of_parts (text ∷ []) ≡ text ∷ []
+one_part [] some = absurd (omega arith)
+one_part (b ∷ text) some = rw eqb-suc-zero refl
+
+pub last_line : (laws : LineLaws) (text : List ℕ) → unfinished text ≡ text → 0 < length text → lines text ≡ text ∷ []
+last_line laws text alone some =
+    let none : All (λ b. eqb b 10 ≡ false) text = subst (All (λ b. eqb b 10 ≡ false)) alone (laws.rest_goes_on text) in
+    ap lines_of_parts (slice_split_none (λ b. eqb b 10) text none) ∙ one_part text some
+
+pub ends : (before after : Reached) (rest : List ℕ) (told : Option (HeaderFault × ℕ)) (old : Fed) → what_is_fed before rest told ≡ old → told ≡ None → HasRead before (lines rest) after
+    → finished old ≡ ended after.count (after.place, after.found)
+unfolding read_end
+ends before after rest told old view none read =
+    rw (← view, none, read.said)
+    (ap (λ (n : ℕ). ended n (after.place, before.found ++ map read_of read.data_lines)) (sym read.count) ∙ ap (λ (ls : List Line). ended after.count (after.place, ls)) (sym read.found))
+
+pub fails_last : (before : Reached) (rest : List ℕ) (told : Option (HeaderFault × ℕ)) (old : Fed) (fault : PsvFault) → what_is_fed before rest told ≡ old → told ≡ None → Fails before (lines rest) fault
+    → IsAnswer (finished old) (Err fault)
+unfolding read_end
+fails_last before rest told old (faults.Header fault line) view none fails = rw (← view, none, fails) refl
+fails_last before rest told old faults.NoMemory view none fails = tt
+
+-- the end of a batch, whatever was found in it
+pub ended_well : {A : Type 0} (last : ℕ) (place : Place) (x : A) → ended last (place, tt {0}) ≡ Ok (tt {0}) → ended last (place, x) ≡ Ok x
+ended_well last Opening x is = absurd cc
+ended_well last Header x is = absurd cc
+ended_well last (Listing columns) x is = refl
+
+ended_fault : {A : Type 0} (last : ℕ) (place : Place) (x : A) (fault : HeaderFault × ℕ) → ended last (place, tt {0}) ≡ Err fault → ended last (place, x) ≡ Err fault
+ended_fault last Opening x fault is = cc
+ended_fault last Header x fault is = cc
+ended_fault last (Listing columns) x fault is = absurd cc
+
+pub ended_ill : {A : Type 0} (last : ℕ) (place : Place) (x : A) (said : Result A (HeaderFault × ℕ)) (fault : PsvFault) → said ≡ ended last (place, x) → IsAnswer (ended last (place, tt {0})) (Err fault) → IsAnswer said (Err fault)
+ended_ill last place x said (faults.Header fault line) same is = same ∙ ended_fault last place x (fault, line) is
+ended_ill last place x said faults.NoMemory same is = tt
 
 -- what is said at the end, of all data lines or of those that were found before and the last ones
 ending : (n : ℕ) (data_lines : List DataLine) (r : Said)

@@ -147,9 +147,7 @@ impl PsvReader {
             rest,
             ..
         } = self;
-        if !rest.is_empty() {
-            reached.read_line(alloc, rest.as_slice())?;
-        }
+        reached.read_last(alloc, rest.as_slice())?;
         ended(&reached.place, reached.count)?;
         Ok(reached.found)
     }

@@ -1,6 +1,7 @@
 //! The lines of a batch, read one after another.
 
 ghost use Rattle.std.specs.Prelude.{◌≡◌, ◌+◌, ◌<◌, ◌≤◌, [], ◌∷◌, length, take, IfOk};
+ghost use Rattle.std.specs.Str.Lines.{lines};
 ghost use Rattle.text_lines.specs.Pieces.{complete_lines, unfinished};
 ghost use Rattle.ades_psv.specs.Answers.{IsAnswer};
 ghost use Rattle.ades_psv.specs.Batch.{ended, AreInRange};
@@ -12,6 +13,7 @@ use crate::header::{Place, Step, step_at};
 use crate::reading::read_fields;
 use obs_record::{HeaderFault, Line, Lines};
 use std::alloc::Global;
+use text_lines::laws;
 use text_lines::lines::next_complete;
 
 /// How far a batch was read.
@@ -70,6 +72,20 @@ impl Reached {
             rest = behind;
         }
         Ok(rest)
+    }
+
+    /// Reads the last line, which no line feed ends; there is none where it is empty. Takes memory.
+    pub(crate) fn read_last(&mut self, alloc: Global, line: &[u8]) -> Result<(), PsvFault>
+        requires alone { unfinished line.now ≡ line.now }
+        requires room { self.old.count < 4294967295 }
+        ensures exact { Reads self.old (lines line.now) self.new result }
+        ensures range { AreInRange self.old.found → AreInRange self.new.found }
+    {
+        laws::lines();
+        if line.is_empty() {
+            return Ok(());
+        }
+        self.read_line(alloc, line)
     }
 }
 
