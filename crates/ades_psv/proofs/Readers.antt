@@ -227,6 +227,10 @@ read_by : (body : List ℕ) (found : List Line) (r : Result (List DataLine) (Hea
 read_by body found (Ok data_lines) is said = (data_lines, is, (let same : map read_of data_lines ≡ found = cc in subst (AllZip IsReadFrom data_lines) same (zip_read data_lines)))
 read_by body found (Err fault) is said = absurd cc
 
-pub read_from : (body : List ℕ) (found : List Line) → psv_lines_of body ≡ Ok found → AreReadFrom body found
+read_from : (body : List ℕ) (found : List Line) → psv_lines_of body ≡ Ok found → AreReadFrom body found
 unfolding psv_lines_of
 read_from body found said = read_by body found (data_lines_of body) refl said
+
+pub answer_lines : (body : List ℕ) (result : Result (List Line) PsvFault) → IsAnswer (psv_lines_of body) result → IfOk result (λ found. AreReadFrom body found)
+answer_lines body (Ok found) said = read_from body found said
+answer_lines body (Err fault) said = tt
