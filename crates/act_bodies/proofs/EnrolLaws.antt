@@ -6,7 +6,7 @@ use Rattle.std.proofs.lemmas.List.{take_all, take_at}
 use Rattle.std.proofs.lemmas.Option.{cond_some}
 use Rattle.serde_json.specs.Data.{Data}
 use Rattle.ascii_text.specs.Reading.{◌>>=◌}
-use Rattle.ascii_text.proofs.DigitTexts.{bind_some}
+use Rattle.ascii_text.specs.Reading.{bind_some}
 use Rattle.act_bodies.specs.declared.enrol.Enrol.{Enrol}
 use Rattle.act_bodies.specs.declared.key.Key.{Key}
 use Rattle.act_bodies.specs.Keys.{key_of, key_text, begins_with_plus}

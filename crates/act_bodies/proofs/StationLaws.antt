@@ -5,7 +5,7 @@ use Rattle.std.specs.Int.Signed.{le_z_yes}
 use Rattle.std.proofs.lemmas.Float.{T_from_true}
 use Rattle.std.proofs.lemmas.Option.{cond_some}
 use Rattle.ascii_text.specs.Reading.{◌>>=◌}
-use Rattle.ascii_text.proofs.DigitTexts.{bind_some}
+use Rattle.ascii_text.specs.Reading.{bind_some}
 use Rattle.act_bodies.specs.declared.station.Station.{Station}
 use Rattle.act_bodies.specs.Members.{object_of, name_in, station_code_in, day_in}
 use Rattle.act_bodies.specs.Bodies.{station_in, station_of}

@@ -2,14 +2,12 @@
 use Rattle.std.proofs.Common.{◌≡◌, ℕ, zero, suc, ◌+◌, ◌*◌, ◌/◌, ◌%◌, ◌^◌, ◌<◌, ◌≤◌, true, false, cond, eqb, refl, ap, ◌∙◌, inl, inr, lit<, arith}
 use Rattle.std.proofs.lemmas.Bool.{eq-eqb, ne_eqb, cases_lt}
 use Rattle.std.proofs.lemmas.Nat.{div-mul-add, mod-mul-add, div-add-mod'}
-use Rattle.std.proofs.Math.Nat.{mod-eq_of_lt, mod_self, mul-lt-mul_of_pos_right}
-use Rattle.ascii_text.specs.declared.digits.Radix.TheVariants.{Ten}
-use Rattle.ascii_text.proofs.Steps.{power_positive}
+use Rattle.std.proofs.Math.Nat.{one-le-pow, mod-eq_of_lt, mod_self, mul-lt-mul_of_pos_right}
 use Rattle.angle_fixed.specs.Angles.{Parts, time_units, arc_units, hour, minute_of_time, second_of_time, degree, arcminute, arcsecond, circle, quarter}
 use Rattle.angle_fixed.specs.Writing.{nearest, last_unit, parts_of}
 
 pub power_of_ten_positive : (count : ℕ) → 0 < 10 ^ count
-power_of_ten_positive count = power_positive Ten count
+power_of_ten_positive count = let positive : zero < 10 = omega arith in omega (arith, one-le-pow count 10 positive)
 
 -- ---- the nearest step
 

@@ -5,17 +5,11 @@ use Rattle.std.proofs.Math.Nat.{mod-eq_of_lt, mul_comm, mul-le-mul_right}
 use Rattle.std.proofs.lemmas.Nat.{mod_below, div_below, mul-add-lt}
 use Rattle.ascii_text.specs.declared.digits.Radix.TheVariants.{Ten}
 use Rattle.ascii_text.specs.Digits.{decimals_width}
-use Rattle.ascii_text.proofs.BlankTexts.{length-blanks}
-use Rattle.ascii_text.proofs.DigitTexts.{length-digits_text, length-decimals_text}
 use Rattle.angle_fixed.specs.Angles.{Parts, IsSpelled, spelling, sign_byte, signed, time_units, arc_units, circle, quarter, second_of_time, arcsecond}
 use Rattle.angle_fixed.specs.Answer.{IsOnClock, IsWithinQuarter, ReadsTime, ReadsArc}
 use Rattle.angle_fixed.specs.Writing.{nearest, last_unit, parts_of, rounded_time, time_text, is_negative, has_minus, rounded_arc, arc_text}
 use Rattle.angle_fixed.proofs.Rounding.{power_of_ten_positive, nearest_time_within, nearest_arc_within, nearest-step, steps_of, steps_of-parts_of, parts_of-steps_of, time_units-steps, arc_units-steps, last_unit_of_time, last_unit_of_arc, day_of_steps}
-
-length-spelling : (p : Parts) (space : ℕ) → length (spelling p space) ≡ 8 + decimals_width p.count + space
-unfolding spelling
-length-spelling p space =
-    omega (arith, length-append {A = ℕ}, length-digits_text Ten 2 p.whole, length-digits_text Ten 2 p.minute, length-digits_text Ten 2 p.second, length-decimals_text p.count p.value, length-blanks space)
+use Rattle.ascii_text.specs.Laws.{TextLaws}
 
 -- a carried number of seconds below a limit in hours or degrees
 carried_below : (count steps limit : ℕ) → steps < limit * 3600 * 10 ^ count → steps / 10 ^ count / 60 / 60 < limit
@@ -50,10 +44,6 @@ time_text_reads units count few within =
     let hour : near % day / 10 ^ count / 60 / 60 < 24 = carried_below count (near % day) 24 (omega arith) in
     (p, spelled_parts count (near % day) (4 - decimals_width count) (spelling p (4 - decimals_width count)) (omega arith) refl, few, record { hour = omega arith; minute = omega arith; second = omega arith }, ap (λ (k : ℕ). (k, count)) (rounded ∙ sym value))
 
--- what is spelled has as many blanks behind it as twelve bytes leave
-rest_of_twelve : (p : Parts) (space front : ℕ) (text : List ℕ) → text ≡ spelling p space → length text + front ≡ 12 → space ≡ 4 - front - decimals_width p.count
-rest_of_twelve p space front text is wide = omega (arith, length-spelling p space, ap length is)
-
 steps_below : (p : Parts) (limit : ℕ) → (p.whole * 60 + p.minute) * 60 + p.second < limit → p.value < 10 ^ p.count → steps_of p < limit * 10 ^ p.count
 steps_below p limit seconds value =
     omega (arith, mul-add-lt ((p.whole * 60 + p.minute) * 60 + p.second) (10 ^ p.count) p.value limit seconds value, mul_comm limit (10 ^ p.count))
@@ -68,15 +58,6 @@ time_text_of p few clock value =
     let kept : nearest (time_units p) step % day ≡ steps_of p = ap (λ (k : ℕ). k % day) near ∙ mod-eq_of_lt below in
     let same : parts_of p.count (nearest (time_units p) step % day) ≡ p = ap (λ (k : ℕ). parts_of p.count k) kept ∙ parts_of-steps_of p clock.minute clock.second value in
     ap (λ (q : Parts). spelling q (4 - decimals_width p.count)) same
-
--- What was read is written again.
-pub time_text_again : (text : List ℕ) (units count : ℕ) → length text ≡ 12 → ReadsTime text (Ok (units, count)) → time_text units count ≡ text
-time_text_again text units count wide right =
-    let p : Parts = right.0 in
-    let units_are : units ≡ time_units p = ap (λ (x : ℕ × ℕ). x.0) right.4 in
-    let count_is : count ≡ p.count = ap (λ (x : ℕ × ℕ). x.1) right.4 in
-    let space : right.1.space ≡ 4 - decimals_width p.count = omega (arith, rest_of_twelve p right.1.space 0 text right.1.text_is (omega (arith, wide))) in
-    ap (λ (u : ℕ). time_text u count) units_are ∙ ap (λ (c : ℕ). time_text (time_units p) c) count_is ∙ time_text_of p right.2 right.3 right.1.value ∙ ap (λ (n : ℕ). spelling p n) (sym space) ∙ sym right.1.text_is
 
 -- ---- declinations
 
@@ -133,14 +114,35 @@ arc_text_of minus p few range value =
     ∙ ap (λ (b : Bool). sign_byte b ∷ spelling (parts_of p.count (nearest (arc_units p) step)) (3 - decimals_width p.count)) sign
     ∙ ap (λ (q : Parts). sign_byte minus ∷ spelling q (3 - decimals_width p.count)) same
 
--- What was read is written again, with the minus that stood before zero.
-pub arc_text_again : (text : List ℕ) (units : ℤ) (count : ℕ) (minus : Bool) → length text ≡ 12 → ReadsArc text (Ok (units, count, minus)) → arc_text units count minus ≡ text
-arc_text_again text units count minus wide right =
-    let p : Parts = right.0.1 in
-    let spelled : IsSpelled p right.1.0 = right.1.2 in
-    let minus_is : minus ≡ right.0.0 = ap (λ (x : ℤ × ℕ × Bool). x.2) right.4 in
-    let units_are : units ≡ signed right.0.0 (arc_units p) = ap (λ (x : ℤ × ℕ × Bool). x.0) right.4 in
-    let count_is : count ≡ p.count = ap (λ (x : ℤ × ℕ × Bool). x.1) right.4 in
-    let space : spelled.space ≡ 3 - decimals_width p.count = omega (arith, rest_of_twelve p spelled.space 1 right.1.0 spelled.text_is (omega (arith, wide, ap length right.1.1))) in
-    ap (λ (u : ℤ). arc_text u count minus) units_are ∙ ap (λ (c : ℕ). arc_text (signed right.0.0 (arc_units p)) c minus) count_is ∙ ap (λ (b : Bool). arc_text (signed right.0.0 (arc_units p)) p.count b) minus_is
-    ∙ arc_text_of right.0.0 p right.2 right.3 spelled.value ∙ ap (λ (n : ℕ). sign_byte right.0.0 ∷ spelling p n) (sym space) ∙ ap (λ (t : List ℕ). sign_byte right.0.0 ∷ t) (sym spelled.text_is) ∙ sym right.1.1
+module _ (texts : TextLaws) where
+  open texts use {length-blanks, length-digits_text, length-decimals_text}
+
+  length-spelling : (p : Parts) (space : ℕ) → length (spelling p space) ≡ 8 + decimals_width p.count + space
+  unfolding spelling
+  length-spelling p space =
+      omega (arith, length-append {A = ℕ}, length-digits_text Ten 2 p.whole, length-digits_text Ten 2 p.minute, length-digits_text Ten 2 p.second, length-decimals_text p.count p.value, length-blanks space)
+
+  -- what is spelled has as many blanks behind it as twelve bytes leave
+  rest_of_twelve : (p : Parts) (space front : ℕ) (text : List ℕ) → text ≡ spelling p space → length text + front ≡ 12 → space ≡ 4 - front - decimals_width p.count
+  rest_of_twelve p space front text is wide = omega (arith, length-spelling p space, ap length is)
+
+  -- What was read is written again.
+  pub time_text_again : (text : List ℕ) (units count : ℕ) → length text ≡ 12 → ReadsTime text (Ok (units, count)) → time_text units count ≡ text
+  time_text_again text units count wide right =
+      let p : Parts = right.0 in
+      let units_are : units ≡ time_units p = ap (λ (x : ℕ × ℕ). x.0) right.4 in
+      let count_is : count ≡ p.count = ap (λ (x : ℕ × ℕ). x.1) right.4 in
+      let space : right.1.space ≡ 4 - decimals_width p.count = omega (arith, rest_of_twelve p right.1.space 0 text right.1.text_is (omega (arith, wide))) in
+      ap (λ (u : ℕ). time_text u count) units_are ∙ ap (λ (c : ℕ). time_text (time_units p) c) count_is ∙ time_text_of p right.2 right.3 right.1.value ∙ ap (λ (n : ℕ). spelling p n) (sym space) ∙ sym right.1.text_is
+
+  -- What was read is written again, with the minus that stood before zero.
+  pub arc_text_again : (text : List ℕ) (units : ℤ) (count : ℕ) (minus : Bool) → length text ≡ 12 → ReadsArc text (Ok (units, count, minus)) → arc_text units count minus ≡ text
+  arc_text_again text units count minus wide right =
+      let p : Parts = right.0.1 in
+      let spelled : IsSpelled p right.1.0 = right.1.2 in
+      let minus_is : minus ≡ right.0.0 = ap (λ (x : ℤ × ℕ × Bool). x.2) right.4 in
+      let units_are : units ≡ signed right.0.0 (arc_units p) = ap (λ (x : ℤ × ℕ × Bool). x.0) right.4 in
+      let count_is : count ≡ p.count = ap (λ (x : ℤ × ℕ × Bool). x.1) right.4 in
+      let space : spelled.space ≡ 3 - decimals_width p.count = omega (arith, rest_of_twelve p spelled.space 1 right.1.0 spelled.text_is (omega (arith, wide, ap length right.1.1))) in
+      ap (λ (u : ℤ). arc_text u count minus) units_are ∙ ap (λ (c : ℕ). arc_text (signed right.0.0 (arc_units p)) c minus) count_is ∙ ap (λ (b : Bool). arc_text (signed right.0.0 (arc_units p)) p.count b) minus_is
+      ∙ arc_text_of right.0.0 p right.2 right.3 spelled.value ∙ ap (λ (n : ℕ). sign_byte right.0.0 ∷ spelling p n) (sym space) ∙ ap (λ (t : List ℕ). sign_byte right.0.0 ∷ t) (sym spelled.text_is) ∙ sym right.1.1

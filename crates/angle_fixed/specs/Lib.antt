@@ -8,3 +8,4 @@ pub mod Writing
 pub use Rattle.ascii_text.specs.Blanks
 pub use Rattle.ascii_text.specs.Digits
 pub use Rattle.ascii_text.specs.Judged
+pub mod Laws

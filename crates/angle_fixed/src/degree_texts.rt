@@ -4,17 +4,19 @@ ghost use Rattle.std.specs.Prelude.{◌≡◌, ◌+◌, ◌-◌, ◌*◌, ◌/�
 ghost use Rattle.arrayvec.specs.ArrayVec.{array_vec_len};
 ghost use Rattle.ascii_text.specs.Blanks.{blanks, trimmed_end};
 ghost use Rattle.angle_fixed.specs.Angles.{circle, quarter, sign_byte};
-ghost use Rattle.angle_fixed.specs.Degrees.{DegreeParts, IsSpelledDegrees, ReadsDecDegrees, ReadsRaDegrees, dec_degrees_of, degree_units, ra_degrees_of};
-ghost use Rattle.angle_fixed.specs.Degrees.{degree_spelling, plain_digits, ra_steps, twelfth_decimal, twelve_decimals};
+ghost use Rattle.angle_fixed.specs.Degrees.{ReadsDecDegrees, ReadsRaDegrees, dec_degrees_of, degree_units, ra_degrees_of};
+ghost use Rattle.angle_fixed.specs.Degrees.{plain_digits, ra_steps, twelfth_decimal, twelve_decimals};
 ghost use Rattle.angle_fixed.specs.Degrees.{dec_degrees_text, ra_degrees_text, rounded_dec_degrees, rounded_ra_degrees};
-ghost use Rattle.angle_fixed.specs.WrittenDegrees.{degree_parts, IsPlaced};
+ghost use Rattle.ascii_text.specs.DecimalNumbers.{NumberParts, IsSpelledNumber, number_spelling};
+ghost use Rattle.ascii_text.specs.Written.{number_parts};
+ghost use Rattle.angle_fixed.specs.WrittenDegrees.{IsPlaced};
 ghost use Rattle.angle_fixed.specs.Writing.{is_negative, nearest};
 
 use crate::angle::{Dec, Ra};
-use crate::degrees::WrittenDegrees;
 use crate::writing::{nearest, sign_byte};
 use arrayvec::ArrayVec;
 use ascii_text::digits::Radix;
+use ascii_text::numbers::DecimalNumber;
 use ascii_text::reading::Decimals;
 use ascii_text::writing::{put_blanks, put_decimals, put_digits};
 
@@ -39,13 +41,13 @@ fn plain_digits(whole: u64) -> usize
     }
 }
 
-fn twelve_decimals(digits: usize, steps: u64) -> WrittenDegrees
+fn twelve_decimals(digits: usize, steps: u64) -> DecimalNumber
     requires few { digits ≤ 3 }
     requires below { steps / 10 ^ 12 < 10 ^ digits }
-    ensures parts { degree_parts result ≡ twelve_decimals digits steps }
+    ensures parts { number_parts result ≡ twelve_decimals digits steps }
     ensures placed { IsPlaced result }
 {
-    WrittenDegrees {
+    DecimalNumber {
         digits,
         whole: steps / STEPS_OF_A_DEGREE,
         decimals: Decimals {
@@ -56,11 +58,11 @@ fn twelve_decimals(digits: usize, steps: u64) -> WrittenDegrees
 }
 
 // Writes the digits, the point and the twelve decimals.
-#[tactic(auto, unfolding(crate::specs::Degrees::degree_spelling))]
-fn put_degrees(out: &mut ArrayVec<u8, 16>, d: WrittenDegrees)
+#[tactic(auto, unfolding(ascii_text::specs::DecimalNumbers::number_spelling))]
+fn put_degrees(out: &mut ArrayVec<u8, 16>, d: DecimalNumber)
     requires room { array_vec_len out.old + d.digits ≤ 3 }
     requires placed { IsPlaced d }
-    ensures text { out.new.items ≡ out.old.items ++ degree_spelling (degree_parts d) }
+    ensures text { out.new.items ≡ out.old.items ++ number_spelling (number_parts d) }
     ensures len { array_vec_len out.new ≡ array_vec_len out.old + d.digits + 13 }
 {
     put_digits(out, Radix::Ten, d.digits, d.whole);
@@ -132,9 +134,10 @@ pub fn write_ra_degrees(ra: Ra) -> [u8; 16]
     ensures exact { result ≡ ra_degrees_text ra }
     ensures read { ReadsRaDegrees (trimmed_end result) (Ok (rounded_ra_degrees ra)) }
     ensures value { ra_degrees_of (trimmed_end result) ≡ Ok (rounded_ra_degrees ra) }
-    ensures again { (p : DegreeParts) (text : List ℕ) → IsSpelledDegrees 3 p text → p.count ≡ 12 → p.digits ≡ plain_digits p.whole → degree_units p ≡ ra
+    ensures again { (p : NumberParts) (text : List ℕ) → IsSpelledNumber 3 p text → p.count ≡ 12 → p.digits ≡ plain_digits p.whole → degree_units p ≡ ra
         → result ≡ text ++ blanks (16 - length text) }
 {
+    ascii_text::laws::texts();
     ra_text(ra)
 }
 
@@ -148,5 +151,6 @@ pub fn write_dec_degrees(dec: Dec) -> [u8; 16]
     ensures again { (text : List ℕ) → length text ≡ 16 → slice_index text 0 ≡ sign_byte (is_negative dec) → ReadsDecDegrees text (Ok dec)
         → result ≡ text }
 {
+    ascii_text::laws::texts();
     dec_text(dec)
 }

@@ -3,77 +3,42 @@
 
 ghost use Rattle.std.specs.Prelude.{◌≡◌, ◌<◌, ◌≤◌, ℕ, ℤ, IfSome, Result, option_map};
 ghost use Rattle.angle_fixed.specs.declared.fault.AngleFault.{AngleFault};
-ghost use Rattle.angle_fixed.specs.Degrees.{dec_within, degree_units, past_sign, ra_within, whole_at};
+ghost use Rattle.angle_fixed.specs.Degrees.{dec_within, degree_units, past_sign, ra_within};
 ghost use Rattle.angle_fixed.specs.Degrees.{dec_degrees_of, ra_degrees_of, ReadsDecDegrees, ReadsRaDegrees};
-ghost use Rattle.angle_fixed.specs.WrittenDegrees.{degree_parts, degrees_within, found_answer, IsBoundedDegrees};
+ghost use Rattle.ascii_text.specs.DecimalNumbers.{number_parts_at, within};
+ghost use Rattle.ascii_text.specs.Written.{number_parts};
+ghost use Rattle.angle_fixed.specs.WrittenDegrees.{found_answer, IsBoundedDegrees};
 
 use crate::angle::{Dec, Ra};
 use crate::fault::AngleFault;
 use crate::reading::decimals_units;
 use crate::units::{CIRCLE, DEGREE, QUARTER};
-use ascii_text::digits::Radix;
-use ascii_text::reading::{Decimals, decimals_within, digit_run, digits_at};
+use ascii_text::numbers::{DecimalNumber, decimal_number};
 
 // As many decimals are read: the twelfth is 9 units.
 const MOST_DECIMALS: usize = 12;
 
-// What a text of degrees spells: so many digits before the point, their value, and the decimals.
-#[derive(Clone, Copy)]
-pub(crate) struct WrittenDegrees {
-    pub(crate) digits: usize,
-    pub(crate) whole: u64,
-    pub(crate) decimals: Decimals,
-}
-
-// All the digits at the front, at most so many: how many there are, their value, and the text behind them.
-#[tactic(auto, unfolding(crate::specs::Degrees::whole_at, ascii_text::specs::Reading::run_at))]
-fn whole_front(most: usize, text: &[u8]) -> Option<(usize, u64, &[u8])>
+// Degrees with so many digits before the point at most, and with twelve decimals at most.
+fn degrees(most: usize, text: &[u8]) -> Option<Option<DecimalNumber>>
     requires { most ≤ 3 }
-    ensures exact { option_map (λ x. ((x.0, x.1), x.2.now)) result ≡ whole_at most text.now }
-    ensures below { IfSome result (λ x. x.1 < 1000) }
-{
-    let count = digit_run(text);
-    if count == 0 || count > most {
-        return None;
-    }
-    let (value, rest) = digits_at(Radix::Ten, count, text)?;
-    Some((count, value, rest))
-}
-
-// What the whole text spells; nothing in its place where the decimals are too many.
-#[tactic(auto, unfolding(crate::specs::WrittenDegrees::degrees_within))]
-fn degrees_front(most: usize, text: &[u8]) -> Option<Option<WrittenDegrees>>
-    requires { most ≤ 3 }
-    ensures exact { option_map (λ found. option_map (λ d. degree_parts d) found) result ≡ degrees_within most text.now }
+    ensures exact { option_map (λ found. option_map (λ d. number_parts d) found) result ≡ option_map (λ p. within 12 p) (number_parts_at most text.now) }
     ensures below { IfSome result (λ found. IfSome found (λ d. IsBoundedDegrees d)) }
 {
-    let (digits, whole, rest) = whole_front(most, text)?;
-    let (decimals, rest) = decimals_within(MOST_DECIMALS, rest)?;
-    if !rest.is_empty() {
-        return None;
-    }
-    let Some(decimals) = decimals else {
-        return Some(None);
-    };
-    Some(Some(WrittenDegrees {
-        digits,
-        whole,
-        decimals,
-    }))
+    decimal_number(most, MOST_DECIMALS, text)
 }
 
 #[tactic(auto, unfolding(crate::specs::Degrees::degree_units))]
-fn degree_units(d: WrittenDegrees) -> u64
+fn degree_units(d: DecimalNumber) -> u64
     requires { IsBoundedDegrees d }
-    ensures { result ≡ degree_units (degree_parts d) }
+    ensures { result ≡ degree_units (number_parts d) }
 {
     d.whole * DEGREE + decimals_units(d.decimals, DEGREE)
 }
 
 fn ra_degrees(text: &[u8]) -> Result<Ra, AngleFault>
-    ensures { result ≡ found_answer (λ p. ra_within p) (degrees_within 3 text.now) }
+    ensures { result ≡ found_answer (λ p. ra_within p) (option_map (λ p. within 12 p) (number_parts_at 3 text.now)) }
 {
-    let Some(found) = degrees_front(3, text) else {
+    let Some(found) = degrees(3, text) else {
         return Err(AngleFault::Spelling);
     };
     let Some(d) = found else {
@@ -98,10 +63,10 @@ fn past_sign(text: &[u8]) -> (bool, &[u8])
 }
 
 fn dec_degrees(text: &[u8]) -> Result<Dec, AngleFault>
-    ensures { let sign = past_sign text.now in result ≡ found_answer (λ p. dec_within (sign.0, p)) (degrees_within 2 sign.1) }
+    ensures { let sign = past_sign text.now in result ≡ found_answer (λ p. dec_within (sign.0, p)) (option_map (λ p. within 12 p) (number_parts_at 2 sign.1)) }
 {
     let (minus, rest) = past_sign(text);
-    let Some(found) = degrees_front(2, rest) else {
+    let Some(found) = degrees(2, rest) else {
         return Err(AngleFault::Spelling);
     };
     let Some(d) = found else {
@@ -124,6 +89,7 @@ pub fn read_ra_degrees(text: &[u8]) -> Result<Ra, AngleFault>
     ensures answer { ReadsRaDegrees text.now result }
     ensures only { (other : Result ℕ AngleFault) → ReadsRaDegrees text.now other → result ≡ other }
 {
+    ascii_text::laws::texts();
     ra_degrees(text)
 }
 
@@ -138,5 +104,6 @@ pub fn read_dec_degrees(text: &[u8]) -> Result<Dec, AngleFault>
     ensures answer { ReadsDecDegrees text.now result }
     ensures only { (other : Result ℤ AngleFault) → ReadsDecDegrees text.now other → result ≡ other }
 {
+    ascii_text::laws::texts();
     dec_degrees(text)
 }

@@ -175,6 +175,7 @@ pub fn read_hms(text: &[u8; 12]) -> Result<(Ra, u8), AngleFault>
     ensures answer { ReadsTime text.now result }
     ensures only { (other : Result (ℕ × ℕ) AngleFault) → ReadsTime text.now other → result ≡ other }
 {
+    ascii_text::laws::texts();
     hms(text)
 }
 
@@ -188,5 +189,6 @@ pub fn read_dms(text: &[u8; 12]) -> Result<(Dec, u8, bool), AngleFault>
     ensures answer { ReadsArc text.now result }
     ensures only { (other : Result (ℤ × ℕ × Bool) AngleFault) → ReadsArc text.now other → result ≡ other }
 {
+    ascii_text::laws::texts();
     dms(text)
 }

@@ -158,6 +158,7 @@ pub fn write_hms(ra: Ra, decimals: u8) -> [u8; 12]
     ensures read { ReadsTime result (Ok (rounded_time ra decimals, decimals)) }
     ensures again { (text : List ℕ) → length text ≡ 12 → ReadsTime text (Ok (ra, decimals)) → result ≡ text }
 {
+    ascii_text::laws::texts();
     time_text(ra, decimals)
 }
 
@@ -171,5 +172,6 @@ pub fn write_dms(dec: Dec, decimals: u8, minus: bool) -> [u8; 12]
     ensures read { ReadsArc result (Ok (rounded_arc dec decimals, decimals, has_minus dec minus)) }
     ensures again { (text : List ℕ) → length text ≡ 12 → ReadsArc text (Ok (dec, decimals, minus)) → result ≡ text }
 {
+    ascii_text::laws::texts();
     arc_text(dec, decimals, minus)
 }

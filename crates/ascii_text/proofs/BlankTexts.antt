@@ -118,7 +118,7 @@ unfolding trimmed_front
 trimmed_front-other [] other = refl
 trimmed_front-other (byte ∷ text) other = ap (λ (b : Bool). cond b (trimmed_front text) (byte ∷ text)) (ne_eqb byte 32 other)
 
-trimmed_end-blanks : (text : List ℕ) (n : ℕ) → trimmed_end (text ++ blanks n) ≡ trimmed_end text
+pub trimmed_end-blanks : (text : List ℕ) (n : ℕ) → trimmed_end (text ++ blanks n) ≡ trimmed_end text
 unfolding trimmed_end
 trimmed_end-blanks text n =
     let backwards : reverse (text ++ blanks n) ≡ blanks n ++ reverse text = reverse-append text (blanks n) ∙ ap (λ (t : List ℕ). t ++ reverse text) (reverse-blanks n) in

@@ -7,13 +7,8 @@ use Rattle.std.proofs.lemmas.Nat.{mul-add-lt, div-mul-add, mod-mul-add, mod_belo
 use Rattle.ascii_text.specs.declared.digits.Radix.{Radix}
 use Rattle.ascii_text.specs.declared.digits.Radix.TheVariants.{Ten, SixtyTwo}
 use Rattle.ascii_text.specs.Digits.{base, digit_byte, digits_text, decimals_text, decimals_width}
-use Rattle.ascii_text.specs.Reading.{◌>>=◌, digit_value, sixty_two_value, digit_at, more_digits, digits_at}
+use Rattle.ascii_text.specs.Reading.{◌>>=◌, bind_some, digit_value, sixty_two_value, digit_at, more_digits, digits_at}
 use Rattle.ascii_text.proofs.Steps.{power_positive}
-
--- a step that gave something
-pub bind_some : {A B : Type 0} (o : Option A) (f : A → Option B) (y : B) → (o >>= f) ≡ Some y → (x : A) × (o ≡ Some x) × (f x ≡ Some y)
-bind_some (Some x) f y e = (x, refl, e)
-bind_some None f y e = absurd cc
 
 pub some_first : {A B : Type 0} (a : A) (b : B) (x : A × B) → Some (a, b) ≡ Some x → a ≡ x.0
 some_first {A = A} {B = B} a b x e = ap (λ (p : A × B). p.0) (same_Some (a, b) x e)

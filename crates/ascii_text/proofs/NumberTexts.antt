@@ -13,10 +13,11 @@ use Rattle.std.specs.Int.{IsInRange}
 use Rattle.std.specs.Str.Parse.{AllDigits}
 use Rattle.ascii_text.specs.declared.digits.Radix.TheVariants.{Ten}
 use Rattle.ascii_text.specs.Digits.{digits_text, decimals_text}
-use Rattle.ascii_text.specs.Reading.{◌>>=◌, digit_at, more_digits, digits_at, behind, digit_run, run_at, run_within, at_most, decimals_at, decimals_within, number_at}
+use Rattle.ascii_text.specs.Reading.{◌>>=◌, bind_some, digit_at, more_digits, digits_at, behind, digit_run, run_at, run_within, at_most, decimals_at, decimals_within, number_at}
+use Rattle.ascii_text.specs.Laws.{TakesRun, TakesDecimals, TakesDecimalsWithin, TakesNumber}
 use Rattle.ascii_text.proofs.Steps.{power_positive, power_within}
 use Rattle.ascii_text.proofs.BlankTexts.{digit_run-nil, digit_run-other}
-use Rattle.ascii_text.proofs.DigitTexts.{bind_some, some_first, digit_at-cons, digits_again, digits_takes, length-digits_text}
+use Rattle.ascii_text.proofs.DigitTexts.{some_first, digit_at-cons, digits_again, digits_takes, length-digits_text}
 
 pos_of : (n : ℕ) → (n ≡ 0 → ⊥) → 0 < n
 pos_of n other = grind arith
@@ -103,13 +104,6 @@ run_found : (b : Bool) (o : Option ((ℕ × ℕ) × List ℕ)) (x : (ℕ × ℕ)
 run_found true o x e = absurd cc
 run_found false o x e = (refl, e)
 
--- the digits that were read, all that stand there
-pub record TakesRun (text : List ℕ) (x : (ℕ × ℕ) × List ℕ) : Type 0 where
-  pub some : 0 < x.0.0
-  pub below : x.0.1 < 10 ^ x.0.0
-  pub text_is : text ≡ digits_text Ten x.0.0 x.0.1 ++ x.1
-  pub ends : digit_run x.1 ≡ 0
-
 pub run_takes : (text : List ℕ) (x : (ℕ × ℕ) × List ℕ) → run_at text ≡ Some x → TakesRun text x
 unfolding run_at
 run_takes text x e =
@@ -134,11 +128,6 @@ decimals_again zero value rest below ends pointless =
     rw (ne_eqb (get_or rest 0 0) 46 pointless, none) refl
 decimals_again (suc count) value rest below ends pointless =
     rw (behind-cons 46 (digits_text Ten (suc count) value ++ rest)) (run_again (suc count) value rest (omega arith) below ends)
-
--- what a text is that decimals were read from
-pub record TakesDecimals (text : List ℕ) (x : (ℕ × ℕ) × List ℕ) : Type 0 where
-  pub below : x.0.1 < 10 ^ x.0.0
-  pub text_is : text ≡ decimals_text x.0.0 x.0.1 ++ x.1
 
 takes_decimals : (count value : ℕ) (text rest : List ℕ) → 0 < count → value < 10 ^ count → text ≡ digits_text Ten count value ++ rest → TakesDecimals (46 ∷ text) ((count, value), rest)
 unfolding decimals_text
@@ -192,14 +181,6 @@ pub decimals_within_again : (most count value : ℕ) (rest : List ℕ) → value
     → decimals_within most (decimals_text count value ++ rest) ≡ at_most most ((count, value), rest)
 unfolding decimals_within
 decimals_within_again most count value rest below ends pointless = rw (decimals_again count value rest below ends pointless) refl
-
--- what a text is where decimals were read from it, or passed over
-pub record TakesDecimalsWithin (most : ℕ) (text : List ℕ) (x : Option (ℕ × ℕ) × List ℕ) : Type 0 where
-  pub count : ℕ
-  pub value : ℕ
-  pub below : value < 10 ^ count
-  pub text_is : text ≡ decimals_text count value ++ x.1
-  pub found : x.0 ≡ cond (ltb most count) None (Some (count, value))
 
 -- Decimals that are read are written so.
 pub decimals_within_takes : (most : ℕ) (text : List ℕ) (x : Option (ℕ × ℕ) × List ℕ) → decimals_within most text ≡ Some x → TakesDecimalsWithin most text x
@@ -255,11 +236,6 @@ number_again most n rest some le below ends =
     rw (run, kept, digits_at-run (decimal n) rest all, value) refl
 
 -- A number that is read is written so, and no digit follows.
-pub record TakesNumber (most : ℕ) (text : List ℕ) (x : ℕ × List ℕ) : Type 0 where
-  pub below : x.0 < 10 ^ most
-  pub text_is : text ≡ decimal x.0 ++ x.1
-  pub ends : digit_run x.1 ≡ 0
-
 pub number_takes : (most : ℕ) (text : List ℕ) (x : ℕ × List ℕ) → most ≤ 18 → number_at most text ≡ Some x → TakesNumber most text x
 unfolding number_at
 number_takes most text x le e =

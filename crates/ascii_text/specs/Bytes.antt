@@ -27,3 +27,7 @@ carriage_return = 13
 -- the bar between the fields of a line
 abbrev pub vertical_bar : ℕ
 vertical_bar = 124
+
+-- the asterisk that marks a discovery
+abbrev pub asterisk : ℕ
+asterisk = 42

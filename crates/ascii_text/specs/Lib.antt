@@ -2,5 +2,9 @@ pub mod Bytes
 pub mod Digits
 pub mod Reading
 pub mod Judged
+pub mod Answering
 pub mod Blanks
+pub mod DecimalNumbers
+pub mod Written
+pub mod Laws
 pub use Rattle.arrayvec.specs.ArrayVec

@@ -5,6 +5,7 @@
 pub mod blanks;
 pub mod digits;
 pub mod laws;
+pub mod numbers;
 pub mod reading;
 #[cfg(test)]
 mod tests;

@@ -1,81 +1,151 @@
--- The lines of a batch, one after the other.
-use Rattle.std.proofs.Common.{Bool, not, ◌≡◌, ℕ, ◌+◌, true, false, List, [], ◌∷◌, ◌++◌, append_assoc, ap, ◌∙◌, map, Result, Ok, Err, refl, sym, subst}
-use Rattle.std.specs.Prelude.{IfOk}
-use Rattle.std.specs.declared.alloc.AllocError.{AllocError}
+-- A batch that is read line by line says what the batch says.
+use Rattle.std.proofs.Common.{◌≡◌, ℕ, ◌+◌, ◌<◌, ◌≤◌, Bool, true, false, not, cond, ◌||◌, List, [], ◌∷◌, ◌++◌, append_assoc, length, map, take, refl, sym, ap, subst, ◌∙◌, arith}
 use Rattle.std.specs.List.{enumerate_from, AllZip}
 use Rattle.std.specs.Str.Lines.{lines}
-use Rattle.obs_record.specs.declared.line.Line.{Line}
-use Rattle.obs_record.specs.declared.rule.RuleCode.{RuleCode}
-use Rattle.obs_record.specs.declared.sighting.Sighting.{Sighting}
-use Rattle.col80_format.specs.Reading.{reading_of}
+use Rattle.std.proofs.lemmas.List.{append-nil, take-append-le, take_at, length-append}
 use Rattle.ascii_text.specs.Blanks.{are_blanks}
-use Rattle.col80_format.specs.Batch.{drop_while, is_front_line, behind_front, numbered_lines, observation_lines, IsReadFrom, read_of, said, lines_of}
+use Rattle.text_lines.specs.Lines.{filled_lines, IsNumberable}
+use Rattle.text_lines.specs.Pieces.{complete_lines, unfinished}
+use Rattle.text_lines.specs.Laws.{LineLaws}
+use Rattle.obs_record.specs.declared.line.Line.{Line}
+use Rattle.col80_format.specs.declared.batch.Seen.{Seen}
+use Rattle.col80_format.specs.Batch.{drop_while, is_front_line, behind_front, observation_lines, IsReadFrom, read_of, lines_of}
+use Rattle.col80_format.specs.Feeding.{none_seen, read_on, seen_on, seen_all, Progress, progress_of, IsUnderWay}
+use Rattle.col80_format.proofs.LawsBelow.{Laws}
 use Rattle.col80_format.proofs.LineLaws.{reading_is}
 
--- a line that may stand before the observations is passed over
-pub passes_front : (n : ℕ) (text line behind : List ℕ) → lines text ≡ line ∷ lines behind → is_front_line line ≡ true
-    → behind_front (enumerate_from n (lines text)) ≡ behind_front (enumerate_from (n + 1) (lines behind))
+-- ---- lines after lines that were seen
+
+-- the observation lines among numbered lines, where an observation line came before them or not
+abbrev observations : Bool → List (ℕ × List ℕ) → List (ℕ × List ℕ)
+observations true numbered = filled_lines numbered
+observations false numbered = filled_lines (behind_front numbered)
+
+-- the lines that are found, with those that the next lines say
+abbrev found_on : List Line → Bool → ℕ → List (List ℕ) → List Line
+found_on found observed n ls = found ++ map read_of (observations observed (enumerate_from n ls))
+
+read_first : (found : List Line) (n : ℕ) (line : List ℕ) (ls : List (List ℕ)) (blank : Bool) → are_blanks line ≡ blank
+    → found_on (cond blank found (found ++ read_of (n, line) ∷ [])) true (n + 1) ls ≡ found_on found true n (line ∷ ls)
+read_first found n line ls true b = rw b refl
+read_first found n line ls false b = rw b (append_assoc found (read_of (n, line) ∷ []) (map read_of (filled_lines (enumerate_from (n + 1) ls))))
+
+first_observation : (found : List Line) (n : ℕ) (line : List ℕ) (ls : List (List ℕ)) → is_front_line line ≡ false → found_on found false n (line ∷ ls) ≡ found_on found true n (line ∷ ls)
 unfolding drop_while
-passes_front n text line behind cut front = rw (cut, front) refl
+first_observation found n line ls other = rw other refl
 
--- the first other line ends the front
-pub ends_front : (n : ℕ) (text line behind : List ℕ) → lines text ≡ line ∷ lines behind → is_front_line line ≡ false
-    → behind_front (enumerate_from n (lines text)) ≡ enumerate_from n (lines text)
+passed_over : (found : List Line) (n : ℕ) (line : List ℕ) (ls : List (List ℕ)) → is_front_line line ≡ true → found_on found false (n + 1) ls ≡ found_on found false n (line ∷ ls)
 unfolding drop_while
-ends_front n text line behind cut other = rw (cut, other) refl
+passed_over found n line ls front = rw front refl
 
--- no line at all
-pub no_front : (n : ℕ) (text : List ℕ) → text ≡ [] → behind_front (enumerate_from n (lines text)) ≡ enumerate_from n (lines text)
+step_by : (observed front : Bool) (n : ℕ) (found : List Line) (line : List ℕ) (ls : List (List ℕ)) → is_front_line line ≡ front
+    → let next = cond {A = Seen} (observed || not front) (record { next = n + 1; observed = true; found = read_on found n line }) (record { next = n + 1; observed = false; found = found }) in
+    found_on next.found next.observed (n + 1) ls ≡ found_on found observed n (line ∷ ls)
+step_by true front n found line ls is = read_first found n line ls (are_blanks line) refl
+step_by false false n found line ls is = read_first found n line ls (are_blanks line) refl ∙ sym (first_observation found n line ls is)
+step_by false true n found line ls is = passed_over found n line ls is
+
+next_by : (now : Bool) (n : ℕ) (found read : List Line) → (cond {A = Seen} now (record { next = n + 1; observed = true; found = read }) (record { next = n + 1; observed = false; found = found })).next ≡ n + 1
+next_by true n found read = refl
+next_by false n found read = refl
+
+pub next-seen_on : (seen : Seen) (line : List ℕ) → (seen_on seen line).next ≡ seen.next + 1
+unfolding seen_on
+next-seen_on seen line = next_by (seen.observed || not (is_front_line line)) seen.next seen.found (read_on seen.found seen.next line)
+
+found-step : (seen : Seen) (line : List ℕ) (ls : List (List ℕ))
+    → found_on (seen_on seen line).found (seen_on seen line).observed (seen.next + 1) ls ≡ found_on seen.found seen.observed seen.next (line ∷ ls)
+unfolding seen_on
+found-step seen line ls = step_by seen.observed (is_front_line line) seen.next seen.found line ls refl
+
+nothing_more : (found : List Line) (observed : Bool) (n : ℕ) → found_on found observed n [] ≡ found
 unfolding drop_while
-no_front n text none = rw none refl
+nothing_more found true n = append-nil found
+nothing_more found false n = append-nil found
 
--- a blank line says nothing
-pub says_nothing : (n : ℕ) (text line behind : List ℕ) → lines text ≡ line ∷ lines behind → are_blanks line ≡ true
-    → said (enumerate_from n (lines text)) ≡ said (enumerate_from (n + 1) (lines behind))
-says_nothing n text line behind cut blank = rw (cut, blank) refl
+-- what is found after lines is what was found before them, and what they say
+pub found-seen_all : (seen : Seen) (ls : List (List ℕ)) → (seen_all seen ls).found ≡ found_on seen.found seen.observed seen.next ls
+found-seen_all seen [] = sym (nothing_more seen.found seen.observed seen.next)
+found-seen_all seen (line ∷ ls) =
+    found-seen_all (seen_on seen line) ls ∙ ap (λ (n : ℕ). found_on (seen_on seen line).found (seen_on seen line).observed n ls) (next-seen_on seen line) ∙ found-step seen line ls
 
--- another line is read
-pub says_first : (n : ℕ) (text line behind : List ℕ) → lines text ≡ line ∷ lines behind → are_blanks line ≡ false
-    → said (enumerate_from n (lines text)) ≡ read_of (n, line) ∷ said (enumerate_from (n + 1) (lines behind))
-says_first n text line behind cut filled = rw (cut, filled) refl
+pub next-seen_all : (seen : Seen) (ls : List (List ℕ)) → (seen_all seen ls).next ≡ seen.next + length ls
+next-seen_all seen [] = omega arith
+next-seen_all seen (line ∷ ls) = omega (arith, next-seen_all (seen_on seen line) ls, next-seen_on seen line)
 
--- no line at all
-pub says_no_more : (n : ℕ) (text : List ℕ) → text ≡ [] → said (enumerate_from n (lines text)) ≡ []
-says_no_more n text none = rw none refl
+pub seen_all-append : (seen : Seen) (xs ys : List (List ℕ)) → seen_all seen (xs ++ ys) ≡ seen_all (seen_all seen xs) ys
+seen_all-append seen [] ys = refl
+seen_all-append seen (x ∷ xs) ys = seen_all-append (seen_on seen x) xs ys
 
-pub filled_from : (filled blank : Bool) → filled ≡ not blank → filled ≡ true → blank ≡ false
-filled_from filled true is h = absurd cc
-filled_from filled false is h = refl
+-- what was found before stays at the front
+pub found_stays : (seen : Seen) (line : List ℕ) → take (length seen.found) (seen_on seen line).found ≡ seen.found
+found_stays seen line =
+    let on : (seen_all seen (line ∷ [])).found ≡ found_on seen.found seen.observed seen.next (line ∷ []) = found-seen_all seen (line ∷ []) in
+    ap (take (length seen.found)) on ∙ take_at seen.found (map read_of (observations seen.observed (enumerate_from seen.next (line ∷ [])))) (length seen.found) refl
 
-pub blank_from : (filled blank : Bool) → filled ≡ not blank → filled ≡ false → blank ≡ true
-blank_from filled true is h = refl
-blank_from filled false is h = absurd cc
+-- the lines of a whole batch, one after the other
+pub batch_read : (body : List ℕ) → (seen_all none_seen (lines body)).found ≡ lines_of body
+batch_read body = found-seen_all none_seen (lines body)
 
--- a line that is read is put behind those before it
-pub more_said : (found : List Line) (n : ℕ) (text line behind : List ℕ) (read : Result Sighting RuleCode) (total : List Line) → lines text ≡ line ∷ lines behind → are_blanks line ≡ false
-    → read ≡ reading_of line → found ++ said (enumerate_from n (lines text)) ≡ total
-    → (found ++ record { number = n; read = read } ∷ []) ++ said (enumerate_from (n + 1) (lines behind)) ≡ total
-more_said found n text line behind read total cut filled is so_far =
-    append_assoc found (record { number = n; read = read } ∷ []) (said (enumerate_from (n + 1) (lines behind)))
-    ∙ ap (λ (r : Result Sighting RuleCode). found ++ record { number = n; read = r } ∷ said (enumerate_from (n + 1) (lines behind))) is
-    ∙ ap (λ (more : List Line). found ++ more) (sym (says_first n text line behind cut filled))
-    ∙ so_far
+-- ---- pieces
 
--- a blank line leaves them as they are
-pub same_said : (found : List Line) (n : ℕ) (text line behind : List ℕ) (total : List Line) → lines text ≡ line ∷ lines behind → are_blanks line ≡ true
-    → found ++ said (enumerate_from n (lines text)) ≡ total → found ++ said (enumerate_from (n + 1) (lines behind)) ≡ total
-same_said found n text line behind total cut blank so_far =
-    ap (λ (more : List Line). found ++ more) (sym (says_nothing n text line behind cut blank)) ∙ so_far
+module _ (texts : LineLaws) where
+  open texts use {complete_on, unfinished_on, last_line, no_last_line, few}
 
--- each line of the list is read from its text
-pub all_read : (texts : List (ℕ × List ℕ)) → AllZip IsReadFrom texts (map read_of texts)
-all_read [] = tt
-all_read (text ∷ texts) = ((refl, reading_is text.1), all_read texts)
+  -- a piece that ends a line, and a piece after it
+  pub piece_cut : (text piece end after rest : List ℕ) (seen : Seen) → record { rest = rest; seen = seen } ≡ progress_of text → piece ≡ end ++ after → unfinished (rest ++ end) ≡ []
+      → record { rest = unfinished after; seen = seen_all (seen_all seen (complete_lines (rest ++ end))) (complete_lines after) } ≡ progress_of (text ++ piece)
+  piece_cut text piece end after rest seen is cut ended =
+      let rest_is : rest ≡ unfinished text = ap (λ (p : Progress). p.rest) is in
+      let seen_is : seen ≡ seen_all none_seen (complete_lines text) = ap (λ (p : Progress). p.seen) is in
+      let whole : text ++ piece ≡ (text ++ end) ++ after = ap (λ (t : List ℕ). text ++ t) cut ∙ sym (append_assoc text end after) in
+      let none : unfinished (text ++ end) ≡ [] = unfinished_on text end ∙ ap (λ (t : List ℕ). unfinished (t ++ end)) (sym rest_is) ∙ ended in
+      let first : complete_lines (text ++ end) ≡ complete_lines text ++ complete_lines (rest ++ end) = complete_on text end ∙ ap (λ (t : List ℕ). complete_lines text ++ complete_lines (t ++ end)) (sym rest_is) in
+      let left : unfinished (text ++ piece) ≡ unfinished after = ap unfinished whole ∙ unfinished_on (text ++ end) after ∙ ap (λ (t : List ℕ). unfinished (t ++ after)) none in
+      let all : complete_lines (text ++ piece) ≡ (complete_lines text ++ complete_lines (rest ++ end)) ++ complete_lines after =
+          ap complete_lines whole ∙ complete_on (text ++ end) after ∙ ap (λ (t : List ℕ). complete_lines (text ++ end) ++ complete_lines (t ++ after)) none ∙ ap (λ (ls : List (List ℕ)). ls ++ complete_lines after) first in
+      let seen_at : seen_all none_seen (complete_lines (text ++ piece)) ≡ seen_all (seen_all seen (complete_lines (rest ++ end))) (complete_lines after) =
+          ap (seen_all none_seen) all ∙ seen_all-append none_seen (complete_lines text ++ complete_lines (rest ++ end)) (complete_lines after)
+          ∙ ap (λ (s : Seen). seen_all s (complete_lines after)) (seen_all-append none_seen (complete_lines text) (complete_lines (rest ++ end)) ∙ ap (λ (s : Seen). seen_all s (complete_lines (rest ++ end))) (sym seen_is)) in
+      sym (ap (λ (t : List ℕ). let p : Progress = record { rest = t; seen = seen_all none_seen (complete_lines (text ++ piece)) } in p) left
+      ∙ ap (λ (s : Seen). let p : Progress = record { rest = unfinished after; seen = s } in p) seen_at)
 
--- the list has the lines of the batch, if there is one
-pub lines_read : (result : Result (List Line) AllocError) (body : List ℕ) (numbered : List (ℕ × List ℕ)) → behind_front (numbered_lines body) ≡ numbered
-    → IfOk result (λ found. found ≡ said numbered) → IfOk result (λ found. AllZip IsReadFrom (observation_lines body) found)
-lines_read (Ok found) body numbered front is =
-    let same : found ≡ lines_of body = is ∙ ap said (sym front) in
-    subst (AllZip IsReadFrom (observation_lines body)) (sym same) (all_read (observation_lines body))
-lines_read (Err none) body numbered front is = tt
+  -- a piece without a line feed
+  pub piece_added : (text piece rest : List ℕ) (seen : Seen) → record { rest = rest; seen = seen } ≡ progress_of text
+      → complete_lines (text ++ piece) ≡ complete_lines text → unfinished (text ++ piece) ≡ unfinished text ++ piece
+      → record { rest = rest ++ piece; seen = seen } ≡ progress_of (text ++ piece)
+  piece_added text piece rest seen is same left =
+      let rest_is : rest ≡ unfinished text = ap (λ (p : Progress). p.rest) is in
+      let seen_is : seen ≡ seen_all none_seen (complete_lines text) = ap (λ (p : Progress). p.seen) is in
+      rw (rest_is, seen_is, left, same) refl
+
+  -- there is room for the numbers of the lines
+  pub room_left : (text piece rest : List ℕ) (seen : Seen) → record { rest = rest; seen = seen } ≡ progress_of text → IsNumberable (text ++ piece)
+      → length rest + length piece + seen.next ≤ 4294967295
+  room_left text piece rest seen is short =
+      let rest_is : rest ≡ unfinished text = ap (λ (p : Progress). p.rest) is in
+      let seen_is : seen ≡ seen_all none_seen (complete_lines text) = ap (λ (p : Progress). p.seen) is in
+      omega (arith, ap length rest_is, ap (λ (s : Seen). s.next) seen_is, next-seen_all none_seen (complete_lines text), few text, length-append text piece)
+
+  -- a batch that ends with the last line feed
+  pub ends_complete : (text rest : List ℕ) (seen : Seen) → record { rest = rest; seen = seen } ≡ progress_of text → length rest ≡ 0 → seen.found ≡ lines_of text
+  ends_complete text rest seen is none =
+      let rest_is : rest ≡ unfinished text = ap (λ (p : Progress). p.rest) is in
+      let seen_is : seen ≡ seen_all none_seen (complete_lines text) = ap (λ (p : Progress). p.seen) is in
+      ap (λ (s : Seen). s.found) seen_is ∙ ap (λ (ls : List (List ℕ)). (seen_all none_seen ls).found) (sym (no_last_line text (omega (arith, none, ap length rest_is)))) ∙ batch_read text
+
+  -- a batch whose last line no line feed ends
+  pub ends_unfinished : (text rest : List ℕ) (seen : Seen) → record { rest = rest; seen = seen } ≡ progress_of text → 0 < length rest → (seen_on seen rest).found ≡ lines_of text
+  ends_unfinished text rest seen is some =
+      let rest_is : rest ≡ unfinished text = ap (λ (p : Progress). p.rest) is in
+      let seen_is : seen ≡ seen_all none_seen (complete_lines text) = ap (λ (p : Progress). p.seen) is in
+      rw (rest_is, seen_is) (ap (λ (s : Seen). s.found) (sym (seen_all-append none_seen (complete_lines text) (unfinished text ∷ [])))
+      ∙ ap (λ (ls : List (List ℕ)). (seen_all none_seen ls).found) (sym (last_line text (omega (arith, some, ap length rest_is)))) ∙ batch_read text)
+
+-- ---- each line with its reading
+
+module _ (laws : Laws) where
+  -- each line of the list is read from its text
+  pub all_read : (texts : List (ℕ × List ℕ)) → AllZip IsReadFrom texts (map read_of texts)
+  all_read [] = tt
+  all_read (text ∷ texts) = ((refl, reading_is laws text.1), all_read texts)

@@ -1,4 +1,4 @@
-pub mod Cutting
+pub mod LawsBelow
 pub mod Batches
 pub mod MagnitudeLaws
 pub mod Chains

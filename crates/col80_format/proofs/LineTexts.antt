@@ -5,28 +5,24 @@ use Rattle.std.proofs.lemmas.Bool.{cases_lt, lt-ltb, le-ltb}
 use Rattle.ascii_text.specs.declared.digits.Radix.TheVariants.{Ten}
 use Rattle.ascii_text.specs.Digits.{decimals_text, decimals_width}
 use Rattle.ascii_text.specs.Blanks.{blanks}
-use Rattle.ascii_text.proofs.DigitTexts.{length-digits_text, length-decimals_text}
-use Rattle.ascii_text.proofs.BlankTexts.{length-blanks}
 use Rattle.angle_fixed.specs.Writing.{time_text, arc_text}
-use Rattle.angle_fixed.proofs.Written.{time_text_again, arc_text_again}
 use Rattle.obs_time.specs.WrittenText.{IsTextOf}
-use Rattle.obs_time.proofs.TextLaws.{text_is_kept, one_text}
 use Rattle.obs_record.specs.declared.short.Short.{Short}
 use Rattle.obs_record.specs.declared.sighting.Shape.{Shape}
 use Rattle.obs_record.specs.declared.sighting.Shape.TheVariants.{Eighty}
 use Rattle.obs_record.specs.declared.sighting.Sighting.{Sighting}
-use Rattle.obs_record.proofs.Texts.{kept_again}
 use Rattle.col80_format.specs.declared.writing.Front.{Front}
 use Rattle.col80_format.specs.declared.writing.Letters.{Letters}
 use Rattle.col80_format.specs.declared.form.Form.{Form}
 use Rattle.col80_format.specs.Columns.{columns, column}
-use Rattle.col80_format.specs.Magnitudes.{WrittenMagnitude, SpellsMagnitude, whole_text, magnitude_of, IsMagnitudeText}
+use Rattle.obs_record.specs.Magnitudes.{magnitude_of}
+use Rattle.col80_format.specs.Magnitudes.{WrittenMagnitude, SpellsMagnitude, whole_text, IsMagnitudeText}
 use Rattle.col80_format.specs.Rules.{IsSightingOf}
 use Rattle.col80_format.specs.LineText.{form_of, note_of, number_text, star_byte, steps_of, magnitude_text, front_text, angles_text, back_text, IsLineText, IsSameLine}
 use Rattle.col80_format.proofs.NameLaws.{columns_long}
 use Rattle.col80_format.proofs.LineLaws.{day_found}
 use Rattle.col80_format.proofs.RangeLaws.{days_within}
-
+use Rattle.col80_format.proofs.LawsBelow.{Laws}
 -- ---- the magnitude
 
 -- the parts of a magnitude that is written with as many decimals as it has
@@ -39,28 +35,6 @@ steps_again zero whole decimals mag few low below is = record { whole_is = omega
 steps_again (suc zero) whole decimals mag few low below is = record { whole_is = omega (arith, below, is); decimals_are = omega (arith, below, is) }
 steps_again (suc (suc zero)) whole decimals mag few low below is = record { whole_is = omega (arith, below, is); decimals_are = omega (arith, below, is) }
 steps_again (suc (suc (suc count))) whole decimals mag few low below is = absurd (omega arith)
-
-length-whole_text : (n : ℕ) → length (whole_text n) ≡ 2
-length-whole_text n =
-    elim (cases_lt n 10) [
-      | inl small ↦ rw (lt-ltb n 10 small) (ap suc (length-digits_text Ten 1 n))
-      | inr large ↦ rw (le-ltb n 10 large) (length-digits_text Ten 2 n)
-    ]
-
-some_again : (text : List ℕ) (mag count : ℕ) (written : WrittenMagnitude) → length text ≡ 5 → SpellsMagnitude written text → mag ≡ magnitude_of written → count ≡ written.count
-    → magnitude_text count (Some mag) ≡ text
-unfolding magnitude_text
-some_again text mag count written long spelled mag_is count_is =
-    let steps = steps_again written.count written.whole written.decimals mag spelled.few spelled.whole spelled.decimals mag_is in
-    let decimals : List ℕ = decimals_text written.count written.decimals in
-    let space : 3 - decimals_width written.count ≡ spelled.space = omega (arith, ap length spelled.spelling, length-append (whole_text written.whole) (decimals ++ blanks spelled.space), length-append decimals (blanks spelled.space), length-whole_text written.whole, length-decimals_text written.count written.decimals, length-blanks spelled.space) in
-    rw (count_is, steps.whole_is, steps.decimals_are, space) (append_assoc (whole_text written.whole) decimals (blanks spelled.space) ∙ sym spelled.spelling)
-
--- a magnitude that was read is written as it was
-magnitude_again : (text : List ℕ) (mag : Option ℕ) (count : ℕ) → length text ≡ 5 → IsMagnitudeText text mag count → magnitude_text count mag ≡ text
-unfolding magnitude_text
-magnitude_again text None count long is = sym is.0
-magnitude_again text (Some mag) count long is = some_again text mag count is.0 long is.1 is.2 is.3
 
 -- ---- columns of a list
 
@@ -124,67 +98,6 @@ record Parts (line : List ℕ) (s : Sighting) (day : List ℕ) : Type 0 where
   note_is : note_of s.shape s.note1 ≡ column 14 line
   station_is : take 3 s.station.bytes ≡ columns 78 80 line
 
-parts_again : (line : List ℕ) (s : Sighting) (day : List ℕ) → length line ≡ 80 → IsSightingOf line s → length day ≡ 17 → IsTextOf s.time (form_of s.shape).days day → Parts line s day
-parts_again line s day long is day_long day_text =
-    let shape : s.shape ≡ Eighty is.days is.seconds is.arcseconds is.minus is.places = is.shape in
-    let days = days_within (columns 16 32 line) s.time is.days is.time in
-    let day_text' : IsTextOf s.time is.days day = subst (λ (x : Shape). IsTextOf s.time (form_of x).days day) shape day_text in
-    record {
-      day_is = sym (text_is_kept s.time is.days day (columns 16 32 line) days.1 day_text' (columns_long 16 32 line long (lit≤ tt) ∙ sym day_long) (day_found (columns 16 32 line) (s.time, is.days) is.time));
-      ra_is = ap (λ (x : Shape). time_text s.ra (form_of x).seconds) shape ∙ time_text_again (columns 33 44 line) s.ra is.seconds (columns_long 33 44 line long (lit≤ tt)) is.ra;
-      dec_is = ap (λ (x : Shape). arc_text s.dec (form_of x).arcseconds (form_of x).minus) shape ∙ arc_text_again (columns 45 56 line) s.dec is.arcseconds is.minus (columns_long 45 56 line long (lit≤ tt)) is.dec;
-      mag_is = ap (λ (x : Shape). magnitude_text (form_of x).places s.mag) shape ∙ magnitude_again (columns 66 70 line) s.mag is.places (columns_long 66 70 line long (lit≤ tt)) is.mag;
-      note_is = ap (λ (x : Shape). note_of x s.note1) shape ∙ is.note1;
-      station_is = ap (λ (x : Short). take 3 x.bytes) is.station ∙ kept_again (columns 78 80 line) 3 (columns_long 78 80 line long (lit≤ tt)) (lit≤ tt);
-    }
-
--- a line that was read and is written with its own letters is the same in the columns that are kept
-pub written_again : (line text : List ℕ) (s : Sighting) (front : Front) (letters : Letters) → length (front_text s front letters) ≡ 15 → IsLineText s front letters text
-    → length line ≡ 80 → IsSightingOf line s → letters.mode ≡ column 15 line → letters.band ≡ column 71 line → IsSameLine text line
-written_again line text s front letters front_long is line_long of_line mode band =
-    let parts = parts_again line s is.day line_long of_line is.day_long is.day_is in
-    let form = form_of s.shape in
-    let angles : List ℕ = angles_text s form in
-    let magnitude : List ℕ = magnitude_text form.places s.mag in
-    let station : List ℕ = take 3 s.station.bytes in
-    let note : ℕ = note_of s.shape s.note1 in
-    let number : List ℕ = number_text front.number in
-    let star : ℕ = star_byte front.star in
-    let head : List ℕ = number ++ front.name ++ (star ∷ []) in
-    let head_long : length head ≡ 13 =
-    omega (arith, front_long, length-append (number ++ front.name) (star ∷ []), length-append (number ++ front.name) (star ∷ note ∷ letters.mode ∷ [])) in
-    let angles_is : angles ≡ columns 33 44 line ++ columns 45 56 line = ap (λ (t : List ℕ). t ++ arc_text s.dec form.arcseconds form.minus) parts.ra_is ∙ ap (λ (t : List ℕ). columns 33 44 line ++ t) parts.dec_is in
-    let angles_long : length angles ≡ 24 = omega (arith, ap length angles_is, length-append (columns 33 44 line) (columns 45 56 line), columns_long 33 44 line line_long (lit≤ tt), columns_long 45 56 line line_long (lit≤ tt)) in
-    let magnitude_long : length magnitude ≡ 5 = ap length parts.mag_is ∙ columns_long 66 70 line line_long (lit≤ tt) in
-    let station_long : length station ≡ 3 = ap length parts.station_is ∙ columns_long 78 80 line line_long (lit≤ tt) in
-    let observed : List ℕ = note ∷ letters.mode ∷ (is.day ++ angles) in
-    let before : List ℕ = front_text s front letters ++ (is.day ++ (angles ++ blanks 9)) in
-    let last : List ℕ = front_text s front letters ++ (is.day ++ (angles ++ (blanks 9 ++ (magnitude ++ (letters.band ∷ letters.catalogue ∷ blanks 5))))) in
-    record {
-      observed =
-          ap (columns 14 56) (is.text_is ∙ regroup_front number front.name star note letters.mode is.day angles (back_text s form letters))
-          ∙ middle head observed (back_text s form letters) 13 43 head_long (omega (arith, length-append is.day angles, is.day_long))
-          ∙ same_observed line note letters.mode is.day angles line_long parts.note_is mode parts.day_is angles_is;
-      measured =
-          ap (columns 66 71) (is.text_is ∙ regroup_measured (front_text s front letters) is.day angles (blanks 9) magnitude letters.band letters.catalogue (blanks 5) station)
-          ∙ middle before (magnitude ++ (letters.band ∷ [])) (letters.catalogue ∷ (blanks 5 ++ station)) 65 6
-          (omega (arith, front_long, is.day_long, angles_long, length-append (front_text s front letters) (is.day ++ (angles ++ blanks 9)), length-append is.day (angles ++ blanks 9), length-append angles (blanks 9), length-blanks 9))
-          (omega (arith, magnitude_long, length-append magnitude (letters.band ∷ [])))
-          ∙ ap (λ (t : List ℕ). t ++ (letters.band ∷ [])) parts.mag_is ∙ ap (λ (b : ℕ). columns 66 70 line ++ (b ∷ [])) band ∙ sym (measured_columns line line_long);
-      station =
-          ap (columns 78 80) (is.text_is ∙ regroup_station (front_text s front letters) is.day angles (blanks 9) magnitude letters.band letters.catalogue (blanks 5) station)
-          ∙ middle last station [] 77 3
-          (omega (arith, front_long, is.day_long, angles_long, magnitude_long, length-append (front_text s front letters) (is.day ++ (angles ++ (blanks 9 ++ (magnitude ++ (letters.band ∷ letters.catalogue ∷ blanks 5))))), length-append is.day (angles ++ (blanks 9 ++ (magnitude ++ (letters.band ∷ letters.catalogue ∷ blanks 5)))), length-append angles (blanks 9 ++ (magnitude ++ (letters.band ∷ letters.catalogue ∷ blanks 5))), length-append (blanks 9) (magnitude ++ (letters.band ∷ letters.catalogue ∷ blanks 5)), length-append magnitude (letters.band ∷ letters.catalogue ∷ blanks 5), length-blanks 9, length-blanks 5))
-          station_long
-          ∙ parts.station_is;
-    }
-
--- no other text is that of the observation
-pub one_line_text : (s : Sighting) (front : Front) (letters : Letters) (one other : List ℕ) → (form_of s.shape).days ≤ 6 → IsLineText s front letters one → IsLineText s front letters other → one ≡ other
-one_line_text s front letters one other few a b =
-    let same : a.day ≡ b.day = one_text s.time (form_of s.shape).days a.day b.day few a.day_is b.day_is (a.day_long ∙ sym b.day_long) in
-    a.text_is ∙ ap (λ (day : List ℕ). front_text s front letters ++ (day ++ (angles_text s (form_of s.shape) ++ back_text s (form_of s.shape) letters))) same ∙ sym b.text_is
-
 line_text_for : (s : Sighting) (front : Front) (letters : Letters) (day text : List ℕ) → length day ≡ 17 → IsTextOf s.time (form_of s.shape).days day
     → text ≡ front_text s front letters ++ day ++ angles_text s (form_of s.shape) ++ back_text s (form_of s.shape) letters → IsLineText s front letters text
 line_text_for s front letters day text long is text_is =
@@ -201,3 +114,89 @@ pub line_text_from : (s : Sighting) (front : Front) (letters : Letters) (form : 
 line_text_from s front letters form day text same long is text_is =
     line_text_for s front letters day text long (subst (λ (f : Form). IsTextOf s.time f.days day) same is)
     (text_is ∙ ap (λ (f : Form). front_text s front letters ++ day ++ angles_text s f ++ back_text s f letters) same)
+
+module _ (laws : Laws) where
+  open laws use {texts.{length-digits_text, length-decimals_text, length-blanks}, angles.{time_text_again, arc_text_again}, times.{text_is_kept, one_text}, records.{kept_again}}
+
+  length-whole_text : (n : ℕ) → length (whole_text n) ≡ 2
+  length-whole_text n =
+      elim (cases_lt n 10) [
+        | inl small ↦ rw (lt-ltb n 10 small) (ap suc (length-digits_text Ten 1 n))
+        | inr large ↦ rw (le-ltb n 10 large) (length-digits_text Ten 2 n)
+      ]
+
+  some_again : (text : List ℕ) (mag count : ℕ) (written : WrittenMagnitude) → length text ≡ 5 → SpellsMagnitude written text → mag ≡ magnitude_of written.whole written.count written.decimals → count ≡ written.count
+      → magnitude_text count (Some mag) ≡ text
+  unfolding magnitude_text
+  some_again text mag count written long spelled mag_is count_is =
+      let steps = steps_again written.count written.whole written.decimals mag spelled.few spelled.whole spelled.decimals mag_is in
+      let decimals : List ℕ = decimals_text written.count written.decimals in
+      let space : 3 - decimals_width written.count ≡ spelled.space = omega (arith, ap length spelled.spelling, length-append (whole_text written.whole) (decimals ++ blanks spelled.space), length-append decimals (blanks spelled.space), length-whole_text written.whole, length-decimals_text written.count written.decimals, length-blanks spelled.space) in
+      rw (count_is, steps.whole_is, steps.decimals_are, space) (append_assoc (whole_text written.whole) decimals (blanks spelled.space) ∙ sym spelled.spelling)
+
+  -- a magnitude that was read is written as it was
+  magnitude_again : (text : List ℕ) (mag : Option ℕ) (count : ℕ) → length text ≡ 5 → IsMagnitudeText text mag count → magnitude_text count mag ≡ text
+  unfolding magnitude_text
+  magnitude_again text None count long is = sym is.0
+  magnitude_again text (Some mag) count long is = some_again text mag count is.0 long is.1 is.2 is.3
+
+  parts_again : (line : List ℕ) (s : Sighting) (day : List ℕ) → length line ≡ 80 → IsSightingOf line s → length day ≡ 17 → IsTextOf s.time (form_of s.shape).days day → Parts line s day
+  parts_again line s day long is day_long day_text =
+      let shape : s.shape ≡ Eighty is.days is.seconds is.arcseconds is.minus is.places = is.shape in
+      let days = days_within (columns 16 32 line) s.time is.days is.time in
+      let day_text' : IsTextOf s.time is.days day = subst (λ (x : Shape). IsTextOf s.time (form_of x).days day) shape day_text in
+      record {
+        day_is = sym (text_is_kept s.time is.days day (columns 16 32 line) days.1 day_text' (columns_long 16 32 line long (lit≤ tt) ∙ sym day_long) ((day_found laws) (columns 16 32 line) (s.time, is.days) is.time));
+        ra_is = ap (λ (x : Shape). time_text s.ra (form_of x).seconds) shape ∙ time_text_again (columns 33 44 line) s.ra is.seconds (columns_long 33 44 line long (lit≤ tt)) is.ra;
+        dec_is = ap (λ (x : Shape). arc_text s.dec (form_of x).arcseconds (form_of x).minus) shape ∙ arc_text_again (columns 45 56 line) s.dec is.arcseconds is.minus (columns_long 45 56 line long (lit≤ tt)) is.dec;
+        mag_is = ap (λ (x : Shape). magnitude_text (form_of x).places s.mag) shape ∙ magnitude_again (columns 66 70 line) s.mag is.places (columns_long 66 70 line long (lit≤ tt)) is.mag;
+        note_is = ap (λ (x : Shape). note_of x s.note1) shape ∙ is.note1;
+        station_is = ap (λ (x : Short). take 3 x.bytes) is.station ∙ kept_again (columns 78 80 line) 3 (columns_long 78 80 line long (lit≤ tt)) (lit≤ tt);
+      }
+
+  -- a line that was read and is written with its own letters is the same in the columns that are kept
+  pub written_again : (line text : List ℕ) (s : Sighting) (front : Front) (letters : Letters) → length (front_text s front letters) ≡ 15 → IsLineText s front letters text
+      → length line ≡ 80 → IsSightingOf line s → letters.mode ≡ column 15 line → letters.band ≡ column 71 line → IsSameLine text line
+  written_again line text s front letters front_long is line_long of_line mode band =
+      let parts = parts_again line s is.day line_long of_line is.day_long is.day_is in
+      let form = form_of s.shape in
+      let angles : List ℕ = angles_text s form in
+      let magnitude : List ℕ = magnitude_text form.places s.mag in
+      let station : List ℕ = take 3 s.station.bytes in
+      let note : ℕ = note_of s.shape s.note1 in
+      let number : List ℕ = number_text front.number in
+      let star : ℕ = star_byte front.star in
+      let head : List ℕ = number ++ front.name ++ (star ∷ []) in
+      let head_long : length head ≡ 13 =
+      omega (arith, front_long, length-append (number ++ front.name) (star ∷ []), length-append (number ++ front.name) (star ∷ note ∷ letters.mode ∷ [])) in
+      let angles_is : angles ≡ columns 33 44 line ++ columns 45 56 line = ap (λ (t : List ℕ). t ++ arc_text s.dec form.arcseconds form.minus) parts.ra_is ∙ ap (λ (t : List ℕ). columns 33 44 line ++ t) parts.dec_is in
+      let angles_long : length angles ≡ 24 = omega (arith, ap length angles_is, length-append (columns 33 44 line) (columns 45 56 line), columns_long 33 44 line line_long (lit≤ tt), columns_long 45 56 line line_long (lit≤ tt)) in
+      let magnitude_long : length magnitude ≡ 5 = ap length parts.mag_is ∙ columns_long 66 70 line line_long (lit≤ tt) in
+      let station_long : length station ≡ 3 = ap length parts.station_is ∙ columns_long 78 80 line line_long (lit≤ tt) in
+      let observed : List ℕ = note ∷ letters.mode ∷ (is.day ++ angles) in
+      let before : List ℕ = front_text s front letters ++ (is.day ++ (angles ++ blanks 9)) in
+      let last : List ℕ = front_text s front letters ++ (is.day ++ (angles ++ (blanks 9 ++ (magnitude ++ (letters.band ∷ letters.catalogue ∷ blanks 5))))) in
+      record {
+        observed =
+            ap (columns 14 56) (is.text_is ∙ regroup_front number front.name star note letters.mode is.day angles (back_text s form letters))
+            ∙ middle head observed (back_text s form letters) 13 43 head_long (omega (arith, length-append is.day angles, is.day_long))
+            ∙ same_observed line note letters.mode is.day angles line_long parts.note_is mode parts.day_is angles_is;
+        measured =
+            ap (columns 66 71) (is.text_is ∙ regroup_measured (front_text s front letters) is.day angles (blanks 9) magnitude letters.band letters.catalogue (blanks 5) station)
+            ∙ middle before (magnitude ++ (letters.band ∷ [])) (letters.catalogue ∷ (blanks 5 ++ station)) 65 6
+            (omega (arith, front_long, is.day_long, angles_long, length-append (front_text s front letters) (is.day ++ (angles ++ blanks 9)), length-append is.day (angles ++ blanks 9), length-append angles (blanks 9), length-blanks 9))
+            (omega (arith, magnitude_long, length-append magnitude (letters.band ∷ [])))
+            ∙ ap (λ (t : List ℕ). t ++ (letters.band ∷ [])) parts.mag_is ∙ ap (λ (b : ℕ). columns 66 70 line ++ (b ∷ [])) band ∙ sym (measured_columns line line_long);
+        station =
+            ap (columns 78 80) (is.text_is ∙ regroup_station (front_text s front letters) is.day angles (blanks 9) magnitude letters.band letters.catalogue (blanks 5) station)
+            ∙ middle last station [] 77 3
+            (omega (arith, front_long, is.day_long, angles_long, magnitude_long, length-append (front_text s front letters) (is.day ++ (angles ++ (blanks 9 ++ (magnitude ++ (letters.band ∷ letters.catalogue ∷ blanks 5))))), length-append is.day (angles ++ (blanks 9 ++ (magnitude ++ (letters.band ∷ letters.catalogue ∷ blanks 5)))), length-append angles (blanks 9 ++ (magnitude ++ (letters.band ∷ letters.catalogue ∷ blanks 5))), length-append (blanks 9) (magnitude ++ (letters.band ∷ letters.catalogue ∷ blanks 5)), length-append magnitude (letters.band ∷ letters.catalogue ∷ blanks 5), length-blanks 9, length-blanks 5))
+            station_long
+            ∙ parts.station_is;
+      }
+
+  -- no other text is that of the observation
+  pub one_line_text : (s : Sighting) (front : Front) (letters : Letters) (one other : List ℕ) → (form_of s.shape).days ≤ 6 → IsLineText s front letters one → IsLineText s front letters other → one ≡ other
+  one_line_text s front letters one other few a b =
+      let same : a.day ≡ b.day = one_text s.time (form_of s.shape).days a.day b.day few a.day_is b.day_is (a.day_long ∙ sym b.day_long) in
+      a.text_is ∙ ap (λ (day : List ℕ). front_text s front letters ++ (day ++ (angles_text s (form_of s.shape) ++ back_text s (form_of s.shape) letters))) same ∙ sym b.text_is

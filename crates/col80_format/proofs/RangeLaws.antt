@@ -14,12 +14,15 @@ use Rattle.obs_record.specs.declared.short.Short.{Short}
 use Rattle.obs_record.specs.declared.sighting.Coded.TheVariants.{Nothing, Letter}
 use Rattle.obs_record.specs.declared.sighting.Sighting.{Sighting}
 use Rattle.obs_record.specs.Short.{IsShort}
-use Rattle.obs_record.specs.Sighting.{IsPrintable, IsCoded, IsShape, IsSighting}
-use Rattle.obs_record.proofs.Texts.{kept_is_short}
+use Rattle.obs_record.specs.declared.sighting.Shape.{Shape}
+use Rattle.obs_record.specs.Magnitudes.{magnitude_of, HasDecimals}
+use Rattle.obs_record.specs.Sighting.{IsPrintable, IsCoded, IsShape, places_of, IsSighting}
+use Rattle.text_lines.specs.Rules.{KeepsEach}
 use Rattle.col80_format.specs.Columns.{columns, column, coded}
 use Rattle.col80_format.specs.Names.{IsNumberText, IsNameText, AreNamesOf}
 use Rattle.col80_format.specs.Magnitudes.{IsMagnitudeText}
-use Rattle.col80_format.specs.Rules.{line_rules, KeepsEach, IsSightingOf}
+use Rattle.col80_format.specs.Rules.{Keeps, line_rules, IsSightingOf}
+use Rattle.col80_format.proofs.LawsBelow.{Laws}
 
 -- ---- names
 
@@ -31,11 +34,6 @@ designation_within : (text : List ℕ) (prov : Option Designation) (sub : Option
 designation_within text None sub is = tt
 designation_within text (Some designation) None is = is.within
 designation_within text (Some designation) (Some short) is = absurd is
-
-temporary_within : (text : List ℕ) (prov : Option Designation) (sub : Option Short) → IsNameText text prov sub → IfSome sub IsShort
-temporary_within text prov None is = tt
-temporary_within text None (Some short) is = subst IsShort (sym is.3) (kept_is_short is.1)
-temporary_within text (Some designation) (Some short) is = absurd is
 
 -- columns 1 to 12 are columns 1 to 5 and 6 to 12
 twelve_columns : (line : List ℕ) → columns 1 12 line ≡ columns 1 5 line ++ columns 6 12 line
@@ -102,24 +100,43 @@ pub record TypesHold (s : Sighting) : Type 0 where
   pub ra : s.ra < circle
   pub dec : (neg_ℤ (pos quarter) ≤ℤ s.dec) × (s.dec ≤ℤ pos quarter)
 
-pub sighting_within : (line : List ℕ) (s : Sighting) → KeepsEach line_rules line → IsSightingOf line s → TypesHold s → IsSighting s
-sighting_within line s kept is types =
-    let long : length line ≡ 80 = kept.0 in
-    let printable : All IsPrintable line = kept.1.0 in
-    let days = days_within (columns 16 32 line) s.time is.days is.time in
-    record {
-      number = number_within (columns 1 5 line) s.perm is.named.number;
-      designation = designation_within (columns 6 12 line) s.prov s.sub is.named.name;
-      temporary = temporary_within (columns 6 12 line) s.prov s.sub is.named.name;
-      named = named_so line s.perm s.prov s.sub is.named;
-      station = subst IsShort (sym is.station) (kept_is_short (columns 78 80 line));
-      time = types.time;
-      ra = types.ra;
-      dec = types.dec;
-      magnitude = magnitude_within (columns 66 70 line) s.mag is.places is.mag;
-      band = subst IsCoded (sym is.band) (coded_within (column 71 line) (printable_column 71 line long printable (lit≤ tt) (lit≤ tt)));
-      mode = subst IsCoded (sym is.mode) (coded_within (column 15 line) (printable_column 15 line long printable (lit≤ tt) (lit≤ tt)));
-      catalogue = subst IsCoded (sym is.catalogue) tt;
-      note1 = subst IsPrintable (sym is.note1) (printable_column 14 line long printable (lit≤ tt) (lit≤ tt));
-      shape = subst IsShape (sym is.shape) (days.0, days.1, seconds_within (columns 33 44 line) s.ra is.seconds is.ra, arcseconds_within (columns 45 56 line) s.dec is.arcseconds is.minus is.dec, few_places (columns 66 70 line) s.mag is.places is.mag);
-    }
+module _ (laws : Laws) where
+  open laws use {records.{kept_is_short, made_of_decimals}}
+
+  decimals_by : (text : List ℕ) (mag : Option ℕ) (count : ℕ) → IsMagnitudeText text mag count → HasDecimals mag count
+  decimals_by text None count is = is.1
+  decimals_by text (Some mag) count is =
+      let w = is.0 in
+      let six : w.count ≤ 6 = (let spelled = is.1 in omega (arith, spelled.few)) in
+      subst (λ (n : ℕ). HasDecimals (Some mag) n) (sym is.3) (subst (λ (m : ℕ). HasDecimals (Some m) w.count) (sym is.2) (made_of_decimals w.whole w.count w.decimals six))
+
+  decimals_within : (text : List ℕ) (mag : Option ℕ) (shape : Shape) (count : ℕ) → places_of shape ≡ count → IsMagnitudeText text mag count → HasDecimals mag (places_of shape)
+  decimals_within text mag shape count same is = subst (HasDecimals mag) (sym same) (decimals_by text mag count is)
+
+  temporary_within : (text : List ℕ) (prov : Option Designation) (sub : Option Short) → IsNameText text prov sub → IfSome sub IsShort
+  temporary_within text prov None is = tt
+  temporary_within text None (Some short) is = subst IsShort (sym is.3) (kept_is_short is.1)
+  temporary_within text (Some designation) (Some short) is = absurd is
+
+  pub sighting_within : (line : List ℕ) (s : Sighting) → KeepsEach (λ rule. Keeps rule line) line_rules → IsSightingOf line s → TypesHold s → IsSighting s
+  sighting_within line s kept is types =
+      let long : length line ≡ 80 = kept.0 in
+      let printable : All IsPrintable line = kept.1.0 in
+      let days = days_within (columns 16 32 line) s.time is.days is.time in
+      record {
+        number = number_within (columns 1 5 line) s.perm is.named.number;
+        designation = designation_within (columns 6 12 line) s.prov s.sub is.named.name;
+        temporary = temporary_within (columns 6 12 line) s.prov s.sub is.named.name;
+        named = named_so line s.perm s.prov s.sub is.named;
+        station = subst IsShort (sym is.station) (kept_is_short (columns 78 80 line));
+        time = types.time;
+        ra = types.ra;
+        dec = types.dec;
+        magnitude = magnitude_within (columns 66 70 line) s.mag is.places is.mag;
+        decimals = decimals_within (columns 66 70 line) s.mag s.shape is.places (ap places_of is.shape) is.mag;
+        band = subst IsCoded (sym is.band) (coded_within (column 71 line) (printable_column 71 line long printable (lit≤ tt) (lit≤ tt)));
+        mode = subst IsCoded (sym is.mode) (coded_within (column 15 line) (printable_column 15 line long printable (lit≤ tt) (lit≤ tt)));
+        catalogue = subst IsCoded (sym is.catalogue) tt;
+        note1 = subst IsPrintable (sym is.note1) (printable_column 14 line long printable (lit≤ tt) (lit≤ tt));
+        shape = subst IsShape (sym is.shape) (days.0, days.1, seconds_within (columns 33 44 line) s.ra is.seconds is.ra, arcseconds_within (columns 45 56 line) s.dec is.arcseconds is.minus is.dec, few_places (columns 66 70 line) s.mag is.places is.mag);
+      }

@@ -1,10 +1,10 @@
 -- The lines of a batch.
 use Rattle.std.specs.Prelude.{◌≡◌, ℕ, Bool, ◌&&◌, ◌||◌, not, ◌==◌, nat_eq, if◌then◌else◌, List, [], ◌∷◌, length, map, filter, slice_index, codes, All, IfOk}
-use Rattle.std.specs.List.{list_any, starts_with, enumerate_from}
-use Rattle.std.specs.Str.Lines.{lines}
+use Rattle.std.specs.List.{list_any, starts_with}
+use Rattle.ascii_text.specs.Bytes.{blank}
 use Rattle.ascii_text.specs.Blanks.{are_blanks}
 use Rattle.obs_record.specs.declared.line.Line.{Line}
-use Rattle.obs_record.specs.Sighting.{IsSighting}
+use Rattle.text_lines.specs.Lines.{numbered_lines, filled_lines}
 use Rattle.col80_format.specs.Rules.{IsReading}
 use Rattle.col80_format.specs.Reading.{reading_of}
 
@@ -16,7 +16,7 @@ header_words =
 
 -- the line begins with this word, and a blank or the line's end follows it
 abbrev pub begins_with_word : List ℕ → List ℕ → Bool
-begins_with_word word line = starts_with nat_eq line word && (length line == length word || slice_index line (length word) == 32)
+begins_with_word word line = starts_with nat_eq line word && (length line == length word || slice_index line (length word) == blank)
 
 -- a header line
 unfoldable pub is_header_line : List ℕ → Bool
@@ -27,10 +27,6 @@ unfoldable pub drop_while : {X : Type 0} → (X → Bool) → List X → List X
 drop_while test [] = []
 drop_while test (x ∷ xs) = if test x then drop_while test xs else x ∷ xs
 
--- the lines of a batch with their numbers, all of them counted, from 1
-abbrev pub numbered_lines : List ℕ → List (ℕ × List ℕ)
-numbered_lines body = enumerate_from 1 (lines body)
-
 -- a line that may stand before the observations: a blank one, or a header line
 abbrev pub is_front_line : List ℕ → Bool
 is_front_line line = are_blanks line || is_header_line line
@@ -38,10 +34,6 @@ is_front_line line = are_blanks line || is_header_line line
 -- the lines from the first one on that is neither blank nor a header line
 abbrev pub behind_front : List (ℕ × List ℕ) → List (ℕ × List ℕ)
 behind_front numbered = drop_while (λ line. is_front_line line.1) numbered
-
--- the lines that aren't blank
-abbrev pub filled_lines : List (ℕ × List ℕ) → List (ℕ × List ℕ)
-filled_lines numbered = filter (λ line. not (are_blanks line.1)) numbered
 
 -- the observation lines of a batch: from the first line on that is neither blank nor a header line, each one that
 -- isn't blank
@@ -56,14 +48,6 @@ IsReadFrom text line = (line.number ≡ text.0) × IsReading text.1 line.read
 abbrev pub read_of : ℕ × List ℕ → Line
 read_of text = record { number = text.0; read = reading_of text.1 }
 
--- what the lines say, those that are blank aside
-abbrev pub said : List (ℕ × List ℕ) → List Line
-said numbered = map read_of (filled_lines numbered)
-
 -- what a batch says: each of its observation lines with its reading
 abbrev pub lines_of : List ℕ → List Line
 lines_of body = map read_of (observation_lines body)
-
--- the observations among the lines have their fields in their ranges
-abbrev pub AreInRange : List Line → Type 0
-AreInRange lines = All (λ line. IfOk line.read IsSighting) lines

@@ -1,6 +1,6 @@
 -- The columns of a line, counted from 1.
 use Rattle.std.specs.Prelude.{ℕ, ◌-◌, Bool, ◌&&◌, nat_le, ◌==◌, if◌then◌else◌, List, slice_index, slice_range}
-use Rattle.std.specs.Prelude.{codes}
+use Rattle.ascii_text.specs.Bytes.{blank}
 use Rattle.obs_record.specs.declared.sighting.Coded.{Coded}
 use Rattle.obs_record.specs.declared.sighting.Coded.TheVariants.{Nothing, Letter}
 
@@ -16,10 +16,6 @@ column a line = slice_index line (a - 1)
 abbrev pub is_printable : ℕ → Bool
 is_printable byte = nat_le 32 byte && nat_le byte 126
 
--- the letters of note 2 that stand for records of roving observers, radar and satellites
-abbrev pub refused_modes : List ℕ
-refused_modes = codes "VvRrSs"
-
 -- what the letter in a column says: nothing where it is blank
 abbrev pub coded : ℕ → Coded
-coded byte = if byte == 32 then Nothing else Letter byte
+coded byte = if byte == blank then Nothing else Letter byte

@@ -1,6 +1,7 @@
 -- The text of an observation as a line of 80 columns.
 use Rattle.std.specs.Prelude.{◌≡◌, ℕ, ◌-◌, ◌*◌, ◌/◌, ◌%◌, ◌^◌, min, Bool, true, false, List, [], ◌∷◌, ◌++◌, length, take, Option, Some, None, Contains}
 use Rattle.ascii_text.specs.Digits.{decimals_text, decimals_width}
+use Rattle.ascii_text.specs.Bytes.{blank, asterisk}
 use Rattle.ascii_text.specs.Blanks.{blanks}
 use Rattle.angle_fixed.specs.Writing.{nearest, time_text, arc_text}
 use Rattle.obs_time.specs.WrittenText.{IsTextOf}
@@ -14,7 +15,8 @@ use Rattle.obs_record.specs.Sighting.{IsPrintable}
 use Rattle.col80_format.specs.declared.writing.Front.{Front}
 use Rattle.col80_format.specs.declared.writing.Letters.{Letters}
 use Rattle.col80_format.specs.declared.form.Form.{Form}
-use Rattle.col80_format.specs.Columns.{columns, refused_modes}
+use Rattle.col80_format.specs.Columns.{columns}
+use Rattle.obs_record.specs.Modes.{refused_modes}
 use Rattle.col80_format.specs.Magnitudes.{whole_text}
 
 -- The decimals with which an observation is written: those that an 80-column line came with; else 6 of the day, 3 of the
@@ -26,7 +28,7 @@ form_of (Psv mag) = record { days = 6; seconds = 3; arcseconds = 2; minus = fals
 -- note 1: that of an 80-column line, and a blank for a line of another form
 abbrev pub note_of : Shape → ℕ → ℕ
 note_of (Eighty date ra dec minus mag) note1 = note1
-note_of (Psv mag) note1 = 32
+note_of (Psv mag) note1 = blank
 
 -- columns 1 to 5: the number as it is packed, or blanks
 abbrev pub number_text : Option Number → List ℕ
@@ -35,13 +37,12 @@ number_text (Some number) = packed_text (names.Number number)
 
 -- column 13: an asterisk, or a blank
 abbrev pub star_byte : Bool → ℕ
-star_byte false = 32
-star_byte true = 42
+star_byte false = blank
+star_byte true = asterisk
 
--- How many units of the last place are nearest to a magnitude; of two that are equally near the greater. The columns
--- hold no magnitude of 100 or more: what would be rounded to it is written as the greatest that they hold.
+-- how many units of the last place are nearest to a magnitude; of two that are equally near the greater
 abbrev pub steps_of : ℕ → ℕ → ℕ
-steps_of places mag = min (nearest mag (10 ^ (6 - places))) (100 * 10 ^ places - 1)
+steps_of places mag = nearest mag (10 ^ (6 - places))
 
 -- columns 66 to 70: the magnitude, or blanks
 unfoldable pub magnitude_text : ℕ → Option ℕ → List ℕ

@@ -2,8 +2,10 @@
 use Rattle.std.specs.Prelude.{◌≡◌, ℕ, ◌+◌, ◌-◌, ◌*◌, ◌^◌, ◌<◌, ◌≤◌, nat_lt, nat_le, ◌&&◌, ◌==◌, if◌then◌else◌, List, [], ◌∷◌, ◌++◌, Option, Some, None, Result, Ok, Err}
 use Rattle.ascii_text.specs.declared.digits.Radix.TheVariants.{Ten}
 use Rattle.ascii_text.specs.Digits.{digits_text, decimals_text}
+use Rattle.ascii_text.specs.Bytes.{blank}
 use Rattle.ascii_text.specs.Blanks.{blanks, are_blanks}
 use Rattle.ascii_text.specs.Reading.{◌>>=◌, digits_at, decimals_at}
+use Rattle.obs_record.specs.Magnitudes.{magnitude_of}
 use Rattle.obs_record.specs.declared.rule.RuleCode.{RuleCode}
 use Rattle.obs_record.specs.declared.rule.RuleCode.TheVariants.{S9}
 
@@ -15,7 +17,7 @@ pub record WrittenMagnitude : Type 0 where
 
 -- a whole number below 100 in two columns: a blank and a digit, or two digits
 abbrev pub whole_text : ℕ → List ℕ
-whole_text n = if nat_lt n 10 then 32 ∷ digits_text Ten 1 n else digits_text Ten 2 n
+whole_text n = if nat_lt n 10 then blank ∷ digits_text Ten 1 n else digits_text Ten 2 n
 
 -- the text is a magnitude with at most two decimals, and blanks behind it
 pub record SpellsMagnitude (written : WrittenMagnitude) (text : List ℕ) : Type 0 where
@@ -25,15 +27,11 @@ pub record SpellsMagnitude (written : WrittenMagnitude) (text : List ℕ) : Type
   pub space : ℕ
   pub spelling : text ≡ whole_text written.whole ++ (decimals_text written.count written.decimals ++ blanks space)
 
--- a magnitude in units of 0.000001
-abbrev pub magnitude_of : WrittenMagnitude → ℕ
-magnitude_of written = written.whole * 1000000 + written.decimals * 10 ^ (6 - written.count)
-
 -- columns 66 to 70: five blanks, or a magnitude with so many decimals
 abbrev pub IsMagnitudeText : List ℕ → Option ℕ → ℕ → Type 0
 IsMagnitudeText text None count = (text ≡ blanks 5) × (count ≡ 0)
 IsMagnitudeText text (Some mag) count =
-    (written : WrittenMagnitude) × SpellsMagnitude written text × (mag ≡ magnitude_of written) × (count ≡ written.count)
+    (written : WrittenMagnitude) × SpellsMagnitude written text × (mag ≡ magnitude_of written.whole written.count written.decimals) × (count ≡ written.count)
 
 -- ---- reading it
 
@@ -41,7 +39,7 @@ IsMagnitudeText text (Some mag) count =
 unfoldable pub whole_at : List ℕ → Option (ℕ × List ℕ)
 whole_at [] = None
 whole_at (first ∷ rest) =
-    if first == 32 then digits_at Ten 1 rest
+    if first == blank then digits_at Ten 1 rest
     else (if first == 48 then None else digits_at Ten 2 (first ∷ rest))
 
 -- the numbers of a magnitude that is the whole text, but for blanks
@@ -52,7 +50,7 @@ written_in text = do
   if nat_le decimals.0.0 2 && are_blanks decimals.1 then Some (record { whole = whole.0; count = decimals.0.0; decimals = decimals.0.1 }) else None
 
 abbrev pub magnitude_from : Option WrittenMagnitude → Result (Option ℕ × ℕ) RuleCode
-magnitude_from (Some written) = Ok (Some (magnitude_of written), written.count)
+magnitude_from (Some written) = Ok (Some (magnitude_of written.whole written.count written.decimals), written.count)
 magnitude_from None = Err S9
 
 -- the magnitude in columns 66 to 70, and the number of its decimals

@@ -1,6 +1,7 @@
 -- The names in columns 1 to 12.
 use Rattle.std.specs.Prelude.{◌≡◌, ◌≢◌, ℕ, ◌≤◌, Bool, not, ◌&&◌, ◌==◌, if◌then◌else◌, List, length, All, Option, Some, None, Result, Ok, Err}
 use Rattle.std.specs.List.{list_all}
+use Rattle.ascii_text.specs.Bytes.{blank, vertical_bar}
 use Rattle.ascii_text.specs.Blanks.{blanks, are_blanks, trimmed, IsTrimmed}
 use Rattle.packed_names.specs.declared.number.Number.{Number}
 use Rattle.packed_names.specs.declared.name.Designation.{Designation}
@@ -16,7 +17,7 @@ use Rattle.obs_record.specs.declared.rule.RuleCode.TheVariants.{S3}
 use Rattle.obs_record.specs.Short.{kept_short}
 use Rattle.col80_format.specs.declared.names.Names.{Names}
 use Rattle.col80_format.specs.Columns.{columns}
-use Rattle.col80_format.specs.Steps.{◌>>=◌}
+use Rattle.text_lines.specs.Steps.{◌>>=◌}
 
 -- columns 1 to 5: five blanks, or a number as it is packed
 abbrev pub IsNumberText : List ℕ → Option Number → Type 0
@@ -26,7 +27,7 @@ IsNumberText text (Some number) = IsPackedAs (names.Number number) text
 -- a temporary designation in its columns: it has no blank and no `|`, and only blanks stand before and behind it
 pub record SpellsTemporary (name text : List ℕ) : Type 0 where
   pub some : 1 ≤ length name
-  pub plain : All (λ byte. (byte ≢ 32) × (byte ≢ 124)) name
+  pub plain : All (λ byte. (byte ≢ blank) × (byte ≢ vertical_bar)) name
   pub alone : IsTrimmed text name
 
 -- columns 6 to 12: seven blanks; or a designation as it is packed; or, where they are none, a temporary designation
@@ -61,7 +62,7 @@ number_in text = if are_blanks text then Ok None else number_from (unpacked text
 
 -- a byte that a temporary designation may have
 abbrev pub is_plain : ℕ → Bool
-is_plain byte = not (byte == 32) && not (byte == 124)
+is_plain byte = not (byte == blank) && not (byte == vertical_bar)
 
 -- the temporary designation in columns 6 to 12
 unfoldable pub temporary_in : List ℕ → Result Short RuleCode

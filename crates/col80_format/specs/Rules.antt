@@ -1,5 +1,5 @@
 -- What an 80-column line says, column by column: an observation, or the first rule that the line breaks.
-use Rattle.std.specs.Prelude.{◌≡◌, ◌⊎◌, ℕ, Bool, List, [], ◌∷◌, length, All, Contains, Option, Result, Ok, Err, ℤ}
+use Rattle.std.specs.Prelude.{◌≡◌, ℕ, Bool, List, [], ◌∷◌, length, All, Contains, Option, Result, Ok, Err, ℤ}
 use Rattle.ascii_text.specs.Blanks.{blanks}
 use Rattle.angle_fixed.specs.Answer.{ReadsTime, ReadsArc}
 use Rattle.obs_time.specs.DayText.{IsDayAnswer}
@@ -8,10 +8,12 @@ use Rattle.obs_record.specs.declared.rule.RuleCode.TheVariants.{S1, S2, S3, S4, 
 use Rattle.obs_record.specs.declared.sighting.Coded.TheVariants.{Nothing}
 use Rattle.obs_record.specs.declared.sighting.Shape.TheVariants.{Eighty}
 use Rattle.obs_record.specs.declared.sighting.Sighting.{Sighting}
+use Rattle.text_lines.specs.Rules.{Judges}
 use Rattle.obs_record.specs.Short.{kept_short}
 use Rattle.obs_record.specs.Sighting.{IsPrintable}
 use Rattle.col80_format.specs.declared.names.Names.{Names}
-use Rattle.col80_format.specs.Columns.{columns, column, refused_modes, coded}
+use Rattle.col80_format.specs.Columns.{columns, column, coded}
+use Rattle.obs_record.specs.Modes.{refused_modes}
 use Rattle.col80_format.specs.Names.{AreNamesOf}
 use Rattle.col80_format.specs.Magnitudes.{IsMagnitudeText}
 
@@ -31,17 +33,6 @@ Keeps rule line = Unit {0}
 -- the rules of a line, in the order in which they are tested
 abbrev pub line_rules : List RuleCode
 line_rules = S1 ∷ S2 ∷ S3 ∷ S4 ∷ S5 ∷ S6 ∷ S7 ∷ S8 ∷ S9 ∷ []
-
--- the line keeps each of the rules
-abbrev pub KeepsEach : List RuleCode → List ℕ → Type 0
-KeepsEach [] line = Unit {0}
-KeepsEach (next ∷ more) line = Keeps next line × KeepsEach more line
-
--- the first of the rules that the line breaks: it is the next one, or the next is kept and it is the first of the others
-abbrev pub IsFirstBroken : List RuleCode → List ℕ → RuleCode → Type 0
-IsFirstBroken [] line rule = ⊥
-IsFirstBroken (next ∷ more) line rule =
-    ((¬ Keeps next line) × (rule ≡ next)) ⊎ (Keeps next line × IsFirstBroken more line rule)
 
 -- the observation is that of the columns
 pub record IsSightingOf (line : List ℕ) (s : Sighting) : Type 0 where
@@ -74,5 +65,4 @@ pub record IsSightingOf (line : List ℕ) (s : Sighting) : Type 0 where
 
 -- the reading of a line: the observation of its columns where it keeps every rule, else the first rule that it breaks
 abbrev pub IsReading : List ℕ → Result Sighting RuleCode → Type 0
-IsReading line (Ok s) = KeepsEach line_rules line × IsSightingOf line s
-IsReading line (Err rule) = IsFirstBroken line_rules line rule
+IsReading line reading = Judges (λ rule. Keeps rule line) line_rules (IsSightingOf line) reading

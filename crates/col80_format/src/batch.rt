@@ -1,15 +1,16 @@
-ghost use Rattle.ascii_text.specs.Blanks.{are_blanks};
-ghost use Rattle.std.specs.Prelude.{not, ◌≡◌, ◌+◌, ◌<◌, ◌≤◌, ◌∷◌, length, IfOk};
-ghost use Rattle.std.specs.List.{enumerate_from, AllZip};
-ghost use Rattle.std.specs.Str.Lines.{lines, strip_carriage_return};
-ghost use Rattle.col80_format.specs.Batch.{is_header_line, is_front_line, begins_with_word, numbered_lines, behind_front, said, observation_lines, IsReadFrom, lines_of, AreInRange};
+//! The lines of a batch, one after another.
+
+ghost use Rattle.std.specs.Prelude.{◌≡◌, ◌+◌, ◌<◌, ◌≤◌, length, take, IfOk, OnOk, OnErr};
+ghost use Rattle.text_lines.specs.Pieces.{complete_lines, unfinished};
+ghost use Rattle.obs_record.specs.Lines.{AreInRange};
+ghost use Rattle.col80_format.specs.Batch.{is_header_line, is_front_line, begins_with_word};
+ghost use Rattle.col80_format.specs.Feeding.{seen_on, seen_all};
 
 use crate::reading::read_line;
 use ascii_text::blanks::are_blanks;
-use item_list::{ItemList, NoMemory};
-use memchr::memchr;
+use item_list::NoMemory;
 use obs_record::{Line, Lines};
-use std::alloc::Global;
+use text_lines::lines::next_complete;
 
 /// The words that header lines begin with.
 const HEADER_WORDS: [[u8; 3]; 11] = [
@@ -17,30 +18,15 @@ const HEADER_WORDS: [[u8; 3]; 11] = [
     *b"AC2",
 ];
 
-/// The line without the carriage return at its end.
-fn without_return(line: &[u8]) -> &[u8]
-    ensures { result.now ≡ strip_carriage_return line.now }
-{
-    match line {
-        [front @ .., b'\r'] => front,
-        _ => line,
-    }
-}
-
-/// The first line of a text that isn't empty, without its line end, and the text behind it.
-fn next_line(text: &[u8]) -> (&[u8], &[u8])
-    requires { 0 < length text.now }
-    ensures first { lines text.now ≡ result.0.now ∷ lines result.1.now }
-    ensures shorter { length result.1.now < length text.now }
-{
-    match memchr(b'\n', text) {
-        None => text.split_at(text.len()),
-        Some(place) => {
-            let (line, rest) = text.split_at(place);
-            let (_, behind) = rest.split_at(1);
-            (without_return(line), behind)
-        }
-    }
+/// What was seen of a batch so far.
+#[derive(Drop)]
+pub(crate) struct Seen {
+    /// The number of the next line.
+    pub(crate) next: u32,
+    /// Whether an observation line was seen.
+    pub(crate) observed: bool,
+    /// The observation lines, with what they say.
+    pub(crate) found: Lines,
 }
 
 /// Whether the line begins with the word, and a blank or the line's end follows.
@@ -65,66 +51,39 @@ fn is_front_line(line: &[u8]) -> bool
     are_blanks(line) || is_header_line(line)
 }
 
-/// The text from the first observation line on, and the number of that line.
-fn behind_headers(body: &[u8]) -> (&[u8], u32)
-    requires { length body.now < 4294967295 }
-    ensures rest { behind_front (numbered_lines body.now) ≡ enumerate_from result.1 (lines result.0.now) }
-    ensures room { length result.0.now + result.1 ≤ 4294967295 }
+/// Sees one more line, and reads it where it is an observation line.
+#[tactic(auto, unfolding(crate::specs::Feeding::seen_on))]
+pub(crate) fn see_line(seen: &mut Seen, line: &[u8]) -> Result<(), NoMemory>
+    requires { seen.old.next < 4294967295 }
+    ensures seen { OnOk result (seen.new ≡ seen_on seen.old line.now) }
+    ensures no_memory { OnErr result (seen.new ≡ seen.old) }
+    ensures range { AreInRange seen.old.found → AreInRange seen.new.found }
 {
-    let mut rest = body;
-    let mut number: u32 = 1;
-    while !rest.is_empty() {
-        let (line, behind) = next_line(rest);
-        if !is_front_line(line) {
-            return (rest, number);
-        }
-        rest = behind;
-        number += 1;
+    let observed = seen.observed || !is_front_line(line);
+    if observed && !are_blanks(line) {
+        let number = seen.next;
+        let read = read_line(line);
+        seen.found.push(Line { number, read })?;
     }
-    (rest, number)
+    seen.observed = observed;
+    seen.next += 1;
+    Ok(())
 }
 
-/// Whether the line says something.
-fn is_filled(line: &[u8]) -> bool
-    ensures { result ≡ not (are_blanks line.now) }
+/// Sees the lines of a text that line feeds end, and gives the rest of it.
+pub(crate) fn see_lines<'a>(seen: &mut Seen, text: &'a [u8]) -> Result<&'a [u8], NoMemory>
+    requires { length text.now + seen.old.next ≤ 4294967295 }
+    ensures seen { OnOk result (seen.new ≡ seen_all seen.old (complete_lines text.now)) }
+    ensures rest { IfOk result (λ rest. rest.now ≡ unfinished text.now) }
+    ensures room { IfOk result (λ rest. length rest.now + seen.new.next ≤ length text.now + seen.old.next) }
+    // What was read before stays.
+    ensures kept { take (length seen.old.found) seen.new.found ≡ seen.old.found }
+    ensures range { AreInRange seen.old.found → AreInRange seen.new.found }
 {
-    !are_blanks(line)
-}
-
-/// The observation lines from here on, the first line of the text having this number.
-fn read_lines(alloc: Global, text: &[u8], first: u32) -> Result<Lines, NoMemory>
-    requires { length text.now + first ≤ 4294967295 }
-    ensures exact { IfOk result (λ found. found ≡ said (enumerate_from first (lines text.now))) }
-    ensures range { IfOk result AreInRange }
-{
-    let mut found = ItemList::new(alloc);
     let mut rest = text;
-    let mut number = first;
-    while !rest.is_empty() {
-        let (line, behind) = next_line(rest);
-        if is_filled(line) {
-            let read = read_line(line);
-            found.push(Line { number, read })?;
-        }
-        rest = behind;
-        number += 1;
+    'lines: while let Some((line, after)) = next_complete(rest) {
+        see_line(seen, line)?;
+        rest = after;
     }
-    Ok(found)
-}
-
-/// The observation lines of a batch, each with its number and what it says.
-///
-/// The batch is cut into lines at line feeds; a carriage return before a line feed belongs to it, and what stands behind
-/// the last line feed is a line where it isn't empty. Lines count from 1, all of them. Lines of blanks alone are passed
-/// over, and so are header lines up to the first line that is neither; they begin with one of COD, CON, OBS, MEA, TEL,
-/// NET, BND, COM, NUM, ACK and AC2, and a blank or the line's end follows. Takes memory for the list.
-pub fn split_batch(alloc: Global, body: &[u8]) -> Result<Lines, NoMemory>
-    requires { length body.now < 4294967295 }
-    ensures exact { IfOk result (λ found. found ≡ lines_of body.now) }
-    // Each observation line stands there in its place, with the reading of its columns.
-    ensures lines { IfOk result (λ found. AllZip IsReadFrom (observation_lines body.now) found) }
-    ensures range { IfOk result AreInRange }
-{
-    let (rest, first) = behind_headers(body);
-    read_lines(alloc, rest, first)
+    Ok(rest)
 }

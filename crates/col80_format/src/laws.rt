@@ -3,10 +3,24 @@
 ghost use Rattle.std.specs.Prelude.{◌≡◌, ℕ, List, Result};
 ghost use Rattle.obs_record.specs.declared.rule.RuleCode.{RuleCode};
 ghost use Rattle.obs_record.specs.declared.sighting.Sighting.{Sighting};
+ghost use Rattle.std.specs.Str.Lines.{lines};
 ghost use Rattle.col80_format.specs.Rules.{IsReading};
+ghost use Rattle.col80_format.specs.Batch.{lines_of};
+ghost use Rattle.col80_format.specs.Feeding.{none_seen, seen_all};
 
 /// A line has one reading, and no two.
 pub fn one_reading()
     ensures some { (line : List ℕ) → (reading : Result Sighting RuleCode) × IsReading line reading }
     ensures only { (line : List ℕ) (one other : Result Sighting RuleCode) → IsReading line one → IsReading line other → one ≡ other }
+{
+    ascii_text::laws::texts();
+    angle_fixed::laws::angles();
+    obs_time::laws::times();
+    packed_names::laws::names();
+    obs_record::laws::records();
+}
+
+/// A batch says what its lines say that are read one after another, as a reader of pieces reads them.
+pub fn batch_read()
+    ensures { (body : List ℕ) → (seen_all none_seen (lines body)).found ≡ lines_of body }
 {}

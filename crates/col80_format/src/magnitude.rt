@@ -1,26 +1,22 @@
 //! The magnitude in columns 66 to 70.
 
 ghost use Rattle.std.specs.Prelude.{◌≡◌, ◌+◌, ◌^◌, ◌<◌, ◌≤◌, length, IfSome, option_map};
-ghost use Rattle.col80_format.specs.Magnitudes.{whole_at, written_in, magnitude_of, magnitude_in};
+ghost use Rattle.col80_format.specs.Magnitudes.{whole_at, written_in, magnitude_in};
 ghost use Rattle.col80_format.specs.Written.{written};
 
 use ascii_text::blanks::are_blanks;
 use ascii_text::digits::Radix;
-use ascii_text::reading::{decimals_at, digits_at};
-use obs_record::RuleCode;
+use ascii_text::reading::{Decimals, decimals_at, digits_at};
+use obs_record::{RuleCode, magnitude_of};
 
 /// The greatest number of decimals of a magnitude.
 const MOST_DECIMALS: usize = 2;
-
-/// One magnitude in the units of observations, 0.000001.
-const UNITS: u32 = 1_000_000;
 
 /// The numbers that a magnitude is written with.
 #[derive(Clone, Copy)]
 pub(crate) struct Written {
     pub(crate) whole: u64,
-    pub(crate) count: usize,
-    pub(crate) decimals: u64,
+    pub(crate) decimals: Decimals,
 }
 
 /// The whole number in the two columns at the front, and the text behind them.
@@ -44,34 +40,15 @@ fn written_in(text: &[u8]) -> Option<Written>
     requires { length text.now ≤ 18 }
     ensures exact { option_map written result ≡ written_in text.now }
     ensures whole { IfSome result (λ x. x.whole < 100) }
-    ensures few { IfSome result (λ x. x.count ≤ 2) }
-    ensures decimals { IfSome result (λ x. x.decimals < 10 ^ x.count) }
+    ensures few { IfSome result (λ x. x.decimals.count ≤ 2) }
+    ensures decimals { IfSome result (λ x. x.decimals.value < 10 ^ x.decimals.count) }
 {
     let (whole, rest) = whole_at(text)?;
     let (decimals, rest) = decimals_at(rest)?;
     if decimals.count > MOST_DECIMALS || !are_blanks(rest) {
         return None;
     }
-    Some(Written {
-        whole,
-        count: decimals.count,
-        decimals: decimals.value,
-    })
-}
-
-/// The magnitude in units of 0.000001.
-fn units(magnitude: Written) -> u32
-    requires whole { magnitude.whole < 100 }
-    requires few { magnitude.count ≤ 2 }
-    requires decimals { magnitude.decimals < 10 ^ magnitude.count }
-    ensures { result ≡ magnitude_of (written magnitude) }
-{
-    let unit = match magnitude.count {
-        0 => UNITS,
-        1 => UNITS / 10,
-        _ => UNITS / 100,
-    };
-    magnitude.whole as u32 * UNITS + magnitude.decimals as u32 * unit
+    Some(Written { whole, decimals })
 }
 
 /// The magnitude in columns 66 to 70 and the number of its decimals, or rule S9 where they show none. Blanks say that
@@ -85,7 +62,10 @@ pub(crate) fn magnitude_in(text: &[u8]) -> Result<(Option<u32>, u8), RuleCode>
         return Ok((None, 0));
     }
     match written_in(text) {
-        Some(magnitude) => Ok((Some(units(magnitude)), magnitude.count as u8)),
+        Some(Written { whole, decimals }) => {
+            let magnitude = magnitude_of(whole, decimals);
+            Ok((Some(magnitude), decimals.count as u8))
+        }
         None => Err(RuleCode::S9),
     }
 }

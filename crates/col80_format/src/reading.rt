@@ -1,13 +1,13 @@
 //! The reading of a line.
 
 ghost use Rattle.std.specs.Prelude.{◌≡◌, ◌<◌, ◌==◌, length, Result, OnOk, IfOk, pos, neg_ℤ, ◌≤ℤ◌};
-ghost use Rattle.std.specs.List.{list_all, list_any};
+ghost use Rattle.std.specs.List.{list_all};
 ghost use Rattle.angle_fixed.specs.Angles.{circle, quarter};
 ghost use Rattle.obs_time.specs.Instants.{IsInstantNs};
 ghost use Rattle.obs_record.specs.declared.rule.RuleCode.{RuleCode};
 ghost use Rattle.obs_record.specs.declared.sighting.Sighting.{Sighting};
 ghost use Rattle.obs_record.specs.Sighting.{IsSighting};
-ghost use Rattle.col80_format.specs.Columns.{is_printable, refused_modes, coded};
+ghost use Rattle.col80_format.specs.Columns.{is_printable, coded};
 ghost use Rattle.col80_format.specs.Reading.{head_of, position_of, tail_of, observed, reading_of};
 ghost use Rattle.col80_format.specs.Rules.{IsReading};
 
@@ -15,7 +15,7 @@ use crate::magnitude::magnitude_in;
 use crate::names::{Names, names_in};
 use angle_fixed::{Dec, Ra, read_dms, read_hms};
 use ascii_text::blanks::are_blanks;
-use obs_record::{Coded, RuleCode, Shape, Short, Sighting};
+use obs_record::{Coded, RuleCode, Shape, Short, Sighting, is_refused_mode};
 use obs_time::{Instant, read_day_fraction};
 
 /// When and where: columns 16 to 56, and how many decimals they have.
@@ -35,14 +35,6 @@ fn are_printable(line: &[u8]) -> bool
     ensures { result ≡ list_all is_printable line.now }
 {
     line.iter().all(|byte| 32 <= *byte && *byte <= 126)
-}
-
-/// Whether a line with this letter in column 15 is of a kind that isn't read: records of roving observers, of radar
-/// and of satellites.
-fn is_refused_mode(letter: u8) -> bool
-    ensures { result ≡ list_any (λ mode. mode == letter) refused_modes }
-{
-    matches!(letter, b'V' | b'v' | b'R' | b'r' | b'S' | b's')
 }
 
 /// What a letter says: nothing where it is blank.
@@ -180,5 +172,10 @@ pub fn read_line(line: &[u8]) -> Result<Sighting, RuleCode>
     ensures only { (other : Result Sighting RuleCode) → IsReading line.now other → other ≡ result }
     ensures range { IfOk result IsSighting }
 {
+    ascii_text::laws::texts();
+    angle_fixed::laws::angles();
+    obs_time::laws::times();
+    packed_names::laws::names();
+    obs_record::laws::records();
     reading(line)
 }

@@ -3,7 +3,8 @@
 ghost use Rattle.std.specs.Prelude.{◌≡◌, ℕ, ◌+◌, ◌-◌, ◌*◌, ◌/◌, ◌^◌, ◌<◌, ◌≤◌, List, [], ◌∷◌, ◌++◌, length, take, Ok, All, IfSome};
 ghost use Rattle.arrayvec.specs.ArrayVec.{array_vec_len};
 ghost use Rattle.packed_names.specs.Ranges.{IsNumber};
-ghost use Rattle.obs_record.specs.Sighting.{IsPrintable, IsShape};
+ghost use Rattle.obs_record.specs.Sighting.{IsPrintable, IsShape, places_of};
+ghost use Rattle.obs_record.specs.Magnitudes.{greatest_magnitude, HasDecimals};
 ghost use Rattle.col80_format.specs.Columns.{column};
 ghost use Rattle.col80_format.specs.Magnitudes.{whole_text};
 ghost use Rattle.col80_format.specs.Rules.{IsReading};
@@ -97,12 +98,10 @@ fn unit_of(places: u8) -> u64
 /// How many units of the last place are nearest to the magnitude.
 fn steps_of(places: u8, mag: u32) -> u64
     requires { places ≤ 2 }
-    ensures value { result ≡ steps_of places mag }
-    ensures below { result < 100 * 10 ^ places }
+    ensures { result ≡ steps_of places mag }
 {
     let unit = unit_of(places);
-    let nearest = (2 * u64::from(mag) + unit) / (2 * unit);
-    nearest.min(100 * scale_of(places) - 1)
+    (2 * u64::from(mag) + unit) / (2 * unit)
 }
 
 /// Writes columns 66 to 70.
@@ -110,6 +109,7 @@ fn steps_of(places: u8, mag: u32) -> u64
 fn put_magnitude(out: &mut Text, places: u8, mag: Option<u32>)
     requires room { array_vec_len out.old + 5 ≤ 80 }
     requires few { places ≤ 2 }
+    requires fits { IfSome mag (λ m. steps_of places m < 100 * 10 ^ places) }
     ensures text { out.new.items ≡ out.old.items ++ magnitude_text places mag }
     ensures len { array_vec_len out.new ≡ array_vec_len out.old + 5 }
 {
@@ -173,6 +173,7 @@ fn put_angles(out: &mut Text, s: &Sighting, form: Form)
 fn put_back(out: &mut Text, s: &Sighting, form: Form, letters: Letters)
     requires room { array_vec_len out.old ≡ 56 }
     requires few { form.places ≤ 2 }
+    requires fits { IfSome s.now.mag (λ mag. steps_of form.places mag < 100 * 10 ^ form.places) }
     ensures text { out.new.items ≡ out.old.items ++ back_text s.now form letters }
     ensures len { array_vec_len out.new ≡ 80 }
 {
@@ -192,8 +193,14 @@ fn put_back(out: &mut Text, s: &Sighting, form: Form, letters: Letters)
 /// as many of the magnitude as it came with, at most 2. Each number is rounded to its last decimal, halves away from
 /// zero, and carried: right ascension that reaches 24 hours is written as 0, and a time that reaches the day's end goes
 /// into the next day. Takes no memory.
+///
+/// The observation's magnitude and decimals are such as an observation may have, and its station has 3 bytes; the number is
+/// 1 to 15,396,335; name and letters are printable, and the mode isn't one of the six letters of records that this office
+/// doesn't take.
 pub fn write_line(s: &Sighting, front: Front, letters: Letters) -> [u8; 80]
     requires shape { IsShape s.now.shape }
+    requires magnitude { IfSome s.now.mag (λ mag. mag ≤ greatest_magnitude) }
+    requires decimals { HasDecimals s.now.mag (places_of s.now.shape) }
     requires station { s.now.station.len ≡ 3 }
     requires number { IfSome front.number (λ n. IsNumber n.0) }
     requires name { All IsPrintable front.name }
@@ -205,6 +212,11 @@ pub fn write_line(s: &Sighting, front: Front, letters: Letters) -> [u8; 80]
     // No other text is right.
     ensures only { (other : List ℕ) → IsLineText s.now front letters other → other ≡ result }
 {
+    ascii_text::laws::texts();
+    angle_fixed::laws::angles();
+    obs_time::laws::times();
+    packed_names::laws::names();
+    obs_record::laws::records();
     let form = form_of(s.shape);
     let mut out = Text::new();
     put_front(&mut out, s, &front, letters);

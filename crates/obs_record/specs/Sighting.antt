@@ -1,19 +1,16 @@
--- What the fields of an observation may be, and the name that it goes by.
-use Rattle.std.specs.Prelude.{ℕ, ◌<◌, ◌≤◌, ◌⊎◌, pos, neg_ℤ, ◌≤ℤ◌, [], Option, Some, None, IfSome, IsSome}
+-- What the fields of an observation may be.
+use Rattle.std.specs.Prelude.{ℕ, ◌<◌, ◌≤◌, pos, neg_ℤ, ◌≤ℤ◌, IfSome}
 use Rattle.angle_fixed.specs.Angles.{circle, quarter}
 use Rattle.obs_time.specs.Instants.{IsInstantNs}
-use Rattle.packed_names.specs.declared.number.Number.{Number}
-use Rattle.packed_names.specs.declared.name.Designation.{Designation}
 use Rattle.packed_names.specs.Ranges.{IsNumber, IsDesignation}
-use Rattle.obs_record.specs.declared.short.Short.{Short}
 use Rattle.obs_record.specs.declared.sighting.Coded.{Coded}
 use Rattle.obs_record.specs.declared.sighting.Coded.TheVariants.{Nothing, Letter, Word}
 use Rattle.obs_record.specs.declared.sighting.Shape.{Shape}
 use Rattle.obs_record.specs.declared.sighting.Shape.TheVariants.{Eighty, Psv}
 use Rattle.obs_record.specs.declared.sighting.Sighting.{Sighting}
-use Rattle.obs_record.specs.declared.name.TrackName.{TrackName}
-use Rattle.obs_record.specs.declared.name.TrackName.TheVariants as tracks
-use Rattle.obs_record.specs.Short.{IsShort, kept_short}
+use Rattle.obs_record.specs.Short.{IsShort}
+use Rattle.obs_record.specs.Magnitudes.{greatest_magnitude, HasDecimals}
+use Rattle.obs_record.specs.Names.{HasName}
 
 -- a byte that is printed, a blank included
 abbrev pub IsPrintable : ℕ → Type 0
@@ -30,31 +27,26 @@ abbrev pub IsShape : Shape → Type 0
 IsShape (Eighty date ra dec minus mag) = (1 ≤ date) × (date ≤ 6) × (ra ≤ 3) × (dec ≤ 2) × (mag ≤ 2)
 IsShape (Psv mag) = mag ≤ 6
 
+-- how many decimals the magnitude has
+abbrev pub places_of : Shape → ℕ
+places_of (Eighty date ra dec minus mag) = mag
+places_of (Psv mag) = mag
+
 -- an observation that a line may have
 pub record IsSighting (s : Sighting) : Type 0 where
   pub number : IfSome s.perm (λ number. IsNumber number.0)
   pub designation : IfSome s.prov IsDesignation
   pub temporary : IfSome s.sub IsShort
-  pub named : IsSome s.perm ⊎ IsSome s.prov ⊎ IsSome s.sub
+  pub named : HasName s
   pub station : IsShort s.station
   pub time : IsInstantNs s.time
   pub ra : s.ra < circle
   pub dec : (neg_ℤ (pos quarter) ≤ℤ s.dec) × (s.dec ≤ℤ pos quarter)
-  pub magnitude : IfSome s.mag (λ mag. mag ≤ 99990000)
+  pub magnitude : IfSome s.mag (λ mag. mag ≤ greatest_magnitude)
+  -- the shape says how many decimals it has at most
+  pub decimals : HasDecimals s.mag (places_of s.shape)
   pub band : IsCoded s.band
   pub mode : IsCoded s.mode
   pub catalogue : IsCoded s.catalogue
   pub note1 : IsPrintable s.note1
   pub shape : IsShape s.shape
-
--- the number, else the designation, else the temporary designation; where there is none of the three, which no line
--- gives, an empty text
-abbrev pub name_among : Option Number → Option Designation → Option Short → TrackName
-name_among (Some number) prov sub = tracks.Number number
-name_among None (Some designation) sub = tracks.Designation designation
-name_among None None (Some short) = tracks.Sub short
-name_among None None None = tracks.Sub (kept_short [])
-
--- the name that an observation goes by
-abbrev pub name_of : Sighting → TrackName
-name_of s = name_among s.perm s.prov s.sub

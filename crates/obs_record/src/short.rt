@@ -4,7 +4,9 @@ ghost use Rattle.obs_record.specs.Short.{IsShort, kept_short};
 /// A text of at most 12 bytes. The bytes from `len` on are 0.
 #[derive(Clone, Copy, Debug, PartialEq, Eq)]
 pub struct Short {
+    /// How many bytes the text has, 0 to 12.
     pub len: u8,
+    /// The text, and zeros after it.
     pub bytes: [u8; 12],
 }
 

@@ -46,17 +46,24 @@ pub struct Sighting {
     pub prov: Option<Designation>,
     /// The observer's temporary designation. One at least of number, designation and temporary designation is there.
     pub sub: Option<Short>,
-    /// The code of the station.
+    /// The code of the station that observed, as the line has it.
     pub station: Short,
+    /// When it was observed, to the nanosecond of UTC.
     pub time: Instant,
+    /// The right ascension, 0 to below 360 degrees, in units of 1/9,000,000,000,000 degree.
     pub ra: Ra,
+    /// The declination, -90 to 90 degrees, in the same units.
     pub dec: Dec,
-    /// The magnitude in units of 0.000001, 0 to 99,990,000.
+    /// The magnitude in units of 0.000001, 0 to 99,990,000. It has at most as many decimals as `shape` says.
     pub mag: Option<u32>,
+    /// The band of the magnitude.
     pub band: Coded,
+    /// The mode of the instrument.
     pub mode: Coded,
+    /// The star catalogue that the position was measured against; lines of 80 columns say nothing of it.
     pub catalogue: Coded,
-    /// The character of note 1, a blank where there is none.
+    /// The character of note 1, a blank where there is none; it is printable.
     pub note1: u8,
+    /// The form of the line, and the decimals that its numbers had there.
     pub shape: Shape,
 }

@@ -3,7 +3,6 @@ use Rattle.std.proofs.Common.{arith, ◌≡◌, ℕ, ◌+◌, ◌*◌, ◌-◌, 
 use Rattle.std.specs.Prelude.{Result, Ok, Err}
 use Rattle.std.proofs.lemmas.Nat.{div-mul-add, mod-mul-add, div-add-mod'}
 use Rattle.ascii_text.specs.Digits.{decimals_width}
-use Rattle.ascii_text.proofs.DigitTexts.{length-digits_text, length-decimals_text}
 use Rattle.obs_time.specs.declared.civil.Civil.{Civil}
 use Rattle.obs_time.specs.declared.fault.TimeFault.{TimeFault}
 use Rattle.obs_time.specs.declared.fault.TimeFault.TheVariants.{Spelling}
@@ -17,7 +16,7 @@ use Rattle.obs_time.proofs.CalendarLaws.{date_of_day_number, day_of_moment, ns_o
 use Rattle.obs_time.proofs.WritingLaws.{digits_of_date}
 use Rattle.obs_time.proofs.IsoLemmas.{decimals_are, seconds_below, seconds_of_clock, clock_in_day, clock_of_seconds}
 use Rattle.obs_time.proofs.IsoLaws.{iso_answered, iso_answer_only}
-
+use Rattle.ascii_text.specs.Laws.{TextLaws}
 same_numbers : (a b : WrittenIso) → a.date ≡ b.date → a.clock ≡ b.clock → a.count ≡ b.count → a.decimals ≡ b.decimals → a ≡ b
 same_numbers a b date clock count decimals =
     ap (λ (d : WrittenDate). record { date = d; clock = a.clock; count = a.count; decimals = a.decimals }) date
@@ -74,44 +73,47 @@ pub civil_text : (t : ℤ) (civil : Civil) → IsCivilOf t civil → IsObservedY
 unfolding iso_text
 civil_text t civil is year = ap spelled_iso (numbers_are (civil_numbers civil) t (civil_stands t civil is year))
 
--- the text is read as the moment
-pub civil_is_read : (t : ℤ) (civil : Civil) → IsCivilOf t civil → IsObservedYear civil.year → iso_of (spelled_iso (civil_numbers civil)) ≡ Ok t
-civil_is_read t civil is year =
-    let iso = civil_numbers civil in
-    let stands = civil_stands t civil is year in
-    let spelled : SpellsIso iso (spelled_iso iso) = record {
-      date = digits_of_date civil.year civil.month civil.day (omega (arith, year.1)) is.date;
-      clock = record { hour = omega (arith, stands.clock.hour); minute = omega (arith, stands.clock.minute); second = omega (arith, stands.clock.second) };
-      decimals = omega (arith, stands.decimals);
-      spelling = refl;
-    } in
-    sym (iso_answer_only (spelled_iso iso) (Ok t) (inl (iso, spelled, (omega arith, year, stands.clock, is.date, record { ns = iso.decimals; part = refl; exact = stands.exact }))))
-
--- ---- a text that was read
-
--- how long the text of an ISO time is
-length-spelled_iso : (iso : WrittenIso) → length (spelled_iso iso) ≡ 20 + decimals_width iso.count
-length-spelled_iso iso = simp (length-append, length-digits_text, length-decimals_text) (omega arith)
-
 nine_wide : (count : ℕ) → decimals_width count ≡ 10 → count ≡ 9
 nine_wide count wide = grind arith
 
 ok_is_no_err : (t : ℤ) → ◌≡◌ {A = Result ℤ TimeFault} (Ok t) (Err Spelling) → ⊥
 ok_is_no_err t e = cc
 
-answered_text : (t : ℤ) (text : List ℕ) → length text ≡ 30 → IsIsoAnswer text (Ok t) → text ≡ iso_text t
-unfolding iso_text
-answered_text t text len (inl h) =
-    let iso = h.0 in
-    let spelled = h.1 in
-    let verdict = h.2 in
-    let count : iso.count ≡ 9 = nine_wide iso.count (omega (arith, len, ap length spelled.spelling, length-spelled_iso iso)) in
-    let decimals : iso.decimals < nanos_of_a_second = subst (λ (k : ℕ). iso.decimals < 10 ^ k) count spelled.decimals in
-    let ns : verdict.4.ns ≡ iso.decimals = decimals_are iso.decimals iso.count verdict.4.ns verdict.0 verdict.4.part ∙ ap (λ (k : ℕ). iso.decimals * 10 ^ (9 - k)) count ∙ omega arith in
-    let exact = verdict.4.exact ∙ ap (λ (n : ℕ). moment (day_number iso.date.year iso.date.month iso.date.day) (seconds_of iso.clock * nanos_of_a_second + n)) ns in
-    spelled.spelling ∙ ap spelled_iso (numbers_are iso t (record { exists = verdict.3; year = verdict.1; clock = verdict.2; count = count; decimals = decimals; exact = exact }))
-answered_text t text len (inr h) = absurd (ok_is_no_err t h.1)
+module _ (texts : TextLaws) where
+  open texts use {length-digits_text, length-decimals_text}
 
--- a text with nine decimals that is read as a moment is the moment's text
-pub text_is_its : (t : ℤ) (text : List ℕ) → length text ≡ 30 → iso_of text ≡ Ok t → text ≡ iso_text t
-text_is_its t text len read = answered_text t text len (subst (λ (r : Result ℤ TimeFault). IsIsoAnswer text r) read (iso_answered text))
+  -- the text is read as the moment
+  pub civil_is_read : (t : ℤ) (civil : Civil) → IsCivilOf t civil → IsObservedYear civil.year → iso_of (spelled_iso (civil_numbers civil)) ≡ Ok t
+  civil_is_read t civil is year =
+      let iso = civil_numbers civil in
+      let stands = civil_stands t civil is year in
+      let spelled : SpellsIso iso (spelled_iso iso) = record {
+        date = digits_of_date civil.year civil.month civil.day (omega (arith, year.1)) is.date;
+        clock = record { hour = omega (arith, stands.clock.hour); minute = omega (arith, stands.clock.minute); second = omega (arith, stands.clock.second) };
+        decimals = omega (arith, stands.decimals);
+        spelling = refl;
+      } in
+      sym (iso_answer_only texts (spelled_iso iso) (Ok t) (inl (iso, spelled, (omega arith, year, stands.clock, is.date, record { ns = iso.decimals; part = refl; exact = stands.exact }))))
+
+  -- ---- a text that was read
+
+  -- how long the text of an ISO time is
+  length-spelled_iso : (iso : WrittenIso) → length (spelled_iso iso) ≡ 20 + decimals_width iso.count
+  length-spelled_iso iso = simp (length-append, length-digits_text, length-decimals_text) (omega arith)
+
+  answered_text : (t : ℤ) (text : List ℕ) → length text ≡ 30 → IsIsoAnswer text (Ok t) → text ≡ iso_text t
+  unfolding iso_text
+  answered_text t text len (inl h) =
+      let iso = h.0 in
+      let spelled = h.1 in
+      let verdict = h.2 in
+      let count : iso.count ≡ 9 = nine_wide iso.count (omega (arith, len, ap length spelled.spelling, length-spelled_iso iso)) in
+      let decimals : iso.decimals < nanos_of_a_second = subst (λ (k : ℕ). iso.decimals < 10 ^ k) count spelled.decimals in
+      let ns : verdict.4.ns ≡ iso.decimals = decimals_are iso.decimals iso.count verdict.4.ns verdict.0 verdict.4.part ∙ ap (λ (k : ℕ). iso.decimals * 10 ^ (9 - k)) count ∙ omega arith in
+      let exact = verdict.4.exact ∙ ap (λ (n : ℕ). moment (day_number iso.date.year iso.date.month iso.date.day) (seconds_of iso.clock * nanos_of_a_second + n)) ns in
+      spelled.spelling ∙ ap spelled_iso (numbers_are iso t (record { exists = verdict.3; year = verdict.1; clock = verdict.2; count = count; decimals = decimals; exact = exact }))
+  answered_text t text len (inr h) = absurd (ok_is_no_err t h.1)
+
+  -- a text with nine decimals that is read as a moment is the moment's text
+  pub text_is_its : (t : ℤ) (text : List ℕ) → length text ≡ 30 → iso_of text ≡ Ok t → text ≡ iso_text t
+  text_is_its t text len read = answered_text t text len (subst (λ (r : Result ℤ TimeFault). IsIsoAnswer text r) read (iso_answered texts text))

@@ -7,8 +7,6 @@ use Rattle.jiff_core.specs.declared.civil.date.Date.{Date}
 use Rattle.jiff_core.proofs.SignedLemmas.{signed_arith}
 use Rattle.jiff_core.proofs.DateLemmas.{epoch_day_injective}
 use Rattle.ascii_text.specs.Digits.{decimals_width}
-use Rattle.ascii_text.proofs.DigitTexts.{length-digits_text, length-decimals_text}
-use Rattle.ascii_text.proofs.BlankTexts.{length-blanks}
 use Rattle.obs_time.specs.declared.fault.TimeFault.{TimeFault}
 use Rattle.obs_time.specs.Instants.{nanos_of_a_day, IsInstantNs}
 use Rattle.obs_time.specs.Dates.{DateExists, day_number, moment}
@@ -20,20 +18,11 @@ use Rattle.obs_time.proofs.YearLaws.{civil_date, same_parts, year_of_instant}
 use Rattle.obs_time.proofs.DayLemmas.{unit_whole, unit_positive, part_below, part_is}
 use Rattle.obs_time.proofs.DayLaws.{day_answered, day_answer_only, ok_is_no_err}
 use Rattle.obs_time.proofs.RoundingLemmas.{days_in_units, between_multiples}
-
+use Rattle.ascii_text.specs.Laws.{TextLaws}
 -- the nanoseconds that decimals stand for are fewer than a day's
 ns_below : (day : WrittenDay) (t : ℤ) (is : IsMomentOf day t) → day.count ≤ 6 → day.decimals < 10 ^ day.count → is.ns < nanos_of_a_day
 ns_below day t is few below =
     rw (part_is day.decimals day.count is.ns few is.part) (part_below day.decimals day.count few below)
-
--- a written text is read as the rounded moment, where that is in range
-pub text_is_read : (t : ℤ) (count : ℕ) (text : List ℕ) → count ≤ 6 → IsTextOf t count text → IsInstantNs (rounded t (decimal_unit count)) → day_fraction_of text ≡ Ok (rounded t (decimal_unit count), count)
-text_is_read t count text few is range =
-    let day = is.day in
-    let some_few : day.count ≤ 6 = omega (arith, is.count_is) in
-    let below = ns_below day (rounded t (decimal_unit count)) is.moment some_few is.spelled.decimals in
-    let year = year_of_instant day.date.year day.date.month day.date.day is.moment.ns (rounded t (decimal_unit count)) is.exists below is.moment.exact range in
-    sym (day_answer_only text (Ok (rounded t (decimal_unit count), count)) (inl (day, is.spelled, (some_few, year, is.exists, is.moment, sym is.count_is))))
 
 -- ---- one text
 
@@ -67,25 +56,6 @@ same_day a b t is_a is_b below_a below_b count exists_a exists_b =
     let decimals : a.decimals ≡ b.decimals = eq_of_mul-eq-mul_right nanos_of_a_day (omega arith) a.decimals b.decimals (sym is_a.part ∙ ns ∙ is_b.part) in
     same_fields a b date count decimals
 
--- how long the text of a day with decimals is
-length-day_text : (day : WrittenDay) (space : ℕ) → 1 ≤ day.count → length (day_text day space) ≡ 11 + day.count + space
-length-day_text day space some =
-    let width : decimals_width day.count ≡ day.count + 1 = grind arith in
-    simp (length-append, length-digits_text, length-decimals_text, length-blanks) (omega (arith, width))
-
--- two texts of one length that spell a day are one
-same_text : (day : WrittenDay) (a b : List ℕ) → SpellsDay day a → SpellsDay day b → length a ≡ length b → a ≡ b
-same_text day a b spelled_a spelled_b len =
-    let space : spelled_a.space ≡ spelled_b.space = omega (arith, len, ap length spelled_a.spelling, ap length spelled_b.spelling, length-day_text day spelled_a.space spelled_a.some, length-day_text day spelled_b.space spelled_b.some) in
-    spelled_a.spelling ∙ ap (day_text day) space ∙ sym spelled_b.spelling
-
-pub one_text : (t : ℤ) (count : ℕ) (a b : List ℕ) → count ≤ 6 → IsTextOf t count a → IsTextOf t count b → length a ≡ length b → a ≡ b
-one_text t count a b few is_a is_b len =
-    let below_a = ns_below is_a.day (rounded t (decimal_unit count)) is_a.moment (omega (arith, is_a.count_is)) is_a.spelled.decimals in
-    let below_b = ns_below is_b.day (rounded t (decimal_unit count)) is_b.moment (omega (arith, is_b.count_is)) is_b.spelled.decimals in
-    let day = same_day is_a.day is_b.day (rounded t (decimal_unit count)) is_a.moment is_b.moment below_a below_b (is_a.count_is ∙ sym is_b.count_is) is_a.exists is_b.exists in
-    same_text is_b.day a b (subst (λ (d : WrittenDay). SpellsDay d a) day is_a.spelled) is_b.spelled len
-
 -- ---- a text that was read
 
 multiple_kept : (n unit : ℕ) → 0 < unit → n / unit * unit ≡ n → nearest_multiple n unit ≡ n
@@ -118,8 +88,39 @@ read_text text t count (inl h) =
     record { day = day; spelled = h.1; count_is = sym verdict.4; exists = verdict.2; moment = subst (λ (x : ℤ). IsMomentOf day x) (sym kept) verdict.3 }
 read_text text t count (inr h) = absurd (ok_is_no_err (t, count) h.1)
 
--- a text that was read is the text that is written with its decimals
-pub text_is_kept : (t : ℤ) (count : ℕ) (written text : List ℕ) → count ≤ 6 → IsTextOf t count written → length text ≡ length written → day_fraction_of text ≡ Ok (t, count) → text ≡ written
-text_is_kept t count written text few is len read =
-    let answered : IsDayAnswer text (Ok (t, count)) = subst (λ (r : Result (ℤ × ℕ) TimeFault). IsDayAnswer text r) read (day_answered text) in
-    one_text t count text written few (read_text text t count answered) is len
+module _ (texts : TextLaws) where
+  open texts use {length-digits_text, length-decimals_text, length-blanks}
+
+  -- a written text is read as the rounded moment, where that is in range
+  pub text_is_read : (t : ℤ) (count : ℕ) (text : List ℕ) → count ≤ 6 → IsTextOf t count text → IsInstantNs (rounded t (decimal_unit count)) → day_fraction_of text ≡ Ok (rounded t (decimal_unit count), count)
+  text_is_read t count text few is range =
+      let day = is.day in
+      let some_few : day.count ≤ 6 = omega (arith, is.count_is) in
+      let below = ns_below day (rounded t (decimal_unit count)) is.moment some_few is.spelled.decimals in
+      let year = year_of_instant day.date.year day.date.month day.date.day is.moment.ns (rounded t (decimal_unit count)) is.exists below is.moment.exact range in
+      sym (day_answer_only texts text (Ok (rounded t (decimal_unit count), count)) (inl (day, is.spelled, (some_few, year, is.exists, is.moment, sym is.count_is))))
+
+  -- how long the text of a day with decimals is
+  length-day_text : (day : WrittenDay) (space : ℕ) → 1 ≤ day.count → length (day_text day space) ≡ 11 + day.count + space
+  length-day_text day space some =
+      let width : decimals_width day.count ≡ day.count + 1 = grind arith in
+      simp (length-append, length-digits_text, length-decimals_text, length-blanks) (omega (arith, width))
+
+  -- two texts of one length that spell a day are one
+  same_text : (day : WrittenDay) (a b : List ℕ) → SpellsDay day a → SpellsDay day b → length a ≡ length b → a ≡ b
+  same_text day a b spelled_a spelled_b len =
+      let space : spelled_a.space ≡ spelled_b.space = omega (arith, len, ap length spelled_a.spelling, ap length spelled_b.spelling, length-day_text day spelled_a.space spelled_a.some, length-day_text day spelled_b.space spelled_b.some) in
+      spelled_a.spelling ∙ ap (day_text day) space ∙ sym spelled_b.spelling
+
+  pub one_text : (t : ℤ) (count : ℕ) (a b : List ℕ) → count ≤ 6 → IsTextOf t count a → IsTextOf t count b → length a ≡ length b → a ≡ b
+  one_text t count a b few is_a is_b len =
+      let below_a = ns_below is_a.day (rounded t (decimal_unit count)) is_a.moment (omega (arith, is_a.count_is)) is_a.spelled.decimals in
+      let below_b = ns_below is_b.day (rounded t (decimal_unit count)) is_b.moment (omega (arith, is_b.count_is)) is_b.spelled.decimals in
+      let day = same_day is_a.day is_b.day (rounded t (decimal_unit count)) is_a.moment is_b.moment below_a below_b (is_a.count_is ∙ sym is_b.count_is) is_a.exists is_b.exists in
+      same_text is_b.day a b (subst (λ (d : WrittenDay). SpellsDay d a) day is_a.spelled) is_b.spelled len
+
+  -- a text that was read is the text that is written with its decimals
+  pub text_is_kept : (t : ℤ) (count : ℕ) (written text : List ℕ) → count ≤ 6 → IsTextOf t count written → length text ≡ length written → day_fraction_of text ≡ Ok (t, count) → text ≡ written
+  text_is_kept t count written text few is len read =
+      let answered : IsDayAnswer text (Ok (t, count)) = subst (λ (r : Result (ℤ × ℕ) TimeFault). IsDayAnswer text r) read (day_answered texts text) in
+      one_text t count text written few (read_text text t count answered) is len

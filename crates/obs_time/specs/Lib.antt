@@ -8,3 +8,4 @@ pub mod Written
 pub mod Calendar
 pub mod WrittenText
 pub mod IsoText
+pub mod Laws

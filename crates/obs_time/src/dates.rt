@@ -95,5 +95,6 @@ pub fn read_date(text: &[u8]) -> Result<i32, TimeFault>
     ensures answer { IsDateAnswer text.now result }
     ensures only { (other : Result ℤ TimeFault) → IsDateAnswer text.now other → other ≡ result }
 {
+    ascii_text::laws::texts();
     answer(text)
 }

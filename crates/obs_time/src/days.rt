@@ -97,5 +97,6 @@ pub fn read_day_fraction(text: &[u8; 17]) -> Result<(Instant, u8), TimeFault>
     ensures answer { IsDayAnswer text.now result }
     ensures only { (other : Result (ℤ × ℕ) TimeFault) → IsDayAnswer text.now other → other ≡ result }
 {
+    ascii_text::laws::texts();
     answer(text)
 }

@@ -141,6 +141,7 @@ fn judge_iso(time: Time, decimals: Decimals) -> Result<Instant, TimeFault>
 fn answer(text: &[u8]) -> Result<Instant, TimeFault>
     ensures { result ≡ iso_of text.now }
 {
+    ascii_text::laws::texts();
     match iso_within(text) {
         Some((time, Some(decimals))) => judge_iso(time, decimals),
         Some((_, None)) => Err(TimeFault::Decimals),
@@ -161,5 +162,6 @@ pub fn read_iso(text: &[u8]) -> Result<Instant, TimeFault>
     ensures answer { IsIsoAnswer text.now result }
     ensures only { (other : Result ℤ TimeFault) → IsIsoAnswer text.now other → other ≡ result }
 {
+    ascii_text::laws::texts();
     answer(text)
 }

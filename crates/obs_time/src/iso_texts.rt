@@ -21,6 +21,7 @@ pub fn write_iso(t: Instant) -> [u8; 30]
     // A text with nine decimals, thus of 30 bytes, that reads as the moment is the text that is written.
     ensures again { (text : List ℕ) → length text ≡ 30 → iso_of text ≡ Ok t → text ≡ result }
 {
+    ascii_text::laws::texts();
     let civil = civil_of(t);
     let mut out = ArrayVec::<u8, 30>::new();
     put_date(&mut out, b'-', civil);

@@ -12,6 +12,7 @@ mod half_months;
 mod instant;
 mod iso;
 mod iso_texts;
+pub mod laws;
 mod rounding;
 mod writing;
 

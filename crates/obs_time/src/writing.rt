@@ -38,6 +38,7 @@ pub fn write_day_fraction(t: Instant, decimals: u8) -> [u8; 17]
     ensures only { (other : List ℕ) → length other ≡ 17 → IsTextOf t decimals other → other ≡ result }
     ensures nearest { IsNearest t (decimal_unit decimals) (rounded t (decimal_unit decimals)) }
 {
+    ascii_text::laws::texts();
     let count = decimals as usize;
     let civil = rounded_civil(t, count);
     let mut out = ArrayVec::<u8, 17>::new();

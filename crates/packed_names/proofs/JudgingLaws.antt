@@ -3,7 +3,7 @@ use Rattle.std.proofs.Common.{◌≡◌, ℕ, Bool, true, false, cond, leb, List
 use Rattle.std.specs.Prelude.{◌↔◌, ◌&&◌}
 use Rattle.std.proofs.lemmas.Bool.Decides.{nat_tests}
 use Rattle.ascii_text.specs.Judged.{answer_of, IsReader}
-use Rattle.ascii_text.proofs.Answering.{one_spelling}
+use Rattle.ascii_text.specs.Answering.{one_spelling}
 use Rattle.packed_names.specs.Spellings.{Spells, SpellsOne}
 use Rattle.packed_names.specs.declared.provisional.Provisional.{Provisional}
 use Rattle.packed_names.specs.declared.name.Designation.TheVariants as designations

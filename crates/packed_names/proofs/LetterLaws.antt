@@ -3,7 +3,7 @@ use Rattle.std.proofs.Common.{◌≡◌, ℕ, ◌<◌, ◌≤◌, true, cond, lt
 use Rattle.std.proofs.lemmas.Option.{cond_some}
 use Rattle.std.proofs.lemmas.Bool.{ltb-true}
 use Rattle.std.proofs.lemmas.Bool.Decides.{nat_tests}
-use Rattle.ascii_text.proofs.DigitTexts.{bind_some}
+use Rattle.ascii_text.specs.Reading.{bind_some}
 use Rattle.packed_names.specs.Letters.{letter_of, index_of, letter_at}
 
 pub index_of-letter_of : (index : ℕ) → index < 25 → index_of (letter_of index) ≡ Some index

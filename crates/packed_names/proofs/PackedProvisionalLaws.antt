@@ -6,7 +6,7 @@ use Rattle.std.proofs.lemmas.List.{append-nil, length-append}
 use Rattle.std.proofs.lemmas.Option.{cond_some}
 use Rattle.ascii_text.specs.declared.digits.Radix.TheVariants.{Ten, SixtyTwo}
 use Rattle.ascii_text.specs.Digits.{digit_byte, digits_text}
-use Rattle.ascii_text.specs.Reading.{◌>>=◌, digits_at, behind}
+use Rattle.ascii_text.specs.Reading.{bind_some, ◌>>=◌, digits_at, behind}
 use Rattle.packed_names.specs.declared.half_month.HalfMonth.{HalfMonth}
 use Rattle.packed_names.specs.declared.provisional.Provisional.{Provisional}
 use Rattle.packed_names.specs.Ends.{whole}
@@ -15,12 +15,10 @@ use Rattle.packed_names.specs.Orders.{letter_index, cycle_of, order_of}
 use Rattle.packed_names.specs.Packed.{century_text, extended_text, provisional_text, HasCenturyShape, HasExtendedShape}
 use Rattle.packed_names.specs.PackedReading.{century_at, century_half_at, century_order_in, century_form_in, extended_form_in, provisional_in}
 use Rattle.packed_names.proofs.Chains.{whole_some, first_of_some, Some_injective}
-use Rattle.ascii_text.proofs.DigitTexts.{bind_some, digits_again, digits_takes, length-digits_text}
-use Rattle.ascii_text.proofs.NumberTexts.{behind_takes}
 use Rattle.packed_names.proofs.DigitLaws.{digits_again_whole, digit_again, digit_takes}
 use Rattle.packed_names.proofs.LetterLaws.{letter_at-letter_of, letter_at_takes}
 use Rattle.packed_names.proofs.OrderLaws.{letter_index-order_of, cycle_of-order_of, letter_index-lt}
-
+use Rattle.ascii_text.specs.Laws.{TextLaws}
 -- ---- the form with a century letter
 
 century_at_again : (century : ℕ) (rest : List ℕ) → 18 ≤ century → century ≤ 20 → century_at ((55 + century) ∷ rest) ≡ Some (century, rest)
@@ -40,116 +38,9 @@ century_at_takes (letter ∷ text) x read =
 century_half_text : HalfMonth → List ℕ → List ℕ
 century_half_text half rest = (55 + half.year / 100) ∷ (digits_text Ten 2 (half.year % 100) ++ (letter_of half.index ∷ rest))
 
-half_again : (half : HalfMonth) (rest : List ℕ) → 1800 ≤ half.year → half.year ≤ 2099 → half.index < 24 → century_half_at (century_half_text half rest) ≡ Some (half, rest)
-unfolding century_half_at century_half_text
-half_again half rest from to index =
-    let century = century_at_again (half.year / 100) (digits_text Ten 2 (half.year % 100) ++ (letter_of half.index ∷ rest)) (omega arith) (omega arith) in
-    let year = digits_again Ten 2 (half.year % 100) (letter_of half.index ∷ rest) (omega arith) in
-    let letter = letter_at-letter_of 24 half.index rest index (omega arith) in
-    let value : 100 * (half.year / 100) + half.year % 100 ≡ half.year = omega arith in
-    rw (century, year, letter, value) refl
-
-half_takes : (text : List ℕ) (x : HalfMonth × List ℕ) → century_half_at text ≡ Some x → (text ≡ century_half_text x.0 x.1) × (1800 ≤ x.0.year) × (x.0.year ≤ 2099) × (x.0.index < 24)
-unfolding century_half_at century_half_text
-half_takes text x read =
-    let a = bind_some (century_at text) (λ century. digits_at Ten 2 century.1 >>= λ year. letter_at 24 year.1 >>= λ half. Some (record { year = 100 * century.0 + year.0; index = half.0 }, half.1)) x read in
-    let b = bind_some (digits_at Ten 2 a.0.1) (λ year. letter_at 24 year.1 >>= λ half. Some (record { year = 100 * a.0.0 + year.0; index = half.0 }, half.1)) x a.2 in
-    let c = bind_some (letter_at 24 b.0.1) (λ half. Some (record { year = 100 * a.0.0 + b.0.0; index = half.0 }, half.1)) x b.2 in
-    let century = century_at_takes text a.0 a.1 in
-    let year = digits_takes Ten 2 a.0.1 b.0.0 b.0.1 b.1 in
-    let letter = letter_at_takes 24 b.0.1 c.0 c.1 in
-    let quotient : (100 * a.0.0 + b.0.0) / 100 ≡ a.0.0 = omega (arith, year.1) in
-    let remainder : (100 * a.0.0 + b.0.0) % 100 ≡ b.0.0 = omega (arith, year.1) in
-    let made : HalfMonth × List ℕ = (record { year = 100 * a.0.0 + b.0.0; index = c.0.0 }, c.0.1) in
-    let text_is : text ≡ (55 + a.0.0) ∷ (digits_text Ten 2 b.0.0 ++ (letter_of c.0.0 ∷ c.0.1)) = cc (century.0, year.0, letter.0) in
-    let spelled : text ≡ (55 + (100 * a.0.0 + b.0.0) / 100) ∷ (digits_text Ten 2 ((100 * a.0.0 + b.0.0) % 100) ++ (letter_of c.0.0 ∷ c.0.1)) = rw (quotient, remainder) text_is in
-    let from : 1800 ≤ 100 * a.0.0 + b.0.0 = omega (arith, century.1) in
-    let to : 100 * a.0.0 + b.0.0 ≤ 2099 = omega (arith, century.2, year.1) in
-    let same : made ≡ x = Some_injective made x c.2 in
-    subst (λ (y : HalfMonth × List ℕ). (text ≡ (55 + y.0.year / 100) ∷ (digits_text Ten 2 (y.0.year % 100) ++ (letter_of y.0.index ∷ y.1))) × (1800 ≤ y.0.year) × (y.0.year ≤ 2099) × (y.0.index < 24)) same (spelled, from, to, letter.1)
-
 -- the order in the form with a century letter
 century_order_text : ℕ → List ℕ
 century_order_text order = digit_byte SixtyTwo (cycle_of order / 10) ∷ digit_byte Ten (cycle_of order % 10) ∷ letter_of (letter_index order) ∷ []
-
-order_again : (order : ℕ) → 1 ≤ order → order ≤ 15500 → century_order_in (century_order_text order) ≡ Some order
-unfolding century_order_in century_order_text
-order_again order from to =
-    let tens = digit_again SixtyTwo (cycle_of order / 10) (digit_byte Ten (cycle_of order % 10) ∷ letter_of (letter_index order) ∷ []) (omega arith) in
-    let units = digit_again Ten (cycle_of order % 10) (letter_of (letter_index order) ∷ []) (omega arith) in
-    let letter = letter_at-letter_of 25 (letter_index order) [] (letter_index-lt order) (omega arith) in
-    let value : order_of (10 * (cycle_of order / 10) + cycle_of order % 10) (letter_index order) ≡ order = omega arith in
-    rw (tens, units, letter, value) refl
-
-order_takes : (text : List ℕ) (order : ℕ) → century_order_in text ≡ Some order → (text ≡ century_order_text order) × (1 ≤ order) × (order ≤ 15500)
-unfolding century_order_in century_order_text
-order_takes text order read =
-    let a = bind_some (digits_at SixtyTwo 1 text) (λ tens. digits_at Ten 1 tens.1 >>= λ units. letter_at 25 units.1 >>= λ letter. whole (order_of (10 * tens.0 + units.0) letter.0) letter.1) order read in
-    let b = bind_some (digits_at Ten 1 a.0.1) (λ units. letter_at 25 units.1 >>= λ letter. whole (order_of (10 * a.0.0 + units.0) letter.0) letter.1) order a.2 in
-    let c = bind_some (letter_at 25 b.0.1) (λ letter. whole (order_of (10 * a.0.0 + b.0.0) letter.0) letter.1) order b.2 in
-    let end = whole_some (order_of (10 * a.0.0 + b.0.0) c.0.0) c.0.1 order c.2 in
-    let tens = digit_takes SixtyTwo text a.0 a.1 in
-    let units = digit_takes Ten a.0.1 b.0 b.1 in
-    let letter = letter_at_takes 25 b.0.1 c.0 c.1 in
-    let cycle : cycle_of order ≡ 10 * a.0.0 + b.0.0 = ap cycle_of (sym end.1) ∙ cycle_of-order_of (10 * a.0.0 + b.0.0) c.0.0 letter.1 in
-    let index : letter_index order ≡ c.0.0 = ap letter_index (sym end.1) ∙ letter_index-order_of (10 * a.0.0 + b.0.0) c.0.0 letter.1 in
-    let quotient : cycle_of order / 10 ≡ a.0.0 = omega (arith, cycle, units.1) in
-    let remainder : cycle_of order % 10 ≡ b.0.0 = omega (arith, cycle, units.1) in
-    let text_is : text ≡ digit_byte SixtyTwo a.0.0 ∷ digit_byte Ten b.0.0 ∷ letter_of c.0.0 ∷ [] = cc (tens.0, units.0, letter.0, end.0) in
-    let from : 1 ≤ order = omega (arith, end.1) in
-    let to : order ≤ 15500 = omega (arith, end.1, tens.1, units.1, letter.1) in
-    (rw (quotient, remainder, index) text_is, from, to)
-
-century_again : (provisional : Provisional) → HasCenturyShape provisional → century_form_in (century_text provisional) ≡ Some provisional
-unfolding century_form_in century_text century_half_text century_order_text
-century_again provisional shape =
-    let half = half_again provisional.half (century_order_text provisional.order) shape.year_from shape.year_to shape.index in
-    let order = order_again provisional.order shape.order_from shape.order_to in
-    rw (half, order) refl
-
-century_takes : (text : List ℕ) (provisional : Provisional) → century_form_in text ≡ Some provisional → (text ≡ century_text provisional) × HasCenturyShape provisional
-unfolding century_form_in century_text century_half_text century_order_text
-century_takes text provisional read =
-    let a = bind_some (century_half_at text) (λ half. century_order_in half.1 >>= λ order. Some (record { half = half.0; order = order })) provisional read in
-    let b = bind_some (century_order_in a.0.1) (λ order. Some (record { half = a.0.0; order = order })) provisional a.2 in
-    let half = half_takes text a.0 a.1 in
-    let order = order_takes a.0.1 b.0 b.1 in
-    let made : Provisional = record { half = a.0.0; order = b.0 } in
-    let text_is : text ≡ century_text made = half.0 ∙ ap (century_half_text a.0.0) order.0 in
-    let shape : HasCenturyShape made = record { year_from = half.1; year_to = half.2; index = half.3; order_from = order.1; order_to = order.2 } in
-    subst (λ (p : Provisional). (text ≡ century_text p) × HasCenturyShape p) (Some_injective made provisional b.2) (text_is, shape)
-
--- ---- the form that begins with `_`
-
-extended_again : (provisional : Provisional) → HasExtendedShape provisional → extended_form_in (extended_text provisional) ≡ Some provisional
-unfolding extended_form_in extended_text behind
-extended_again provisional shape =
-    let year = digit_again SixtyTwo (provisional.half.year - 2000) (letter_of provisional.half.index ∷ digits_text SixtyTwo 4 (provisional.order - 15501)) (omega (arith, shape.year_to)) in
-    let letter = letter_at-letter_of 24 provisional.half.index (digits_text SixtyTwo 4 (provisional.order - 15501)) shape.index (omega arith) in
-    let digits = digits_again_whole SixtyTwo 4 (provisional.order - 15501) (omega (arith, shape.order_to)) in
-    let year_is : 2000 + (provisional.half.year - 2000) ≡ provisional.half.year = omega (arith, shape.year_from) in
-    let order_is : 15501 + (provisional.order - 15501) ≡ provisional.order = omega (arith, shape.order_from) in
-    rw (year, letter, digits, year_is, order_is) refl
-
-extended_takes : (text : List ℕ) (provisional : Provisional) → extended_form_in text ≡ Some provisional → (text ≡ extended_text provisional) × HasExtendedShape provisional
-unfolding extended_form_in extended_text
-extended_takes text provisional read =
-    let a = bind_some (behind 95 text) (λ mark. digits_at SixtyTwo 1 mark >>= λ year. letter_at 24 year.1 >>= λ half. digits_at SixtyTwo 4 half.1 >>= λ order. whole (record { half = record { year = 2000 + year.0; index = half.0 }; order = 15501 + order.0 }) order.1) provisional read in
-    let b = bind_some (digits_at SixtyTwo 1 a.0) (λ year. letter_at 24 year.1 >>= λ half. digits_at SixtyTwo 4 half.1 >>= λ order. whole (record { half = record { year = 2000 + year.0; index = half.0 }; order = 15501 + order.0 }) order.1) provisional a.2 in
-    let c = bind_some (letter_at 24 b.0.1) (λ half. digits_at SixtyTwo 4 half.1 >>= λ order. whole (record { half = record { year = 2000 + b.0.0; index = half.0 }; order = 15501 + order.0 }) order.1) provisional b.2 in
-    let d = bind_some (digits_at SixtyTwo 4 c.0.1) (λ order. whole (record { half = record { year = 2000 + b.0.0; index = c.0.0 }; order = 15501 + order.0 }) order.1) provisional c.2 in
-    let made : Provisional = record { half = record { year = 2000 + b.0.0; index = c.0.0 }; order = 15501 + d.0.0 } in
-    let end = whole_some made d.0.1 provisional d.2 in
-    let mark = behind_takes 95 text a.0 a.1 in
-    let year = digit_takes SixtyTwo a.0 b.0 b.1 in
-    let letter = letter_at_takes 24 b.0.1 c.0 c.1 in
-    let digits = digits_takes SixtyTwo 4 c.0.1 d.0.0 d.0.1 d.1 in
-    let year_is : 2000 + b.0.0 - 2000 ≡ b.0.0 = omega arith in
-    let order_is : 15501 + d.0.0 - 15501 ≡ d.0.0 = omega arith in
-    let text_is : text ≡ 95 ∷ digit_byte SixtyTwo b.0.0 ∷ letter_of c.0.0 ∷ digits_text SixtyTwo 4 d.0.0 = cc (mark, year.0, letter.0, digits.0, end.0, append-nil (digits_text SixtyTwo 4 d.0.0)) in
-    let spelled : text ≡ extended_text made = rw (year_is, order_is) text_is in
-    let shape : HasExtendedShape made = record { year_from = omega arith; year_to = omega (arith, year.1); index = letter.1; order_from = omega arith; order_to = omega (arith, digits.1) } in
-    subst (λ (p : Provisional). (text ≡ extended_text p) × HasExtendedShape p) end.1 (spelled, shape)
 
 -- ---- both
 
@@ -165,31 +56,141 @@ no_century : (provisional : Provisional) → century_form_in (extended_text prov
 unfolding extended_text century_form_in century_half_at century_at
 no_century provisional = refl
 
-pub provisional_again : (provisional : Provisional) → HasCenturyShape provisional ⊎ HasExtendedShape provisional → provisional_in (provisional_text provisional) ≡ Some provisional
-unfolding provisional_in
-provisional_again provisional (inl shape) = rw (provisional_text-century provisional shape, century_again provisional shape) refl
-provisional_again provisional (inr shape) = rw (provisional_text-extended provisional shape, no_century provisional, extended_again provisional shape) refl
+module _ (texts : TextLaws) where
+  open texts use {digits_again, digits_takes, length-digits_text, behind_takes}
 
-pub provisional_takes : (text : List ℕ) (provisional : Provisional) → provisional_in text ≡ Some provisional → (text ≡ provisional_text provisional) × (HasCenturyShape provisional ⊎ HasExtendedShape provisional)
-unfolding provisional_in
-provisional_takes text provisional read =
-    elim (first_of_some (century_form_in text) (extended_form_in text) provisional read) [
-      | inl century ↦
-          let took = century_takes text provisional century in
-          (took.0 ∙ sym (provisional_text-century provisional took.1), inl took.1)
-      | inr extended ↦
-          let took = extended_takes text provisional extended.1 in
-          (took.0 ∙ sym (provisional_text-extended provisional took.1), inr took.1)
-    ]
+  half_again : (half : HalfMonth) (rest : List ℕ) → 1800 ≤ half.year → half.year ≤ 2099 → half.index < 24 → century_half_at (century_half_text half rest) ≡ Some (half, rest)
+  unfolding century_half_at century_half_text
+  half_again half rest from to index =
+      let century = century_at_again (half.year / 100) (digits_text Ten 2 (half.year % 100) ++ (letter_of half.index ∷ rest)) (omega arith) (omega arith) in
+      let year = digits_again Ten 2 (half.year % 100) (letter_of half.index ∷ rest) (omega arith) in
+      let letter = letter_at-letter_of 24 half.index rest index (omega arith) in
+      let value : 100 * (half.year / 100) + half.year % 100 ≡ half.year = omega arith in
+      rw (century, year, letter, value) refl
 
-pub length-provisional_text : (provisional : Provisional) → length (provisional_text provisional) ≡ 7
-unfolding provisional_text century_text extended_text
-length-provisional_text provisional =
-    elim (cases_lt 15500 provisional.order) [
-      | inl above ↦
-          let test : leb provisional.order 15500 ≡ false = grind (arith, nat_tests) in
-          rw test (omega (arith, length-digits_text SixtyTwo 4 (provisional.order - 15501)))
-      | inr within ↦
-          let test : leb provisional.order 15500 ≡ true = grind (arith, nat_tests) in
-          rw test (simp length-append (omega (arith, length-digits_text Ten 2 (provisional.half.year % 100))))
-    ]
+  half_takes : (text : List ℕ) (x : HalfMonth × List ℕ) → century_half_at text ≡ Some x → (text ≡ century_half_text x.0 x.1) × (1800 ≤ x.0.year) × (x.0.year ≤ 2099) × (x.0.index < 24)
+  unfolding century_half_at century_half_text
+  half_takes text x read =
+      let a = bind_some (century_at text) (λ century. digits_at Ten 2 century.1 >>= λ year. letter_at 24 year.1 >>= λ half. Some (record { year = 100 * century.0 + year.0; index = half.0 }, half.1)) x read in
+      let b = bind_some (digits_at Ten 2 a.0.1) (λ year. letter_at 24 year.1 >>= λ half. Some (record { year = 100 * a.0.0 + year.0; index = half.0 }, half.1)) x a.2 in
+      let c = bind_some (letter_at 24 b.0.1) (λ half. Some (record { year = 100 * a.0.0 + b.0.0; index = half.0 }, half.1)) x b.2 in
+      let century = century_at_takes text a.0 a.1 in
+      let year = digits_takes Ten 2 a.0.1 b.0.0 b.0.1 b.1 in
+      let letter = letter_at_takes 24 b.0.1 c.0 c.1 in
+      let quotient : (100 * a.0.0 + b.0.0) / 100 ≡ a.0.0 = omega (arith, year.1) in
+      let remainder : (100 * a.0.0 + b.0.0) % 100 ≡ b.0.0 = omega (arith, year.1) in
+      let made : HalfMonth × List ℕ = (record { year = 100 * a.0.0 + b.0.0; index = c.0.0 }, c.0.1) in
+      let text_is : text ≡ (55 + a.0.0) ∷ (digits_text Ten 2 b.0.0 ++ (letter_of c.0.0 ∷ c.0.1)) = cc (century.0, year.0, letter.0) in
+      let spelled : text ≡ (55 + (100 * a.0.0 + b.0.0) / 100) ∷ (digits_text Ten 2 ((100 * a.0.0 + b.0.0) % 100) ++ (letter_of c.0.0 ∷ c.0.1)) = rw (quotient, remainder) text_is in
+      let from : 1800 ≤ 100 * a.0.0 + b.0.0 = omega (arith, century.1) in
+      let to : 100 * a.0.0 + b.0.0 ≤ 2099 = omega (arith, century.2, year.1) in
+      let same : made ≡ x = Some_injective made x c.2 in
+      subst (λ (y : HalfMonth × List ℕ). (text ≡ (55 + y.0.year / 100) ∷ (digits_text Ten 2 (y.0.year % 100) ++ (letter_of y.0.index ∷ y.1))) × (1800 ≤ y.0.year) × (y.0.year ≤ 2099) × (y.0.index < 24)) same (spelled, from, to, letter.1)
+
+  order_again : (order : ℕ) → 1 ≤ order → order ≤ 15500 → century_order_in (century_order_text order) ≡ Some order
+  unfolding century_order_in century_order_text
+  order_again order from to =
+      let tens = digit_again texts SixtyTwo (cycle_of order / 10) (digit_byte Ten (cycle_of order % 10) ∷ letter_of (letter_index order) ∷ []) (omega arith) in
+      let units = digit_again texts Ten (cycle_of order % 10) (letter_of (letter_index order) ∷ []) (omega arith) in
+      let letter = letter_at-letter_of 25 (letter_index order) [] (letter_index-lt order) (omega arith) in
+      let value : order_of (10 * (cycle_of order / 10) + cycle_of order % 10) (letter_index order) ≡ order = omega arith in
+      rw (tens, units, letter, value) refl
+
+  order_takes : (text : List ℕ) (order : ℕ) → century_order_in text ≡ Some order → (text ≡ century_order_text order) × (1 ≤ order) × (order ≤ 15500)
+  unfolding century_order_in century_order_text
+  order_takes text order read =
+      let a = bind_some (digits_at SixtyTwo 1 text) (λ tens. digits_at Ten 1 tens.1 >>= λ units. letter_at 25 units.1 >>= λ letter. whole (order_of (10 * tens.0 + units.0) letter.0) letter.1) order read in
+      let b = bind_some (digits_at Ten 1 a.0.1) (λ units. letter_at 25 units.1 >>= λ letter. whole (order_of (10 * a.0.0 + units.0) letter.0) letter.1) order a.2 in
+      let c = bind_some (letter_at 25 b.0.1) (λ letter. whole (order_of (10 * a.0.0 + b.0.0) letter.0) letter.1) order b.2 in
+      let end = whole_some (order_of (10 * a.0.0 + b.0.0) c.0.0) c.0.1 order c.2 in
+      let tens = digit_takes texts SixtyTwo text a.0 a.1 in
+      let units = digit_takes texts Ten a.0.1 b.0 b.1 in
+      let letter = letter_at_takes 25 b.0.1 c.0 c.1 in
+      let cycle : cycle_of order ≡ 10 * a.0.0 + b.0.0 = ap cycle_of (sym end.1) ∙ cycle_of-order_of (10 * a.0.0 + b.0.0) c.0.0 letter.1 in
+      let index : letter_index order ≡ c.0.0 = ap letter_index (sym end.1) ∙ letter_index-order_of (10 * a.0.0 + b.0.0) c.0.0 letter.1 in
+      let quotient : cycle_of order / 10 ≡ a.0.0 = omega (arith, cycle, units.1) in
+      let remainder : cycle_of order % 10 ≡ b.0.0 = omega (arith, cycle, units.1) in
+      let text_is : text ≡ digit_byte SixtyTwo a.0.0 ∷ digit_byte Ten b.0.0 ∷ letter_of c.0.0 ∷ [] = cc (tens.0, units.0, letter.0, end.0) in
+      let from : 1 ≤ order = omega (arith, end.1) in
+      let to : order ≤ 15500 = omega (arith, end.1, tens.1, units.1, letter.1) in
+      (rw (quotient, remainder, index) text_is, from, to)
+
+  century_again : (provisional : Provisional) → HasCenturyShape provisional → century_form_in (century_text provisional) ≡ Some provisional
+  unfolding century_form_in century_text century_half_text century_order_text
+  century_again provisional shape =
+      let half = half_again provisional.half (century_order_text provisional.order) shape.year_from shape.year_to shape.index in
+      let order = order_again provisional.order shape.order_from shape.order_to in
+      rw (half, order) refl
+
+  century_takes : (text : List ℕ) (provisional : Provisional) → century_form_in text ≡ Some provisional → (text ≡ century_text provisional) × HasCenturyShape provisional
+  unfolding century_form_in century_text century_half_text century_order_text
+  century_takes text provisional read =
+      let a = bind_some (century_half_at text) (λ half. century_order_in half.1 >>= λ order. Some (record { half = half.0; order = order })) provisional read in
+      let b = bind_some (century_order_in a.0.1) (λ order. Some (record { half = a.0.0; order = order })) provisional a.2 in
+      let half = half_takes text a.0 a.1 in
+      let order = order_takes a.0.1 b.0 b.1 in
+      let made : Provisional = record { half = a.0.0; order = b.0 } in
+      let text_is : text ≡ century_text made = half.0 ∙ ap (century_half_text a.0.0) order.0 in
+      let shape : HasCenturyShape made = record { year_from = half.1; year_to = half.2; index = half.3; order_from = order.1; order_to = order.2 } in
+      subst (λ (p : Provisional). (text ≡ century_text p) × HasCenturyShape p) (Some_injective made provisional b.2) (text_is, shape)
+
+  -- ---- the form that begins with `_`
+
+  extended_again : (provisional : Provisional) → HasExtendedShape provisional → extended_form_in (extended_text provisional) ≡ Some provisional
+  unfolding extended_form_in extended_text behind
+  extended_again provisional shape =
+      let year = digit_again texts SixtyTwo (provisional.half.year - 2000) (letter_of provisional.half.index ∷ digits_text SixtyTwo 4 (provisional.order - 15501)) (omega (arith, shape.year_to)) in
+      let letter = letter_at-letter_of 24 provisional.half.index (digits_text SixtyTwo 4 (provisional.order - 15501)) shape.index (omega arith) in
+      let digits = digits_again_whole texts SixtyTwo 4 (provisional.order - 15501) (omega (arith, shape.order_to)) in
+      let year_is : 2000 + (provisional.half.year - 2000) ≡ provisional.half.year = omega (arith, shape.year_from) in
+      let order_is : 15501 + (provisional.order - 15501) ≡ provisional.order = omega (arith, shape.order_from) in
+      rw (year, letter, digits, year_is, order_is) refl
+
+  extended_takes : (text : List ℕ) (provisional : Provisional) → extended_form_in text ≡ Some provisional → (text ≡ extended_text provisional) × HasExtendedShape provisional
+  unfolding extended_form_in extended_text
+  extended_takes text provisional read =
+      let a = bind_some (behind 95 text) (λ mark. digits_at SixtyTwo 1 mark >>= λ year. letter_at 24 year.1 >>= λ half. digits_at SixtyTwo 4 half.1 >>= λ order. whole (record { half = record { year = 2000 + year.0; index = half.0 }; order = 15501 + order.0 }) order.1) provisional read in
+      let b = bind_some (digits_at SixtyTwo 1 a.0) (λ year. letter_at 24 year.1 >>= λ half. digits_at SixtyTwo 4 half.1 >>= λ order. whole (record { half = record { year = 2000 + year.0; index = half.0 }; order = 15501 + order.0 }) order.1) provisional a.2 in
+      let c = bind_some (letter_at 24 b.0.1) (λ half. digits_at SixtyTwo 4 half.1 >>= λ order. whole (record { half = record { year = 2000 + b.0.0; index = half.0 }; order = 15501 + order.0 }) order.1) provisional b.2 in
+      let d = bind_some (digits_at SixtyTwo 4 c.0.1) (λ order. whole (record { half = record { year = 2000 + b.0.0; index = c.0.0 }; order = 15501 + order.0 }) order.1) provisional c.2 in
+      let made : Provisional = record { half = record { year = 2000 + b.0.0; index = c.0.0 }; order = 15501 + d.0.0 } in
+      let end = whole_some made d.0.1 provisional d.2 in
+      let mark = behind_takes 95 text a.0 a.1 in
+      let year = digit_takes texts SixtyTwo a.0 b.0 b.1 in
+      let letter = letter_at_takes 24 b.0.1 c.0 c.1 in
+      let digits = digits_takes SixtyTwo 4 c.0.1 d.0.0 d.0.1 d.1 in
+      let year_is : 2000 + b.0.0 - 2000 ≡ b.0.0 = omega arith in
+      let order_is : 15501 + d.0.0 - 15501 ≡ d.0.0 = omega arith in
+      let text_is : text ≡ 95 ∷ digit_byte SixtyTwo b.0.0 ∷ letter_of c.0.0 ∷ digits_text SixtyTwo 4 d.0.0 = cc (mark, year.0, letter.0, digits.0, end.0, append-nil (digits_text SixtyTwo 4 d.0.0)) in
+      let spelled : text ≡ extended_text made = rw (year_is, order_is) text_is in
+      let shape : HasExtendedShape made = record { year_from = omega arith; year_to = omega (arith, year.1); index = letter.1; order_from = omega arith; order_to = omega (arith, digits.1) } in
+      subst (λ (p : Provisional). (text ≡ extended_text p) × HasExtendedShape p) end.1 (spelled, shape)
+
+  pub provisional_again : (provisional : Provisional) → HasCenturyShape provisional ⊎ HasExtendedShape provisional → provisional_in (provisional_text provisional) ≡ Some provisional
+  unfolding provisional_in
+  provisional_again provisional (inl shape) = rw (provisional_text-century provisional shape, century_again provisional shape) refl
+  provisional_again provisional (inr shape) = rw (provisional_text-extended provisional shape, no_century provisional, extended_again provisional shape) refl
+
+  pub provisional_takes : (text : List ℕ) (provisional : Provisional) → provisional_in text ≡ Some provisional → (text ≡ provisional_text provisional) × (HasCenturyShape provisional ⊎ HasExtendedShape provisional)
+  unfolding provisional_in
+  provisional_takes text provisional read =
+      elim (first_of_some (century_form_in text) (extended_form_in text) provisional read) [
+        | inl century ↦
+            let took = century_takes text provisional century in
+            (took.0 ∙ sym (provisional_text-century provisional took.1), inl took.1)
+        | inr extended ↦
+            let took = extended_takes text provisional extended.1 in
+            (took.0 ∙ sym (provisional_text-extended provisional took.1), inr took.1)
+      ]
+
+  pub length-provisional_text : (provisional : Provisional) → length (provisional_text provisional) ≡ 7
+  unfolding provisional_text century_text extended_text
+  length-provisional_text provisional =
+      elim (cases_lt 15500 provisional.order) [
+        | inl above ↦
+            let test : leb provisional.order 15500 ≡ false = grind (arith, nat_tests) in
+            rw test (omega (arith, length-digits_text SixtyTwo 4 (provisional.order - 15501)))
+        | inr within ↦
+            let test : leb provisional.order 15500 ≡ true = grind (arith, nat_tests) in
+            rw test (simp length-append (omega (arith, length-digits_text Ten 2 (provisional.half.year % 100))))
+      ]

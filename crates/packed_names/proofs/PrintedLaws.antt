@@ -16,54 +16,7 @@ use Rattle.packed_names.specs.PrintedReading.{number_in, provisional_in, survey_
 use Rattle.packed_names.proofs.Chains.{first_of_some, option_map_some}
 use Rattle.packed_names.proofs.PrintedNumberLaws.{decimal_in, number_in_takes, survey_again, survey_takes}
 use Rattle.packed_names.proofs.PrintedProvisionalLaws.{provisional_again, provisional_takes, provisional_no_number, survey_no_number, survey_no_provisional}
-
-designation_again : (designation : Designation) → FitsPrinted (names.Designation designation) → designation_in (printed_text (names.Designation designation)) ≡ Some designation
-unfolding designation_in
-designation_again (designations.Provisional provisional) fits = rw (provisional_again provisional fits) refl
-designation_again (designations.Survey survey number) fits = rw (survey_no_provisional survey number fits, survey_again survey number fits) refl
-
-designation_no_number : (designation : Designation) → FitsPrinted (names.Designation designation) → number_in (printed_text (names.Designation designation)) ≡ None
-designation_no_number (designations.Provisional provisional) fits = provisional_no_number provisional fits
-designation_no_number (designations.Survey survey number) fits = survey_no_number survey number fits
-
-printed_again : (name : Name) → FitsPrinted name → printed_in (printed_text name) ≡ Some name
-unfolding printed_in
-printed_again (names.Number number) fits = rw (decimal_in number.0 fits) refl
-printed_again (names.Designation designation) fits = rw (designation_no_number designation fits, designation_again designation fits) refl
-
-designation_takes : (text : List ℕ) (designation : Designation) → designation_in text ≡ Some designation → Spells FitsPrinted printed_text (names.Designation designation) text
-unfolding designation_in
-designation_takes text designation read =
-    elim (first_of_some (option_map (λ p. designations.Provisional p) (provisional_in text)) (option_map (λ s. designations.Survey s.0 s.1) (survey_in text)) designation read) [
-      | inl first ↦
-          let step = option_map_some (λ p. designations.Provisional p) (provisional_in text) designation first in
-          let took = provisional_takes text step.0 step.1 in
-          subst (λ d. Spells FitsPrinted printed_text (names.Designation d) text) step.2 (record { within = took.1; text_is = took.0 })
-      | inr other ↦
-          let step = option_map_some (λ s. designations.Survey s.0 s.1) (survey_in text) designation other.1 in
-          let took = survey_takes text step.0 step.1 in
-          subst (λ d. Spells FitsPrinted printed_text (names.Designation d) text) step.2 (record { within = took.1; text_is = took.0 })
-    ]
-
-printed_takes : (text : List ℕ) (name : Name) → printed_in text ≡ Some name → Spells FitsPrinted printed_text name text
-unfolding printed_in
-printed_takes text name read =
-    elim (first_of_some (option_map (λ n. names.Number (record { 0 = n })) (number_in text)) (option_map (λ d. names.Designation d) (designation_in text)) name read) [
-      | inl first ↦
-          let step = option_map_some (λ n. names.Number (record { 0 = n })) (number_in text) name first in
-          let took = number_in_takes text step.0 step.1 in
-          subst (λ n. Spells FitsPrinted printed_text n text) step.2 (record { within = took.1; text_is = took.0 })
-      | inr other ↦
-          let step = option_map_some (λ d. names.Designation d) (designation_in text) name other.1 in
-          subst (λ n. Spells FitsPrinted printed_text n text) step.2 (designation_takes text step.0 step.1)
-    ]
-
-pub printed_reader : IsReader (Spells FitsPrinted printed_text) printed_in
-printed_reader = record {
-  again = λ name text shows. ap printed_in shows.text_is ∙ printed_again name shows.within;
-  takes = printed_takes;
-}
-
+use Rattle.ascii_text.specs.Laws.{TextLaws}
 pub FitsPrintedHalf-IsHalfMonth : (half : HalfMonth) → IsHalfMonth half → FitsPrintedHalf half
 FitsPrintedHalf-IsHalfMonth half h = (omega (arith, h.year_to), h.index)
 
@@ -78,3 +31,51 @@ pub FitsPrinted-IsName : (name : Name) → IsName name → FitsPrinted name
 FitsPrinted-IsName (names.Number number) h = omega (arith, h.1)
 FitsPrinted-IsName (names.Designation (designations.Provisional provisional)) h = provisional_fits provisional h
 FitsPrinted-IsName (names.Designation (designations.Survey survey number)) h = omega (arith, h.1)
+
+module _ (texts : TextLaws) where
+  designation_again : (designation : Designation) → FitsPrinted (names.Designation designation) → designation_in (printed_text (names.Designation designation)) ≡ Some designation
+  unfolding designation_in
+  designation_again (designations.Provisional provisional) fits = rw (provisional_again texts provisional fits) refl
+  designation_again (designations.Survey survey number) fits = rw (survey_no_provisional texts survey number fits, survey_again texts survey number fits) refl
+
+  designation_no_number : (designation : Designation) → FitsPrinted (names.Designation designation) → number_in (printed_text (names.Designation designation)) ≡ None
+  designation_no_number (designations.Provisional provisional) fits = provisional_no_number texts provisional fits
+  designation_no_number (designations.Survey survey number) fits = survey_no_number texts survey number fits
+
+  printed_again : (name : Name) → FitsPrinted name → printed_in (printed_text name) ≡ Some name
+  unfolding printed_in
+  printed_again (names.Number number) fits = rw (decimal_in texts number.0 fits) refl
+  printed_again (names.Designation designation) fits = rw (designation_no_number designation fits, designation_again designation fits) refl
+
+  designation_takes : (text : List ℕ) (designation : Designation) → designation_in text ≡ Some designation → Spells FitsPrinted printed_text (names.Designation designation) text
+  unfolding designation_in
+  designation_takes text designation read =
+      elim (first_of_some (option_map (λ p. designations.Provisional p) (provisional_in text)) (option_map (λ s. designations.Survey s.0 s.1) (survey_in text)) designation read) [
+        | inl first ↦
+            let step = option_map_some (λ p. designations.Provisional p) (provisional_in text) designation first in
+            let took = provisional_takes texts text step.0 step.1 in
+            subst (λ d. Spells FitsPrinted printed_text (names.Designation d) text) step.2 (record { within = took.1; text_is = took.0 })
+        | inr other ↦
+            let step = option_map_some (λ s. designations.Survey s.0 s.1) (survey_in text) designation other.1 in
+            let took = survey_takes texts text step.0 step.1 in
+            subst (λ d. Spells FitsPrinted printed_text (names.Designation d) text) step.2 (record { within = took.1; text_is = took.0 })
+      ]
+
+  printed_takes : (text : List ℕ) (name : Name) → printed_in text ≡ Some name → Spells FitsPrinted printed_text name text
+  unfolding printed_in
+  printed_takes text name read =
+      elim (first_of_some (option_map (λ n. names.Number (record { 0 = n })) (number_in text)) (option_map (λ d. names.Designation d) (designation_in text)) name read) [
+        | inl first ↦
+            let step = option_map_some (λ n. names.Number (record { 0 = n })) (number_in text) name first in
+            let took = number_in_takes texts text step.0 step.1 in
+            subst (λ n. Spells FitsPrinted printed_text n text) step.2 (record { within = took.1; text_is = took.0 })
+        | inr other ↦
+            let step = option_map_some (λ d. names.Designation d) (designation_in text) name other.1 in
+            subst (λ n. Spells FitsPrinted printed_text n text) step.2 (designation_takes text step.0 step.1)
+      ]
+
+  pub printed_reader : IsReader (Spells FitsPrinted printed_text) printed_in
+  printed_reader = record {
+    again = λ name text shows. ap printed_in shows.text_is ∙ printed_again name shows.within;
+    takes = printed_takes;
+  }

@@ -8,41 +8,19 @@ use Rattle.std.proofs.lemmas.Fmt.{decimal_is_IsNumeral, decimal_nonempty}
 use Rattle.std.proofs.lemmas.List.{append-nil, length-append, drop_at}
 use Rattle.ascii_text.specs.declared.digits.Radix.TheVariants.{Ten}
 use Rattle.ascii_text.specs.Digits.{digits_text}
-use Rattle.ascii_text.specs.Reading.{◌>>=◌, behind, digit_run, number_at}
-use Rattle.ascii_text.proofs.DigitTexts.{bind_some, length-digits_text}
-use Rattle.ascii_text.proofs.NumberTexts.{behind-cons, behind_takes, digit_run-all, digit_run-digits_text, number_again, number_takes}
+use Rattle.ascii_text.specs.Reading.{bind_some, ◌>>=◌, behind, digit_run, number_at}
 use Rattle.packed_names.specs.declared.survey.Survey.{Survey}
 use Rattle.packed_names.specs.declared.survey.Survey.TheVariants.{PalomarLeiden, T1, T2, T3}
 use Rattle.packed_names.specs.Ends.{whole}
 use Rattle.packed_names.specs.Printed.{cycle_text, suffix, survey_text}
 use Rattle.packed_names.specs.PrintedReading.{number_in, cycle_in, suffix_of, suffix_in, survey_in}
 use Rattle.packed_names.proofs.Chains.{whole_some, Some_injective, none_from}
+use Rattle.ascii_text.specs.Laws.{TextLaws}
 
 -- a number at the end of a text is read to the end
 nothing_ends : digit_run [] ≡ 0
 unfolding digit_run
 nothing_ends = refl
-
-number_again_whole : (most number : ℕ) → 0 < most → most ≤ 18 → number < 10 ^ most → number_at most (decimal number) ≡ Some (number, [])
-number_again_whole most number some few below =
-    ap (number_at most) (sym (append-nil (decimal number))) ∙ number_again most number [] some few below nothing_ends
-
--- ---- numbers
-
-pub decimal_in : (number : ℕ) → number < 10 ^ 10 → number_in (decimal number) ≡ Some number
-unfolding number_in
-decimal_in number below =
-    let read = number_again_whole 10 number (omega arith) (omega arith) below in
-    rw read refl
-
-pub number_in_takes : (text : List ℕ) (number : ℕ) → number_in text ≡ Some number → (text ≡ decimal number) × (number < 10 ^ 10)
-unfolding number_in
-number_in_takes text number read =
-    let a = bind_some (number_at 10 text) (λ number. whole number.0 number.1) number read in
-    let end = whole_some a.0.0 a.0.1 number a.2 in
-    let took = number_takes 10 text a.0 (omega arith) a.1 in
-    let text_is : text ≡ decimal a.0.0 = cc (took.text_is, end.0, append-nil (decimal a.0.0)) in
-    subst (λ (n : ℕ). (text ≡ decimal n) × (n < 10 ^ 10)) end.1 (text_is, took.below)
 
 -- ---- digits before a blank
 
@@ -52,20 +30,6 @@ all_digits-decimal number below = (decimal_is_IsNumeral number (omega arith)).0.
 blank_ends : (rest : List ℕ) → digit_run (32 ∷ rest) ≡ 0
 unfolding digit_run
 blank_ends rest = refl
-
-pub digit_run-decimal : (number : ℕ) (rest : List ℕ) → number < 10 ^ 10 → digit_run (decimal number ++ (32 ∷ rest)) ≡ length (decimal number)
-digit_run-decimal number rest below = omega (arith, digit_run-all (decimal number) (32 ∷ rest) (all_digits-decimal number below), blank_ends rest)
-
-pub digit_run-year : (year : ℕ) (rest : List ℕ) → year < 10 ^ 4 → digit_run (digits_text Ten 4 year ++ (32 ∷ rest)) ≡ length (digits_text Ten 4 year)
-digit_run-year year rest below = omega (arith, digit_run-digits_text 4 year (32 ∷ rest) below, length-digits_text Ten 4 year, blank_ends rest)
-
--- a text with a blank behind its digits is no printed number
-pub no_number : (digits rest : List ℕ) → digit_run (digits ++ (32 ∷ rest)) ≡ length digits → number_in (digits ++ (32 ∷ rest)) ≡ None
-no_number digits rest ends = none_from (number_in (digits ++ (32 ∷ rest))) (λ number read.
-    let took = number_in_takes (digits ++ (32 ∷ rest)) number read in
-    let run : digit_run (decimal number) ≡ length (decimal number) =
-    ap digit_run (sym (append-nil (decimal number))) ∙ digit_run-all (decimal number) [] (all_digits-decimal number took.1) ∙ omega (arith, nothing_ends) in
-    omega (arith, ends, ap digit_run took.0, ap length took.0, run, length-append digits (32 ∷ rest)))
 
 -- what stands behind the first blank
 pub behind_blank : (one other rest after : List ℕ) → digit_run (one ++ (32 ∷ rest)) ≡ length one → digit_run (other ++ (32 ∷ after)) ≡ length other → one ++ (32 ∷ rest) ≡ other ++ (32 ∷ after) → 32 ∷ rest ≡ 32 ∷ after
@@ -80,14 +44,6 @@ unfolding cycle_in
 cycle_in-some [] some = absurd (omega arith)
 cycle_in-some (first ∷ text) some = refl
 
-pub cycle_again : (cycle : ℕ) → cycle < 10 ^ 7 → cycle_in (cycle_text cycle) ≡ Some cycle
-unfolding cycle_text cycle_in
-cycle_again zero below = refl
-cycle_again (suc before) below =
-    let read = number_again_whole 7 (suc before) (omega arith) (omega arith) below in
-    let some : eqb (suc before) 0 ≡ false = ne_eqb (suc before) 0 (λ e. omega arith) in
-    cycle_in-some (decimal (suc before)) (decimal_nonempty (suc before) (omega arith)) ∙ rw (read, some) refl
-
 cycle_text-some : (cycle : ℕ) → (cycle ≡ 0 → ⊥) → cycle_text cycle ≡ decimal cycle
 unfolding cycle_text
 cycle_text-some zero some = absurd (some refl)
@@ -96,18 +52,6 @@ cycle_text-some (suc before) some = refl
 not_none : {A : Type 0} (b : Bool) (other : Option A) (y : A) → cond b None other ≡ Some y → (b ≡ false) × (other ≡ Some y)
 not_none true other y e = absurd cc
 not_none false other y e = (refl, e)
-
-pub cycle_takes : (text : List ℕ) (cycle : ℕ) → cycle_in text ≡ Some cycle → (text ≡ cycle_text cycle) × (cycle < 10 ^ 7)
-unfolding cycle_in cycle_text
-cycle_takes [] cycle read = subst (λ (c : ℕ). ([] ≡ cycle_text c) × (c < 10 ^ 7)) (Some_injective 0 cycle read) (refl, omega arith)
-cycle_takes (first ∷ text) cycle read =
-    let a = bind_some (number_at 7 (first ∷ text)) (λ cycle. cond (eqb cycle.0 0) None (whole cycle.0 cycle.1)) cycle read in
-    let kept = not_none (eqb a.0.0 0) (whole a.0.0 a.0.1) cycle a.2 in
-    let end = whole_some a.0.0 a.0.1 cycle kept.1 in
-    let took = number_takes 7 (first ∷ text) a.0 (omega arith) a.1 in
-    let some : a.0.0 ≡ 0 → ⊥ = λ zero_is. (let test = kept.0 in grind (arith, nat_tests)) in
-    let text_is : first ∷ text ≡ cycle_text a.0.0 = cc (took.text_is, end.0, append-nil (decimal a.0.0), cycle_text-some a.0.0 some) in
-    subst (λ (c : ℕ). (first ∷ text ≡ cycle_text c) × (c < 10 ^ 7)) end.1 (text_is, took.below)
 
 -- ---- survey designations
 
@@ -130,21 +74,79 @@ suffix_takes (first ∷ second ∷ []) survey read = absurd cc
 suffix_takes (first ∷ second ∷ third ∷ []) survey read = suffix-suffix_of first second third survey read
 suffix_takes (first ∷ second ∷ third ∷ fourth ∷ text) survey read = absurd cc
 
-pub survey_again : (survey : Survey) (number : ℕ) → number < 10 ^ 5 → survey_in (survey_text survey number) ≡ Some (survey, number)
-unfolding survey_in survey_text
-survey_again survey number below =
-    let digits = number_again 5 number (32 ∷ suffix survey) (omega arith) (omega arith) below (blank_ends (suffix survey)) in
-    rw (digits, behind-cons 32 (suffix survey), suffix_in-suffix survey) refl
+module _ (texts : TextLaws) where
+  open texts use {digit_run-all, length-digits_text, behind-cons, behind_takes, digit_run-digits_text, number_again, number_takes}
 
-pub survey_takes : (text : List ℕ) (x : Survey × ℕ) → survey_in text ≡ Some x → (text ≡ survey_text x.0 x.1) × (x.1 < 10 ^ 5)
-unfolding survey_in survey_text
-survey_takes text x read =
-    let a = bind_some (number_at 5 text) (λ number. behind 32 number.1 >>= λ letters. suffix_in letters >>= λ survey. Some (survey, number.0)) x read in
-    let b = bind_some (behind 32 a.0.1) (λ letters. suffix_in letters >>= λ survey. Some (survey, a.0.0)) x a.2 in
-    let c = bind_some (suffix_in b.0) (λ survey. Some (survey, a.0.0)) x b.2 in
-    let number = number_takes 5 text a.0 (omega arith) a.1 in
-    let blank = behind_takes 32 a.0.1 b.0 b.1 in
-    let letters = suffix_takes b.0 c.0 c.1 in
-    let made : Survey × ℕ = (c.0, a.0.0) in
-    let text_is : text ≡ decimal a.0.0 ++ (32 ∷ suffix c.0) = cc (number.text_is, blank, letters) in
-    subst (λ (y : Survey × ℕ). (text ≡ decimal y.1 ++ (32 ∷ suffix y.0)) × (y.1 < 10 ^ 5)) (Some_injective made x c.2) (text_is, number.below)
+  pub digit_run-decimal : (number : ℕ) (rest : List ℕ) → number < 10 ^ 10 → digit_run (decimal number ++ (32 ∷ rest)) ≡ length (decimal number)
+  digit_run-decimal number rest below = omega (arith, digit_run-all (decimal number) (32 ∷ rest) (all_digits-decimal number below), blank_ends rest)
+
+  number_again_whole : (most number : ℕ) → 0 < most → most ≤ 18 → number < 10 ^ most → number_at most (decimal number) ≡ Some (number, [])
+  number_again_whole most number some few below =
+      ap (number_at most) (sym (append-nil (decimal number))) ∙ number_again most number [] some few below nothing_ends
+
+  -- ---- numbers
+
+  pub decimal_in : (number : ℕ) → number < 10 ^ 10 → number_in (decimal number) ≡ Some number
+  unfolding number_in
+  decimal_in number below =
+      let read = number_again_whole 10 number (omega arith) (omega arith) below in
+      rw read refl
+
+  pub number_in_takes : (text : List ℕ) (number : ℕ) → number_in text ≡ Some number → (text ≡ decimal number) × (number < 10 ^ 10)
+  unfolding number_in
+  number_in_takes text number read =
+      let a = bind_some (number_at 10 text) (λ number. whole number.0 number.1) number read in
+      let end = whole_some a.0.0 a.0.1 number a.2 in
+      let took = number_takes 10 text a.0 (omega arith) a.1 in
+      let text_is : text ≡ decimal a.0.0 = cc (took.text_is, end.0, append-nil (decimal a.0.0)) in
+      subst (λ (n : ℕ). (text ≡ decimal n) × (n < 10 ^ 10)) end.1 (text_is, took.below)
+
+  pub digit_run-year : (year : ℕ) (rest : List ℕ) → year < 10 ^ 4 → digit_run (digits_text Ten 4 year ++ (32 ∷ rest)) ≡ length (digits_text Ten 4 year)
+  digit_run-year year rest below = omega (arith, digit_run-digits_text 4 year (32 ∷ rest) below, length-digits_text Ten 4 year, blank_ends rest)
+
+  -- a text with a blank behind its digits is no printed number
+  pub no_number : (digits rest : List ℕ) → digit_run (digits ++ (32 ∷ rest)) ≡ length digits → number_in (digits ++ (32 ∷ rest)) ≡ None
+  no_number digits rest ends = none_from (number_in (digits ++ (32 ∷ rest))) (λ number read.
+      let took = number_in_takes (digits ++ (32 ∷ rest)) number read in
+      let run : digit_run (decimal number) ≡ length (decimal number) =
+      ap digit_run (sym (append-nil (decimal number))) ∙ digit_run-all (decimal number) [] (all_digits-decimal number took.1) ∙ omega (arith, nothing_ends) in
+      omega (arith, ends, ap digit_run took.0, ap length took.0, run, length-append digits (32 ∷ rest)))
+
+  pub cycle_again : (cycle : ℕ) → cycle < 10 ^ 7 → cycle_in (cycle_text cycle) ≡ Some cycle
+  unfolding cycle_text cycle_in
+  cycle_again zero below = refl
+  cycle_again (suc before) below =
+      let read = number_again_whole 7 (suc before) (omega arith) (omega arith) below in
+      let some : eqb (suc before) 0 ≡ false = ne_eqb (suc before) 0 (λ e. omega arith) in
+      cycle_in-some (decimal (suc before)) (decimal_nonempty (suc before) (omega arith)) ∙ rw (read, some) refl
+
+  pub cycle_takes : (text : List ℕ) (cycle : ℕ) → cycle_in text ≡ Some cycle → (text ≡ cycle_text cycle) × (cycle < 10 ^ 7)
+  unfolding cycle_in cycle_text
+  cycle_takes [] cycle read = subst (λ (c : ℕ). ([] ≡ cycle_text c) × (c < 10 ^ 7)) (Some_injective 0 cycle read) (refl, omega arith)
+  cycle_takes (first ∷ text) cycle read =
+      let a = bind_some (number_at 7 (first ∷ text)) (λ cycle. cond (eqb cycle.0 0) None (whole cycle.0 cycle.1)) cycle read in
+      let kept = not_none (eqb a.0.0 0) (whole a.0.0 a.0.1) cycle a.2 in
+      let end = whole_some a.0.0 a.0.1 cycle kept.1 in
+      let took = number_takes 7 (first ∷ text) a.0 (omega arith) a.1 in
+      let some : a.0.0 ≡ 0 → ⊥ = λ zero_is. (let test = kept.0 in grind (arith, nat_tests)) in
+      let text_is : first ∷ text ≡ cycle_text a.0.0 = cc (took.text_is, end.0, append-nil (decimal a.0.0), cycle_text-some a.0.0 some) in
+      subst (λ (c : ℕ). (first ∷ text ≡ cycle_text c) × (c < 10 ^ 7)) end.1 (text_is, took.below)
+
+  pub survey_again : (survey : Survey) (number : ℕ) → number < 10 ^ 5 → survey_in (survey_text survey number) ≡ Some (survey, number)
+  unfolding survey_in survey_text
+  survey_again survey number below =
+      let digits = number_again 5 number (32 ∷ suffix survey) (omega arith) (omega arith) below (blank_ends (suffix survey)) in
+      rw (digits, behind-cons 32 (suffix survey), suffix_in-suffix survey) refl
+
+  pub survey_takes : (text : List ℕ) (x : Survey × ℕ) → survey_in text ≡ Some x → (text ≡ survey_text x.0 x.1) × (x.1 < 10 ^ 5)
+  unfolding survey_in survey_text
+  survey_takes text x read =
+      let a = bind_some (number_at 5 text) (λ number. behind 32 number.1 >>= λ letters. suffix_in letters >>= λ survey. Some (survey, number.0)) x read in
+      let b = bind_some (behind 32 a.0.1) (λ letters. suffix_in letters >>= λ survey. Some (survey, a.0.0)) x a.2 in
+      let c = bind_some (suffix_in b.0) (λ survey. Some (survey, a.0.0)) x b.2 in
+      let number = number_takes 5 text a.0 (omega arith) a.1 in
+      let blank = behind_takes 32 a.0.1 b.0 b.1 in
+      let letters = suffix_takes b.0 c.0 c.1 in
+      let made : Survey × ℕ = (c.0, a.0.0) in
+      let text_is : text ≡ decimal a.0.0 ++ (32 ∷ suffix c.0) = cc (number.text_is, blank, letters) in
+      subst (λ (y : Survey × ℕ). (text ≡ decimal y.1 ++ (32 ∷ suffix y.0)) × (y.1 < 10 ^ 5)) (Some_injective made x c.2) (text_is, number.below)

@@ -5,9 +5,7 @@ use Rattle.std.proofs.lemmas.Bool.Decides.{nat_tests}
 use Rattle.ascii_text.specs.declared.digits.Radix.TheVariants.{Ten}
 use Rattle.ascii_text.specs.Digits.{digits_text}
 use Rattle.ascii_text.specs.Judged.{IsReader}
-use Rattle.ascii_text.specs.Reading.{◌>>=◌, digits_at, behind}
-use Rattle.ascii_text.proofs.DigitTexts.{bind_some, digits_again, digits_takes}
-use Rattle.ascii_text.proofs.NumberTexts.{behind-cons, behind_takes}
+use Rattle.ascii_text.specs.Reading.{bind_some, ◌>>=◌, digits_at, behind}
 use Rattle.packed_names.specs.declared.half_month.HalfMonth.{HalfMonth}
 use Rattle.packed_names.specs.declared.provisional.Provisional.{Provisional}
 use Rattle.packed_names.specs.declared.survey.Survey.{Survey}
@@ -24,92 +22,12 @@ use Rattle.packed_names.proofs.Chains.{whole_some, Some_injective, none_from}
 use Rattle.packed_names.proofs.LetterLaws.{letter_at-letter_of, letter_at_takes}
 use Rattle.packed_names.proofs.OrderLaws.{letter_index-order_of, cycle_of-order_of, order_of-cycle_of, letter_index-lt}
 use Rattle.packed_names.proofs.PrintedNumberLaws.{cycle_again, cycle_takes, behind_blank, digit_run-decimal, digit_run-year, no_number}
-
+use Rattle.ascii_text.specs.Laws.{TextLaws}
 -- ---- half-months
 
 -- a half-month before a text
 half_front : HalfMonth → List ℕ → List ℕ
 half_front half rest = digits_text Ten 4 half.year ++ (32 ∷ letter_of half.index ∷ rest)
-
-half_again : (half : HalfMonth) (rest : List ℕ) → FitsPrintedHalf half → half_at (half_front half rest) ≡ Some (half, rest)
-unfolding half_at half_front
-half_again half rest fits =
-    let year = digits_again Ten 4 half.year (32 ∷ letter_of half.index ∷ rest) fits.0 in
-    let letter = letter_at-letter_of 24 half.index rest fits.1 (omega arith) in
-    rw (year, behind-cons 32 (letter_of half.index ∷ rest), letter) refl
-
-half_takes : (text : List ℕ) (x : HalfMonth × List ℕ) → half_at text ≡ Some x → (text ≡ half_front x.0 x.1) × FitsPrintedHalf x.0
-unfolding half_at half_front
-half_takes text x read =
-    let a = bind_some (digits_at Ten 4 text) (λ year. behind 32 year.1 >>= λ letter. letter_at 24 letter >>= λ half. Some (record { year = year.0; index = half.0 }, half.1)) x read in
-    let b = bind_some (behind 32 a.0.1) (λ letter. letter_at 24 letter >>= λ half. Some (record { year = a.0.0; index = half.0 }, half.1)) x a.2 in
-    let c = bind_some (letter_at 24 b.0) (λ half. Some (record { year = a.0.0; index = half.0 }, half.1)) x b.2 in
-    let year = digits_takes Ten 4 text a.0.0 a.0.1 a.1 in
-    let blank = behind_takes 32 a.0.1 b.0 b.1 in
-    let letter = letter_at_takes 24 b.0 c.0 c.1 in
-    let made : HalfMonth × List ℕ = (record { year = a.0.0; index = c.0.0 }, c.0.1) in
-    let text_is : text ≡ half_front made.0 made.1 = cc (year.0, blank, letter.0) in
-    subst (λ (y : HalfMonth × List ℕ). (text ≡ half_front y.0 y.1) × FitsPrintedHalf y.0) (Some_injective made x c.2) (text_is, (year.1, letter.1))
-
-half_in_again : (half : HalfMonth) → FitsPrintedHalf half → half_in (half_text half) ≡ Some half
-unfolding half_in half_text half_front
-half_in_again half fits = rw (half_again half [] fits) refl
-
-half_in_takes : (text : List ℕ) (half : HalfMonth) → half_in text ≡ Some half → Spells FitsPrintedHalf half_text half text
-unfolding half_in half_text half_front
-half_in_takes text half read =
-    let a = bind_some (half_at text) (λ half. whole half.0 half.1) half read in
-    let end = whole_some a.0.0 a.0.1 half a.2 in
-    let took = half_takes text a.0 a.1 in
-    let text_is : text ≡ half_text a.0.0 = took.0 ∙ ap (half_front a.0.0) end.0 in
-    subst (λ (h : HalfMonth). Spells FitsPrintedHalf half_text h text) end.1 (record { within = took.1; text_is = text_is })
-
-pub half_reader : IsReader (Spells FitsPrintedHalf half_text) half_in
-half_reader = record {
-  again = λ half text shows. ap half_in shows.text_is ∙ half_in_again half shows.within;
-  takes = half_in_takes;
-}
-
--- ---- provisional designations
-
-pub provisional_again : (provisional : Provisional) → FitsPrinted (names.Designation (designations.Provisional provisional)) → provisional_in (provisional_text provisional) ≡ Some provisional
-unfolding provisional_in provisional_text half_front
-provisional_again provisional fits =
-    let half = half_again provisional.half (letter_of (letter_index provisional.order) ∷ cycle_text (cycle_of provisional.order)) fits.0 in
-    let letter = letter_at-letter_of 25 (letter_index provisional.order) (cycle_text (cycle_of provisional.order)) (letter_index-lt provisional.order) (omega arith) in
-    let cycle = cycle_again (cycle_of provisional.order) fits.2 in
-    let order : order_of (cycle_of provisional.order) (letter_index provisional.order) ≡ provisional.order = order_of-cycle_of provisional.order fits.1 in
-    rw (half, letter, cycle, order) refl
-
-pub provisional_takes : (text : List ℕ) (provisional : Provisional) → provisional_in text ≡ Some provisional → (text ≡ provisional_text provisional) × FitsPrinted (names.Designation (designations.Provisional provisional))
-unfolding provisional_in provisional_text half_front
-provisional_takes text provisional read =
-    let a = bind_some (half_at text) (λ half. letter_at 25 half.1 >>= λ letter. cycle_in letter.1 >>= λ cycle. Some (record { half = half.0; order = order_of cycle letter.0 })) provisional read in
-    let b = bind_some (letter_at 25 a.0.1) (λ letter. cycle_in letter.1 >>= λ cycle. Some (record { half = a.0.0; order = order_of cycle letter.0 })) provisional a.2 in
-    let c = bind_some (cycle_in b.0.1) (λ cycle. Some (record { half = a.0.0; order = order_of cycle b.0.0 })) provisional b.2 in
-    let half = half_takes text a.0 a.1 in
-    let letter = letter_at_takes 25 a.0.1 b.0 b.1 in
-    let cycle = cycle_takes b.0.1 c.0 c.1 in
-    let made : Provisional = record { half = a.0.0; order = order_of c.0 b.0.0 } in
-    let cycle_is : cycle_of (order_of c.0 b.0.0) ≡ c.0 = cycle_of-order_of c.0 b.0.0 letter.1 in
-    let letter_is : letter_index (order_of c.0 b.0.0) ≡ b.0.0 = letter_index-order_of c.0 b.0.0 letter.1 in
-    let parts : a.0.1 ≡ letter_of b.0.0 ∷ cycle_text c.0 = cc (letter.0, cycle.0) in
-    let text_is : text ≡ half_front a.0.0 (letter_of b.0.0 ∷ cycle_text c.0) = half.0 ∙ ap (half_front a.0.0) parts in
-    let spelled : text ≡ provisional_text made = rw (cycle_is, letter_is) text_is in
-    let below : cycle_of (order_of c.0 b.0.0) < 10 ^ 7 = omega (arith, cycle_is, cycle.1) in
-    let positive : 1 ≤ order_of c.0 b.0.0 = omega arith in
-    subst (λ (p : Provisional). (text ≡ provisional_text p) × FitsPrinted (names.Designation (designations.Provisional p))) (Some_injective made provisional c.2) (spelled, (half.1, positive, below))
-
--- ---- no text has two shapes
-
-pub provisional_no_number : (provisional : Provisional) → FitsPrinted (names.Designation (designations.Provisional provisional)) → number_in (provisional_text provisional) ≡ None
-unfolding provisional_text
-provisional_no_number provisional fits =
-    no_number (digits_text Ten 4 provisional.half.year) (letter_of provisional.half.index ∷ letter_of (letter_index provisional.order) ∷ cycle_text (cycle_of provisional.order)) (digit_run-year provisional.half.year _ fits.0.0)
-
-pub survey_no_number : (survey : Survey) (number : ℕ) → number < 10 ^ 5 → number_in (survey_text survey number) ≡ None
-unfolding survey_text
-survey_no_number survey number below = no_number (decimal number) (suffix survey) (digit_run-decimal number (suffix survey) (omega arith))
 
 -- the second character of a suffix is no letter
 not_suffix : (survey : Survey) (half order : ℕ) (rest : List ℕ) → 65 ≤ order → 32 ∷ half ∷ order ∷ rest ≡ 32 ∷ suffix survey → ⊥
@@ -122,10 +40,93 @@ not_suffix T3 half order rest letter same = (let dash : order ≡ 45 = cc in ome
 letter_of-ge : (index : ℕ) → 65 ≤ letter_of index
 letter_of-ge index = grind (arith, nat_tests)
 
-pub survey_no_provisional : (survey : Survey) (number : ℕ) → number < 10 ^ 5 → provisional_in (survey_text survey number) ≡ None
-unfolding survey_text provisional_text
-survey_no_provisional survey number below = none_from (provisional_in (survey_text survey number)) (λ provisional read.
-    let took = provisional_takes (survey_text survey number) provisional read in
-    let rest : List ℕ = letter_of provisional.half.index ∷ letter_of (letter_index provisional.order) ∷ cycle_text (cycle_of provisional.order) in
-    let same = behind_blank (digits_text Ten 4 provisional.half.year) (decimal number) rest (suffix survey) (digit_run-year provisional.half.year rest took.1.0.0) (digit_run-decimal number (suffix survey) (omega arith)) (sym took.0) in
-    not_suffix survey (letter_of provisional.half.index) (letter_of (letter_index provisional.order)) (cycle_text (cycle_of provisional.order)) (letter_of-ge (letter_index provisional.order)) same)
+module _ (texts : TextLaws) where
+  open texts use {digits_again, digits_takes, behind-cons, behind_takes}
+
+  half_again : (half : HalfMonth) (rest : List ℕ) → FitsPrintedHalf half → half_at (half_front half rest) ≡ Some (half, rest)
+  unfolding half_at half_front
+  half_again half rest fits =
+      let year = digits_again Ten 4 half.year (32 ∷ letter_of half.index ∷ rest) fits.0 in
+      let letter = letter_at-letter_of 24 half.index rest fits.1 (omega arith) in
+      rw (year, behind-cons 32 (letter_of half.index ∷ rest), letter) refl
+
+  half_takes : (text : List ℕ) (x : HalfMonth × List ℕ) → half_at text ≡ Some x → (text ≡ half_front x.0 x.1) × FitsPrintedHalf x.0
+  unfolding half_at half_front
+  half_takes text x read =
+      let a = bind_some (digits_at Ten 4 text) (λ year. behind 32 year.1 >>= λ letter. letter_at 24 letter >>= λ half. Some (record { year = year.0; index = half.0 }, half.1)) x read in
+      let b = bind_some (behind 32 a.0.1) (λ letter. letter_at 24 letter >>= λ half. Some (record { year = a.0.0; index = half.0 }, half.1)) x a.2 in
+      let c = bind_some (letter_at 24 b.0) (λ half. Some (record { year = a.0.0; index = half.0 }, half.1)) x b.2 in
+      let year = digits_takes Ten 4 text a.0.0 a.0.1 a.1 in
+      let blank = behind_takes 32 a.0.1 b.0 b.1 in
+      let letter = letter_at_takes 24 b.0 c.0 c.1 in
+      let made : HalfMonth × List ℕ = (record { year = a.0.0; index = c.0.0 }, c.0.1) in
+      let text_is : text ≡ half_front made.0 made.1 = cc (year.0, blank, letter.0) in
+      subst (λ (y : HalfMonth × List ℕ). (text ≡ half_front y.0 y.1) × FitsPrintedHalf y.0) (Some_injective made x c.2) (text_is, (year.1, letter.1))
+
+  half_in_again : (half : HalfMonth) → FitsPrintedHalf half → half_in (half_text half) ≡ Some half
+  unfolding half_in half_text half_front
+  half_in_again half fits = rw (half_again half [] fits) refl
+
+  half_in_takes : (text : List ℕ) (half : HalfMonth) → half_in text ≡ Some half → Spells FitsPrintedHalf half_text half text
+  unfolding half_in half_text half_front
+  half_in_takes text half read =
+      let a = bind_some (half_at text) (λ half. whole half.0 half.1) half read in
+      let end = whole_some a.0.0 a.0.1 half a.2 in
+      let took = half_takes text a.0 a.1 in
+      let text_is : text ≡ half_text a.0.0 = took.0 ∙ ap (half_front a.0.0) end.0 in
+      subst (λ (h : HalfMonth). Spells FitsPrintedHalf half_text h text) end.1 (record { within = took.1; text_is = text_is })
+
+  pub half_reader : IsReader (Spells FitsPrintedHalf half_text) half_in
+  half_reader = record {
+    again = λ half text shows. ap half_in shows.text_is ∙ half_in_again half shows.within;
+    takes = half_in_takes;
+  }
+
+  -- ---- provisional designations
+
+  pub provisional_again : (provisional : Provisional) → FitsPrinted (names.Designation (designations.Provisional provisional)) → provisional_in (provisional_text provisional) ≡ Some provisional
+  unfolding provisional_in provisional_text half_front
+  provisional_again provisional fits =
+      let half = half_again provisional.half (letter_of (letter_index provisional.order) ∷ cycle_text (cycle_of provisional.order)) fits.0 in
+      let letter = letter_at-letter_of 25 (letter_index provisional.order) (cycle_text (cycle_of provisional.order)) (letter_index-lt provisional.order) (omega arith) in
+      let cycle = cycle_again texts (cycle_of provisional.order) fits.2 in
+      let order : order_of (cycle_of provisional.order) (letter_index provisional.order) ≡ provisional.order = order_of-cycle_of provisional.order fits.1 in
+      rw (half, letter, cycle, order) refl
+
+  pub provisional_takes : (text : List ℕ) (provisional : Provisional) → provisional_in text ≡ Some provisional → (text ≡ provisional_text provisional) × FitsPrinted (names.Designation (designations.Provisional provisional))
+  unfolding provisional_in provisional_text half_front
+  provisional_takes text provisional read =
+      let a = bind_some (half_at text) (λ half. letter_at 25 half.1 >>= λ letter. cycle_in letter.1 >>= λ cycle. Some (record { half = half.0; order = order_of cycle letter.0 })) provisional read in
+      let b = bind_some (letter_at 25 a.0.1) (λ letter. cycle_in letter.1 >>= λ cycle. Some (record { half = a.0.0; order = order_of cycle letter.0 })) provisional a.2 in
+      let c = bind_some (cycle_in b.0.1) (λ cycle. Some (record { half = a.0.0; order = order_of cycle b.0.0 })) provisional b.2 in
+      let half = half_takes text a.0 a.1 in
+      let letter = letter_at_takes 25 a.0.1 b.0 b.1 in
+      let cycle = cycle_takes texts b.0.1 c.0 c.1 in
+      let made : Provisional = record { half = a.0.0; order = order_of c.0 b.0.0 } in
+      let cycle_is : cycle_of (order_of c.0 b.0.0) ≡ c.0 = cycle_of-order_of c.0 b.0.0 letter.1 in
+      let letter_is : letter_index (order_of c.0 b.0.0) ≡ b.0.0 = letter_index-order_of c.0 b.0.0 letter.1 in
+      let parts : a.0.1 ≡ letter_of b.0.0 ∷ cycle_text c.0 = cc (letter.0, cycle.0) in
+      let text_is : text ≡ half_front a.0.0 (letter_of b.0.0 ∷ cycle_text c.0) = half.0 ∙ ap (half_front a.0.0) parts in
+      let spelled : text ≡ provisional_text made = rw (cycle_is, letter_is) text_is in
+      let below : cycle_of (order_of c.0 b.0.0) < 10 ^ 7 = omega (arith, cycle_is, cycle.1) in
+      let positive : 1 ≤ order_of c.0 b.0.0 = omega arith in
+      subst (λ (p : Provisional). (text ≡ provisional_text p) × FitsPrinted (names.Designation (designations.Provisional p))) (Some_injective made provisional c.2) (spelled, (half.1, positive, below))
+
+  -- ---- no text has two shapes
+
+  pub provisional_no_number : (provisional : Provisional) → FitsPrinted (names.Designation (designations.Provisional provisional)) → number_in (provisional_text provisional) ≡ None
+  unfolding provisional_text
+  provisional_no_number provisional fits =
+      no_number texts (digits_text Ten 4 provisional.half.year) (letter_of provisional.half.index ∷ letter_of (letter_index provisional.order) ∷ cycle_text (cycle_of provisional.order)) (digit_run-year texts provisional.half.year _ fits.0.0)
+
+  pub survey_no_number : (survey : Survey) (number : ℕ) → number < 10 ^ 5 → number_in (survey_text survey number) ≡ None
+  unfolding survey_text
+  survey_no_number survey number below = no_number texts (decimal number) (suffix survey) (digit_run-decimal texts number (suffix survey) (omega arith))
+
+  pub survey_no_provisional : (survey : Survey) (number : ℕ) → number < 10 ^ 5 → provisional_in (survey_text survey number) ≡ None
+  unfolding survey_text provisional_text
+  survey_no_provisional survey number below = none_from (provisional_in (survey_text survey number)) (λ provisional read.
+      let took = provisional_takes (survey_text survey number) provisional read in
+      let rest : List ℕ = letter_of provisional.half.index ∷ letter_of (letter_index provisional.order) ∷ cycle_text (cycle_of provisional.order) in
+      let same = behind_blank (digits_text Ten 4 provisional.half.year) (decimal number) rest (suffix survey) (digit_run-year texts provisional.half.year rest took.1.0.0) (digit_run-decimal texts number (suffix survey) (omega arith)) (sym took.0) in
+      not_suffix survey (letter_of provisional.half.index) (letter_of (letter_index provisional.order)) (cycle_text (cycle_of provisional.order)) (letter_of-ge (letter_index provisional.order)) same)

@@ -10,3 +10,4 @@ pub mod Judging
 pub mod Order
 pub mod Labels
 pub mod PrintedReading
+pub mod Laws

@@ -5,6 +5,7 @@ ghost use Rattle.packed_names.specs.declared.name.Name.{Name};
 ghost use Rattle.packed_names.specs.Packed.{IsPackedAs};
 ghost use Rattle.packed_names.specs.Printed.{IsPrintedAs};
 ghost use Rattle.packed_names.specs.Order.{designation_cmp};
+ghost use Rattle.packed_names.specs.Laws.{NameLaws};
 
 use crate::name::Designation;
 use std::cmp::Ordering;
@@ -13,13 +14,24 @@ use std::cmp::Ordering;
 pub fn packed_one_to_one()
     ensures one_name { (one other : Name) (text : List ℕ) → IsPackedAs one text → IsPackedAs other text → one ≡ other }
     ensures one_text { (name : Name) (one other : List ℕ) → IsPackedAs name one → IsPackedAs name other → one ≡ other }
-{}
+{
+    ascii_text::laws::texts();
+}
 
 /// Two names never share a printed form, and a name never has two.
 pub fn printed_one_to_one()
     ensures one_name { (one other : Name) (text : List ℕ) → IsPrintedAs one text → IsPrintedAs other text → one ≡ other }
     ensures one_text { (name : Name) (one other : List ℕ) → IsPrintedAs name one → IsPrintedAs name other → one ≡ other }
-{}
+{
+    ascii_text::laws::texts();
+}
+
+/// A text is answered with a name exactly where it is the name's packed form, or its printed form.
+pub fn names()
+    ensures { NameLaws }
+{
+    ascii_text::laws::texts();
+}
 
 /// Designations compare in the order that is stated for them.
 pub fn designations_in_order(one: Designation, other: Designation) -> Ordering

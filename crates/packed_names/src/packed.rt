@@ -38,6 +38,7 @@ pub fn unpack(text: &[u8]) -> Result<Name, NameFault>
     ensures out_of_range { (result ≡ Err NameFault.OutOfRange) ↔ (HasPackedShape text.now × ¬ IsPackedName text.now) }
     ensures spelling { (result ≡ Err NameFault.Spelling) ↔ (¬ HasPackedShape text.now) }
 {
+    ascii_text::laws::texts();
     unpacked(text)
 }
 
@@ -59,5 +60,6 @@ pub fn pack(name: Name) -> Label
     ensures text { IsLabelOf (packed_text name) result }
     ensures len { result.len ≡ packed_length name }
 {
+    ascii_text::laws::texts();
     packed(name)
 }

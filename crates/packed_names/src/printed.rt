@@ -74,6 +74,7 @@ pub fn read(text: &[u8]) -> Result<Name, NameFault>
     ensures out_of_range { (result ≡ Err NameFault.OutOfRange) ↔ (HasPrintedShape text.now × ¬ IsPrintedName text.now) }
     ensures spelling { (result ≡ Err NameFault.Spelling) ↔ (¬ HasPrintedShape text.now) }
 {
+    ascii_text::laws::texts();
     printed(text)
 }
 
@@ -100,6 +101,7 @@ pub fn read_half(text: &[u8]) -> Result<HalfMonth, NameFault>
     ensures out_of_range { (result ≡ Err NameFault.OutOfRange) ↔ (HasPrintedHalfShape text.now × ¬ IsPrintedHalf text.now) }
     ensures spelling { (result ≡ Err NameFault.Spelling) ↔ (¬ HasPrintedHalfShape text.now) }
 {
+    ascii_text::laws::texts();
     printed_half(text)
 }
 

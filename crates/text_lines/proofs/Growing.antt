@@ -2,12 +2,12 @@
 use Rattle.std.proofs.Common.{◌≡◌, ℕ, ◌+◌, ◌-◌, ◌<◌, ◌≤◌, Bool, true, false, not, eqb, List, [], ◌∷◌, ◌++◌, append_assoc, length, map, drop, All, refl, sym, ap, ◌∙◌, arith}
 use Rattle.std.specs.List.{onto_first}
 use Rattle.std.specs.Str.Lines.{lines, lines_of_parts, strip_carriage_return}
-use Rattle.std.proofs.lemmas.List.{append-nil}
+use Rattle.std.proofs.lemmas.List.{append-nil, nil_from_length, length-map}
 use Rattle.std.proofs.lemmas.List.Elements.{All-nil, All-cons, All-append}
 use Rattle.std.proofs.lemmas.List.Splits.{slice_split-cons_yes, slice_split-cons_no}
 use Rattle.text_lines.specs.Pieces.{parts, front_parts, last_part, complete_lines, unfinished, joined, Cut, uncut, cut_of, cut_on, cut_all, all_lines}
 use Rattle.text_lines.specs.Laws.{LineLaws}
-use Rattle.text_lines.proofs.LineCuts.{some_parts, front_before, last_before, complete_none, unfinished_cut, unfinished_whole}
+use Rattle.text_lines.proofs.LineCuts.{lines_whole, some_parts, front_before, last_before, complete_none, unfinished_cut, unfinished_whole}
 
 -- ---- parts
 
@@ -152,6 +152,39 @@ any_cut pieces =
         ∙ ap (λ (rest : List ℕ). let cut : Cut = record { lines = []; rest = rest } in cut) (unfinished_whole [] (All-nil (λ b. is_feed b ≡ false))) in
     ap (λ (cut : Cut). all_lines (cut_all cut pieces)) (sym none) ∙ all_cut [] pieces
 
+last_line : (text : List ℕ) → 0 < length (unfinished text) → lines text ≡ complete_lines text ++ unfinished text ∷ []
+last_line text some = lines_end text ∙ ap (λ (ls : List (List ℕ)). complete_lines text ++ ls) (lines_whole (unfinished text) some (unfinished_none text))
+
+no_last_line : (text : List ℕ) → length (unfinished text) ≡ 0 → lines text ≡ complete_lines text
+no_last_line text none =
+    lines_end text ∙ ap (λ (t : List ℕ). complete_lines text ++ lines t) (nil_from_length (unfinished text) none) ∙ append-nil (complete_lines text)
+
+-- ---- how many lines there are
+
+abbrev size : List (List ℕ) → ℕ
+size ps = length (front_parts ps) + length (last_part ps)
+
+size_onto : (byte : ℕ) (ps : List (List ℕ)) → 0 < length ps → size (onto_first byte ps) ≤ size ps + 1
+size_onto byte [] some = absurd (omega arith)
+size_onto byte (part ∷ []) some = omega arith
+size_onto byte (part ∷ next ∷ more) some = omega arith
+
+size_by : (feed : Bool) (byte : ℕ) (text : List ℕ) → is_feed byte ≡ feed → size (parts text) ≤ length text → size (parts (byte ∷ text)) ≤ length text + 1
+size_by true byte text feed few =
+    let cut : parts (byte ∷ text) ≡ [] ∷ parts text = slice_split-cons_yes is_feed byte text feed in
+    omega (arith, ap size cut, ap length (front_before [] (parts text) (some_parts text)), ap length (last_before [] (parts text) (some_parts text)))
+size_by false byte text feed few =
+    let cut : parts (byte ∷ text) ≡ onto_first byte (parts text) = slice_split-cons_no is_feed byte text feed in
+    omega (arith, ap size cut, size_onto byte (parts text) (some_parts text))
+
+few_parts : (text : List ℕ) → size (parts text) ≤ length text
+few_parts [] = omega arith
+few_parts (byte ∷ text) = omega (arith, size_by (is_feed byte) byte text refl (few_parts text))
+
+few_lines : (text : List ℕ) → length (complete_lines text) + length (unfinished text) ≤ length text
+unfolding complete_lines unfinished
+few_lines text = omega (arith, length-map (front_parts (parts text)) strip_carriage_return, few_parts text)
+
 -- the laws together
 pub line_laws : LineLaws
 line_laws = record {
@@ -161,8 +194,12 @@ line_laws = record {
   unfinished_on = unfinished_grow;
   lines_on = lines_grow;
   whole = lines_end;
+  last_line = last_line;
+  no_last_line = no_last_line;
+  few = few_lines;
   rest_goes_on = unfinished_none;
   none_complete = complete_none;
   all_unfinished = unfinished_whole;
   rest_alone = λ text. complete_none (unfinished text) (unfinished_none text);
+  rest_again = λ text. unfinished_whole (unfinished text) (unfinished_none text);
 }

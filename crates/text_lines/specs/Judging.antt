@@ -2,7 +2,7 @@
 -- stand beside the words that they are of.
 use Rattle.std.specs.Prelude.{◌≡◌, Bool, true, false, if◌then◌else◌, List, [], ◌∷◌, ◌++◌, Result, Ok, Err, refl}
 use Rattle.std.proofs.Common.{inl, inr, sym, ap, ◌∙◌}
-use Rattle.text_lines.specs.Steps.{◌>>=◌}
+use Rattle.text_lines.specs.Steps.{◌>>=◌, or_breaks}
 use Rattle.text_lines.specs.Rules.{KeepsEach, IsFirstBroken, Judges}
 
 -- one of the rules at most is the first broken one
@@ -52,10 +52,26 @@ pub judged_test : {R A : Type 0} (Keeps : R → Type 0) (rule : R) (more : List 
 judged_test Keeps rule more IsRight true r breaks keeps rest = inl (breaks refl, refl)
 judged_test Keeps rule more IsRight false r breaks keeps rest = judged_behind Keeps (rule ∷ []) more IsRight r (keeps refl, tt) (rest refl)
 
+-- a part that one rule is of: what is read is right, the rule is kept exactly where something is read, and the part
+-- breaks no other rule
+pub judged_part : {R A : Type 0} (Keeps : R → Type 0) (rule : R) (IsRight : A → Type 0) (r : Result A R)
+    → ((x : A) → r ≡ Ok x → IsRight x) → ((x : A) → IsRight x → Keeps rule) → (Keeps rule → (x : A) × (r ≡ Ok x)) → ((other : R) → r ≡ Err other → other ≡ rule)
+    → Judges Keeps (rule ∷ []) IsRight r
+judged_part Keeps rule IsRight (Ok x) given keeps found fault = let right = given x refl in ((keeps x right, tt), right)
+judged_part Keeps rule IsRight (Err other) given keeps found fault =
+    inl (λ kept. (let read = (found kept).1 in cc), fault other refl)
+
+-- the same of a part whose own faults all break the rule
+pub judged_breaks : {R A F : Type 0} (Keeps : R → Type 0) (rule : R) (IsRight : A → Type 0) (r : Result A F)
+    → ((x : A) → r ≡ Ok x → IsRight x) → ((x : A) → IsRight x → Keeps rule) → (Keeps rule → (x : A) × (r ≡ Ok x))
+    → Judges Keeps (rule ∷ []) IsRight (or_breaks rule r)
+judged_breaks Keeps rule IsRight (Ok x) given keeps found = let right = given x refl in ((keeps x right, tt), right)
+judged_breaks Keeps rule IsRight (Err fault) given keeps found = inl (λ kept. (let read = (found kept).1 in cc), refl)
+
 -- What is said under the rules is determined, where what is right of a thing that keeps them all is.
 pub one_judgement : {R A : Type 0} (Keeps : R → Type 0) (rules : List R) (IsRight : A → Type 0) (one other : Result A R)
-    → ((x y : A) → IsRight x → IsRight y → x ≡ y) → Judges Keeps rules IsRight one → Judges Keeps rules IsRight other → one ≡ other
-one_judgement {R = R} {A = A} Keeps rules IsRight (Ok x) (Ok y) same first second = ap (λ (v : A). Ok v) (same x y first.1 second.1)
-one_judgement {R = R} {A = A} Keeps rules IsRight (Ok x) (Err rule) same first second = absurd (none_broken Keeps rules rule first.0 second)
-one_judgement {R = R} {A = A} Keeps rules IsRight (Err rule) (Ok y) same first second = absurd (none_broken Keeps rules rule second.0 first)
-one_judgement {R = R} {A = A} Keeps rules IsRight (Err rule) (Err next) same first second = ap (λ (v : R). Err v) (one_broken Keeps rules rule next first second)
+    → (KeepsEach Keeps rules → (x y : A) → IsRight x → IsRight y → x ≡ y) → Judges Keeps rules IsRight one → Judges Keeps rules IsRight other → one ≡ other
+one_judgement {A = A} Keeps rules IsRight (Ok x) (Ok y) same first second = ap (λ (v : A). Ok v) (same first.0 x y first.1 second.1)
+one_judgement Keeps rules IsRight (Ok x) (Err rule) same first second = absurd (none_broken Keeps rules rule first.0 second)
+one_judgement Keeps rules IsRight (Err rule) (Ok y) same first second = absurd (none_broken Keeps rules rule second.0 first)
+one_judgement {R = R} Keeps rules IsRight (Err rule) (Err next) same first second = ap (λ (v : R). Err v) (one_broken Keeps rules rule next first second)

@@ -9,7 +9,7 @@ returns-clause-read c = rw c.dec_text.ensures.text (dec_degrees_text_reads c.arg
 
 pub returns-clause-value : goal.returns-clause-value
 returns-clause-value c =
-    rw c.dec_text.ensures.text (dec_degrees_only (dec_degrees_text c.args.dec) (Ok (rounded_dec_degrees c.args.dec)) (dec_degrees_text_reads c.args.dec c.dec_text.ensures.within))
+    rw c.dec_text.ensures.text (dec_degrees_only c.texts.ensures (dec_degrees_text c.args.dec) (Ok (rounded_dec_degrees c.args.dec)) (dec_degrees_text_reads c.args.dec c.dec_text.ensures.within))
 
 pub returns-clause-again : goal.returns-clause-again
-returns-clause-again c = λ text wide first right. c.dec_text.ensures.text ∙ dec_degrees_text_again c.args.dec text wide first right
+returns-clause-again c = λ text wide first right. c.dec_text.ensures.text ∙ dec_degrees_text_again c.texts.ensures c.args.dec text wide first right

@@ -7,7 +7,7 @@ pub returns-clause-exact : goal.returns-clause-exact
 returns-clause-exact c = c.dec_degrees.ensures ∙ dec_found c.args.text.now
 
 pub returns-clause-answer : goal.returns-clause-answer
-returns-clause-answer c = rw (c.dec_degrees.ensures, dec_found) (dec_degrees_reads c.args.text.now)
+returns-clause-answer c = rw (c.dec_degrees.ensures, dec_found) (dec_degrees_reads c.texts.ensures c.args.text.now)
 
 pub returns-clause-only : goal.returns-clause-only
-returns-clause-only c = λ other right. c.dec_degrees.ensures ∙ dec_found c.args.text.now ∙ dec_degrees_only c.args.text.now other right
+returns-clause-only c = λ other right. c.dec_degrees.ensures ∙ dec_found c.args.text.now ∙ dec_degrees_only c.texts.ensures c.args.text.now other right

@@ -1,6 +1,7 @@
 use Rattle.std.proofs.Common.{◌≡◌, ◌≤◌, ℕ, List, ◌++◌, length, ap, subst, ◌∙◌, rules, arith}
 use Rattle.col80_format.specs.declared.form.Form.{Form}
 use Rattle.col80_format.specs.LineText.{form_of, front_text, angles_text, back_text}
+use Rattle.col80_format.proofs.LawsBelow.{Laws}
 use Rattle.col80_format.proofs.LineTexts.{written_again, one_line_text, line_text_from}
 use Rattle.col80_format.proofs.writing.write_line.Goals as goal
 
@@ -20,9 +21,11 @@ returns-clause-text c =
 pub returns-clause-again : goal.returns-clause-again
 returns-clause-again c = λ line reading mode band.
     let front_long : length (front_text c.args.s.now c.args.front c.args.letters) ≡ 15 = omega (arith, c.put_front.ensures.len, ap length c.put_front.ensures.text) in
-    written_again line c.unwrap.result c.args.s.now c.args.front c.args.letters front_long (returns-clause-text c) reading.0.0 reading.1 mode band
+    let laws : Laws = record { texts = c.texts.ensures; angles = c.angles.ensures; times = c.times.ensures; names = c.names.ensures; records = c.records.ensures } in
+    written_again laws line c.unwrap.result c.args.s.now c.args.front c.args.letters front_long (returns-clause-text c) reading.0.0 reading.1 mode band
 
 pub returns-clause-only : goal.returns-clause-only
 returns-clause-only c =
     let few : (form_of c.args.s.now.shape).days ≤ 6 = subst (λ (form : Form). form.days ≤ 6) c.form_of-form.ensures.form c.form_of-form.ensures.days.1 in
-    λ other is. one_line_text c.args.s.now c.args.front c.args.letters other c.unwrap.result few is (returns-clause-text c)
+    let laws : Laws = record { texts = c.texts.ensures; angles = c.angles.ensures; times = c.times.ensures; names = c.names.ensures; records = c.records.ensures } in
+    λ other is. one_line_text laws c.args.s.now c.args.front c.args.letters other c.unwrap.result few is (returns-clause-text c)

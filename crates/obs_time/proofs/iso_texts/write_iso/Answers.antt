@@ -21,7 +21,7 @@ pub returns-clause-exact : goal.returns-clause-exact
 returns-clause-exact c = spelled c ∙ civil_text c.args.t c.civil_of-civil.result c.civil_of-civil.ensures.civil c.civil_of-civil.ensures.year
 
 pub returns-clause-read : goal.returns-clause-read
-returns-clause-read c = rw (spelled c) (civil_is_read c.args.t c.civil_of-civil.result c.civil_of-civil.ensures.civil c.civil_of-civil.ensures.year)
+returns-clause-read c = rw (spelled c) (civil_is_read c.texts.ensures c.args.t c.civil_of-civil.result c.civil_of-civil.ensures.civil c.civil_of-civil.ensures.year)
 
 pub returns-clause-again : goal.returns-clause-again
-returns-clause-again c = λ text len read. text_is_its c.args.t text len read ∙ sym (returns-clause-exact c)
+returns-clause-again c = λ text len read. text_is_its c.texts.ensures c.args.t text len read ∙ sym (returns-clause-exact c)

@@ -38,13 +38,13 @@ seventeen c =
     ap length out ∙ c.into_inner.ensures.variant.0 ok
 
 pub returns-clause-again : goal.returns-clause-again
-returns-clause-again c = λ range. text_is_read c.args.t c.args.decimals c.unwrap.result c.requires.few (returns-clause-text c) range
+returns-clause-again c = λ range. text_is_read c.texts.ensures c.args.t c.args.decimals c.unwrap.result c.requires.few (returns-clause-text c) range
 
 pub returns-clause-only : goal.returns-clause-only
-returns-clause-only c = λ other len is. one_text c.args.t c.args.decimals other c.unwrap.result c.requires.few is (returns-clause-text c) (len ∙ sym (seventeen c))
+returns-clause-only c = λ other len is. one_text c.texts.ensures c.args.t c.args.decimals other c.unwrap.result c.requires.few is (returns-clause-text c) (len ∙ sym (seventeen c))
 
 pub returns-clause-kept : goal.returns-clause-kept
-returns-clause-kept c = λ text len read. text_is_kept c.args.t c.args.decimals c.unwrap.result text c.requires.few (returns-clause-text c) (len ∙ sym (seventeen c)) read
+returns-clause-kept c = λ text len read. text_is_kept c.texts.ensures c.args.t c.args.decimals c.unwrap.result text c.requires.few (returns-clause-text c) (len ∙ sym (seventeen c)) read
 
 pub returns-clause-nearest : goal.returns-clause-nearest
 returns-clause-nearest c = rounded_nearest c.args.t _ (unit_positive c.args.decimals c.requires.few)

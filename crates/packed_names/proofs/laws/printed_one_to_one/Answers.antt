@@ -7,7 +7,7 @@ use Rattle.packed_names.proofs.PrintedLaws.{printed_reader, FitsPrinted-IsName}
 use Rattle.packed_names.proofs.laws.printed_one_to_one.Goals as goal
 
 pub returns-clause-one_name : goal.returns-clause-one_name
-returns-clause-one_name c = λ one other text. one_value IsName FitsPrinted printed_text FitsPrinted-IsName printed_in printed_reader one other text
+returns-clause-one_name c = λ one other text. one_value IsName FitsPrinted printed_text FitsPrinted-IsName printed_in (printed_reader c.texts.ensures) one other text
 
 pub returns-clause-one_text : goal.returns-clause-one_text
 returns-clause-one_text c = λ name one other first second. first.text_is ∙ sym second.text_is

@@ -7,10 +7,10 @@ use Rattle.packed_names.proofs.PackedLaws.{packed_reader, FitsPacked-IsName}
 use Rattle.packed_names.proofs.packed.unpack.Goals as goal
 
 pub returns-clause-name : goal.returns-clause-name
-returns-clause-name c = ok_exactly IsName is_in_range name_test packed_text FitsPacked FitsPacked-IsName packed_in packed_reader c.args.text.now c.unpacked.result c.unpacked.ensures.exact
+returns-clause-name c = ok_exactly IsName is_in_range name_test packed_text FitsPacked (FitsPacked-IsName c.texts.ensures) packed_in (packed_reader c.texts.ensures) c.args.text.now c.unpacked.result c.unpacked.ensures.exact
 
 pub returns-clause-out_of_range : goal.returns-clause-out_of_range
-returns-clause-out_of_range c = out_of_range_exactly IsName is_in_range name_test packed_text FitsPacked FitsPacked-IsName packed_in packed_reader c.args.text.now c.unpacked.result c.unpacked.ensures.exact
+returns-clause-out_of_range c = out_of_range_exactly IsName is_in_range name_test packed_text FitsPacked (FitsPacked-IsName c.texts.ensures) packed_in (packed_reader c.texts.ensures) c.args.text.now c.unpacked.result c.unpacked.ensures.exact
 
 pub returns-clause-spelling : goal.returns-clause-spelling
-returns-clause-spelling c = spelling_exactly IsName is_in_range name_test packed_text FitsPacked FitsPacked-IsName packed_in packed_reader c.args.text.now c.unpacked.result c.unpacked.ensures.exact
+returns-clause-spelling c = spelling_exactly IsName is_in_range name_test packed_text FitsPacked (FitsPacked-IsName c.texts.ensures) packed_in (packed_reader c.texts.ensures) c.args.text.now c.unpacked.result c.unpacked.ensures.exact

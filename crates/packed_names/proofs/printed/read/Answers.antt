@@ -7,10 +7,10 @@ use Rattle.packed_names.proofs.PrintedLaws.{printed_reader, FitsPrinted-IsName}
 use Rattle.packed_names.proofs.printed.read.Goals as goal
 
 pub returns-clause-name : goal.returns-clause-name
-returns-clause-name c = ok_exactly IsName is_in_range name_test printed_text FitsPrinted FitsPrinted-IsName printed_in printed_reader c.args.text.now c.printed.result c.printed.ensures.exact
+returns-clause-name c = ok_exactly IsName is_in_range name_test printed_text FitsPrinted FitsPrinted-IsName printed_in (printed_reader c.texts.ensures) c.args.text.now c.printed.result c.printed.ensures.exact
 
 pub returns-clause-out_of_range : goal.returns-clause-out_of_range
-returns-clause-out_of_range c = out_of_range_exactly IsName is_in_range name_test printed_text FitsPrinted FitsPrinted-IsName printed_in printed_reader c.args.text.now c.printed.result c.printed.ensures.exact
+returns-clause-out_of_range c = out_of_range_exactly IsName is_in_range name_test printed_text FitsPrinted FitsPrinted-IsName printed_in (printed_reader c.texts.ensures) c.args.text.now c.printed.result c.printed.ensures.exact
 
 pub returns-clause-spelling : goal.returns-clause-spelling
-returns-clause-spelling c = spelling_exactly IsName is_in_range name_test printed_text FitsPrinted FitsPrinted-IsName printed_in printed_reader c.args.text.now c.printed.result c.printed.ensures.exact
+returns-clause-spelling c = spelling_exactly IsName is_in_range name_test printed_text FitsPrinted FitsPrinted-IsName printed_in (printed_reader c.texts.ensures) c.args.text.now c.printed.result c.printed.ensures.exact

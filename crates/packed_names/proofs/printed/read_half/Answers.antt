@@ -8,10 +8,10 @@ use Rattle.packed_names.proofs.PrintedProvisionalLaws.{half_reader}
 use Rattle.packed_names.proofs.printed.read_half.Goals as goal
 
 pub returns-clause-half : goal.returns-clause-half
-returns-clause-half c = ok_exactly IsHalfMonth is_half_month half_month_test half_text FitsPrintedHalf FitsPrintedHalf-IsHalfMonth half_in half_reader c.args.text.now c.printed_half.result c.printed_half.ensures.exact
+returns-clause-half c = ok_exactly IsHalfMonth is_half_month half_month_test half_text FitsPrintedHalf FitsPrintedHalf-IsHalfMonth half_in (half_reader c.texts.ensures) c.args.text.now c.printed_half.result c.printed_half.ensures.exact
 
 pub returns-clause-out_of_range : goal.returns-clause-out_of_range
-returns-clause-out_of_range c = out_of_range_exactly IsHalfMonth is_half_month half_month_test half_text FitsPrintedHalf FitsPrintedHalf-IsHalfMonth half_in half_reader c.args.text.now c.printed_half.result c.printed_half.ensures.exact
+returns-clause-out_of_range c = out_of_range_exactly IsHalfMonth is_half_month half_month_test half_text FitsPrintedHalf FitsPrintedHalf-IsHalfMonth half_in (half_reader c.texts.ensures) c.args.text.now c.printed_half.result c.printed_half.ensures.exact
 
 pub returns-clause-spelling : goal.returns-clause-spelling
-returns-clause-spelling c = spelling_exactly IsHalfMonth is_half_month half_month_test half_text FitsPrintedHalf FitsPrintedHalf-IsHalfMonth half_in half_reader c.args.text.now c.printed_half.result c.printed_half.ensures.exact
+returns-clause-spelling c = spelling_exactly IsHalfMonth is_half_month half_month_test half_text FitsPrintedHalf FitsPrintedHalf-IsHalfMonth half_in (half_reader c.texts.ensures) c.args.text.now c.printed_half.result c.printed_half.ensures.exact
