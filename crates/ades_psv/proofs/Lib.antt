@@ -1,6 +1,6 @@
 pub mod CellLaws
 pub mod NameSets
-pub mod MagnitudeLaws
+pub mod LawsBelow
 pub mod Judging
 pub mod FieldLaws
 pub mod LineLaws
@@ -10,3 +10,4 @@ pub mod SaidLaws
 pub mod Walks
 pub mod Options
 pub mod Readers
+pub mod Standing

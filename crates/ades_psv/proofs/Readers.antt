@@ -2,9 +2,7 @@
 use Rattle.std.proofs.Common.{◌≡◌, ℕ, ◌+◌, ◌<◌, List, [], ◌∷◌, ◌++◌, append_assoc, length, length-append, map, All, Option, Some, None, Result, Ok, Err, eqb, false, refl, sym, ap, subst, ◌∙◌, arith}
 use Rattle.std.specs.Prelude.{IsOk, IfOk}
 use Rattle.std.specs.List.{AllZip, enumerate_from}
-use Rattle.std.specs.Str.Lines.{lines, lines_of_parts}
-use Rattle.std.proofs.Math.Dec.{eqb-suc-zero}
-use Rattle.std.proofs.lemmas.List.Splits.{slice_split_none}
+use Rattle.std.specs.Str.Lines.{lines}
 use Rattle.std.proofs.lemmas.List.{append-nil}
 use Rattle.std.proofs.lemmas.List.Elements.{All-nil}
 use Rattle.obs_record.specs.declared.line.Line.{Line}
@@ -19,12 +17,14 @@ use Rattle.ades_psv.specs.declared.header.Place.TheVariants.{Opening, Header, Li
 use Rattle.ades_psv.specs.declared.walking.Reached.{Reached}
 use Rattle.ades_psv.specs.Answers.{IsAnswer}
 use Rattle.ades_psv.specs.Batch.{DataLine, Said, said_from, ended, data_lines_of, read_of, all_read, psv_lines_of, IsReadFrom, AreReadFrom}
+use Rattle.ades_psv.specs.Fields.{Fields, fields_of}
+use Rattle.ades_psv.specs.Rules.{IsReading}
+use Rattle.ades_psv.specs.Reading.{reading_of}
 use Rattle.ades_psv.specs.Walking.{said_behind, HasRead, Fails}
 use Rattle.ades_psv.specs.Feeding.{Progress, Fed, unfed, reached, read_on, fed, fed_all, read_end, finished, Feeds}
 use Rattle.ades_psv.specs.Readers.{what_is_fed}
 use Rattle.ades_psv.proofs.SaidLaws.{behind, said_join}
 use Rattle.ades_psv.proofs.Walks.{map_join}
-use Rattle.ades_psv.proofs.LineLaws.{reading_is}
 
 -- ---- one piece
 
@@ -45,9 +45,6 @@ split_rest laws rest front after piece parts ended =
 -- a piece without a line feed
 pub no_lines : (laws : LineLaws) (rest piece : List ℕ) → unfinished rest ≡ rest → complete_lines (rest ++ piece) ≡ complete_lines rest → complete_lines (rest ++ piece) ≡ []
 no_lines laws rest piece alone same = same ∙ ap complete_lines (sym alone) ∙ laws.rest_alone rest
-
-pub left_alone : (laws : LineLaws) (text : List ℕ) → unfinished (unfinished text) ≡ unfinished text
-left_alone laws text = laws.all_unfinished (unfinished text) (laws.rest_goes_on text)
 
 -- the lines that it ends were read
 pub feeds_lines : (before after : Reached) (rest piece left : List ℕ) → HasRead before (complete_lines (rest ++ piece)) after → left ≡ unfinished (rest ++ piece)
@@ -74,16 +71,6 @@ pub fed_fault : (before : Reached) (rest piece : List ℕ) (told : Option (Heade
 fed_fault before rest piece told old fault view none fails = rw (← view, none) (sym (feeds_fault before rest piece fault fails))
 
 -- ---- the end
-
--- a text that no line feed ends is one line
-one_part : (text : List ℕ) → 0 < length text → lines_of_parts (text ∷ []) ≡ text ∷ []
-one_part [] some = absurd (omega arith)
-one_part (b ∷ text) some = rw eqb-suc-zero refl
-
-pub last_line : (laws : LineLaws) (text : List ℕ) → unfinished text ≡ text → 0 < length text → lines text ≡ text ∷ []
-last_line laws text alone some =
-    let none : All (λ b. eqb b 10 ≡ false) text = subst (All (λ b. eqb b 10 ≡ false)) alone (laws.rest_goes_on text) in
-    ap lines_of_parts (slice_split_none (λ b. eqb b 10) text none) ∙ one_part text some
 
 pub ends : (before after : Reached) (rest : List ℕ) (told : Option (HeaderFault × ℕ)) (old : Fed) → what_is_fed before rest told ≡ old → told ≡ None → HasRead before (lines rest) after
     → finished old ≡ ended after.count (after.place, after.found)
@@ -219,18 +206,18 @@ pub whole_finished : (laws : LineLaws) (body : List ℕ) (before after : Fed) �
 whole_finished laws body before after new is = ap finished (is ∙ ap (λ (f : Fed). fed f body) new) ∙ finished_text laws body
 
 -- each line of a list is read from its data line
-zip_read : (data_lines : List DataLine) → AllZip IsReadFrom data_lines (map read_of data_lines)
-zip_read [] = tt
-zip_read (line ∷ data_lines) = ((refl, reading_is _), zip_read data_lines)
+zip_read : ((fields : Fields) → IsReading fields (reading_of fields)) → (data_lines : List DataLine) → AllZip IsReadFrom data_lines (map read_of data_lines)
+zip_read reads [] = tt
+zip_read reads (line ∷ data_lines) = ((refl, reads (fields_of line.columns line.text)), zip_read reads data_lines)
 
-read_by : (body : List ℕ) (found : List Line) (r : Result (List DataLine) (HeaderFault × ℕ)) → data_lines_of body ≡ r → (r >>= all_read) ≡ Ok found → AreReadFrom body found
-read_by body found (Ok data_lines) is said = (data_lines, is, (let same : map read_of data_lines ≡ found = cc in subst (AllZip IsReadFrom data_lines) same (zip_read data_lines)))
-read_by body found (Err fault) is said = absurd cc
+read_by : ((fields : Fields) → IsReading fields (reading_of fields)) → (body : List ℕ) (found : List Line) (r : Result (List DataLine) (HeaderFault × ℕ)) → data_lines_of body ≡ r → (r >>= all_read) ≡ Ok found → AreReadFrom body found
+read_by reads body found (Ok data_lines) is said = (data_lines, is, (let same : map read_of data_lines ≡ found = cc in subst (AllZip IsReadFrom data_lines) same (zip_read reads data_lines)))
+read_by reads body found (Err fault) is said = absurd cc
 
-read_from : (body : List ℕ) (found : List Line) → psv_lines_of body ≡ Ok found → AreReadFrom body found
+read_from : ((fields : Fields) → IsReading fields (reading_of fields)) → (body : List ℕ) (found : List Line) → psv_lines_of body ≡ Ok found → AreReadFrom body found
 unfolding psv_lines_of
-read_from body found said = read_by body found (data_lines_of body) refl said
+read_from reads body found said = read_by reads body found (data_lines_of body) refl said
 
-pub answer_lines : (body : List ℕ) (result : Result (List Line) PsvFault) → IsAnswer (psv_lines_of body) result → IfOk result (λ found. AreReadFrom body found)
-answer_lines body (Ok found) said = read_from body found said
-answer_lines body (Err fault) said = tt
+pub answer_lines : ((fields : Fields) → IsReading fields (reading_of fields)) → (body : List ℕ) (result : Result (List Line) PsvFault) → IsAnswer (psv_lines_of body) result → IfOk result (λ found. AreReadFrom body found)
+answer_lines reads body (Ok found) said = read_from reads body found said
+answer_lines reads body (Err fault) said = tt

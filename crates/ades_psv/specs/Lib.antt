@@ -3,8 +3,8 @@ pub mod Cells
 pub mod Columns
 pub mod Headers
 pub mod Fields
+pub mod Optional
 pub mod Magnitudes
-pub mod Written
 pub mod Names
 pub mod Rules
 pub mod Reading
@@ -13,3 +13,4 @@ pub mod Feeding
 pub mod Cutting
 pub mod Walking
 pub mod Readers
+pub mod Standing

@@ -15,7 +15,8 @@ use Rattle.ades_psv.specs.declared.position.Stated.{Stated}
 use Rattle.ades_psv.specs.declared.position.Position.{Position}
 use Rattle.text_lines.specs.Steps.{◌>>=◌, or_breaks}
 use Rattle.ades_psv.specs.Fields.{Fields}
-use Rattle.ades_psv.specs.Magnitudes.{is_empty, magnitude_in}
+use Rattle.ades_psv.specs.Optional.{is_empty, unless_empty}
+use Rattle.ades_psv.specs.Magnitudes.{value_of, places_of, magnitude_in}
 use Rattle.ades_psv.specs.Names.{number_in, designation_in, temporary_in}
 use Rattle.ades_psv.specs.Rules.{coded}
 
@@ -30,14 +31,6 @@ names_in fields =
     else (number_in fields.perm >>= λ number.
     designation_in fields.prov >>= λ designation.
     Ok (record { perm = number; prov = designation }))
-
-abbrev pub some_of : {A : Type 0} → Result A RuleCode → Result (Option A) RuleCode
-some_of (Ok x) = Ok (Some x)
-some_of (Err rule) = Err rule
-
--- what a field says that may be empty
-abbrev pub unless_empty : {A : Type 0} → List ℕ → Result A RuleCode → Result (Option A) RuleCode
-unless_empty text read = if is_empty text then Ok None else some_of read
 
 -- the time in a field
 unfoldable pub time_in : List ℕ → Result (Option ℤ) RuleCode
@@ -94,7 +87,7 @@ position_in fields stated =
     else position_from stated)
 
 -- the observation of what was read, and of the fields that any text may stand in
-abbrev pub observed : Fields → Names → Position → Option ℕ × ℕ → Option Short → Sighting
+abbrev pub observed : Fields → Names → Position → Option (ℕ × ℕ) → Option Short → Sighting
 observed fields names at mag sub = record {
   perm = names.perm;
   prov = names.prov;
@@ -103,12 +96,12 @@ observed fields names at mag sub = record {
   time = at.time;
   ra = at.ra;
   dec = at.dec;
-  mag = mag.0;
+  mag = value_of mag;
   band = coded fields.band;
   mode = Word (kept_short fields.mode);
   catalogue = Word (kept_short fields.catalogue);
   note1 = 32;
-  shape = Psv mag.1;
+  shape = Psv (places_of mag);
 }
 
 -- what a data line says

@@ -1,6 +1,7 @@
 //! Laws of the format, for all batches and lines. Nothing runs here: what the functions promise is the law.
 
-ghost use Rattle.std.specs.Prelude.{◌≡◌, ◌↔◌, ℕ, true, ◌∷◌, ◌++◌, List, codes, Some, Err, Result};
+ghost use Rattle.std.specs.Prelude.{◌≡◌, ◌↔◌, ℕ, true, ◌∷◌, ◌++◌, List, codes, Ok, Err, Result};
+ghost use Rattle.std.specs.List.{Contains};
 ghost use Rattle.ascii_text.specs.Blanks.{blanks};
 ghost use Rattle.obs_record.specs.declared.rule.HeaderFault.{HeaderFault};
 ghost use Rattle.obs_record.specs.declared.rule.RuleCode.{RuleCode};
@@ -9,7 +10,9 @@ ghost use Rattle.ades_psv.specs.Fields.{Fields};
 ghost use Rattle.text_lines.specs.Pieces.{joined};
 ghost use Rattle.ades_psv.specs.Headers.{is_version};
 ghost use Rattle.ades_psv.specs.Rules.{IsReading};
-ghost use Rattle.ades_psv.specs.Batch.{psv_lines_of};
+ghost use Rattle.text_lines.specs.Lines.{numbered_lines};
+ghost use Rattle.ades_psv.specs.Batch.{DataLine, data_lines_of, psv_lines_of};
+ghost use Rattle.ades_psv.specs.Standing.{StandsBelow};
 ghost use Rattle.ades_psv.specs.Feeding.{unfed, fed, fed_all, finished};
 
 use text_lines::laws;
@@ -35,13 +38,27 @@ pub fn faults_stay()
     laws::lines();
 }
 
+/// The data lines of a batch are the lines below a column header: each has the columns of the nearest column header above
+/// it, which breaks no rule, and each line that stands so is a data line.
+pub fn nearest_header()
+    ensures { (body : List ℕ) (data_lines : List DataLine) → data_lines_of body ≡ Ok data_lines → (data_line : DataLine) → Contains data_lines data_line ↔ StandsBelow (numbered_lines body) data_line }
+{}
+
 /// The line of the version is `#`, blanks, `version=2017` and blanks, no blank being asked for.
 pub fn version_line()
     ensures { (line : List ℕ) → (is_version line ≡ true) ↔ ((before : ℕ) × (after : ℕ) × (line ≡ 35 ∷ (blanks before ++ (codes "version=2017" ++ blanks after)))) }
-{}
+{
+    ascii_text::laws::texts();
+}
 
 /// A data line has one reading, and no two.
 pub fn one_reading()
     ensures some { (fields : Fields) → (reading : Result Sighting RuleCode) × IsReading fields reading }
     ensures only { (fields : Fields) (one other : Result Sighting RuleCode) → IsReading fields one → IsReading fields other → one ≡ other }
-{}
+{
+    ascii_text::laws::texts();
+    angle_fixed::laws::angles();
+    obs_time::laws::times();
+    packed_names::laws::names();
+    obs_record::laws::records();
+}

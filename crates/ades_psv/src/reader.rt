@@ -11,6 +11,7 @@ ghost use Rattle.ades_psv.specs.Feeding.{unfed, fed, Feeds, finished};
 
 use crate::fault::PsvFault;
 use crate::header::Place;
+use crate::reading::reads_right;
 use crate::walking::{Reached, ended};
 use item_list::{Bytes, NoMemory};
 use obs_record::{HeaderFault, Lines};
@@ -168,6 +169,7 @@ pub fn read_psv(alloc: Global, body: &[u8]) -> Result<Lines, PsvFault>
     ensures range { IfOk result AreInRange }
 {
     laws::lines();
+    reads_right();
     let mut reader = PsvReader::new(alloc)?;
     reader.feed(body)?;
     reader.finish()

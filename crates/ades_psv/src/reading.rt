@@ -1,15 +1,14 @@
 //! The reading of a data line.
 
-ghost use Rattle.std.specs.Prelude.{◌≡◌, ◌<◌, ◌≤◌, Result, IfOk, pos, neg_ℤ, ◌≤ℤ◌};
+ghost use Rattle.std.specs.Prelude.{◌≡◌, ◌<◌, ◌≤◌, IfOk, pos, neg_ℤ, ◌≤ℤ◌};
 ghost use Rattle.std.specs.List.{list_all};
 ghost use Rattle.angle_fixed.specs.Angles.{circle, quarter};
 ghost use Rattle.obs_time.specs.Instants.{IsInstantNs};
-ghost use Rattle.obs_record.specs.declared.rule.RuleCode.{RuleCode};
 ghost use Rattle.obs_record.specs.declared.sighting.Coded.TheVariants.{Word};
-ghost use Rattle.obs_record.specs.declared.sighting.Sighting.{Sighting};
 ghost use Rattle.obs_record.specs.Short.{kept_short};
 ghost use Rattle.obs_record.specs.Sighting.{IsSighting};
 ghost use Rattle.ades_psv.specs.Cutting.{seen};
+ghost use Rattle.ades_psv.specs.Fields.{Fields as Texts};
 ghost use Rattle.ades_psv.specs.Rules.{IsReading, coded};
 ghost use Rattle.ades_psv.specs.Reading.{is_text_byte, names_in, lacks_field, lacks_name, lacks_band, position_in, observed, reading_of};
 
@@ -104,7 +103,7 @@ fn observed(
     fields: &Fields,
     names: Names,
     at: Position,
-    magnitude: (Option<u32>, u8),
+    magnitude: Option<(u32, u8)>,
     sub: Option<Short>,
 ) -> Sighting
     ensures { result ≡ observed (seen fields.now) names at magnitude sub }
@@ -117,12 +116,14 @@ fn observed(
         time: at.time,
         ra: at.ra,
         dec: at.dec,
-        mag: magnitude.0,
+        mag: magnitude.map(|(value, _)| value),
         band: coded(fields.band),
         mode: word(fields.mode),
         catalogue: word(fields.catalogue),
         note1: b' ',
-        shape: Shape::Psv { mag: magnitude.1 },
+        shape: Shape::Psv {
+            mag: magnitude.map_or(0, |(_, places)| places),
+        },
     }
 }
 
@@ -147,10 +148,23 @@ fn reading(fields: &Fields) -> Result<Sighting, RuleCode>
 /// The rules are tested in this order. Takes no memory.
 pub(crate) fn read_fields(fields: &Fields) -> Result<Sighting, RuleCode>
     ensures exact { result ≡ reading_of (seen fields.now) }
-    // The observation is that of the fields; or the rule is the first that the line breaks.
-    ensures answer { IsReading (seen fields.now) result }
-    ensures only { (other : Result Sighting RuleCode) → IsReading (seen fields.now) other → other ≡ result }
     ensures range { IfOk result IsSighting }
 {
+    ascii_text::laws::texts();
+    angle_fixed::laws::angles();
+    obs_time::laws::times();
+    packed_names::laws::names();
+    obs_record::laws::records();
     reading(fields)
+}
+
+/// What is read from a data line is its reading. Nothing runs here: what the function promises is the law.
+pub(crate) fn reads_right()
+    ensures { (fields : Texts) → IsReading fields (reading_of fields) }
+{
+    ascii_text::laws::texts();
+    angle_fixed::laws::angles();
+    obs_time::laws::times();
+    packed_names::laws::names();
+    obs_record::laws::records();
 }

@@ -2,7 +2,7 @@ use Rattle.std.proofs.Common.{◌≡◌, ◌++◌, [], sym, ap, ◌∙◌}
 use Rattle.std.proofs.lemmas.Result.{err_from_is_err_and}
 use Rattle.text_lines.specs.Pieces.{complete_lines, unfinished}
 use Rattle.ades_psv.proofs.Walks.{reads_nothing, reads_further, fails_further, fails_still}
-use Rattle.ades_psv.proofs.Readers.{split_lines, split_rest, no_lines, left_alone}
+use Rattle.ades_psv.proofs.Readers.{split_lines, split_rest, no_lines}
 use Rattle.ades_psv.proofs.reader.read_piece.Goals as goal
 
 pub returns-in_default-clause-exact : goal.returns-in_default-clause-exact
@@ -44,4 +44,4 @@ returns-clause-rest c =
 pub returns-clause-alone : goal.returns-clause-alone
 returns-clause-alone c =
     let is = c.in_ok-rest.ensures ∙ c.in_ok-unfinished.ensures.rest in
-    rw is (left_alone c.lines.ensures c.in-Some.behind.now)
+    rw is (c.lines.ensures.rest_again c.in-Some.behind.now)

@@ -14,4 +14,4 @@ returns-clause-exact c =
     rw (← whole_finished c.lines.ensures c.args.body.now c.in_ok-reader.reader c.feed.new.self c.in_ok-reader.ensures c.in_ok-feed.ensures.exact.0) c.finish.ensures.exact
 
 pub returns-clause-lines : goal.returns-clause-lines
-returns-clause-lines c = answer_lines c.args.body.now c.finish.result (returns-clause-exact c)
+returns-clause-lines c = answer_lines c.reads_right.ensures c.args.body.now c.finish.result (returns-clause-exact c)

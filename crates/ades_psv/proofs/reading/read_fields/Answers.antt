@@ -1,4 +1,4 @@
-use Rattle.std.proofs.Common.{ℕ, ◌<◌, List, Result, Ok, Err, sym, subst, pos, neg_ℤ, ◌≤ℤ◌}
+use Rattle.std.proofs.Common.{ℕ, ◌<◌, Result, Ok, Err, sym, subst, pos, neg_ℤ, ◌≤ℤ◌}
 use Rattle.std.specs.Prelude.{IfOk}
 use Rattle.angle_fixed.specs.Angles.{circle, quarter}
 use Rattle.obs_time.specs.Instants.{IsInstantNs}
@@ -8,20 +8,17 @@ use Rattle.obs_record.specs.Sighting.{IsSighting}
 use Rattle.ades_psv.specs.Fields.{Fields}
 use Rattle.ades_psv.specs.Cutting.{seen}
 use Rattle.ades_psv.specs.Rules.{IsReading}
+use Rattle.ades_psv.proofs.LawsBelow.{Laws}
 use Rattle.ades_psv.proofs.LineLaws.{reading_is, one_reading}
 use Rattle.ades_psv.proofs.RangeLaws.{sighting_within}
 use Rattle.ades_psv.proofs.reading.read_fields.Goals as goal
 
-pub returns-clause-answer : goal.returns-clause-answer
-returns-clause-answer c = subst (IsReading (seen c.args.fields.now)) (sym c.reading.ensures.exact) (reading_is (seen c.args.fields.now))
-
-pub returns-clause-only : goal.returns-clause-only
-returns-clause-only c = λ other is. one_reading (seen c.args.fields.now) other c.reading.result is (returns-clause-answer c)
-
-in_range : (fields : Fields) (result : Result Sighting RuleCode) → IsReading fields result → IfOk result (λ s. IsInstantNs s.time)
+in_range : (laws : Laws) (fields : Fields) (result : Result Sighting RuleCode) → IsReading fields result → IfOk result (λ s. IsInstantNs s.time)
     → IfOk result (λ s. (s.ra < circle) × (neg_ℤ (pos quarter) ≤ℤ s.dec) × (s.dec ≤ℤ pos quarter)) → IfOk result IsSighting
-in_range fields (Ok s) is time angles = sighting_within fields s is.0 is.1 (record { time = time; ra = angles.0; dec = (angles.1, angles.2) })
-in_range fields (Err rule) is time angles = tt
+in_range laws fields (Ok s) is time angles = sighting_within laws fields s is.0 is.1 (record { time = time; ra = angles.0; dec = (angles.1, angles.2) })
+in_range laws fields (Err rule) is time angles = tt
 
 pub returns-clause-range : goal.returns-clause-range
-returns-clause-range c = in_range (seen c.args.fields.now) c.reading.result (returns-clause-answer c) c.reading.ensures.time c.reading.ensures.angles
+returns-clause-range c =
+    let laws : Laws = record { texts = c.texts.ensures; angles = c.angles.ensures; times = c.times.ensures; names = c.names.ensures; records = c.records.ensures } in
+    in_range laws (seen c.args.fields.now) c.reading.result (subst (IsReading (seen c.args.fields.now)) (sym c.reading.ensures.exact) (reading_is laws (seen c.args.fields.now))) c.reading.ensures.time c.reading.ensures.angles

@@ -1,9 +1,9 @@
-use Rattle.std.proofs.Common.{◌≡◌, ◌<◌, ◌∷◌, [], length, refl, arith}
+use Rattle.std.proofs.Common.{◌≡◌, ◌<◌, ◌∷◌, [], ◌++◌, ℕ, List, length, refl, sym, ap, ◌∙◌, arith}
 use Rattle.std.specs.Str.Lines.{lines}
+use Rattle.text_lines.specs.Pieces.{complete_lines, unfinished}
 use Rattle.std.proofs.lemmas.Bool.Decides.{nat_tests}
 use Rattle.std.proofs.lemmas.List.{nil_from_length}
 use Rattle.ades_psv.proofs.Walks.{reads_nothing}
-use Rattle.ades_psv.proofs.Readers.{last_line}
 use Rattle.ades_psv.proofs.walking.Reached.read_last.Goals as goal
 
 pub returns-then-is_empty-clause-exact : goal.returns-then-is_empty-clause-exact
@@ -13,5 +13,9 @@ returns-then-is_empty-clause-exact c =
 
 pub returns-clause-exact : goal.returns-clause-exact
 returns-clause-exact c =
-    let some : 0 < length c.args.line.now = grind (arith, nat_tests) in
-    rw (last_line c.lines.ensures c.args.line.now c.requires.alone some) c.read_line.ensures.exact
+    let text = c.args.line.now in
+    let alone = c.requires.alone in
+    let some : 0 < length (unfinished text) = grind (arith, nat_tests, ap length alone) in
+    let none : complete_lines text ≡ [] = ap complete_lines (sym alone) ∙ c.lines.ensures.rest_alone text in
+    let one : lines text ≡ text ∷ [] = c.lines.ensures.last_line text some ∙ ap (λ (ls : List (List ℕ)). ls ++ unfinished text ∷ []) none ∙ ap (λ (t : List ℕ). t ∷ []) alone in
+    rw one c.read_line.ensures.exact
