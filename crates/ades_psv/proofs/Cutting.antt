@@ -73,34 +73,38 @@ put_more : (columns : Columns) (fields : Fields) (cell : List ℕ) (more : List 
 unfolding put
 put_more columns fields cell more =
     let count : fields.count + 1 + length more ≡ fields.count + length (cell ∷ more) = omega arith in
-    rw (found_on columns.perm fields.count cell more fields.perm,
-        found_on columns.prov fields.count cell more fields.prov,
-        found_on columns.sub fields.count cell more fields.sub,
-        found_on columns.mode fields.count cell more fields.mode,
-        found_on columns.station fields.count cell more fields.station,
-        found_on columns.time fields.count cell more fields.time,
-        found_on columns.ra fields.count cell more fields.ra,
-        found_on columns.dec fields.count cell more fields.dec,
-        found_on columns.catalogue fields.count cell more fields.catalogue,
-        found_on columns.mag fields.count cell more fields.mag,
-        found_on columns.band fields.count cell more fields.band,
-        count) refl
+    rw (
+      found_on columns.perm fields.count cell more fields.perm,
+      found_on columns.prov fields.count cell more fields.prov,
+      found_on columns.sub fields.count cell more fields.sub,
+      found_on columns.mode fields.count cell more fields.mode,
+      found_on columns.station fields.count cell more fields.station,
+      found_on columns.time fields.count cell more fields.time,
+      found_on columns.ra fields.count cell more fields.ra,
+      found_on columns.dec fields.count cell more fields.dec,
+      found_on columns.catalogue fields.count cell more fields.catalogue,
+      found_on columns.mag fields.count cell more fields.mag,
+      found_on columns.band fields.count cell more fields.band,
+      count,
+    ) refl
 
 put_all_is : (columns : Columns) (fields : Fields) (cs : List (List ℕ)) → put_all columns fields cs ≡ with_cells columns fields cs
 put_all_is columns fields [] =
     let count : fields.count + length {A = List ℕ} [] ≡ fields.count = omega arith in
-    sym (rw (none_found columns.perm fields.count fields.perm,
-        none_found columns.prov fields.count fields.prov,
-        none_found columns.sub fields.count fields.sub,
-        none_found columns.mode fields.count fields.mode,
-        none_found columns.station fields.count fields.station,
-        none_found columns.time fields.count fields.time,
-        none_found columns.ra fields.count fields.ra,
-        none_found columns.dec fields.count fields.dec,
-        none_found columns.catalogue fields.count fields.catalogue,
-        none_found columns.mag fields.count fields.mag,
-        none_found columns.band fields.count fields.band,
-        count) refl)
+    sym (rw (
+      none_found columns.perm fields.count fields.perm,
+      none_found columns.prov fields.count fields.prov,
+      none_found columns.sub fields.count fields.sub,
+      none_found columns.mode fields.count fields.mode,
+      none_found columns.station fields.count fields.station,
+      none_found columns.time fields.count fields.time,
+      none_found columns.ra fields.count fields.ra,
+      none_found columns.dec fields.count fields.dec,
+      none_found columns.catalogue fields.count fields.catalogue,
+      none_found columns.mag fields.count fields.mag,
+      none_found columns.band fields.count fields.band,
+      count,
+    ) refl)
 put_all_is columns fields (cell ∷ more) = put_all_is columns (put columns fields cell) more ∙ put_more columns fields cell more
 
 first_is : (columns : Columns) (line : List ℕ) (cs : List (List ℕ)) → with_cells columns (uncut_line columns line) cs ≡ record {
@@ -121,8 +125,20 @@ first_is : (columns : Columns) (line : List ℕ) (cs : List (List ℕ)) → with
 }
 first_is columns line cs =
     let count : 0 + length cs ≡ length cs = omega arith in
-    rw (found_first columns.perm cs, found_first columns.prov cs, found_first columns.sub cs, found_first columns.mode cs, found_first columns.station cs, found_first columns.time cs,
-        found_first columns.ra cs, found_first columns.dec cs, found_first columns.catalogue cs, found_first columns.mag cs, found_first columns.band cs, count) refl
+    rw (
+      found_first columns.perm cs,
+      found_first columns.prov cs,
+      found_first columns.sub cs,
+      found_first columns.mode cs,
+      found_first columns.station cs,
+      found_first columns.time cs,
+      found_first columns.ra cs,
+      found_first columns.dec cs,
+      found_first columns.catalogue cs,
+      found_first columns.mag cs,
+      found_first columns.band cs,
+      count,
+    ) refl
 
 -- a line that is cut whole
 pub cut_whole : (columns : Columns) (line : List ℕ) → put_all columns (uncut_line columns line) (cells line) ≡ fields_of columns line

@@ -177,11 +177,15 @@ module _ (laws : Laws) where
       → unless_empty fields.perm (number_from (name_of fields.perm)) ≡ perm → unless_empty fields.prov (designation_from (name_of fields.prov)) ≡ prov
       → Judges (Keeps fields) (S3 ∷ []) (AreNames fields) (perm >>= λ number. prov >>= λ designation. Ok (record { perm = number; prov = designation }))
   names_by fields (Err rule) prov p d =
-      inl (λ kept. (let other = said_found S3 IsNumberText (λ text. number_from (name_of text)) (number_field laws) fields.perm kept.0.0 kept.0.1 in cc),
-      said_fault S3 IsNumberText (λ text. number_from (name_of text)) (number_field laws) fields.perm rule p)
+      inl (
+        λ kept. (let other = said_found S3 IsNumberText (λ text. number_from (name_of text)) (number_field laws) fields.perm kept.0.0 kept.0.1 in cc),
+        said_fault S3 IsNumberText (λ text. number_from (name_of text)) (number_field laws) fields.perm rule p,
+      )
   names_by fields (Ok number) (Err rule) p d =
-      inl (λ kept. (let other = said_found S3 IsDesignationText (λ text. designation_from (name_of text)) (designation_field laws) fields.prov kept.1.0 kept.1.1 in cc),
-      said_fault S3 IsDesignationText (λ text. designation_from (name_of text)) (designation_field laws) fields.prov rule d)
+      inl (
+        λ kept. (let other = said_found S3 IsDesignationText (λ text. designation_from (name_of text)) (designation_field laws) fields.prov kept.1.0 kept.1.1 in cc),
+        said_fault S3 IsDesignationText (λ text. designation_from (name_of text)) (designation_field laws) fields.prov rule d,
+      )
   names_by fields (Ok number) (Ok designation) p d =
       let perm = said_given S3 IsNumberText (λ text. number_from (name_of text)) (number_field laws) fields.perm number p in
       let prov = said_given S3 IsDesignationText (λ text. designation_from (name_of text)) (designation_field laws) fields.prov designation d in

@@ -191,8 +191,8 @@ unfolding data_lines_of psv_lines_of
 fault_stays laws text more fault fails =
     let all : said_from Opening (enumerate_from 1 (lines (text ++ more))) ≡ Err fault
     = ap (λ (ls : List (List ℕ)). said_from Opening (enumerate_from 1 ls)) (laws.lines_on text more)
-        ∙ said_join Opening 1 (complete_lines text) (lines (unfinished text ++ more))
-        ∙ ap (λ (s : Said). s >>= λ end. said_from end.0 (enumerate_from (1 + length (complete_lines text)) (lines (unfinished text ++ more))) >>= behind end.1) (told text fault fails) in
+    ∙ said_join Opening 1 (complete_lines text) (lines (unfinished text ++ more))
+    ∙ ap (λ (s : Said). s >>= λ end. said_from end.0 (enumerate_from (1 + length (complete_lines text)) (lines (unfinished text ++ more))) >>= behind end.1) (told text fault fails) in
     rw all refl
 
 -- ---- a batch in one piece

@@ -104,39 +104,74 @@ Stands (Listing columns) numbered d = StandsBelow numbered d ⊎ InListing colum
 
 deeper : (line : ℕ × List ℕ) (more : List (ℕ × List ℕ)) (d : DataLine) → StandsBelow more d → StandsBelow (line ∷ more) d
 deeper line more d is = record {
-  above = line ∷ is.above; opening = is.opening; group = is.group; header = is.header; between = is.between; below = is.below;
+  above = line ∷ is.above;
+  opening = is.opening;
+  group = is.group;
+  header = is.header;
+  between = is.between;
+  below = is.below;
   are = ap (λ (ls : List (ℕ × List ℕ)). line ∷ ls) is.are;
-  opens = is.opens; passed = is.passed; names = is.names; columns = is.columns; nearest = is.nearest; listed = is.listed;
+  opens = is.opens;
+  passed = is.passed;
+  names = is.names;
+  columns = is.columns;
+  nearest = is.nearest;
+  listed = is.listed;
 }
 
 opened : (line : ℕ × List ℕ) (more : List (ℕ × List ℕ)) (d : DataLine) → is_group line.1 ≡ true → InHeader more d → StandsBelow (line ∷ more) d
 opened line more d opens is = record {
-  above = []; opening = line; group = is.group; header = is.header; between = is.between; below = is.below;
+  above = [];
+  opening = line;
+  group = is.group;
+  header = is.header;
+  between = is.between;
+  below = is.below;
   are = ap (λ (ls : List (ℕ × List ℕ)). line ∷ ls) is.are;
-  opens = opens; passed = is.passed; names = is.names; columns = is.columns; nearest = is.nearest; listed = is.listed;
+  opens = opens;
+  passed = is.passed;
+  names = is.names;
+  columns = is.columns;
+  nearest = is.nearest;
+  listed = is.listed;
 }
 
 header_on : (line : ℕ × List ℕ) (more : List (ℕ × List ℕ)) (d : DataLine) → is_passed line.1 ≡ true → InHeader more d → InHeader (line ∷ more) d
 header_on line more d passed is = record {
-  group = line ∷ is.group; header = is.header; between = is.between; below = is.below;
+  group = line ∷ is.group;
+  header = is.header;
+  between = is.between;
+  below = is.below;
   are = ap (λ (ls : List (ℕ × List ℕ)). line ∷ ls) is.are;
   passed = All-cons (λ (l : ℕ × List ℕ). is_passed l.1 ≡ true) line is.group passed is.passed;
-  names = is.names; columns = is.columns; nearest = is.nearest; listed = is.listed;
+  names = is.names;
+  columns = is.columns;
+  nearest = is.nearest;
+  listed = is.listed;
 }
 
 headed : (line : ℕ × List ℕ) (more : List (ℕ × List ℕ)) (known : Columns) (d : DataLine) → is_passed line.1 ≡ false → columns_of line.1 ≡ Ok known → InListing known more d → InHeader (line ∷ more) d
 headed line more known d names columns is = record {
-  group = []; header = line; between = is.between; below = is.below;
+  group = [];
+  header = line;
+  between = is.between;
+  below = is.below;
   are = ap (λ (ls : List (ℕ × List ℕ)). line ∷ ls) is.are;
   passed = All-nil (λ (l : ℕ × List ℕ). is_passed l.1 ≡ true);
-  names = names; columns = columns ∙ ap (λ (c : Columns). Ok c) is.columns; nearest = is.nearest; listed = is.listed;
+  names = names;
+  columns = columns ∙ ap (λ (c : Columns). Ok c) is.columns;
+  nearest = is.nearest;
+  listed = is.listed;
 }
 
 listing_on : (line : ℕ × List ℕ) (more : List (ℕ × List ℕ)) (known : Columns) (d : DataLine) → is_group line.1 ≡ false → InListing known more d → InListing known (line ∷ more) d
 listing_on line more known d other is = record {
-  between = line ∷ is.between; below = is.below;
+  between = line ∷ is.between;
+  below = is.below;
   are = ap (λ (ls : List (ℕ × List ℕ)). line ∷ ls) is.are;
-  columns = is.columns; nearest = All-cons (λ (l : ℕ × List ℕ). is_group l.1 ≡ false) line is.between other is.nearest; listed = is.listed;
+  columns = is.columns;
+  nearest = All-cons (λ (l : ℕ × List ℕ). is_group l.1 ≡ false) line is.between other is.nearest;
+  listed = is.listed;
 }
 
 more_below : (line : ℕ × List ℕ) (more : List (ℕ × List ℕ)) (known : Columns) (d : DataLine) → is_group line.1 ≡ false → Stands (Listing known) more d → Stands (Listing known) (line ∷ more) d
@@ -224,12 +259,32 @@ is_listed place columns line is =
 first_listed : (known : Columns) (line : ℕ × List ℕ) (more : List (ℕ × List ℕ)) → is_passed line.1 ≡ false → InListing known (line ∷ more) (record { columns = known; number = line.0; text = line.1 })
 first_listed known line more listed = record { between = []; below = more; are = refl; columns = refl; nearest = All-nil (λ (l : ℕ × List ℕ). is_group l.1 ≡ false); listed = listed }
 
+abbrev well : {A : Type 0} → A → Result A (HeaderFault × ℕ)
+well x = Ok x
+
+abbrev all_well : Place × List DataLine → Said
+all_well end = Ok end
+
+same_well : {A : Type 0} (x y : A) → well x ≡ well y → x ≡ y
+same_well x y e = cc
+
+same_end : (a b : Place × List DataLine) → all_well a ≡ all_well b → (a.0 ≡ b.0) × (a.1 ≡ b.1)
+same_end a b e =
+    let same : a ≡ b = same_well a b e in
+    (ap (λ (x : Place × List DataLine). x.0) same, ap (λ (x : Place × List DataLine). x.1) same)
+
+found_end : (found : Place × List DataLine) (end : Place) (ds : List DataLine) → found.0 ≡ end → found.1 ≡ ds → all_well found ≡ Ok (end, ds)
+found_end found end ds place rest = ap (λ (p : Place). all_well (p, found.1)) place ∙ ap (λ (x : List DataLine). all_well (end, x)) rest
+
 in_before : (one d : DataLine) (r : Said) (end : Place) (ds : List DataLine) → (r >>= before one) ≡ Ok (end, ds) → IsIn d ds
     → (one ≡ d) ⊎ ((rest : List DataLine) × (r ≡ Ok (end, rest)) × IsIn d rest)
 in_before one d (Err fault) end ds said is = absurd cc
 in_before one d (Ok found) end [] said is = absurd is
-in_before one d (Ok found) end (x ∷ ds) said (inl e) = inl (let same : one ≡ x = cc in same ∙ e)
-in_before one d (Ok found) end (x ∷ ds) said (inr is) = inr (ds, (let place : found.0 ≡ end = cc in let rest : found.1 ≡ ds = cc in rw (← place, ← rest) refl), is)
+in_before one d (Ok found) end (x ∷ ds) said (inl e) =
+    inl (let parts = same_end (found.0, one ∷ found.1) (end, x ∷ ds) said in let list = parts.1 in let same : one ≡ x = cc in same ∙ e)
+in_before one d (Ok found) end (x ∷ ds) said (inr is) =
+    let parts = same_end (found.0, one ∷ found.1) (end, x ∷ ds) said in
+    inr (ds, found_end found end ds parts.0 (let list = parts.1 in cc), is)
 
 stands_by : (place : Place) (line : ℕ × List ℕ) (more : List (ℕ × List ℕ)) (end : Place) (ds : List DataLine) (d : DataLine) (next : Step) → step place line.1 ≡ next
     → ((p : Place) (rest : List DataLine) → said_from p more ≡ Ok (end, rest) → IsIn d rest → Stands p more d)
@@ -248,7 +303,7 @@ stands_by place line more end ds d (Data columns) e further said is =
 
 stands : (place : Place) (numbered : List (ℕ × List ℕ)) (end : Place) (ds : List DataLine) (d : DataLine) → said_from place numbered ≡ Ok (end, ds) → IsIn d ds → Stands place numbered d
 unfolding said_from
-stands place [] end ds d said is = absurd (let none : ds ≡ [] = cc in subst (IsIn d) none is)
+stands place [] end ds d said is = absurd (subst (IsIn d) (sym (same_end (place, []) (end, ds) said).1) is)
 stands place (line ∷ more) end ds d said is = stands_by place line more end ds d (step place line.1) refl (λ p rest s i. stands p more end rest d s i) said is
 
 -- ---- from where a line stands to the data lines
@@ -258,7 +313,8 @@ rest_by : (front : List DataLine) (place : Place) (ys : List (ℕ × List ℕ)) 
     → (rest : List DataLine) × (said_from place ys ≡ Ok (end, rest)) × (ds ≡ front ++ rest)
 rest_by front place ys (Err fault) end ds e said = absurd cc
 rest_by front place ys (Ok found) end ds e said =
-    (found.1, e ∙ (let same : found.0 ≡ end = cc in ap (λ (p : Place). Ok (p, found.1)) same), (let all : front ++ found.1 ≡ ds = cc in sym all))
+    let parts = same_end (found.0, front ++ found.1) (end, ds) said in
+    (found.1, e ∙ found_end found end found.1 parts.0 refl, sym parts.1)
 
 said_rest : (place : Place) (xs ys : List (ℕ × List ℕ)) (r : Said) (end : Place) (ds : List DataLine) (d : DataLine) → said_from place (xs ++ ys) ≡ Ok (end, ds) → said_from place xs ≡ r
     → ((p : Place) (rest : List DataLine) → said_from p ys ≡ Ok (end, rest) → IsIn d rest) → IsIn d ds
@@ -280,14 +336,15 @@ said_data place columns line more e = rw e refl
 
 before_in : (one : DataLine) (r : Said) (end : Place) (ds : List DataLine) → (r >>= before one) ≡ Ok (end, ds) → IsIn one ds
 before_in one (Err fault) end ds said = absurd cc
-before_in one (Ok found) end [] said = absurd cc
-before_in one (Ok found) end (x ∷ ds) said = inl (let same : one ≡ x = cc in sym same)
+before_in one (Ok found) end [] said = absurd (let list = (same_end (found.0, one ∷ found.1) (end, []) said).1 in cc)
+before_in one (Ok found) end (x ∷ ds) said = inl (let list = (same_end (found.0, one ∷ found.1) (end, x ∷ ds) said).1 in let same : one ≡ x = cc in sym same)
 
 before_keeps : (one d : DataLine) (r : Said) (end : Place) (ds : List DataLine) → (r >>= before one) ≡ Ok (end, ds) → ((rest : List DataLine) → r ≡ Ok (end, rest) → IsIn d rest) → IsIn d ds
 before_keeps one d (Err fault) end ds said found = absurd cc
-before_keeps one d (Ok more) end [] said found = absurd cc
+before_keeps one d (Ok more) end [] said found = absurd (let list = (same_end (more.0, one ∷ more.1) (end, []) said).1 in cc)
 before_keeps one d (Ok more) end (x ∷ ds) said found =
-    inr (found ds (let place : more.0 ≡ end = cc in let rest : more.1 ≡ ds = cc in rw (← place, ← rest) refl))
+    let parts = same_end (more.0, one ∷ more.1) (end, x ∷ ds) said in
+    inr (found ds (found_end more end ds parts.0 (let list = parts.1 in cc)))
 
 -- a line that isn't passed over, below columns
 data_step : (known : Columns) (line : List ℕ) → (are_blanks line ≡ false) × (is_group line ≡ false) × (is_element line ≡ false) → step (Listing known) line ≡ Data known
@@ -364,6 +421,7 @@ well_ended (Err fault) last ds said = absurd cc
 pub stand_below : (body : List ℕ) (ds : List DataLine) → data_lines_of body ≡ Ok ds → (d : DataLine) → Contains ds d ↔ StandsBelow (enumerate_from 1 (lines body)) d
 unfolding data_lines_of
 stand_below body ds said d =
-    let whole = well_ended (said_from Opening (enumerate_from 1 (lines body))) (length (lines body)) ds said in
-    ((λ (is : Contains ds d). stands Opening (enumerate_from 1 (lines body)) whole.0 ds d whole.1 (in_at d ds is.0 is.1 is.2)),
-    (λ (is : StandsBelow (enumerate_from 1 (lines body)) d). at_in d ds (stands_in (enumerate_from 1 (lines body)) whole.0 ds d whole.1 is)))
+    let whole = well_ended (said_from Opening (enumerate_from 1 (lines body))) (length (lines body)) ds said in (
+      (λ (is : Contains ds d). stands Opening (enumerate_from 1 (lines body)) whole.0 ds d whole.1 (in_at d ds is.0 is.1 is.2)),
+      (λ (is : StandsBelow (enumerate_from 1 (lines body)) d). at_in d ds (stands_in (enumerate_from 1 (lines body)) whole.0 ds d whole.1 is)),
+    )

@@ -102,8 +102,8 @@ reads_further before middle after xs ys first second = record {
   said = said_further before middle xs ys first ∙ ap (λ (r : Said). r >>= behind first.data_lines) second.said;
   count = omega (arith, first.count, second.count, length-append xs ys);
   found = second.found ∙ ap (λ (ls : List Line). ls ++ map read_of second.data_lines) first.found
-    ∙ append_assoc before.found (map read_of first.data_lines) (map read_of second.data_lines)
-    ∙ ap (λ (ls : List Line). before.found ++ ls) (sym (map_join read_of first.data_lines second.data_lines));
+      ∙ append_assoc before.found (map read_of first.data_lines) (map read_of second.data_lines)
+      ∙ ap (λ (ls : List Line). before.found ++ ls) (sym (map_join read_of first.data_lines second.data_lines));
 }
 
 -- a fault behind lines that were read

@@ -19,7 +19,6 @@ mod fault;
 mod fields;
 mod header;
 pub mod laws;
-
 mod magnitude;
 mod names;
 mod position;

@@ -8,6 +8,7 @@ use obs_record::{RuleCode, magnitude_of};
 
 /// The greatest number of digits of a magnitude, and of its decimals.
 const MOST_DIGITS: usize = 2;
+
 const MOST_DECIMALS: usize = 6;
 
 /// The greatest magnitude, 99.99, in units of 0.000001.

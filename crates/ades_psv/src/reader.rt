@@ -111,7 +111,11 @@ impl PsvReader {
         if let Some((fault, line)) = self.told {
             return Err(PsvFault::Header { fault, line });
         }
-        let before = (self.reached.place, self.reached.count, self.reached.found.len());
+        let before = (
+            self.reached.place,
+            self.reached.count,
+            self.reached.found.len(),
+        );
         let unfinished = self.rest.len();
         match read_piece(self.alloc, &mut self.reached, &mut self.rest, piece) {
             Ok(()) => Ok(()),

@@ -43,9 +43,7 @@ fn names_in(fields: &Fields) -> Result<Names, RuleCode>
 fn lacks_field(fields: &Fields) -> bool
     ensures { result ≡ lacks_field (seen fields.now) }
 {
-    fields.station.is_empty()
-        || fields.mode.is_empty()
-        || fields.catalogue.is_empty()
+    fields.station.is_empty() || fields.mode.is_empty() || fields.catalogue.is_empty()
 }
 
 /// Whether number, designation and temporary designation are all missing.
@@ -53,9 +51,7 @@ fn lacks_field(fields: &Fields) -> bool
 fn lacks_name(fields: &Fields) -> bool
     ensures { result ≡ lacks_name (seen fields.now) }
 {
-    fields.perm.is_empty()
-        && fields.prov.is_empty()
-        && fields.sub.is_empty()
+    fields.perm.is_empty() && fields.prov.is_empty() && fields.sub.is_empty()
 }
 
 /// Whether there is a magnitude whose band is missing.

@@ -59,8 +59,8 @@ fn batch_with(place: usize, text: &'static [u8]) -> [&'static [u8]; 20] {
     }
     let bar: &[u8] = b"|";
     [
-        VERSION, COLUMNS, b"\n", f[0], bar, f[1], bar, f[2], bar, f[3], bar, f[4], bar, f[5], bar, f[6], bar,
-        f[7], bar, f[8],
+        VERSION, COLUMNS, b"\n", f[0], bar, f[1], bar, f[2], bar, f[3], bar, f[4], bar, f[5], bar,
+        f[6], bar, f[7], bar, f[8],
     ]
 }
 
@@ -246,6 +246,7 @@ fn names() -> [(&'static [u8], Result<TrackName, RuleCode>); 16] {
 
 /// The columns of names, and the fields behind these.
 const NAME_COLUMNS: &[u8] = b"permID|provID|trkSub|mode|stn|obsTime|ra|dec|astCat\n";
+
 const BEHIND_NAMES: &[u8] = b"|CCD|703|2024-03-15T23:59:59.999Z|150.0|-5.5|Gaia3";
 
 /// The name of the only line of a batch, or the rule that the line breaks.
@@ -440,8 +441,14 @@ fn sound() -> [(&'static [u8], [u32; 4]); 9] {
             b"# version=2017\nra|dec\nAAA1\n# second\n# third\n! x\ndec|ra\nAAA1",
             [3, 8, 0, 0],
         ),
-        (b"# version=2017\nra|dec\n version=2017\n # x\n", [3, 4, 0, 0]),
-        (b"# version=2017\nra|dec|Ra|RA|ra1|ra 1\nra|dec\n", [3, 0, 0, 0]),
+        (
+            b"# version=2017\nra|dec\n version=2017\n # x\n",
+            [3, 4, 0, 0],
+        ),
+        (
+            b"# version=2017\nra|dec|Ra|RA|ra1|ra 1\nra|dec\n",
+            [3, 0, 0, 0],
+        ),
     ]
 }
 
@@ -528,10 +535,7 @@ fn fed_batches() -> [&'static [u8]; 4] {
 
 /// Whether a batch says the same in pieces of this size as whole.
 fn is_same_in_pieces(alloc: Global, body: &[u8], size: usize) -> bool {
-    is_same(
-        &said_in_pieces(alloc, body, size),
-        &said(alloc, &[body]),
-    )
+    is_same(&said_in_pieces(alloc, body, size), &said(alloc, &[body]))
 }
 
 #[test]
@@ -560,8 +564,14 @@ fn finds_the_first_fault_in_any_pieces(rt: HostRuntime) {
 /// follows belongs to its line, and is no byte of a text.
 fn endings() -> [(&'static [u8], Option<(u32, Option<RuleCode>)>); 4] {
     [
-        (b"AAA1|CCD|703|2024-03-15T23:59:59.999Z|150.0|-5.5|Gaia3", Some((3, None))),
-        (b"AAA1|CCD|703|2024-03-15T23:59:59.999Z|150.0|-5.5|Gaia3\r\n", Some((3, None))),
+        (
+            b"AAA1|CCD|703|2024-03-15T23:59:59.999Z|150.0|-5.5|Gaia3",
+            Some((3, None)),
+        ),
+        (
+            b"AAA1|CCD|703|2024-03-15T23:59:59.999Z|150.0|-5.5|Gaia3\r\n",
+            Some((3, None)),
+        ),
         (
             b"AAA1|CCD|703|2024-03-15T23:59:59.999Z|150.0|-5.5|Gaia3\r",
             Some((3, Some(RuleCode::S2))),
@@ -577,7 +587,9 @@ fn endings() -> [(&'static [u8], Option<(u32, Option<RuleCode>)>); 4] {
 /// rule that the line breaks.
 fn rule_cut_apart(alloc: Global, end: &[u8], last: usize) -> Option<(u32, Option<RuleCode>)> {
     let mut reader = PsvReader::new(alloc).ok()?;
-    reader.feed(b"# version=2017\ntrkSub|mode|stn|obsTime|ra|dec|astCat\n").ok()?;
+    reader
+        .feed(b"# version=2017\ntrkSub|mode|stn|obsTime|ra|dec|astCat\n")
+        .ok()?;
     if end.len() > 99 || last > end.len() {
         return None;
     }

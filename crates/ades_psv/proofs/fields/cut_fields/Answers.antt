@@ -14,7 +14,7 @@ cells-preserved c =
     record {
       room = omega (arith, shorter, c.put-fields.ensures.count, c.cells.invariant.room);
       cut = ap (λ (f : Fields). put_all columns f (cells c.in-Some.behind.now)) c.put-fields.ensures.cells
-        ∙ sym (ap (put_all columns (seen c.cells.fields)) more) ∙ c.cells.invariant.cut;
+          ∙ sym (ap (put_all columns (seen c.cells.fields)) more) ∙ c.cells.invariant.cut;
     }
 
 pub returns-in_default : goal.returns-in_default
