@@ -1,145 +1,40 @@
 -- The fields of a data line: what is read from one is what it says, and what it says is read.
-use Rattle.std.proofs.Common.{◌≡◌, ◌≢◌, ℕ, ◌≤◌, Bool, true, false, cond, leb, ◌&&◌, List, [], ◌∷◌, length, get_or, All, Option, Some, None, Result, Ok, Err, refl, sym, ap, subst, ◌∙◌, arith}
-use Rattle.std.specs.Prelude.{◌↔◌}
+use Rattle.std.proofs.Common.{◌≡◌, ◌≢◌, ℕ, ◌+◌, ◌<◌, ◌≤◌, Bool, true, false, cond, leb, ltb, ◌&&◌, List, [], ◌∷◌, ◌++◌, length, length-append, get_or, All, Option, Some, None, Result, Ok, Err, ℤ, refl, sym, ap, subst, ◌∙◌, arith}
+use Rattle.std.specs.Prelude.{◌↔◌, option_map}
 use Rattle.std.specs.List.{list_all}
-use Rattle.std.proofs.lemmas.Bool.{eqb-true, and_parts, leb-true, le-leb}
+use Rattle.std.proofs.lemmas.Bool.{and_parts, leb-true, le-leb}
 use Rattle.std.proofs.lemmas.Bool.Decides.{nat_tests}
-use Rattle.std.proofs.lemmas.List.{nil_from_length}
 use Rattle.std.proofs.lemmas.List.Sums.{AllPass-from_list_all, list_all-from_AllPass}
-use Rattle.ascii_text.specs.Reading.{digits_at, digit_run, number_at, behind, more_digits, digit_at}
-use Rattle.ascii_text.specs.Judged.{answer_of}
+use Rattle.ascii_text.specs.declared.digits.Radix.TheVariants.{Ten}
+use Rattle.ascii_text.specs.Digits.{digits_text, decimals_text}
+use Rattle.ascii_text.specs.DecimalNumbers.{NumberParts, IsSpelledNumber, number_spelling, number_parts_at, within, whole_at}
+use Rattle.ascii_text.specs.Reading.{digits_at, digit_run, run_at, number_at, behind, more_digits, digit_at}
+use Rattle.ascii_text.specs.Judged.{IsReader, answer_of}
+use Rattle.angle_fixed.specs.declared.fault.AngleFault.TheVariants as angles
+use Rattle.obs_time.specs.declared.fault.TimeFault.TheVariants as times
+use Rattle.obs_time.specs.DateText.{date_at}
+use Rattle.angle_fixed.specs.Degrees.{ra_degrees_of, dec_degrees_of, signed_degrees_at, past_sign, ReadsRaDegrees, ReadsDecDegrees}
+use Rattle.obs_time.specs.IsoText.{iso_of, iso_at, time_at, IsIsoAnswer}
 use Rattle.packed_names.specs.declared.number.Number.{Number}
 use Rattle.packed_names.specs.declared.name.Designation.{Designation}
 use Rattle.packed_names.specs.declared.name.Name.{Name}
 use Rattle.packed_names.specs.declared.name.Name.TheVariants as names
 use Rattle.packed_names.specs.declared.name.NameFault.{NameFault}
 use Rattle.packed_names.specs.declared.name.NameFault.TheVariants.{Spelling}
-use Rattle.packed_names.specs.Ranges.{IsName}
-use Rattle.packed_names.specs.Printed.{IsPrintedAs, printed_text, FitsPrinted}
+use Rattle.packed_names.specs.Printed.{IsPrintedAs}
 use Rattle.packed_names.specs.PrintedReading.{printed_in, number_in as printed_number_in, designation_in as printed_designation_in, provisional_in, half_at, survey_in}
 use Rattle.packed_names.specs.Judging.{is_in_range, answered}
-use Rattle.packed_names.proofs.JudgingLaws.{name_test, ok_exactly}
-use Rattle.packed_names.proofs.PrintedLaws.{printed_reader, FitsPrinted-IsName}
 use Rattle.obs_record.specs.declared.short.Short.{Short}
 use Rattle.obs_record.specs.declared.rule.RuleCode.{RuleCode}
-use Rattle.obs_record.specs.declared.rule.RuleCode.TheVariants.{S3, S12}
+use Rattle.obs_record.specs.declared.rule.RuleCode.TheVariants.{S3, S5, S6, S7, S9, S12}
+use Rattle.obs_record.specs.Magnitudes.{magnitude_of, greatest_magnitude}
 use Rattle.obs_record.specs.Short.{kept_short}
-use Rattle.ades_psv.specs.Magnitudes.{is_empty}
-use Rattle.ades_psv.specs.Names.{IsNumberField, IsDesignationField, IsTemporary, IsTemporaryField, name_of, number_from, number_in, designation_from, designation_in, is_visible, temporary_in}
-use Rattle.ades_psv.specs.Steps.{or_breaks}
-use Rattle.ades_psv.specs.Reading.{some_of, unless_empty}
-use Rattle.ades_psv.proofs.Judging.{IsFieldOf}
-
-abbrev pub ok : {A : Type 0} → A → Result A RuleCode
-ok x = Ok x
-
-pub same_Ok : {A : Type 0} (x y : A) → ok x ≡ ok y → x ≡ y
-same_Ok x y e = cc
-
--- ---- empty fields
-
-pub empty_from : (text : List ℕ) → is_empty text ≡ true → text ≡ []
-empty_from text h = nil_from_length text (eqb-true (length text) 0 h)
-
-pub filled_from : (text : List ℕ) → is_empty text ≡ false → text ≢ []
-filled_from [] h = absurd cc
-filled_from (byte ∷ text) h = λ none. cc
-
-pub empty_is : (text : List ℕ) → text ≡ [] → is_empty text ≡ true
-empty_is text none = rw none refl
-
-pub filled_is : (text : List ℕ) → text ≢ [] → is_empty text ≡ false
-filled_is [] some = absurd (some refl)
-filled_is (byte ∷ text) some = grind (arith, nat_tests)
-
--- ---- numbers and designations
-
--- reading gives exactly the name whose printed form the text is
-pub named_exactly : (text : List ℕ) (name : Name) → (name_of text ≡ Ok name) ↔ IsPrintedAs name text
-unfolding name_of
-named_exactly text name = ok_exactly IsName is_in_range name_test printed_text FitsPrinted FitsPrinted-IsName printed_in printed_reader text (answered is_in_range (printed_in text)) refl name
-
-no_name : name_of [] ≡ Err Spelling
-unfolding name_of printed_in printed_number_in printed_designation_in provisional_in half_at survey_in number_at digit_run digits_at more_digits digit_at behind answer_of
-no_name = refl
-
--- no name is printed as nothing
-printed_filled : (text : List ℕ) (name : Name) → IsPrintedAs name text → text ≢ []
-printed_filled text name printed none =
-    let read : name_of text ≡ Ok name = (named_exactly text name).1 printed in
-    let unread : name_of text ≡ Err Spelling = ap name_of none ∙ no_name in
-    cc
-
-number_judged : (text : List ℕ) (r : Result Name NameFault) (perm : Option Number) → name_of text ≡ r → number_from r ≡ Ok perm → IsNumberField text perm
-number_judged text (Ok (names.Number number)) perm read h = subst (IsNumberField text) (same_Ok (Some number) perm h) ((named_exactly text (names.Number number)).0 read)
-number_judged text (Ok (names.Designation designation)) perm read h = absurd cc
-number_judged text (Err fault) perm read h = absurd cc
-
-number_tested : (b : Bool) (text : List ℕ) (perm : Option Number) → is_empty text ≡ b → cond b (Ok None) (number_from (name_of text)) ≡ Ok perm → IsNumberField text perm
-number_tested true text perm empty h = subst (IsNumberField text) (same_Ok None perm h) (empty_from text empty)
-number_tested false text perm empty h = number_judged text (name_of text) perm refl h
-
-number_given : (text : List ℕ) (perm : Option Number) → number_in text ≡ Ok perm → IsNumberField text perm
-unfolding number_in
-number_given text perm h = number_tested (is_empty text) text perm refl h
-
-number_found : (text : List ℕ) (perm : Option Number) → IsNumberField text perm → number_in text ≡ Ok perm
-unfolding number_in
-number_found text None is = rw (empty_is text is) refl
-number_found text (Some number) is =
-    rw (filled_is text (printed_filled text (names.Number number) is), (named_exactly text (names.Number number)).1 is) refl
-
-number_fault_from : (r : Result Name NameFault) (rule : RuleCode) → number_from r ≡ Err rule → rule ≡ S3
-number_fault_from (Ok (names.Number number)) rule h = absurd cc
-number_fault_from (Ok (names.Designation designation)) rule h = cc
-number_fault_from (Err fault) rule h = cc
-
-number_fault_tested : (b : Bool) (r : Result Name NameFault) (rule : RuleCode) → cond b (Ok None) (number_from r) ≡ Err rule → rule ≡ S3
-number_fault_tested true r rule h = absurd cc
-number_fault_tested false r rule h = number_fault_from r rule h
-
-number_fault : (text : List ℕ) (rule : RuleCode) → number_in text ≡ Err rule → rule ≡ S3
-unfolding number_in
-number_fault text rule h = number_fault_tested (is_empty text) (name_of text) rule h
-
-pub number_field : IsFieldOf S3 IsNumberField number_in
-number_field = record { given = number_given; found = number_found; fault = number_fault }
-
-designation_judged : (text : List ℕ) (r : Result Name NameFault) (prov : Option Designation) → name_of text ≡ r → designation_from r ≡ Ok prov → IsDesignationField text prov
-designation_judged text (Ok (names.Designation designation)) prov read h =
-    subst (IsDesignationField text) (same_Ok (Some designation) prov h) ((named_exactly text (names.Designation designation)).0 read)
-designation_judged text (Ok (names.Number number)) prov read h = absurd cc
-designation_judged text (Err fault) prov read h = absurd cc
-
-designation_tested : (b : Bool) (text : List ℕ) (prov : Option Designation) → is_empty text ≡ b → cond b (Ok None) (designation_from (name_of text)) ≡ Ok prov → IsDesignationField text prov
-designation_tested true text prov empty h = subst (IsDesignationField text) (same_Ok None prov h) (empty_from text empty)
-designation_tested false text prov empty h = designation_judged text (name_of text) prov refl h
-
-designation_given : (text : List ℕ) (prov : Option Designation) → designation_in text ≡ Ok prov → IsDesignationField text prov
-unfolding designation_in
-designation_given text prov h = designation_tested (is_empty text) text prov refl h
-
-designation_found : (text : List ℕ) (prov : Option Designation) → IsDesignationField text prov → designation_in text ≡ Ok prov
-unfolding designation_in
-designation_found text None is = rw (empty_is text is) refl
-designation_found text (Some designation) is =
-    rw (filled_is text (printed_filled text (names.Designation designation) is), (named_exactly text (names.Designation designation)).1 is) refl
-
-designation_fault_from : (r : Result Name NameFault) (rule : RuleCode) → designation_from r ≡ Err rule → rule ≡ S3
-designation_fault_from (Ok (names.Designation designation)) rule h = absurd cc
-designation_fault_from (Ok (names.Number number)) rule h = cc
-designation_fault_from (Err fault) rule h = cc
-
-designation_fault_tested : (b : Bool) (r : Result Name NameFault) (rule : RuleCode) → cond b (Ok None) (designation_from r) ≡ Err rule → rule ≡ S3
-designation_fault_tested true r rule h = absurd cc
-designation_fault_tested false r rule h = designation_fault_from r rule h
-
-designation_fault : (text : List ℕ) (rule : RuleCode) → designation_in text ≡ Err rule → rule ≡ S3
-unfolding designation_in
-designation_fault text rule h = designation_fault_tested (is_empty text) (name_of text) rule h
-
-pub designation_field : IsFieldOf S3 IsDesignationField designation_in
-designation_field = record { given = designation_given; found = designation_found; fault = designation_fault }
+use Rattle.text_lines.specs.Steps.{or_breaks}
+use Rattle.ades_psv.specs.Magnitudes.{IsMagnitude, magnitude_from}
+use Rattle.ades_psv.specs.Names.{IsNumberText, IsDesignationText, IsTemporary, name_of, number_from, designation_from, is_visible, temporary_from}
+use Rattle.ades_psv.specs.Rules.{IsTime, IsRa, IsDec}
+use Rattle.ades_psv.proofs.LawsBelow.{Laws}
+use Rattle.ades_psv.proofs.Judging.{IsReadingOf, same_Ok}
 
 -- ---- temporary designations
 
@@ -149,77 +44,201 @@ visible_from byte h = (grind (arith, nat_tests), grind (arith, nat_tests))
 visible_is : (byte : ℕ) → (33 ≤ byte) × (byte ≤ 126) → is_visible byte ≡ true
 visible_is byte h = (let a = h.0 in let b = h.1 in grind (arith, nat_tests))
 
+all_visible : (text : List ℕ) → All (λ byte. (33 ≤ byte) × (byte ≤ 126)) text → list_all is_visible text ≡ true
+all_visible text h = list_all-from_AllPass is_visible text (λ k d lt. visible_is (get_or text k d) (h k d lt))
+
+temporary_by : (text : List ℕ) (short : Short) (fits : Bool) → 1 ≤ length text → leb (length text) 8 && list_all is_visible text ≡ fits → cond fits (Ok (kept_short text)) (Err S12) ≡ Ok short → IsTemporary text short
+temporary_by text short true some f h =
+    let tests = and_parts (leb (length text) 8) (list_all is_visible text) f in
+    record {
+      some = some;
+      few = leb-true (length text) 8 tests.0;
+      visible = λ k d lt. visible_from (get_or text k d) (AllPass-from_list_all is_visible text tests.1 k d lt);
+      kept = sym (same_Ok (kept_short text) short h);
+    }
+temporary_by text short false some f h = absurd cc
+
+temporary_fault : (fits : Bool) (short : Short) (other : RuleCode) → cond fits (Ok short) (Err S12) ≡ Err other → other ≡ S12
+temporary_fault true short other h = absurd cc
+temporary_fault false short other h = cc
+
 some_length : (text : List ℕ) → text ≢ [] → 1 ≤ length text
 some_length [] some = absurd (some refl)
 some_length (byte ∷ text) some = omega arith
 
-temporary_read : (text : List ℕ) → text ≢ [] → leb (length text) 8 && list_all is_visible text ≡ true → IsTemporary text
-temporary_read text some h =
-    let tests = and_parts (leb (length text) 8) (list_all is_visible text) h in
+temporary_found : (text : List ℕ) (short : Short) → IsTemporary text short → temporary_from text ≡ Ok short
+temporary_found text short is =
+    rw (le-leb (length text) 8 is.few, all_visible text is.visible) (ap (λ (s : Short). Ok s) (sym is.kept))
+
+filled : (text : List ℕ) → 1 ≤ length text → text ≢ []
+filled text some none = omega (arith, ap length none)
+
+pub temporary_field : IsReadingOf S12 IsTemporary temporary_from
+temporary_field = record {
+  given = λ text short some h. temporary_by text short (leb (length text) 8 && list_all is_visible text) (some_length text some) refl h;
+  found = temporary_found;
+  fault = λ text other h. temporary_fault (leb (length text) 8 && list_all is_visible text) (kept_short text) other h;
+  some = λ text short is. filled text is.some;
+}
+
+-- ---- numbers and designations
+
+no_name : name_of [] ≡ Err Spelling
+unfolding name_of printed_in printed_number_in printed_designation_in provisional_in half_at survey_in number_at digit_run digits_at more_digits digit_at behind answer_of
+no_name = refl
+
+number_fault : (r : Result Name NameFault) (other : RuleCode) → number_from r ≡ Err other → other ≡ S3
+number_fault (Ok (names.Number number)) other h = absurd cc
+number_fault (Ok (names.Designation designation)) other h = cc
+number_fault (Err fault) other h = cc
+
+designation_fault : (r : Result Name NameFault) (other : RuleCode) → designation_from r ≡ Err other → other ≡ S3
+designation_fault (Ok (names.Designation designation)) other h = absurd cc
+designation_fault (Ok (names.Number number)) other h = cc
+designation_fault (Err fault) other h = cc
+
+number_is : (r : Result Name NameFault) (number : Number) → number_from r ≡ Ok number → r ≡ Ok (names.Number number)
+number_is (Ok (names.Number one)) number h = cc
+number_is (Ok (names.Designation designation)) number h = absurd cc
+number_is (Err fault) number h = absurd cc
+
+designation_is : (r : Result Name NameFault) (designation : Designation) → designation_from r ≡ Ok designation → r ≡ Ok (names.Designation designation)
+designation_is (Ok (names.Designation one)) designation h = cc
+designation_is (Ok (names.Number number)) designation h = absurd cc
+designation_is (Err fault) designation h = absurd cc
+
+-- ---- magnitudes
+
+-- a decimal number with at most six decimals
+magnitude_test : (p : NumberParts) (read : ℕ × ℕ) (below : Bool) → leb (magnitude_of p.whole p.count p.value) greatest_magnitude ≡ below
+    → cond below (Ok (magnitude_of p.whole p.count p.value, p.count)) (Err S9) ≡ Ok read → (read ≡ (magnitude_of p.whole p.count p.value, p.count)) × (magnitude_of p.whole p.count p.value ≤ greatest_magnitude)
+magnitude_test p read true e h = (sym (same_Ok (magnitude_of p.whole p.count p.value, p.count) read h), leb-true (magnitude_of p.whole p.count p.value) greatest_magnitude e)
+magnitude_test p read false e h = absurd cc
+
+few_test : (text : List ℕ) (p : NumberParts) (read : ℕ × ℕ) (many : Bool) → IsSpelledNumber 2 p text → ltb 6 p.count ≡ many → magnitude_from (Some (cond many None (Some p))) ≡ Ok read → IsMagnitude text read
+few_test text p read true spelled e h = absurd cc
+few_test text p read false spelled e h =
+    let found = magnitude_test p read (leb (magnitude_of p.whole p.count p.value) greatest_magnitude) refl h in
     record {
-      some = some_length text some;
-      few = leb-true (length text) 8 tests.0;
-      visible = λ k d lt. visible_from (get_or text k d) (AllPass-from_list_all is_visible text tests.1 k d lt);
+      parts = p;
+      spelled = spelled;
+      few = grind (arith, nat_tests);
+      value = ap (λ (r : ℕ × ℕ). r.0) found.0;
+      below = subst (λ (r : ℕ × ℕ). r.0 ≤ greatest_magnitude) (sym found.0) found.1;
+      places = ap (λ (r : ℕ × ℕ). r.1) found.0;
     }
 
-temporary_tested : (empty fits : Bool) (text : List ℕ) (sub : Option Short) → is_empty text ≡ empty → leb (length text) 8 && list_all is_visible text ≡ fits
-    → cond empty (Ok None) (cond fits (Ok (Some (kept_short text))) (Err S12)) ≡ Ok sub → IsTemporaryField text sub
-temporary_tested true fits text sub e f h = subst (IsTemporaryField text) (same_Ok None sub h) (empty_from text e)
-temporary_tested false true text sub e f h = subst (IsTemporaryField text) (same_Ok (Some (kept_short text)) sub h) (temporary_read text (filled_from text e) f, refl)
-temporary_tested false false text sub e f h = absurd cc
+magnitude_given : (text : List ℕ) (read : ℕ × ℕ) (o : Option NumberParts) → ((p : NumberParts) → o ≡ Some p → IsSpelledNumber 2 p text) → magnitude_from (option_map (λ p. within 6 p) o) ≡ Ok read → IsMagnitude text read
+magnitude_given text read None spelled h = absurd cc
+magnitude_given text read (Some p) spelled h = few_test text p read (ltb 6 p.count) (spelled p refl) refl h
 
-temporary_given : (text : List ℕ) (sub : Option Short) → temporary_in text ≡ Ok sub → IsTemporaryField text sub
-unfolding temporary_in
-temporary_given text sub h = temporary_tested (is_empty text) (leb (length text) 8 && list_all is_visible text) text sub refl refl h
+magnitude_fault_by : (many below : Bool) (p : NumberParts) (other : RuleCode) → leb (magnitude_of p.whole p.count p.value) greatest_magnitude ≡ below → magnitude_from (Some (cond many None (Some p))) ≡ Err other → other ≡ S9
+magnitude_fault_by true below p other e h = cc
+magnitude_fault_by false true p other e h = absurd (let k = rw e at h in cc)
+magnitude_fault_by false false p other e h = (let k = rw e at h in cc)
 
-all_visible : (text : List ℕ) → All (λ byte. (33 ≤ byte) × (byte ≤ 126)) text → list_all is_visible text ≡ true
-all_visible text h = list_all-from_AllPass is_visible text (λ k d lt. visible_is (get_or text k d) (h k d lt))
+magnitude_fault : (o : Option NumberParts) (other : RuleCode) → magnitude_from (option_map (λ p. within 6 p) o) ≡ Err other → other ≡ S9
+magnitude_fault None other h = cc
+magnitude_fault (Some p) other h = magnitude_fault_by (ltb 6 p.count) (leb (magnitude_of p.whole p.count p.value) greatest_magnitude) p other refl h
 
-temporary_found : (text : List ℕ) (sub : Option Short) → IsTemporaryField text sub → temporary_in text ≡ Ok sub
-unfolding temporary_in
-temporary_found text None is = rw (empty_is text is) refl
-temporary_found text (Some short) is =
-    let one : IsTemporary text = is.0 in
-    let some : text ≢ [] = λ none. (let long = one.some in omega (arith, ap length none)) in
-    rw (filled_is text some, le-leb (length text) 8 one.few, all_visible text one.visible) (ap (λ (s : Short). Ok (Some s)) (sym is.1))
+magnitude_found : (text : List ℕ) (read : ℕ × ℕ) (is : IsMagnitude text read) → number_parts_at 2 text ≡ Some is.parts → magnitude_from (option_map (λ p. within 6 p) (number_parts_at 2 text)) ≡ Ok read
+magnitude_found text read is spelled =
+    let p = is.parts in
+    let few_parts = is.few in
+    let few : ltb 6 p.count ≡ false = grind (arith, nat_tests) in
+    let low : magnitude_of p.whole p.count p.value ≤ greatest_magnitude = subst (λ (n : ℕ). n ≤ greatest_magnitude) is.value is.below in
+    rw (spelled, few, le-leb (magnitude_of p.whole p.count p.value) greatest_magnitude low)
+    (ap (λ (r : ℕ × ℕ). Ok r) (ap (λ (v : ℕ). (v, p.count)) (sym is.value) ∙ ap (λ (n : ℕ). (read.0, n)) (sym is.places)))
 
-temporary_fault_tested : (empty fits : Bool) (text : List ℕ) (rule : RuleCode) → cond empty (Ok None) (cond fits (Ok (Some (kept_short text))) (Err S12)) ≡ Err rule → rule ≡ S12
-temporary_fault_tested true fits text rule h = absurd cc
-temporary_fault_tested false true text rule h = absurd cc
-temporary_fault_tested false false text rule h = cc
+-- ---- times and angles
 
-temporary_fault : (text : List ℕ) (rule : RuleCode) → temporary_in text ≡ Err rule → rule ≡ S12
-unfolding temporary_in
-temporary_fault text rule h = temporary_fault_tested (is_empty text) (leb (length text) 8 && list_all is_visible text) text rule h
+breaks : {A E : Type 0} (rule : RuleCode) (r : Result A E) (x : A) → or_breaks rule r ≡ Ok x → r ≡ Ok x
+breaks rule (Ok y) x h = cc
+breaks rule (Err fault) x h = absurd cc
 
-pub temporary_field : IsFieldOf S12 IsTemporaryField temporary_in
-temporary_field = record { given = temporary_given; found = temporary_found; fault = temporary_fault }
+breaks_only : {A E : Type 0} (rule : RuleCode) (r : Result A E) (other : RuleCode) → or_breaks rule r ≡ Err other → other ≡ rule
+breaks_only rule (Ok y) other h = absurd cc
+breaks_only rule (Err fault) other h = cc
 
--- ---- fields that may be empty
+no_ok : {A E : Type 0} (r : Result A E) (fault : E) (x : A) → r ≡ Err fault → r ≡ Ok x → ⊥
+no_ok r fault x e f = cc
 
--- what such a field says: nothing, or what is read from it
-abbrev pub IsStated : {A E : Type 0} → (List ℕ → Result A E) → List ℕ → Option A → Type 0
-IsStated reads text None = text ≡ []
-IsStated reads text (Some x) = (text ≢ []) × (reads text ≡ Ok x)
+no_time : iso_of [] ≡ Err times.Spelling
+unfolding iso_of iso_at time_at date_at digits_at more_digits digit_at answer_of
+no_time = refl
 
-stated_by : {A E : Type 0} (rule : RuleCode) (reads : List ℕ → Result A E) (empty : Bool) (r : Result A E) (text : List ℕ) (x : Option A) → is_empty text ≡ empty → reads text ≡ r
-    → cond empty (Ok None) (some_of (or_breaks rule r)) ≡ Ok x → IsStated reads text x
-stated_by rule reads true r text x e f h = subst (IsStated reads text) (same_Ok None x h) (empty_from text e)
-stated_by rule reads false (Ok y) text x e f h = subst (IsStated reads text) (same_Ok (Some y) x h) (filled_from text e, f)
-stated_by rule reads false (Err fault) text x e f h = absurd cc
+no_ra : ra_degrees_of [] ≡ Err angles.Spelling
+unfolding ra_degrees_of number_parts_at whole_at run_at digit_run answer_of
+no_ra = refl
 
-stated_found : {A E : Type 0} (rule : RuleCode) (reads : List ℕ → Result A E) (text : List ℕ) (x : Option A) → IsStated reads text x → unless_empty text (or_breaks rule (reads text)) ≡ Ok x
-stated_found rule reads text None is = rw (empty_is text is) refl
-stated_found rule reads text (Some x) is = rw (filled_is text is.0, is.1) refl
+no_dec : dec_degrees_of [] ≡ Err angles.Spelling
+unfolding dec_degrees_of signed_degrees_at past_sign number_parts_at whole_at run_at digit_run answer_of
+no_dec = refl
 
-stated_fault_by : {A E : Type 0} (rule : RuleCode) (empty : Bool) (r : Result A E) (other : RuleCode) → cond empty (Ok None) (some_of (or_breaks rule r)) ≡ Err other → other ≡ rule
-stated_fault_by rule true r other h = absurd cc
-stated_fault_by rule false (Ok x) other h = absurd cc
-stated_fault_by rule false (Err fault) other h = cc
+module _ (laws : Laws) where
+  open laws use {texts.{reads_number, length-digits_text}, angles.{ra_degrees_reads, ra_degrees_only, dec_degrees_reads, dec_degrees_only}, times.{iso_answered, iso_answer_only}, names.{printed_exactly}}
 
-pub stated_field : {A E : Type 0} (rule : RuleCode) (reads : List ℕ → Result A E) → IsFieldOf rule (IsStated reads) (λ text. unless_empty text (or_breaks rule (reads text)))
-stated_field rule reads = record {
-  given = λ text x h. stated_by rule reads (is_empty text) (reads text) text x refl refl h;
-  found = λ text x is. stated_found rule reads text x is;
-  fault = λ text other h. stated_fault_by rule (is_empty text) (reads text) other h;
-}
+  -- reading gives exactly the name whose printed form the text is
+  named_exactly : (text : List ℕ) (name : Name) → (name_of text ≡ Ok name) ↔ IsPrintedAs name text
+  unfolding name_of
+  named_exactly text name = printed_exactly text name
+
+  -- no name is printed as nothing
+  printed_filled : (text : List ℕ) (name : Name) → IsPrintedAs name text → text ≢ []
+  printed_filled text name printed none = no_ok (name_of text) Spelling name (ap name_of none ∙ no_name) ((named_exactly text name).1 printed)
+
+  pub number_field : IsReadingOf S3 IsNumberText (λ text. number_from (name_of text))
+  number_field = record {
+    given = λ text number some h. (named_exactly text (names.Number number)).0 (number_is (name_of text) number h);
+    found = λ text number is. ap number_from ((named_exactly text (names.Number number)).1 is);
+    fault = λ text other h. number_fault (name_of text) other h;
+    some = λ text number is. printed_filled text (names.Number number) is;
+  }
+
+  pub designation_field : IsReadingOf S3 IsDesignationText (λ text. designation_from (name_of text))
+  designation_field = record {
+    given = λ text designation some h. (named_exactly text (names.Designation designation)).0 (designation_is (name_of text) designation h);
+    found = λ text designation is. ap designation_from ((named_exactly text (names.Designation designation)).1 is);
+    fault = λ text other h. designation_fault (name_of text) other h;
+    some = λ text designation is. printed_filled text (names.Designation designation) is;
+  }
+
+  spelled_filled : (text : List ℕ) (p : NumberParts) → IsSpelledNumber 2 p text → text ≢ []
+  unfolding number_spelling
+  spelled_filled text p is none =
+      let long : length text ≡ p.digits + length (decimals_text p.count p.value)
+      = ap length is.text_is ∙ length-append (digits_text Ten p.digits p.whole) (decimals_text p.count p.value) ∙ ap (λ (n : ℕ). n + length (decimals_text p.count p.value)) (length-digits_text Ten p.digits p.whole) in
+      let some = is.some in
+      omega (arith, ap length none)
+
+  pub magnitude_field : IsReadingOf S9 IsMagnitude (λ text. magnitude_from (option_map (λ p. within 6 p) (number_parts_at 2 text)))
+  magnitude_field = record {
+    given = λ text read some h. magnitude_given text read (number_parts_at 2 text) (λ p e. (reads_number 2).takes text p e) h;
+    found = λ text read is. magnitude_found text read is ((reads_number 2).again is.parts text is.spelled);
+    fault = λ text other h. magnitude_fault (number_parts_at 2 text) other h;
+    some = λ text read is. spelled_filled text is.parts is.spelled;
+  }
+
+  pub time_field : IsReadingOf S5 IsTime (λ text. or_breaks S5 (iso_of text))
+  time_field = record {
+    given = λ text t some h. subst (IsIsoAnswer text) (breaks S5 (iso_of text) t h) (iso_answered text);
+    found = λ text t is. ap (or_breaks S5) (sym (iso_answer_only text (Ok t) is));
+    fault = λ text other h. breaks_only S5 (iso_of text) other h;
+    some = λ text t is none. no_ok (iso_of text) times.Spelling t (ap iso_of none ∙ no_time) (sym (iso_answer_only text (Ok t) is));
+  }
+
+  pub ra_field : IsReadingOf S6 IsRa (λ text. or_breaks S6 (ra_degrees_of text))
+  ra_field = record {
+    given = λ text ra some h. subst (ReadsRaDegrees text) (breaks S6 (ra_degrees_of text) ra h) (ra_degrees_reads text);
+    found = λ text ra is. ap (or_breaks S6) (ra_degrees_only text (Ok ra) is);
+    fault = λ text other h. breaks_only S6 (ra_degrees_of text) other h;
+    some = λ text ra is none. no_ok (ra_degrees_of text) angles.Spelling ra (ap ra_degrees_of none ∙ no_ra) (ra_degrees_only text (Ok ra) is);
+  }
+
+  pub dec_field : IsReadingOf S7 IsDec (λ text. or_breaks S7 (dec_degrees_of text))
+  dec_field = record {
+    given = λ text dec some h. subst (ReadsDecDegrees text) (breaks S7 (dec_degrees_of text) dec h) (dec_degrees_reads text);
+    found = λ text dec is. ap (or_breaks S7) (dec_degrees_only text (Ok dec) is);
+    fault = λ text other h. breaks_only S7 (dec_degrees_of text) other h;
+    some = λ text dec is none. no_ok (dec_degrees_of text) angles.Spelling dec (ap dec_degrees_of none ∙ no_dec) (dec_degrees_only text (Ok dec) is);
+  }

@@ -1,73 +1,88 @@
--- Rules of a data line that are judged one after the other.
-use Rattle.std.proofs.Common.{◌≡◌, ℕ, Bool, true, false, cond, List, [], ◌∷◌, ◌++◌, Result, Ok, Err, refl, sym, ◌∙◌, inl, inr}
+-- Fields that one rule is of.
+use Rattle.std.proofs.Common.{◌≡◌, ◌≢◌, ℕ, Bool, true, false, cond, List, [], ◌∷◌, Option, Some, None, Result, Ok, Err, length, refl, sym, subst, ◌∙◌, inl, arith}
+use Rattle.std.proofs.lemmas.Bool.{eqb-true}
+use Rattle.std.proofs.lemmas.Bool.Decides.{nat_tests}
+use Rattle.std.proofs.lemmas.List.{nil_from_length}
 use Rattle.obs_record.specs.declared.rule.RuleCode.{RuleCode}
-use Rattle.ades_psv.specs.declared.columns.Columns.{Columns}
-use Rattle.ades_psv.specs.Steps.{◌>>=◌}
-use Rattle.ades_psv.specs.Rules.{Keeps, KeepsEach, IsFirstBroken}
+use Rattle.text_lines.specs.Rules.{Judges}
+use Rattle.ades_psv.specs.Fields.{Fields}
+use Rattle.ades_psv.specs.Optional.{Says, IsEmptyOr, is_empty, some_of, unless_empty}
+use Rattle.ades_psv.specs.Rules.{Keeps}
 
--- a step that judges these rules: each is kept and this holds of what is read, or this one is the first that is broken
-abbrev pub Judges : {A : Type 0} → List RuleCode → Columns → List ℕ → (A → Type 0) → Result A RuleCode → Type 0
-Judges rules columns line Reads (Ok x) = KeepsEach rules columns line × Reads x
-Judges rules columns line Reads (Err rule) = IsFirstBroken rules columns line rule
+-- ---- empty fields
 
-kept_join : (rules more : List RuleCode) (columns : Columns) (line : List ℕ) → KeepsEach rules columns line → KeepsEach more columns line → KeepsEach (rules ++ more) columns line
-kept_join [] more columns line kept others = others
-kept_join (rule ∷ rules) more columns line kept others = (kept.0, kept_join rules more columns line kept.1 others)
+pub empty_from : (text : List ℕ) → is_empty text ≡ true → text ≡ []
+empty_from text h = nil_from_length text (eqb-true (length text) 0 h)
 
-broken_join : (rules more : List RuleCode) (columns : Columns) (line : List ℕ) (rule : RuleCode) → IsFirstBroken rules columns line rule → IsFirstBroken (rules ++ more) columns line rule
-broken_join [] more columns line rule broken = absurd broken
-broken_join (next ∷ rules) more columns line rule (inl broken) = inl broken
-broken_join (next ∷ rules) more columns line rule (inr later) = inr (later.0, broken_join rules more columns line rule later.1)
+pub filled_from : (text : List ℕ) → is_empty text ≡ false → text ≢ []
+filled_from [] h = absurd cc
+filled_from (byte ∷ text) h = λ none. cc
 
-behind_kept : (rules more : List RuleCode) (columns : Columns) (line : List ℕ) (rule : RuleCode) → KeepsEach rules columns line → IsFirstBroken more columns line rule → IsFirstBroken (rules ++ more) columns line rule
-behind_kept [] more columns line rule kept broken = broken
-behind_kept (next ∷ rules) more columns line rule kept broken = inr (kept.0, behind_kept rules more columns line rule kept.1 broken)
+pub empty_is : (text : List ℕ) → text ≡ [] → is_empty text ≡ true
+empty_is text none = rw none refl
 
-judged_behind : {A : Type 0} (rules more : List RuleCode) (columns : Columns) (line : List ℕ) (Reads : A → Type 0) (r : Result A RuleCode)
-    → KeepsEach rules columns line → Judges more columns line Reads r → Judges (rules ++ more) columns line Reads r
-judged_behind rules more columns line Reads (Ok x) kept judged = (kept_join rules more columns line kept judged.0, judged.1)
-judged_behind rules more columns line Reads (Err rule) kept judged = behind_kept rules more columns line rule kept judged
+pub filled_is : (text : List ℕ) → text ≢ [] → is_empty text ≡ false
+filled_is [] some = absurd (some refl)
+filled_is (byte ∷ text) some = grind (arith, nat_tests)
 
--- one step behind another
-pub judged_on : {A B : Type 0} (rules more : List RuleCode) (columns : Columns) (line : List ℕ) (Reads : A → Type 0) (ReadsMore : B → Type 0) (r : Result A RuleCode) (f : A → Result B RuleCode)
-    → Judges rules columns line Reads r → ((x : A) → Reads x → Judges more columns line ReadsMore (f x)) → Judges (rules ++ more) columns line ReadsMore (r >>= f)
-judged_on rules more columns line Reads ReadsMore (Ok x) f judged step = judged_behind rules more columns line ReadsMore (f x) judged.0 (step x judged.1)
-judged_on rules more columns line Reads ReadsMore (Err rule) f judged step = broken_join rules more columns line rule judged
+-- ---- one field
 
--- a test of one rule
-pub judged_test : {A : Type 0} (rule : RuleCode) (more : List RuleCode) (columns : Columns) (line : List ℕ) (Reads : A → Type 0) (broken : Bool) (r : Result A RuleCode)
-    → (broken ≡ true → Keeps rule columns line → ⊥) → (broken ≡ false → Keeps rule columns line) → (broken ≡ false → Judges more columns line Reads r)
-    → Judges (rule ∷ more) columns line Reads (cond broken (Err rule) r)
-judged_test rule more columns line Reads true r breaks keeps rest = inl (breaks refl, refl)
-judged_test rule more columns line Reads false r breaks keeps rest = judged_behind (rule ∷ []) more columns line Reads r (keeps refl, tt) (rest refl)
-
--- a field that one rule is of: what is read is right, what is right is read, and nothing else is the matter
-pub record IsFieldOf {A : Type 0} (rule : RuleCode) (Reads : List ℕ → A → Type 0) (read : List ℕ → Result A RuleCode) : Type 0 where
-  pub given : (text : List ℕ) (x : A) → read text ≡ Ok x → Reads text x
+-- A reading of texts under one rule: what is read is right, what is right is read, nothing else is the matter, and an
+-- empty text says nothing.
+pub record IsReadingOf {A : Type 0} (rule : RuleCode) (Reads : List ℕ → A → Type 0) (read : List ℕ → Result A RuleCode) : Type 0 where
+  pub given : (text : List ℕ) (x : A) → text ≢ [] → read text ≡ Ok x → Reads text x
   pub found : (text : List ℕ) (x : A) → Reads text x → read text ≡ Ok x
   pub fault : (text : List ℕ) (other : RuleCode) → read text ≡ Err other → other ≡ rule
+  pub some : (text : List ℕ) (x : A) → Reads text x → text ≢ []
 
-judged_field_by : {A : Type 0} (rule : RuleCode) (columns : Columns) (line text : List ℕ) (Reads : List ℕ → A → Type 0) (read : List ℕ → Result A RuleCode) (r : Result A RuleCode) → IsFieldOf rule Reads read
-    → ((x : A) → Reads text x → Keeps rule columns line) → (Keeps rule columns line → (x : A) × Reads text x) → read text ≡ r → Judges (rule ∷ []) columns line (Reads text) r
-judged_field_by rule columns line text Reads read (Ok x) is keeps kept e = let reads = is.given text x e in ((keeps x reads, tt), reads)
-judged_field_by rule columns line text Reads read (Err other) is keeps kept e =
-    inl (λ k. (let x = kept k in let right = is.found text x.0 x.1 in cc), is.fault text other e)
+abbrev ok : {A : Type 0} → A → Result A RuleCode
+ok x = Ok x
 
--- such a field is judged
-pub judged_field : {A : Type 0} (rule : RuleCode) (columns : Columns) (line text : List ℕ) (Reads : List ℕ → A → Type 0) (read : List ℕ → Result A RuleCode) → IsFieldOf rule Reads read
-    → ((x : A) → Reads text x → Keeps rule columns line) → (Keeps rule columns line → (x : A) × Reads text x) → Judges (rule ∷ []) columns line (Reads text) (read text)
-judged_field rule columns line text Reads read is keeps kept = judged_field_by rule columns line text Reads read (read text) is keeps kept refl
+pub same_Ok : {A : Type 0} (x y : A) → ok x ≡ ok y → x ≡ y
+same_Ok x y e = cc
 
--- ---- first broken rules
+said_by : {A : Type 0} (rule : RuleCode) (Reads : List ℕ → A → Type 0) (read : List ℕ → Result A RuleCode) → IsReadingOf rule Reads read → (text : List ℕ) (empty : Bool) (r : Result A RuleCode) (said : Option A)
+    → is_empty text ≡ empty → read text ≡ r → cond empty (Ok None) (some_of r) ≡ Ok said → Says Reads text said
+said_by rule Reads read is text true r said e f h = subst (Says Reads text) (same_Ok None said h) (empty_from text e)
+said_by rule Reads read is text false (Ok x) said e f h = subst (Says Reads text) (same_Ok (Some x) said h) (is.given text x (filled_from text e) f)
+said_by rule Reads read is text false (Err other) said e f h = absurd cc
 
-pub one_broken : (rules : List RuleCode) (columns : Columns) (line : List ℕ) (one other : RuleCode) → IsFirstBroken rules columns line one → IsFirstBroken rules columns line other → one ≡ other
-one_broken [] columns line one other first second = absurd first
-one_broken (next ∷ more) columns line one other (inl first) (inl second) = first.1 ∙ sym second.1
-one_broken (next ∷ more) columns line one other (inl first) (inr second) = absurd (first.0 second.0)
-one_broken (next ∷ more) columns line one other (inr first) (inl second) = absurd (second.0 first.0)
-one_broken (next ∷ more) columns line one other (inr first) (inr second) = one_broken more columns line one other first.1 second.1
+-- what is read from a field that may be empty is what it says
+pub said_given : {A : Type 0} (rule : RuleCode) (Reads : List ℕ → A → Type 0) (read : List ℕ → Result A RuleCode) → IsReadingOf rule Reads read → (text : List ℕ) (said : Option A)
+    → unless_empty text (read text) ≡ Ok said → Says Reads text said
+said_given rule Reads read is text said h = said_by rule Reads read is text (is_empty text) (read text) said refl refl h
 
-pub none_broken : (rules : List RuleCode) (columns : Columns) (line : List ℕ) (rule : RuleCode) → KeepsEach rules columns line → IsFirstBroken rules columns line rule → ⊥
-none_broken [] columns line rule kept broken = broken
-none_broken (next ∷ more) columns line rule kept (inl broken) = broken.0 kept.0
-none_broken (next ∷ more) columns line rule kept (inr later) = none_broken more columns line rule kept.1 later.1
+pub said_found : {A : Type 0} (rule : RuleCode) (Reads : List ℕ → A → Type 0) (read : List ℕ → Result A RuleCode) → IsReadingOf rule Reads read → (text : List ℕ) (said : Option A)
+    → Says Reads text said → unless_empty text (read text) ≡ Ok said
+said_found rule Reads read is text None says = rw (empty_is text says) refl
+said_found rule Reads read is text (Some x) says = rw (filled_is text (is.some text x says), is.found text x says) refl
+
+fault_by : {A : Type 0} (rule : RuleCode) (Reads : List ℕ → A → Type 0) (read : List ℕ → Result A RuleCode) → IsReadingOf rule Reads read → (text : List ℕ) (empty : Bool) (r : Result A RuleCode) (other : RuleCode)
+    → read text ≡ r → cond empty (Ok None) (some_of r) ≡ Err other → other ≡ rule
+fault_by rule Reads read is text true r other f h = absurd cc
+fault_by rule Reads read is text false (Ok x) other f h = absurd cc
+fault_by rule Reads read is text false (Err broken) other f h = (let same : broken ≡ other = cc in sym same ∙ is.fault text broken f)
+
+pub said_fault : {A : Type 0} (rule : RuleCode) (Reads : List ℕ → A → Type 0) (read : List ℕ → Result A RuleCode) → IsReadingOf rule Reads read → (text : List ℕ) (other : RuleCode)
+    → unless_empty text (read text) ≡ Err other → other ≡ rule
+said_fault rule Reads read is text other h = fault_by rule Reads read is text (is_empty text) (read text) other refl h
+
+-- a field says one thing
+pub says_one : {A : Type 0} (rule : RuleCode) (Reads : List ℕ → A → Type 0) (read : List ℕ → Result A RuleCode) → IsReadingOf rule Reads read → (text : List ℕ) (one other : Option A)
+    → Says Reads text one → Says Reads text other → one ≡ other
+says_one rule Reads read is text one other first second = same_Ok one other (sym (said_found rule Reads read is text one first) ∙ said_found rule Reads read is text other second)
+
+pub reads_one : {A : Type 0} (rule : RuleCode) (Reads : List ℕ → A → Type 0) (read : List ℕ → Result A RuleCode) → IsReadingOf rule Reads read → (text : List ℕ) (one other : A)
+    → Reads text one → Reads text other → one ≡ other
+reads_one rule Reads read is text one other first second = same_Ok one other (sym (is.found text one first) ∙ is.found text other second)
+
+judged_by : {A : Type 0} (fields : Fields) (rule : RuleCode) (Reads : List ℕ → A → Type 0) (read : List ℕ → Result A RuleCode) → IsReadingOf rule Reads read → (text : List ℕ)
+    → (IsEmptyOr Reads text → Keeps fields rule) → (Keeps fields rule → IsEmptyOr Reads text) → (r : Result (Option A) RuleCode) → unless_empty text (read text) ≡ r → Judges (Keeps fields) (rule ∷ []) (Says Reads text) r
+judged_by fields rule Reads read is text keeps kept (Ok said) e = let says = said_given rule Reads read is text said e in ((keeps (said, says), tt), says)
+judged_by fields rule Reads read is text keeps kept (Err other) e =
+    inl (λ k. (let says = kept k in let right = said_found rule Reads read is text says.0 says.1 in cc), said_fault rule Reads read is text other e)
+
+-- a field that the rule is of is judged
+pub judged_field : {A : Type 0} (fields : Fields) (rule : RuleCode) (Reads : List ℕ → A → Type 0) (read : List ℕ → Result A RuleCode) → IsReadingOf rule Reads read → (text : List ℕ)
+    → (IsEmptyOr Reads text → Keeps fields rule) → (Keeps fields rule → IsEmptyOr Reads text) → Judges (Keeps fields) (rule ∷ []) (Says Reads text) (unless_empty text (read text))
+judged_field fields rule Reads read is text keeps kept = judged_by fields rule Reads read is text keeps kept (unless_empty text (read text)) refl

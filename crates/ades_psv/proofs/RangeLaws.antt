@@ -1,5 +1,5 @@
 -- A data line's observation has its fields in their ranges.
-use Rattle.std.proofs.Common.{◌≢◌, ◌⊎◌, ℕ, ◌<◌, ◌≤◌, Bool, true, false, cond, List, [], Option, Some, None, refl, sym, subst, inl, inr, pos, neg_ℤ, ◌≤ℤ◌, arith, lit≤}
+use Rattle.std.proofs.Common.{◌≡◌, ◌≢◌, ◌⊎◌, ℕ, ◌<◌, ◌≤◌, Bool, true, false, cond, List, [], Option, Some, None, refl, sym, ap, subst, ◌∙◌, inl, inr, pos, neg_ℤ, ◌≤ℤ◌, arith, lit≤}
 use Rattle.std.specs.Prelude.{IfSome, IsSome}
 use Rattle.angle_fixed.specs.Angles.{circle, quarter}
 use Rattle.obs_time.specs.Instants.{IsInstantNs}
@@ -8,61 +8,48 @@ use Rattle.packed_names.specs.declared.name.Designation.{Designation}
 use Rattle.packed_names.specs.Ranges.{IsNumber, IsDesignation}
 use Rattle.obs_record.specs.declared.short.Short.{Short}
 use Rattle.obs_record.specs.declared.sighting.Coded.TheVariants.{Nothing, Word}
+use Rattle.obs_record.specs.declared.sighting.Shape.TheVariants.{Psv}
 use Rattle.obs_record.specs.declared.sighting.Sighting.{Sighting}
 use Rattle.obs_record.specs.Short.{IsShort, kept_short}
-use Rattle.obs_record.specs.Sighting.{IsPrintable, IsCoded, IsShape, IsSighting}
-use Rattle.obs_record.proofs.Texts.{kept_is_short}
-use Rattle.ades_psv.specs.declared.columns.Columns.{Columns}
-use Rattle.ades_psv.specs.Cells.{field}
-use Rattle.ades_psv.specs.Magnitudes.{IsMagnitudeField, is_empty}
-use Rattle.ades_psv.specs.Names.{IsNumberField, IsDesignationField, IsTemporaryField}
-use Rattle.ades_psv.specs.Rules.{HasFields, line_rules, KeepsEach, IsSightingOf}
+use Rattle.obs_record.specs.Magnitudes.{magnitude_of, greatest_magnitude, HasDecimals}
+use Rattle.obs_record.specs.Sighting.{IsPrintable, IsCoded, IsShape, IsSighting, places_of as shape_places}
+use Rattle.text_lines.specs.Rules.{KeepsEach}
+use Rattle.ades_psv.specs.Fields.{Fields}
+use Rattle.ades_psv.specs.Optional.{Says, is_empty}
+use Rattle.ades_psv.specs.Magnitudes.{IsMagnitude, value_of, places_of}
+use Rattle.ades_psv.specs.Names.{IsNumberText, IsDesignationText, IsTemporary}
+use Rattle.ades_psv.specs.Rules.{Keeps, HasFields, line_rules, IsSightingOf}
+use Rattle.ades_psv.proofs.LawsBelow.{Laws}
 
 -- ---- names
 
-number_within : (text : List ℕ) (perm : Option Number) → IsNumberField text perm → IfSome perm (λ number. IsNumber number.0)
-number_within text None is = tt
-number_within text (Some number) is = is.within
+number_within : (text : List ℕ) (perm : Option Number) → Says IsNumberText text perm → IfSome perm (λ number. IsNumber number.0)
+number_within text None says = tt
+number_within text (Some number) says = says.within
 
-designation_within : (text : List ℕ) (prov : Option Designation) → IsDesignationField text prov → IfSome prov IsDesignation
-designation_within text None is = tt
-designation_within text (Some designation) is = is.within
+designation_within : (text : List ℕ) (prov : Option Designation) → Says IsDesignationText text prov → IfSome prov IsDesignation
+designation_within text None says = tt
+designation_within text (Some designation) says = says.within
 
-temporary_within : (text : List ℕ) (sub : Option Short) → IsTemporaryField text sub → IfSome sub IsShort
-temporary_within text None is = tt
-temporary_within text (Some short) is = subst IsShort (sym is.1) (kept_is_short text)
+-- a field that isn't empty says something
+says_some : {A : Type 0} (Reads : List ℕ → A → Type 0) (text : List ℕ) (said : Option A) → Says Reads text said → text ≢ [] → IsSome said
+says_some Reads text None says some = absurd (some says)
+says_some Reads text (Some x) says some = refl
 
-some_number : (text : List ℕ) (perm : Option Number) → IsNumberField text perm → text ≢ [] → IsSome perm
-some_number text None is some = absurd (some is)
-some_number text (Some number) is some = refl
+named_so : (fields : Fields) (s : Sighting) → IsSightingOf fields s → (fields.perm ≢ []) ⊎ (fields.prov ≢ []) ⊎ (fields.sub ≢ []) → IsSome s.perm ⊎ IsSome s.prov ⊎ IsSome s.sub
+named_so fields s is (inl some) = inl (says_some IsNumberText fields.perm s.perm is.perm some)
+named_so fields s is (inr (inl some)) = inr (inl (says_some IsDesignationText fields.prov s.prov is.prov some))
+named_so fields s is (inr (inr some)) = inr (inr (says_some IsTemporary fields.sub s.sub is.sub some))
 
-some_designation : (text : List ℕ) (prov : Option Designation) → IsDesignationField text prov → text ≢ [] → IsSome prov
-some_designation text None is some = absurd (some is)
-some_designation text (Some designation) is some = refl
+-- ---- magnitudes
 
-some_temporary : (text : List ℕ) (sub : Option Short) → IsTemporaryField text sub → text ≢ [] → IsSome sub
-some_temporary text None is some = absurd (some is)
-some_temporary text (Some short) is some = refl
+magnitude_within : (text : List ℕ) (read : Option (ℕ × ℕ)) → Says IsMagnitude text read → IfSome (value_of read) (λ mag. mag ≤ greatest_magnitude)
+magnitude_within text None says = tt
+magnitude_within text (Some read) says = says.below
 
-named_so : (p d s : List ℕ) (perm : Option Number) (prov : Option Designation) (sub : Option Short) → IsNumberField p perm → IsDesignationField d prov → IsTemporaryField s sub
-    → (p ≢ []) ⊎ (d ≢ []) ⊎ (s ≢ []) → IsSome perm ⊎ IsSome prov ⊎ IsSome sub
-named_so p d s perm prov sub is_perm is_prov is_sub (inl some) = inl (some_number p perm is_perm some)
-named_so p d s perm prov sub is_perm is_prov is_sub (inr (inl some)) = inr (inl (some_designation d prov is_prov some))
-named_so p d s perm prov sub is_perm is_prov is_sub (inr (inr some)) = inr (inr (some_temporary s sub is_sub some))
-
--- ---- words and magnitudes
-
-coded_by : (empty : Bool) (text : List ℕ) → IsCoded (cond empty Nothing (Word (kept_short text)))
-coded_by true text = tt
-coded_by false text = kept_is_short text
-
-magnitude_within : (text : List ℕ) (mag : Option ℕ) (count : ℕ) → IsMagnitudeField text mag count → IfSome mag (λ m. m ≤ 99990000)
-magnitude_within text None count is = tt
-magnitude_within text (Some mag) count is = is.3
-
-few_places : (text : List ℕ) (mag : Option ℕ) (count : ℕ) → IsMagnitudeField text mag count → count ≤ 6
-few_places text None count is = omega (arith, is.1)
-few_places text (Some mag) count is = (let spelled = is.1 in omega (arith, is.4, spelled.few))
+few_places : (text : List ℕ) (read : Option (ℕ × ℕ)) → Says IsMagnitude text read → places_of read ≤ 6
+few_places text None says = lit≤ tt
+few_places text (Some read) says = omega (arith, says.places, says.few)
 
 -- what the types of a time and of angles say
 pub record TypesHold (s : Sighting) : Type 0 where
@@ -70,22 +57,40 @@ pub record TypesHold (s : Sighting) : Type 0 where
   pub ra : s.ra < circle
   pub dec : (neg_ℤ (pos quarter) ≤ℤ s.dec) × (s.dec ≤ℤ pos quarter)
 
-pub sighting_within : (columns : Columns) (line : List ℕ) (s : Sighting) → KeepsEach line_rules columns line → IsSightingOf columns line s → TypesHold s → IsSighting s
-sighting_within columns line s kept is types =
-    let has : HasFields columns line = kept.1.1.1.1.1.1.1.0 in
-    record {
-      number = number_within (field columns.perm line) s.perm is.perm;
-      designation = designation_within (field columns.prov line) s.prov is.prov;
-      temporary = temporary_within (field columns.sub line) s.sub is.sub;
-      named = named_so (field columns.perm line) (field columns.prov line) (field columns.sub line) s.perm s.prov s.sub is.perm is.prov is.sub has.name;
-      station = subst IsShort (sym is.station) (kept_is_short (field columns.station line));
-      time = types.time;
-      ra = types.ra;
-      dec = types.dec;
-      magnitude = magnitude_within (field columns.mag line) s.mag is.places is.mag;
-      band = subst IsCoded (sym is.band) (coded_by (is_empty (field columns.band line)) (field columns.band line));
-      mode = subst IsCoded (sym is.mode) (kept_is_short (field columns.mode line));
-      catalogue = subst IsCoded (sym is.catalogue) (kept_is_short (field columns.catalogue line));
-      note1 = subst IsPrintable (sym is.note1) (lit≤ tt, lit≤ tt);
-      shape = subst IsShape (sym is.shape) (few_places (field columns.mag line) s.mag is.places is.mag);
-    }
+module _ (laws : Laws) where
+  open laws use {records.{kept_is_short, made_of_decimals}}
+
+  temporary_within : (text : List ℕ) (sub : Option Short) → Says IsTemporary text sub → IfSome sub IsShort
+  temporary_within text None says = tt
+  temporary_within text (Some short) says = subst IsShort (sym says.kept) (kept_is_short text)
+
+  coded_by : (empty : Bool) (text : List ℕ) → IsCoded (cond empty Nothing (Word (kept_short text)))
+  coded_by true text = tt
+  coded_by false text = kept_is_short text
+
+  has_decimals : (text : List ℕ) (read : Option (ℕ × ℕ)) → Says IsMagnitude text read → HasDecimals (value_of read) (places_of read)
+  has_decimals text None says = refl
+  has_decimals text (Some read) says =
+      let p = says.parts in
+      rw (says.value, says.places) (made_of_decimals p.whole p.count p.value says.few)
+
+  pub sighting_within : (fields : Fields) (s : Sighting) → KeepsEach (Keeps fields) line_rules → IsSightingOf fields s → TypesHold s → IsSighting s
+  sighting_within fields s kept is types =
+      let has : HasFields fields = kept.1.1.1.1.1.1.1.0 in
+      record {
+        number = number_within fields.perm s.perm is.perm;
+        designation = designation_within fields.prov s.prov is.prov;
+        temporary = temporary_within fields.sub s.sub is.sub;
+        named = named_so fields s is has.name;
+        station = subst IsShort (sym is.station) (kept_is_short fields.station);
+        time = types.time;
+        ra = types.ra;
+        dec = types.dec;
+        magnitude = rw is.value (magnitude_within fields.mag is.read is.mag);
+        decimals = rw (is.value, is.shape) (has_decimals fields.mag is.read is.mag);
+        band = subst IsCoded (sym is.band) (coded_by (is_empty fields.band) fields.band);
+        mode = subst IsCoded (sym is.mode) (kept_is_short fields.mode);
+        catalogue = subst IsCoded (sym is.catalogue) (kept_is_short fields.catalogue);
+        note1 = subst IsPrintable (sym is.note1) (lit≤ tt, lit≤ tt);
+        shape = subst IsShape (sym is.shape) (few_places fields.mag is.read is.mag);
+      }

@@ -1,98 +1,223 @@
 -- A reader, from its first piece to its end.
-use Rattle.std.proofs.Common.{◌≡◌, ℕ, List, [], ◌∷◌, ◌++◌, append_assoc, length, map, Option, Some, None, Result, Ok, Err, eqb, false, refl, sym, ap, subst, ◌∙◌, lit<, lit≤, arith}
-use Rattle.std.specs.List.{AllZip}
+use Rattle.std.proofs.Common.{◌≡◌, ℕ, ◌+◌, ◌<◌, List, [], ◌∷◌, ◌++◌, append_assoc, length, length-append, map, All, Option, Some, None, Result, Ok, Err, eqb, false, refl, sym, ap, subst, ◌∙◌, arith}
+use Rattle.std.specs.Prelude.{IsOk, IfOk}
+use Rattle.std.specs.List.{AllZip, enumerate_from}
+use Rattle.std.specs.Str.Lines.{lines}
 use Rattle.std.proofs.lemmas.List.{append-nil}
 use Rattle.std.proofs.lemmas.List.Elements.{All-nil}
 use Rattle.obs_record.specs.declared.line.Line.{Line}
 use Rattle.obs_record.specs.declared.rule.HeaderFault.{HeaderFault}
+use Rattle.text_lines.specs.Steps.{◌>>=◌}
+use Rattle.text_lines.specs.Pieces.{complete_lines, unfinished, joined}
+use Rattle.text_lines.specs.Laws.{LineLaws}
 use Rattle.ades_psv.specs.declared.fault.PsvFault.{PsvFault}
 use Rattle.ades_psv.specs.declared.fault.PsvFault.TheVariants as faults
-use Rattle.ades_psv.specs.declared.header.Place.TheVariants.{Opening}
-use Rattle.ades_psv.specs.Steps.{IsAnswer}
-use Rattle.ades_psv.specs.Batch.{DataLine, IsReadFrom, read_of, data_lines_of, unless_faulty, psv_lines_of}
-use Rattle.ades_psv.specs.Feeding.{complete_lines, complete_fault, Fed, unfed, fed, fed_all, joined, finished, Feeds}
-use Rattle.ades_psv.specs.Walking.{IsUnderWay}
-use Rattle.ades_psv.proofs.LineCuts.{complete_none, unended_whole}
-use Rattle.ades_psv.proofs.WalkLaws.{text_end}
-use Rattle.ades_psv.proofs.LineLaws.{reading_is}
-use Rattle.ades_psv.proofs.Ending.{sound, faulty, no_complete_fault, fault_stays}
+use Rattle.ades_psv.specs.declared.header.Place.{Place}
+use Rattle.ades_psv.specs.declared.header.Place.TheVariants.{Opening, Header, Listing}
+use Rattle.ades_psv.specs.declared.walking.Reached.{Reached}
+use Rattle.ades_psv.specs.Answers.{IsAnswer}
+use Rattle.ades_psv.specs.Batch.{DataLine, Said, said_from, ended, data_lines_of, read_of, all_read, psv_lines_of, IsReadFrom, AreReadFrom}
+use Rattle.ades_psv.specs.Fields.{Fields, fields_of}
+use Rattle.ades_psv.specs.Rules.{IsReading}
+use Rattle.ades_psv.specs.Reading.{reading_of}
+use Rattle.ades_psv.specs.Walking.{said_behind, HasRead, Fails}
+use Rattle.ades_psv.specs.Feeding.{Progress, Fed, unfed, reached, read_on, fed, fed_all, read_end, finished, Feeds}
+use Rattle.ades_psv.specs.Readers.{what_is_fed}
+use Rattle.ades_psv.proofs.SaidLaws.{behind, said_join}
+use Rattle.ades_psv.proofs.Walks.{map_join}
 
--- nothing was gone through yet
-pub under_way : IsUnderWay [] (record { place = Opening; number = 1; start = 0 })
-under_way =
-    let none : complete_lines [] ≡ [] = complete_none [] (All-nil (λ b. eqb b 10 ≡ false)) in
-    record {
-      room = lit< tt;
-      gone = record {
-        walk = text_end Opening 1 [] none;
-        count = omega (arith, ap length none);
-        few = lit≤ tt;
-        within = lit≤ tt;
-        rest = sym (unended_whole [] (All-nil (λ b. eqb b 10 ≡ false)));
-      };
-    }
+-- ---- one piece
 
-pub none_from : {A : Type 0} (o : Option A) → ((x : A) → o ≡ Some x → ⊥) → o ≡ None
-none_from None other = refl
-none_from (Some x) other = absurd (other x refl)
+-- a piece whose front ends the unfinished line
+pub split_lines : (laws : LineLaws) (rest front after piece : List ℕ) → piece ≡ front ++ after → unfinished (rest ++ front) ≡ []
+    → complete_lines (rest ++ piece) ≡ complete_lines (rest ++ front) ++ complete_lines after
+split_lines laws rest front after piece parts ended =
+    ap complete_lines (ap (λ (p : List ℕ). rest ++ p) parts ∙ sym (append_assoc rest front after))
+    ∙ laws.complete_on (rest ++ front) after
+    ∙ ap (λ (t : List ℕ). complete_lines (rest ++ front) ++ complete_lines (t ++ after)) ended
 
--- a piece was fed to a reader without a fault
-pub fed_on : (before : Fed) (text piece new : List ℕ) (told after : Option (HeaderFault × ℕ)) → record { text = text; told = told } ≡ before → told ≡ None → new ≡ text ++ piece → complete_fault new ≡ after
-    → record { text = new; told = after } ≡ fed before piece
-fed_on before text piece new told after is none grown fault = rw (← is, none, ← fault, grown) refl
+pub split_rest : (laws : LineLaws) (rest front after piece : List ℕ) → piece ≡ front ++ after → unfinished (rest ++ front) ≡ [] → unfinished (rest ++ piece) ≡ unfinished after
+split_rest laws rest front after piece parts ended =
+    ap unfinished (ap (λ (p : List ℕ). rest ++ p) parts ∙ sym (append_assoc rest front after))
+    ∙ laws.unfinished_on (rest ++ front) after
+    ∙ ap (λ (t : List ℕ). unfinished (t ++ after)) ended
 
--- what is finished without a fault that was told
-pub finished_is : (before : Fed) (text : List ℕ) (told : Option (HeaderFault × ℕ)) → record { text = text; told = told } ≡ before → told ≡ None → finished before ≡ psv_lines_of text
-finished_is before text told is none = rw (← is, none) refl
+-- a piece without a line feed
+pub no_lines : (laws : LineLaws) (rest piece : List ℕ) → unfinished rest ≡ rest → complete_lines (rest ++ piece) ≡ complete_lines rest → complete_lines (rest ++ piece) ≡ []
+no_lines laws rest piece alone same = same ∙ ap complete_lines (sym alone) ∙ laws.rest_alone rest
 
--- each line of a list is read from its data line
-pub all_read : (lines : List DataLine) → AllZip IsReadFrom lines (map read_of lines)
-all_read [] = tt
-all_read (line ∷ lines) = ((refl, reading_is line.columns line.text), all_read lines)
+-- the lines that it ends were read
+pub feeds_lines : (before after : Reached) (rest piece left : List ℕ) → HasRead before (complete_lines (rest ++ piece)) after → left ≡ unfinished (rest ++ piece)
+    → what_is_fed after left None ≡ fed (what_is_fed before rest None) piece
+unfolding read_on
+feeds_lines before after rest piece left read is = rw (read.said, read.count, read.found, is) refl
 
--- what a whole text says, where its headers have no fault
-pub says_lines : (text : List ℕ) (found : List Line) → unless_faulty text (tt {0}) ≡ Ok (tt {0}) → found ≡ map read_of (data_lines_of text) → psv_lines_of text ≡ Ok found
-unfolding psv_lines_of
-says_lines text found none is = sound text (map read_of (data_lines_of text)) none ∙ ap (λ (ls : List Line). Ok ls) (sym is)
+-- and one of them has a fault
+pub feeds_fault : (before : Reached) (rest piece : List ℕ) (fault : HeaderFault × ℕ) → said_behind before (complete_lines (rest ++ piece)) ≡ Err fault → fed (what_is_fed before rest None) piece ≡ Err fault
+unfolding read_on
+feeds_fault before rest piece fault fails = rw fails refl
 
--- and where they have one
-pub says_fault : (text seen : List ℕ) (fault : PsvFault) (said : Result (List Line) (HeaderFault × ℕ)) → seen ≡ text → said ≡ psv_lines_of text → IsAnswer (unless_faulty seen (tt {0})) (Err fault) → IsAnswer said (Err fault)
-unfolding psv_lines_of
-says_fault text seen fault said same all is =
-    subst (λ (r : Result (List Line) (HeaderFault × ℕ)). IsAnswer r (Err fault)) (ap psv_lines_of same ∙ sym all) (faulty seen (map read_of (data_lines_of seen)) fault is)
+pub has_room : (before : Reached) (rest piece : List ℕ) (told : Option (HeaderFault × ℕ)) (old : Fed) → what_is_fed before rest told ≡ old → told ≡ None
+    → IfOk old (λ progress. progress.count + length progress.rest + length piece < 4294967295) → before.count + length rest + length piece < 4294967295
+has_room before rest piece told old view none room = rw (← view, none) at room
+
+-- so the reader has come on, or it has met a fault
+pub fed_on : (before after : Reached) (rest piece left : List ℕ) (told : Option (HeaderFault × ℕ)) (old : Fed) → what_is_fed before rest told ≡ old → told ≡ None
+    → HasRead before (complete_lines (rest ++ piece)) after → left ≡ unfinished (rest ++ piece) → (what_is_fed after left told ≡ fed old piece) × IsOk (what_is_fed after left told)
+fed_on before after rest piece left told old view none read is = rw (none, ← view, none) (feeds_lines before after rest piece left read is, refl)
+
+pub fed_fault : (before : Reached) (rest piece : List ℕ) (told : Option (HeaderFault × ℕ)) (old : Fed) (fault : HeaderFault × ℕ) → what_is_fed before rest told ≡ old → told ≡ None
+    → said_behind before (complete_lines (rest ++ piece)) ≡ Err fault → Err fault ≡ fed old piece
+fed_fault before rest piece told old fault view none fails = rw (← view, none) (sym (feeds_fault before rest piece fault fails))
+
+-- ---- the end
+
+pub ends : (before after : Reached) (rest : List ℕ) (told : Option (HeaderFault × ℕ)) (old : Fed) → what_is_fed before rest told ≡ old → told ≡ None → HasRead before (lines rest) after
+    → finished old ≡ ended after.count (after.place, after.found)
+unfolding read_end
+ends before after rest told old view none read =
+    rw (← view, none, read.said)
+    (ap (λ (n : ℕ). ended n (after.place, before.found ++ map read_of read.data_lines)) (sym read.count) ∙ ap (λ (ls : List Line). ended after.count (after.place, ls)) (sym read.found))
+
+pub fails_last : (before : Reached) (rest : List ℕ) (told : Option (HeaderFault × ℕ)) (old : Fed) (fault : PsvFault) → what_is_fed before rest told ≡ old → told ≡ None → Fails before (lines rest) fault
+    → IsAnswer (finished old) (Err fault)
+unfolding read_end
+fails_last before rest told old (faults.Header fault line) view none fails = rw (← view, none, fails) refl
+fails_last before rest told old faults.NoMemory view none fails = tt
+
+-- the end of a batch, whatever was found in it
+pub ended_well : {A : Type 0} (last : ℕ) (place : Place) (x : A) → ended last (place, tt {0}) ≡ Ok (tt {0}) → ended last (place, x) ≡ Ok x
+ended_well last Opening x is = absurd cc
+ended_well last Header x is = absurd cc
+ended_well last (Listing columns) x is = refl
+
+ended_fault : {A : Type 0} (last : ℕ) (place : Place) (x : A) (fault : HeaderFault × ℕ) → ended last (place, tt {0}) ≡ Err fault → ended last (place, x) ≡ Err fault
+ended_fault last Opening x fault is = cc
+ended_fault last Header x fault is = cc
+ended_fault last (Listing columns) x fault is = absurd cc
+
+pub ended_ill : {A : Type 0} (last : ℕ) (place : Place) (x : A) (said : Result A (HeaderFault × ℕ)) (fault : PsvFault) → said ≡ ended last (place, x) → IsAnswer (ended last (place, tt {0})) (Err fault) → IsAnswer said (Err fault)
+ended_ill last place x said (faults.Header fault line) same is = same ∙ ended_fault last place x (fault, line) is
+ended_ill last place x said faults.NoMemory same is = tt
+
+-- what is said at the end, of all data lines or of those that were found before and the last ones
+ending : (n : ℕ) (data_lines : List DataLine) (r : Said)
+    → (r >>= λ end. ended n (end.0, map read_of data_lines ++ map read_of end.1)) ≡ (((r >>= behind data_lines) >>= ended n) >>= all_read)
+ending n data_lines (Ok (Opening, more)) = refl
+ending n data_lines (Ok (Header, more)) = refl
+ending n data_lines (Ok (Listing columns, more)) = ap (λ (ls : List Line). Ok ls) (sym (map_join read_of data_lines more))
+ending n data_lines (Err fault) = refl
+
+-- what a text says whose complete lines say this
+said_whole : (laws : LineLaws) (text : List ℕ) (r : Said) → said_from Opening (enumerate_from 1 (complete_lines text)) ≡ r
+    → said_from Opening (enumerate_from 1 (lines text)) ≡ (r >>= λ end. said_from end.0 (enumerate_from (1 + length (complete_lines text)) (lines (unfinished text))) >>= behind end.1)
+said_whole laws text r is =
+    ap (λ (ls : List (List ℕ)). said_from Opening (enumerate_from 1 ls)) (laws.whole text)
+    ∙ said_join Opening 1 (complete_lines text) (lines (unfinished text))
+    ∙ ap (λ (s : Said). s >>= λ end. said_from end.0 (enumerate_from (1 + length (complete_lines text)) (lines (unfinished text))) >>= behind end.1) is
+
+finished_by : (laws : LineLaws) (text : List ℕ) (r : Said) → said_from Opening (enumerate_from 1 (complete_lines text)) ≡ r → finished (fed unfed text) ≡ psv_lines_of text
+unfolding read_on read_end data_lines_of psv_lines_of
+finished_by laws text (Ok end) is =
+    let all : length (lines text) ≡ 0 + length (complete_lines text) + length (lines (unfinished text)) = omega (arith, ap length (laws.whole text), length-append (complete_lines text) (lines (unfinished text))) in
+    let number : 0 + length (complete_lines text) + 1 ≡ 1 + length (complete_lines text) = omega arith in
+    rw (said_whole laws text (Ok end) is, is, number, all)
+    (ending (0 + length (complete_lines text) + length (lines (unfinished text))) end.1 (said_from end.0 (enumerate_from (1 + length (complete_lines text)) (lines (unfinished text)))))
+finished_by laws text (Err fault) is = rw (said_whole laws text (Err fault) is, is) refl
+
+-- a reader that was fed a text says in the end what the text says
+pub finished_text : (laws : LineLaws) (text : List ℕ) → finished (fed unfed text) ≡ psv_lines_of text
+finished_text laws text = finished_by laws text (said_from Opening (enumerate_from 1 (complete_lines text))) refl
 
 -- ---- any pieces
 
--- a fault that was told stays, whatever is fed
-told_stays : (text : List ℕ) (fault : HeaderFault × ℕ) (pieces : List (List ℕ)) → fed_all (record { text = text; told = Some fault }) pieces ≡ record { text = text; told = Some fault }
-told_stays text fault [] = refl
-told_stays text fault (piece ∷ pieces) = told_stays text fault pieces
+-- what is reached behind two texts
+reached_again : (data_lines : List DataLine) (complete more : List (List ℕ)) (rest left : List ℕ) (r : Said) → rest ≡ left → (place : Place) (old : List ℕ)
+    → (r >>= reached (record { place = place; count = 0 + length complete; found = [] ++ map read_of data_lines; rest = old }) more rest)
+    ≡ ((r >>= behind data_lines) >>= reached (record { place = Opening; count = 0; found = []; rest = [] }) (complete ++ more) left)
+reached_again data_lines complete more rest left (Ok end) is place old =
+    let count : 0 + length complete + length more ≡ 0 + length (complete ++ more) = omega (arith, length-append complete more) in
+    rw (is, count, map_join read_of data_lines end.1) refl
+reached_again data_lines complete more rest left (Err fault) is place old = refl
 
--- the pieces that are left, fed where a fault was told exactly if it stands in the text
-feeding : (text : List ℕ) (told : Option (HeaderFault × ℕ)) (pieces : List (List ℕ)) → complete_fault text ≡ told → finished (fed_all (record { text = text; told = told }) pieces) ≡ psv_lines_of (text ++ joined pieces)
-feeding text (Some fault) pieces is = ap finished (told_stays text fault pieces) ∙ sym (fault_stays text (joined pieces) fault is)
-feeding text None [] is = ap psv_lines_of (sym (append-nil text))
-feeding text None (piece ∷ pieces) is = feeding (text ++ piece) (complete_fault (text ++ piece)) pieces refl ∙ ap psv_lines_of (append_assoc text piece (joined pieces))
+said_on_text : (laws : LineLaws) (text piece : List ℕ) (r : Said) → said_from Opening (enumerate_from 1 (complete_lines text)) ≡ r
+    → said_from Opening (enumerate_from 1 (complete_lines (text ++ piece))) ≡ (r >>= λ end. said_from end.0 (enumerate_from (1 + length (complete_lines text)) (complete_lines (unfinished text ++ piece))) >>= behind end.1)
+said_on_text laws text piece r is =
+    ap (λ (ls : List (List ℕ)). said_from Opening (enumerate_from 1 ls)) (laws.complete_on text piece)
+    ∙ said_join Opening 1 (complete_lines text) (complete_lines (unfinished text ++ piece))
+    ∙ ap (λ (s : Said). s >>= λ end. said_from end.0 (enumerate_from (1 + length (complete_lines text)) (complete_lines (unfinished text ++ piece))) >>= behind end.1) is
 
-no_fault : complete_fault [] ≡ None
-no_fault = no_complete_fault [] Opening (text_end Opening 1 [] (complete_none [] (All-nil (λ b. eqb b 10 ≡ false))))
+fed_by : (laws : LineLaws) (text piece : List ℕ) (r : Said) → said_from Opening (enumerate_from 1 (complete_lines text)) ≡ r → fed (fed unfed text) piece ≡ fed unfed (text ++ piece)
+unfolding read_on
+fed_by laws text piece (Ok end) is =
+    let number : 0 + length (complete_lines text) + 1 ≡ 1 + length (complete_lines text) = omega arith in
+    rw (said_on_text laws text piece (Ok end) is, is, number, laws.complete_on text piece)
+    (reached_again end.1 (complete_lines text) (complete_lines (unfinished text ++ piece)) (unfinished (unfinished text ++ piece)) (unfinished (text ++ piece))
+    (said_from end.0 (enumerate_from (1 + length (complete_lines text)) (complete_lines (unfinished text ++ piece)))) (sym (laws.unfinished_on text piece)) end.0 (unfinished text))
+fed_by laws text piece (Err fault) is = rw (said_on_text laws text piece (Err fault) is, is) refl
 
-pub any_pieces : (pieces : List (List ℕ)) → finished (fed_all unfed pieces) ≡ psv_lines_of (joined pieces)
-any_pieces pieces = feeding [] None pieces no_fault
+fed_text : (laws : LineLaws) (text piece : List ℕ) → fed (fed unfed text) piece ≡ fed unfed (text ++ piece)
+fed_text laws text piece = fed_by laws text piece (said_from Opening (enumerate_from 1 (complete_lines text))) refl
+
+fed_nothing : (laws : LineLaws) → fed unfed [] ≡ unfed
+unfolding read_on said_from
+fed_nothing laws =
+    let none : complete_lines [] ≡ [] = laws.none_complete [] (All-nil (λ b. eqb b 10 ≡ false)) in
+    let left : unfinished [] ≡ [] = laws.all_unfinished [] (All-nil (λ b. eqb b 10 ≡ false)) in
+    rw (none, left) refl
+
+fed_further : (laws : LineLaws) (text : List ℕ) (pieces : List (List ℕ)) → fed_all (fed unfed text) pieces ≡ fed unfed (text ++ joined pieces)
+fed_further laws text [] = ap (fed unfed) (sym (append-nil text))
+fed_further laws text (piece ∷ pieces) =
+    ap (λ (f : Fed). fed_all f pieces) (fed_text laws text piece) ∙ fed_further laws (text ++ piece) pieces ∙ ap (fed unfed) (append_assoc text piece (joined pieces))
+
+pub one_text : (laws : LineLaws) (pieces : List (List ℕ)) → fed_all unfed pieces ≡ fed unfed (joined pieces)
+one_text laws pieces = ap (λ (f : Fed). fed_all f pieces) (sym (fed_nothing laws)) ∙ fed_further laws [] pieces
+
+-- ---- faults
+
+fault_from : (progress : Progress) (complete : List (List ℕ)) (rest : List ℕ) (r : Said) (fault : HeaderFault × ℕ) → (r >>= reached progress complete rest) ≡ Err fault → r ≡ Err fault
+fault_from progress complete rest (Ok end) fault fails = absurd cc
+fault_from progress complete rest (Err other) fault fails = cc
+
+told : (text : List ℕ) (fault : HeaderFault × ℕ) → fed unfed text ≡ Err fault → said_from Opening (enumerate_from 1 (complete_lines text)) ≡ Err fault
+unfolding read_on
+told text fault fails =
+    fault_from (record { place = Opening; count = 0; found = []; rest = [] }) (complete_lines text) (unfinished text) (said_from Opening (enumerate_from 1 (complete_lines text))) fault fails
+
+-- a fault of complete lines is that of the batch, whatever may follow
+pub fault_stays : (laws : LineLaws) (text more : List ℕ) (fault : HeaderFault × ℕ) → fed unfed text ≡ Err fault → psv_lines_of (text ++ more) ≡ Err fault
+unfolding data_lines_of psv_lines_of
+fault_stays laws text more fault fails =
+    let all : said_from Opening (enumerate_from 1 (lines (text ++ more))) ≡ Err fault
+    = ap (λ (ls : List (List ℕ)). said_from Opening (enumerate_from 1 ls)) (laws.lines_on text more)
+    ∙ said_join Opening 1 (complete_lines text) (lines (unfinished text ++ more))
+    ∙ ap (λ (s : Said). s >>= λ end. said_from end.0 (enumerate_from (1 + length (complete_lines text)) (lines (unfinished text ++ more))) >>= behind end.1) (told text fault fails) in
+    rw all refl
 
 -- ---- a batch in one piece
 
-pub whole_fault : (body : List ℕ) (fault : HeaderFault) (line : ℕ) (after : Fed) → after ≡ fed unfed body → after.told ≡ Some (fault, line) → psv_lines_of body ≡ Err (fault, line)
-whole_fault body fault line after is told =
-    let here : complete_fault body ≡ Some (fault, line) = rw is at told in
-    ap psv_lines_of (sym (append-nil body)) ∙ fault_stays body [] (fault, line) here
+pub whole_answer : (laws : LineLaws) (body : List ℕ) (before after : Fed) (fault : PsvFault) → before ≡ unfed → Feeds before body after (Err fault) → IsAnswer (psv_lines_of body) (Err fault)
+whole_answer laws body before after (faults.Header fault line) new is =
+    ap psv_lines_of (sym (append-nil body)) ∙ fault_stays laws body [] (fault, line) (ap (λ (f : Fed). fed f body) (sym new) ∙ sym is.0 ∙ is.1)
+whole_answer laws body before after faults.NoMemory new is = tt
 
-pub whole_answer : (body : List ℕ) (before after : Fed) (fault : PsvFault) → before ≡ unfed → Feeds before body after (Err fault) → IsAnswer (psv_lines_of body) (Err fault)
-whole_answer body before after (faults.Header fault line) new is = whole_fault body fault line after (is.0 ∙ ap (λ (f : Fed). fed f body) new) is.1
-whole_answer body before after faults.NoMemory new is = tt
+pub whole_finished : (laws : LineLaws) (body : List ℕ) (before after : Fed) → before ≡ unfed → after ≡ fed before body → finished after ≡ psv_lines_of body
+whole_finished laws body before after new is = ap finished (is ∙ ap (λ (f : Fed). fed f body) new) ∙ finished_text laws body
 
-pub whole_finished : (body : List ℕ) (before after : Fed) → before ≡ unfed → (after ≡ fed before body) × (after.told ≡ None) → finished after ≡ psv_lines_of body
-whole_finished body before after new is =
-    let whole : after ≡ fed unfed body = is.0 ∙ ap (λ (f : Fed). fed f body) new in
-    let here : complete_fault body ≡ None = rw whole at is.1 in
-    ap finished whole ∙ rw here refl
+-- each line of a list is read from its data line
+zip_read : ((fields : Fields) → IsReading fields (reading_of fields)) → (data_lines : List DataLine) → AllZip IsReadFrom data_lines (map read_of data_lines)
+zip_read reads [] = tt
+zip_read reads (line ∷ data_lines) = ((refl, reads (fields_of line.columns line.text)), zip_read reads data_lines)
+
+read_by : ((fields : Fields) → IsReading fields (reading_of fields)) → (body : List ℕ) (found : List Line) (r : Result (List DataLine) (HeaderFault × ℕ)) → data_lines_of body ≡ r → (r >>= all_read) ≡ Ok found → AreReadFrom body found
+read_by reads body found (Ok data_lines) is said = (data_lines, is, (let same : map read_of data_lines ≡ found = cc in subst (AllZip IsReadFrom data_lines) same (zip_read reads data_lines)))
+read_by reads body found (Err fault) is said = absurd cc
+
+read_from : ((fields : Fields) → IsReading fields (reading_of fields)) → (body : List ℕ) (found : List Line) → psv_lines_of body ≡ Ok found → AreReadFrom body found
+unfolding psv_lines_of
+read_from reads body found said = read_by reads body found (data_lines_of body) refl said
+
+pub answer_lines : ((fields : Fields) → IsReading fields (reading_of fields)) → (body : List ℕ) (result : Result (List Line) PsvFault) → IsAnswer (psv_lines_of body) result → IfOk result (λ found. AreReadFrom body found)
+answer_lines reads body (Ok found) said = read_from reads body found said
+answer_lines reads body (Err fault) said = tt

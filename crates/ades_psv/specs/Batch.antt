@@ -1,8 +1,7 @@
--- The lines of a batch.
-use Rattle.std.specs.Prelude.{◌≡◌, ℕ, not, List, [], ◌∷◌, length, map, filter, if◌then◌else◌, ◌||◌, All, Option, Some, None, Result, Ok, Err, IfOk}
-use Rattle.std.specs.List.{enumerate_from}
+-- The data lines of a batch, or the first fault of its headers.
+use Rattle.std.specs.Prelude.{◌≡◌, ℕ, List, [], ◌∷◌, length, map, All, Option, Some, None, Result, Ok, Err, IfOk}
+use Rattle.std.specs.List.{AllZip}
 use Rattle.std.specs.Str.Lines.{lines}
-use Rattle.ascii_text.specs.Blanks.{are_blanks}
 use Rattle.obs_record.specs.declared.rule.HeaderFault.{HeaderFault}
 use Rattle.obs_record.specs.declared.rule.HeaderFault.TheVariants.{H1, H2}
 use Rattle.obs_record.specs.declared.line.Line.{Line}
@@ -10,19 +9,14 @@ use Rattle.obs_record.specs.Sighting.{IsSighting}
 use Rattle.ades_psv.specs.declared.columns.Columns.{Columns}
 use Rattle.ades_psv.specs.declared.header.Place.{Place}
 use Rattle.ades_psv.specs.declared.header.Place.TheVariants.{Opening, Header, Listing}
-use Rattle.ades_psv.specs.Steps.{◌>>=◌}
-use Rattle.ades_psv.specs.Columns.{columns_of}
-use Rattle.ades_psv.specs.Headers.{is_group, is_element, walked}
+use Rattle.ades_psv.specs.declared.header.Step.{Step}
+use Rattle.ades_psv.specs.declared.header.Step.TheVariants.{On, Data, Fault}
+use Rattle.text_lines.specs.Steps.{◌>>=◌}
+use Rattle.text_lines.specs.Lines.{numbered_lines}
+use Rattle.ades_psv.specs.Headers.{step}
+use Rattle.ades_psv.specs.Fields.{fields_of}
 use Rattle.ades_psv.specs.Rules.{IsReading}
 use Rattle.ades_psv.specs.Reading.{reading_of}
-
--- the lines of a batch with their numbers, all of them counted, from 1
-abbrev pub numbered_lines : List ℕ → List (ℕ × List ℕ)
-numbered_lines body = enumerate_from 1 (lines body)
-
--- the lines that aren't blank
-abbrev pub filled_lines : List (ℕ × List ℕ) → List (ℕ × List ℕ)
-filled_lines numbered = filter (λ line. not (are_blanks line.1)) numbered
 
 -- a data line, with its number and the columns of its header
 pub record DataLine : Type 0 where
@@ -30,46 +24,56 @@ pub record DataLine : Type 0 where
   pub number : ℕ
   pub text : List ℕ
 
--- The data lines among lines that aren't blank. In a header, where no columns are known, the first line that belongs to
--- no group is the column header. Below it each line is a data line, but for the elements of groups, which are passed
--- over, and for a line that opens a group, with which the next header begins.
-unfoldable pub data_lines : Option Columns → List (ℕ × List ℕ) → List DataLine
-data_lines columns [] = []
-data_lines None (line ∷ more) =
-    if is_group line.1 || is_element line.1 then data_lines None more else data_lines (Some (columns_of line.1)) more
-data_lines (Some columns) (line ∷ more) =
-    if is_group line.1 then data_lines None more
-    else (if is_element line.1 then data_lines (Some columns) more
-    else record { columns = columns; number = line.0; text = line.1 } ∷ data_lines (Some columns) more)
+-- what lines say: the place behind them, and the data lines among them; or the first fault in them, with its line
+abbrev pub Said : Type 0
+Said = Result (Place × List DataLine) (HeaderFault × ℕ)
 
--- the data lines of a batch
-abbrev pub data_lines_of : List ℕ → List DataLine
-data_lines_of body = data_lines None (filled_lines (numbered_lines body))
+-- a data line stands before those behind it
+abbrev pub before : DataLine → Place × List DataLine → Said
+before line end = Ok (end.0, line ∷ end.1)
 
--- the line has the number of this data line, and what it says is the data line's reading
-abbrev pub IsReadFrom : DataLine → Line → Type 0
-IsReadFrom data_line line = (line.number ≡ data_line.number) × IsReading data_line.columns data_line.text line.read
+-- what a line of this number says, and those behind it, by what the line is
+abbrev pub said_on : ℕ → List ℕ → (Place → Said) → Step → Said
+said_on number text behind (On next) = behind next
+said_on number text behind (Data columns) =
+    behind (Listing columns) >>= before (record { columns = columns; number = number; text = text })
+said_on number text behind (Fault fault) = Err (fault, number)
+
+-- what numbered lines say, the first of which stands in this place
+unfoldable pub said_from : Place → List (ℕ × List ℕ) → Said
+said_from place [] = Ok (place, [])
+said_from place (line ∷ more) = said_on line.0 line.1 (λ next. said_from next more) (step place line.1)
+
+-- What is said of a batch whose last line has this number, by the place in which it ends: it has no line that isn't
+-- blank; it ends inside a header, a fault of its last line; or all is well.
+abbrev pub ended : {A : Type 0} → ℕ → Place × A → Result A (HeaderFault × ℕ)
+ended last (Opening, x) = Err (H1, 1)
+ended last (Header, x) = Err (H2, last)
+ended last (Listing columns, x) = Ok x
+
+-- the data lines of a batch, each with the columns of its header; or the first fault of the headers, with its line
+unfoldable pub data_lines_of : List ℕ → Result (List DataLine) (HeaderFault × ℕ)
+data_lines_of body = said_from Opening (numbered_lines body) >>= ended (length (lines body))
 
 -- a data line with its reading
 abbrev pub read_of : DataLine → Line
-read_of data_line = record { number = data_line.number; read = reading_of data_line.columns data_line.text }
+read_of data_line = record { number = data_line.number; read = reading_of (fields_of data_line.columns data_line.text) }
 
--- What is said where the lines of a batch break no rule of headers, by the place in which it ends: it has no line that
--- isn't blank; it ends inside a header, a fault of its last line; or all is well.
-abbrev pub ended : {A : Type 0} → Place → ℕ → A → Result A (HeaderFault × ℕ)
-ended Opening last x = Err (H1, 1)
-ended Header last x = Err (H2, last)
-ended Listing last x = Ok x
-
--- this, where the headers of a batch have no fault; else their first fault, with its line
-abbrev pub unless_faulty : {A : Type 0} → List ℕ → A → Result A (HeaderFault × ℕ)
-unless_faulty body x = do
-  place ← walked Opening (filled_lines (numbered_lines body))
-  ended place (length (lines body)) x
+abbrev pub all_read : List DataLine → Result (List Line) (HeaderFault × ℕ)
+all_read data_lines = Ok (map read_of data_lines)
 
 -- what a batch says: each of its data lines with its reading; or the first fault of its headers, with its line
 unfoldable pub psv_lines_of : List ℕ → Result (List Line) (HeaderFault × ℕ)
-psv_lines_of body = unless_faulty body (map read_of (data_lines_of body))
+psv_lines_of body = data_lines_of body >>= all_read
+
+-- the line has the number of this data line, and what it says is the data line's reading
+abbrev pub IsReadFrom : DataLine → Line → Type 0
+IsReadFrom data_line line =
+    (line.number ≡ data_line.number) × IsReading (fields_of data_line.columns data_line.text) line.read
+
+-- each data line of the batch stands in the list in its place, with its number and its reading
+abbrev pub AreReadFrom : List ℕ → List Line → Type 0
+AreReadFrom body found = (data_lines : List DataLine) × (data_lines_of body ≡ Ok data_lines) × AllZip IsReadFrom data_lines found
 
 -- the observations among the lines have their fields in their ranges
 abbrev pub AreInRange : List Line → Type 0

@@ -3,6 +3,7 @@ use Rattle.std.specs.Prelude.{ℕ, Bool, false, ◌==◌, nat_eq, List, [], ◌�
 use Rattle.std.specs.List.{slice_split}
 use Rattle.std.specs.Cmp.Lexicographic.{pointwise}
 use Rattle.ascii_text.specs.Blanks.{trimmed}
+use Rattle.ascii_text.specs.Bytes.{vertical_bar}
 
 -- the text is this word
 abbrev pub is_word : List ℕ → List ℕ → Bool
@@ -15,14 +16,14 @@ begins_with byte (first ∷ line) = first == byte
 
 -- what stands between the bars of a line, blanks included
 abbrev pub pieces : List ℕ → List (List ℕ)
-pieces line = slice_split (λ byte. byte == 124) line
+pieces line = slice_split (λ byte. byte == vertical_bar) line
 
 -- the cells of a line: what stands between its bars, without the blanks round it
 unfoldable pub cells : List ℕ → List (List ℕ)
 cells line = map trimmed (pieces line)
 
--- the cell of a line in this column, the columns counted from 0; it is empty where the line has fewer cells, or where
--- there is no such column
-unfoldable pub field : Option ℕ → List ℕ → List ℕ
-field None line = []
-field (Some place) line = unwrap_or (slice_get (cells line) place) []
+-- the cell in this column, the columns counted from 0; it is empty where there are fewer cells, or where there is no
+-- such column
+abbrev pub cell_in : Option ℕ → List (List ℕ) → List ℕ
+cell_in None cells = []
+cell_in (Some place) cells = unwrap_or (slice_get cells place) []

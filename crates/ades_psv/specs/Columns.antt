@@ -1,5 +1,5 @@
 -- The columns that a column header names.
-use Rattle.std.specs.Prelude.{ℕ, Bool, false, not, ◌&&◌, ◌||◌, if◌then◌else◌, ◌==◌, List, [], ◌∷◌, length, codes, Option, Some, None}
+use Rattle.std.specs.Prelude.{ℕ, Bool, false, not, ◌&&◌, ◌||◌, if◌then◌else◌, ◌==◌, List, [], ◌∷◌, length, codes, Option, is_some, Result, Ok, Err}
 use Rattle.std.specs.List.{list_any, position_from}
 use Rattle.obs_record.specs.declared.rule.HeaderFault.{HeaderFault}
 use Rattle.obs_record.specs.declared.rule.HeaderFault.TheVariants.{H3, H4, H5}
@@ -40,13 +40,13 @@ columns_named names = record {
   count = length names;
 }
 
--- the columns of a column header
-abbrev pub columns_of : List ℕ → Columns
-columns_of line = columns_named (cells line)
+-- these columns, or the first of H3, H4 and H5 that their names break
+abbrev pub checked : Columns → List (List ℕ) → Result Columns HeaderFault
+checked columns names =
+    if not (is_some columns.ra && is_some columns.dec) then Err H3
+    else (if has_column (codes "pos1") names then Err H4
+    else (if has_twice names then Err H5 else Ok columns))
 
--- the first of H3, H4 and H5 that a column header with these names breaks
-unfoldable pub column_fault : List (List ℕ) → Option HeaderFault
-column_fault names =
-    if not (has_column (codes "ra") names && has_column (codes "dec") names) then Some H3
-    else (if has_column (codes "pos1") names then Some H4
-    else (if has_twice names then Some H5 else None))
+-- the columns of a column header, or the first rule that it breaks
+unfoldable pub columns_of : List ℕ → Result Columns HeaderFault
+columns_of line = checked (columns_named (cells line)) (cells line)

@@ -1,89 +1,75 @@
 -- A batch that is fed in pieces.
-use Rattle.std.specs.Prelude.{◌≡◌, ℕ, ◌==◌, List, [], ◌∷◌, ◌++◌, map, Option, Some, None, Result, Ok, Err}
-use Rattle.std.specs.List.{slice_split, enumerate_from}
-use Rattle.std.specs.Str.Lines.{strip_carriage_return}
+use Rattle.std.specs.Prelude.{◌≡◌, ℕ, ◌+◌, ◌==◌, List, [], ◌∷◌, ◌++◌, length, map, Option, Some, None, Result, Ok, Err, IsOk, IsErr}
+use Rattle.std.specs.List.{enumerate_from}
+use Rattle.std.specs.Str.Lines.{lines}
 use Rattle.obs_record.specs.declared.rule.HeaderFault.{HeaderFault}
 use Rattle.obs_record.specs.declared.line.Line.{Line}
 use Rattle.ades_psv.specs.declared.fault.PsvFault.{PsvFault}
 use Rattle.ades_psv.specs.declared.fault.PsvFault.TheVariants as faults
 use Rattle.ades_psv.specs.declared.header.Place.{Place}
 use Rattle.ades_psv.specs.declared.header.Place.TheVariants.{Opening}
-use Rattle.ades_psv.specs.Headers.{walked, fault_in}
-use Rattle.ades_psv.specs.Batch.{filled_lines, psv_lines_of}
+use Rattle.text_lines.specs.Steps.{◌>>=◌}
+use Rattle.text_lines.specs.Pieces.{complete_lines, unfinished}
+use Rattle.ades_psv.specs.Batch.{DataLine, said_from, ended, read_of}
 
--- the parts of a text between line feeds
-abbrev pub parts : List ℕ → List (List ℕ)
-parts text = slice_split (λ byte. byte == 10) text
+-- How far a batch was read whose headers have no fault so far.
+pub record Progress : Type 0 where
+  -- the place in which the unfinished line stands
+  pub place : Place
+  -- how many lines are complete
+  pub count : ℕ
+  -- the data lines among them, with their readings
+  pub found : List Line
+  -- the unfinished line: what stands behind the last line feed
+  pub rest : List ℕ
 
--- all parts but the last
-abbrev pub front_parts : List (List ℕ) → List (List ℕ)
-front_parts [] = []
-front_parts (part ∷ []) = []
-front_parts (part ∷ next ∷ more) = part ∷ front_parts (next ∷ more)
-
--- the last part
-abbrev pub last_part : List (List ℕ) → List ℕ
-last_part [] = []
-last_part (part ∷ []) = part
-last_part (part ∷ next ∷ more) = last_part (next ∷ more)
-
--- the lines of a text that a line feed ends
-unfoldable pub complete_lines : List ℕ → List (List ℕ)
-complete_lines text = map strip_carriage_return (front_parts (parts text))
-
--- what stands behind the last line feed
-unfoldable pub unended : List ℕ → List ℕ
-unended text = last_part (parts text)
-
--- where the line behind a text's complete lines stands, the first of which stands in this place and has this number; or
--- the first fault in them, with its line
-abbrev pub walked_text : Place → ℕ → List ℕ → Result Place (HeaderFault × ℕ)
-walked_text place number text = walked place (filled_lines (enumerate_from number (complete_lines text)))
-
--- the first fault that stands in a complete line, with that line's number
-unfoldable pub complete_fault : List ℕ → Option (HeaderFault × ℕ)
-complete_fault text = fault_in (walked_text Opening 1 text)
-
--- what was fed to a reader, and the fault that it told, if it told one
-pub record Fed : Type 0 where
-  pub text : List ℕ
-  pub told : Option (HeaderFault × ℕ)
+-- what a reader has come to: how far the batch was read, or the first fault of its headers, with its line
+abbrev pub Fed : Type 0
+Fed = Result Progress (HeaderFault × ℕ)
 
 -- nothing was fed yet
 abbrev pub unfed : Fed
-unfed = record { text = []; told = None }
+unfed = Ok (record { place = Opening; count = 0; found = []; rest = [] })
 
-abbrev pub fed_behind : List ℕ → Option (HeaderFault × ℕ) → List ℕ → Fed
-fed_behind text None piece = record { text = text ++ piece; told = complete_fault (text ++ piece) }
-fed_behind text (Some fault) piece = record { text = text; told = Some fault }
+-- what is reached behind these lines, which end those that were complete so far, and this rest
+abbrev pub reached : Progress → List (List ℕ) → List ℕ → Place × List DataLine → Fed
+reached progress complete rest end = Ok (record {
+  place = end.0;
+  count = progress.count + length complete;
+  found = progress.found ++ map read_of end.1;
+  rest = rest;
+})
 
--- One more piece was fed: it stands behind the others, and the first fault of the complete lines is told. Once a fault
--- was told nothing changes.
+-- the unfinished line goes on with this text: the lines that are now complete are read
+unfoldable pub read_on : Progress → List ℕ → Fed
+read_on progress text =
+    said_from progress.place (enumerate_from (progress.count + 1) (complete_lines (progress.rest ++ text)))
+    >>= reached progress (complete_lines (progress.rest ++ text)) (unfinished (progress.rest ++ text))
+
+-- One more piece was fed. Once there is a fault nothing changes.
 abbrev pub fed : Fed → List ℕ → Fed
-fed before piece = fed_behind before.text before.told piece
+fed (Ok progress) piece = read_on progress piece
+fed (Err fault) piece = Err fault
 
 -- the pieces were fed, in their order
 abbrev pub fed_all : Fed → List (List ℕ) → Fed
 fed_all before [] = before
 fed_all before (piece ∷ pieces) = fed_all (fed before piece) pieces
 
--- the pieces, one behind the other
-abbrev pub joined : List (List ℕ) → List ℕ
-joined [] = []
-joined (piece ∷ pieces) = piece ++ joined pieces
-
--- the fault that was told, or what the text says
-abbrev pub finished_from : List ℕ → Option (HeaderFault × ℕ) → Result (List Line) (HeaderFault × ℕ)
-finished_from text None = psv_lines_of text
-finished_from text (Some fault) = Err fault
+-- nothing follows: the unfinished line is one more line where it isn't empty
+unfoldable pub read_end : Progress → Result (List Line) (HeaderFault × ℕ)
+read_end progress = do
+  end ← said_from progress.place (enumerate_from (progress.count + 1) (lines progress.rest))
+  ended (progress.count + length (lines progress.rest)) (end.0, progress.found ++ map read_of end.1)
 
 -- what a reader says in the end
 abbrev pub finished : Fed → Result (List Line) (HeaderFault × ℕ)
-finished before = finished_from before.text before.told
+finished (Ok progress) = read_end progress
+finished (Err fault) = Err fault
 
 -- what a reader does with a piece: all is well so far, or the first fault is told; or memory was wanting, and nothing
 -- was fed
 abbrev pub Feeds : Fed → List ℕ → Fed → Result (Unit {0}) PsvFault → Type 0
-Feeds before piece after (Ok _) = (after ≡ fed before piece) × (after.told ≡ None)
-Feeds before piece after (Err (faults.Header fault line)) = (after ≡ fed before piece) × (after.told ≡ Some (fault, line))
+Feeds before piece after (Ok _) = (after ≡ fed before piece) × IsOk after
+Feeds before piece after (Err (faults.Header fault line)) = (after ≡ fed before piece) × (after ≡ Err (fault, line))
 Feeds before piece after (Err faults.NoMemory) = after ≡ before

@@ -10,13 +10,13 @@ use Rattle.obs_record.specs.declared.sighting.Coded.TheVariants.{Word}
 use Rattle.obs_record.specs.declared.sighting.Shape.TheVariants.{Psv}
 use Rattle.obs_record.specs.declared.sighting.Sighting.{Sighting}
 use Rattle.obs_record.specs.Short.{kept_short}
-use Rattle.ades_psv.specs.declared.columns.Columns.{Columns}
 use Rattle.ades_psv.specs.declared.names.Names.{Names}
 use Rattle.ades_psv.specs.declared.position.Stated.{Stated}
 use Rattle.ades_psv.specs.declared.position.Position.{Position}
-use Rattle.ades_psv.specs.Steps.{◌>>=◌, or_breaks}
-use Rattle.ades_psv.specs.Cells.{cells, field}
-use Rattle.ades_psv.specs.Magnitudes.{is_empty, magnitude_in}
+use Rattle.text_lines.specs.Steps.{◌>>=◌, or_breaks}
+use Rattle.ades_psv.specs.Fields.{Fields}
+use Rattle.ades_psv.specs.Optional.{is_empty, unless_empty}
+use Rattle.ades_psv.specs.Magnitudes.{value_of, places_of, magnitude_in}
 use Rattle.ades_psv.specs.Names.{number_in, designation_in, temporary_in}
 use Rattle.ades_psv.specs.Rules.{coded}
 
@@ -25,20 +25,12 @@ abbrev pub is_text_byte : ℕ → Bool
 is_text_byte byte = nat_le 32 byte && not (byte == 127)
 
 -- rules S2 and S3: the number and the designation
-unfoldable pub names_in : Columns → List ℕ → Result Names RuleCode
-names_in columns line =
-    if not (list_all is_text_byte line) then Err S2
-    else (number_in (field columns.perm line) >>= λ number.
-    designation_in (field columns.prov line) >>= λ designation.
+unfoldable pub names_in : Fields → Result Names RuleCode
+names_in fields =
+    if not (list_all is_text_byte fields.line) then Err S2
+    else (number_in fields.perm >>= λ number.
+    designation_in fields.prov >>= λ designation.
     Ok (record { perm = number; prov = designation }))
-
-abbrev pub some_of : {A : Type 0} → Result A RuleCode → Result (Option A) RuleCode
-some_of (Ok x) = Ok (Some x)
-some_of (Err rule) = Err rule
-
--- what a field says that may be empty
-abbrev pub unless_empty : {A : Type 0} → List ℕ → Result A RuleCode → Result (Option A) RuleCode
-unless_empty text read = if is_empty text then Ok None else some_of read
 
 -- the time in a field
 unfoldable pub time_in : List ℕ → Result (Option ℤ) RuleCode
@@ -53,26 +45,26 @@ unfoldable pub dec_in : List ℕ → Result (Option ℤ) RuleCode
 dec_in text = unless_empty text (or_breaks S7 (dec_degrees_of text))
 
 -- rules S5 to S7: what is said of when and where
-unfoldable pub stated_in : Columns → List ℕ → Result Stated RuleCode
-stated_in columns line = do
-  time ← time_in (field columns.time line)
-  ra ← ra_in (field columns.ra line)
-  dec ← dec_in (field columns.dec line)
+unfoldable pub stated_in : Fields → Result Stated RuleCode
+stated_in fields = do
+  time ← time_in fields.time
+  ra ← ra_in fields.ra
+  dec ← dec_in fields.dec
   Ok (record { time = time; ra = ra; dec = dec })
 
 -- one of the fields that a line has beside time and place is missing
-unfoldable pub lacks_field : Columns → List ℕ → Bool
-lacks_field columns line =
-    is_empty (field columns.station line) || (is_empty (field columns.mode line) || is_empty (field columns.catalogue line))
+unfoldable pub lacks_field : Fields → Bool
+lacks_field fields =
+    is_empty fields.station || (is_empty fields.mode || is_empty fields.catalogue)
 
 -- all three names are missing
-unfoldable pub lacks_name : Columns → List ℕ → Bool
-lacks_name columns line =
-    is_empty (field columns.perm line) && (is_empty (field columns.prov line) && is_empty (field columns.sub line))
+unfoldable pub lacks_name : Fields → Bool
+lacks_name fields =
+    is_empty fields.perm && (is_empty fields.prov && is_empty fields.sub)
 
 -- a magnitude has no band
-unfoldable pub lacks_band : Columns → List ℕ → Bool
-lacks_band columns line = not (is_empty (field columns.mag line)) && is_empty (field columns.band line)
+unfoldable pub lacks_band : Fields → Bool
+lacks_band fields = not (is_empty fields.mag) && is_empty fields.band
 
 -- what is stated, or rule S11 where it is missing
 abbrev pub required : {A : Type 0} → Option A → Result A RuleCode
@@ -88,36 +80,36 @@ position_from stated = do
   Ok (record { time = time; ra = ra; dec = dec })
 
 -- rules S10 and S11: when and where, where no field is too many and none is missing
-unfoldable pub position_in : Columns → List ℕ → Stated → Result Position RuleCode
-position_in columns line stated =
-    if not (nat_le (length (cells line)) columns.count) then Err S10
-    else (if lacks_field columns line || (lacks_name columns line || lacks_band columns line) then Err S11
+unfoldable pub position_in : Fields → Stated → Result Position RuleCode
+position_in fields stated =
+    if not (nat_le fields.count fields.columns) then Err S10
+    else (if lacks_field fields || (lacks_name fields || lacks_band fields) then Err S11
     else position_from stated)
 
 -- the observation of what was read, and of the fields that any text may stand in
-abbrev pub observed : Columns → List ℕ → Names → Position → Option ℕ × ℕ → Option Short → Sighting
-observed columns line names at mag sub = record {
+abbrev pub observed : Fields → Names → Position → Option (ℕ × ℕ) → Option Short → Sighting
+observed fields names at mag sub = record {
   perm = names.perm;
   prov = names.prov;
   sub = sub;
-  station = kept_short (field columns.station line);
+  station = kept_short fields.station;
   time = at.time;
   ra = at.ra;
   dec = at.dec;
-  mag = mag.0;
-  band = coded (field columns.band line);
-  mode = Word (kept_short (field columns.mode line));
-  catalogue = Word (kept_short (field columns.catalogue line));
+  mag = value_of mag;
+  band = coded fields.band;
+  mode = Word (kept_short fields.mode);
+  catalogue = Word (kept_short fields.catalogue);
   note1 = 32;
-  shape = Psv mag.1;
+  shape = Psv (places_of mag);
 }
 
 -- what a data line says
-unfoldable pub reading_of : Columns → List ℕ → Result Sighting RuleCode
-reading_of columns line = do
-  names ← names_in columns line
-  stated ← stated_in columns line
-  mag ← magnitude_in (field columns.mag line)
-  at ← position_in columns line stated
-  sub ← temporary_in (field columns.sub line)
-  Ok (observed columns line names at mag sub)
+unfoldable pub reading_of : Fields → Result Sighting RuleCode
+reading_of fields = do
+  names ← names_in fields
+  stated ← stated_in fields
+  mag ← magnitude_in fields.mag
+  at ← position_in fields stated
+  sub ← temporary_in fields.sub
+  Ok (observed fields names at mag sub)

@@ -1,27 +1,28 @@
--- The headers of a text, gone through up to the last line feed.
-use Rattle.std.specs.Prelude.{◌≡◌, ℕ, ◌+◌, ◌<◌, ◌≤◌, List, length, drop, Result, Ok, Err}
+-- Lines that are read one after another, from what was reached so far.
+use Rattle.std.specs.Prelude.{◌≡◌, ℕ, ◌+◌, List, ◌++◌, length, map, Result, Ok, Err}
+use Rattle.std.specs.List.{enumerate_from}
 use Rattle.ades_psv.specs.declared.fault.PsvFault.{PsvFault}
 use Rattle.ades_psv.specs.declared.fault.PsvFault.TheVariants as faults
-use Rattle.ades_psv.specs.declared.header.Place.{Place}
-use Rattle.ades_psv.specs.declared.header.Place.TheVariants.{Opening}
 use Rattle.ades_psv.specs.declared.walking.Reached.{Reached}
-use Rattle.ades_psv.specs.Feeding.{complete_lines, unended, walked_text}
+use Rattle.ades_psv.specs.Batch.{DataLine, Said, said_from, read_of}
 
--- the line behind the complete lines: where it stands, its number, and where it begins
-pub record IsReached (place : Place) (number : ℕ) (text : List ℕ) (reached : Reached) : Type 0 where
-  pub walk : walked_text place number text ≡ Ok reached.place
-  pub count : reached.number ≡ number + length (complete_lines text)
-  pub few : reached.number ≤ number + reached.start
-  pub within : reached.start ≤ length text
-  pub rest : drop reached.start text ≡ unended text
+-- what lines say behind those that were read
+abbrev pub said_behind : Reached → List (List ℕ) → Said
+said_behind reached lines = said_from reached.place (enumerate_from (reached.count + 1) lines)
 
--- the line behind the complete lines is reached, or the first fault in them is met; or memory was wanting
-abbrev pub Reaches : Place → ℕ → List ℕ → Result Reached PsvFault → Type 0
-Reaches place number text (Ok reached) = IsReached place number text reached
-Reaches place number text (Err (faults.Header fault line)) = walked_text place number text ≡ Err (fault, line)
-Reaches place number text (Err faults.NoMemory) = Unit {0}
+-- the lines have no fault, and their data lines with their readings stand behind those that were found before
+pub record HasRead (before : Reached) (lines : List (List ℕ)) (after : Reached) : Type 0 where
+  pub data_lines : List DataLine
+  pub said : said_behind before lines ≡ Ok (after.place, data_lines)
+  pub count : after.count ≡ before.count + length lines
+  pub found : after.found ≡ before.found ++ map read_of data_lines
 
--- a text that is short enough to have its lines numbered, and that was gone through
-pub record IsUnderWay (text : List ℕ) (reached : Reached) : Type 0 where
-  pub room : length text < 4294967295
-  pub gone : IsReached Opening 1 text reached
+-- this is the first fault in the lines; or memory was refused
+abbrev pub Fails : Reached → List (List ℕ) → PsvFault → Type 0
+Fails before lines (faults.Header fault line) = said_behind before lines ≡ Err (fault, line)
+Fails before lines faults.NoMemory = Unit {0}
+
+-- the lines were read, or they fail
+abbrev pub Reads : {A : Type 0} → Reached → List (List ℕ) → Reached → Result A PsvFault → Type 0
+Reads before lines after (Ok x) = HasRead before lines after
+Reads before lines after (Err fault) = Fails before lines fault

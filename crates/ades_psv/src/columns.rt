@@ -2,7 +2,7 @@
 
 ghost use Rattle.std.specs.Prelude.{◌≡◌, IfOk};
 ghost use Rattle.ades_psv.specs.Cells.{cells};
-ghost use Rattle.ades_psv.specs.Columns.{has_column, has_twice, columns_named, columns_of, column_fault};
+ghost use Rattle.ades_psv.specs.Columns.{has_column, has_twice, columns_named, columns_of};
 
 use crate::cells::{count_cells, first_cell, place_of};
 use item_list::NoMemory;
@@ -28,10 +28,10 @@ pub(crate) struct Columns {
     pub(crate) count: usize,
 }
 
-/// The columns of a column header.
+/// Where the columns stand that a column header names.
 #[tactic(auto, unfolding(crate::specs::Columns::columns_named))]
-pub(crate) fn columns_of(line: &[u8]) -> Columns
-    ensures { result ≡ columns_of line.now }
+fn columns_named(line: &[u8]) -> Columns
+    ensures { result ≡ columns_named (cells line.now) }
 {
     Columns {
         perm: place_of(b"permID", line),
@@ -74,18 +74,24 @@ fn has_column(name: &[u8], line: &[u8]) -> bool
     place_of(name, line).is_some()
 }
 
-/// The first of H3, H4 and H5 that a column header breaks: it lacks the right ascension or the declination, it has a
-/// position of the observer, or a column stands twice.
-#[tactic(auto, unfolding(crate::specs::Columns::column_fault))]
-pub(crate) fn column_fault(alloc: Global, line: &[u8]) -> Result<Option<HeaderFault>, NoMemory>
-    ensures { IfOk result (λ fault. fault ≡ column_fault (cells line.now)) }
+/// The columns of a column header, or the first of H3, H4 and H5 that it breaks: it lacks the right ascension or the
+/// declination, it has a position of the observer, or a column stands twice. Takes memory for the names.
+#[tactic(auto, unfolding(crate::specs::Columns::columns_of))]
+pub(crate) fn columns_of(
+    alloc: Global,
+    line: &[u8],
+) -> Result<Result<Columns, HeaderFault>, NoMemory>
+    ensures { IfOk result (λ columns. columns ≡ columns_of line.now) }
 {
-    if !(has_column(b"ra", line) && has_column(b"dec", line)) {
-        return Ok(Some(HeaderFault::H3));
+    let columns = columns_named(line);
+    if columns.ra.is_none() || columns.dec.is_none() {
+        return Ok(Err(HeaderFault::H3));
     }
     if has_column(b"pos1", line) {
-        return Ok(Some(HeaderFault::H4));
+        return Ok(Err(HeaderFault::H4));
     }
-    let twice = has_twice(alloc, line)?;
-    Ok(twice.then_some(HeaderFault::H5))
+    if has_twice(alloc, line)? {
+        return Ok(Err(HeaderFault::H5));
+    }
+    Ok(Ok(columns))
 }

@@ -1,27 +1,35 @@
-//! The headers of a batch, line by line.
+//! What a line of a batch is, by the place in which it stands.
 
-ghost use Rattle.std.specs.Prelude.{◌≡◌, ◌∷◌, [], IfOk};
-ghost use Rattle.ades_psv.specs.Cells.{begins_with};
-ghost use Rattle.ades_psv.specs.Headers.{is_version, is_group, is_element, after, walked};
-ghost use Rattle.ades_psv.specs.Batch.{filled_lines};
-ghost use Rattle.ades_psv.specs.Steps.{IsAnswer};
+ghost use Rattle.std.specs.Prelude.{◌≡◌, IfOk};
+ghost use Rattle.ades_psv.specs.declared.header.Place.TheVariants as places;
+ghost use Rattle.ades_psv.specs.Headers.{is_version, is_group, is_element, filled_step, step};
 
-use crate::columns::column_fault;
-use crate::fault::PsvFault;
+use crate::columns::{Columns, columns_of};
 use ascii_text::blanks::{are_blanks, trimmed};
 use item_list::NoMemory;
 use obs_record::HeaderFault;
 use std::alloc::Global;
 
 /// Where a line of a batch stands.
-#[derive(Clone, Copy, PartialEq, Eq)]
+#[derive(Clone, Copy)]
 pub(crate) enum Place {
     /// Before all other lines: it is the line of the format's version.
     Opening,
     /// In a header, whose column header is still to come.
     Header,
-    /// Below a column header, among its data lines.
-    Listing,
+    /// Below a column header with these columns, among its data lines.
+    Listing(Columns),
+}
+
+/// What a line is.
+#[derive(Clone, Copy)]
+pub(crate) enum Step {
+    /// It leads on: the next line stands in this place.
+    On(Place),
+    /// It is a data line below these columns, and so may the next line be.
+    Data(Columns),
+    /// It breaks this rule of headers.
+    Fault(HeaderFault),
 }
 
 /// Whether the line is that of the format's version.
@@ -49,43 +57,34 @@ pub(crate) fn is_element(line: &[u8]) -> bool
     line.first() == Some(&b'!')
 }
 
-/// Where the line behind this one stands, which isn't blank; or what is wrong with this one. Takes memory.
-#[tactic(auto, unfolding(crate::specs::Headers::after))]
-fn after(alloc: Global, place: Place, line: &[u8]) -> Result<Result<Place, HeaderFault>, NoMemory>
-    ensures { IfOk result (λ next. next ≡ after place line.now) }
+/// What a line is that stands in a header and isn't blank. Takes memory.
+#[tactic(auto, unfolding(crate::specs::Headers::filled_step))]
+fn header_step(alloc: Global, line: &[u8]) -> Result<Step, NoMemory>
+    ensures { IfOk result (λ next. next ≡ filled_step places.Header line.now) }
 {
-    match place {
-        Place::Opening if is_version(line) => Ok(Ok(Place::Header)),
-        Place::Opening => Ok(Err(HeaderFault::H1)),
-        _ if is_group(line) => Ok(Ok(Place::Header)),
-        Place::Listing => Ok(Ok(Place::Listing)),
-        Place::Header if is_element(line) => Ok(Ok(Place::Header)),
-        Place::Header => match column_fault(alloc, line)? {
-            Some(fault) => Ok(Err(fault)),
-            None => Ok(Ok(Place::Listing)),
-        },
+    if is_group(line) || is_element(line) {
+        return Ok(Step::On(Place::Header));
+    }
+    match columns_of(alloc, line)? {
+        Ok(columns) => Ok(Step::On(Place::Listing(columns))),
+        Err(fault) => Ok(Step::Fault(fault)),
     }
 }
 
-/// Where the line behind this one stands; or the fault of this line, which has this number. A blank line is passed over.
-/// Takes memory.
-#[tactic(auto, unfolding(crate::specs::Headers::walked))]
-pub(crate) fn place_after(
-    alloc: Global,
-    place: Place,
-    number: u32,
-    line: &[u8],
-) -> Result<Place, PsvFault>
-    ensures { IsAnswer (walked place (filled_lines ((number, line.now) ∷ []))) result }
+/// What a line is that stands in this place. Takes memory while a column header is tested.
+#[tactic(auto, unfolding(crate::specs::Headers::step, crate::specs::Headers::filled_step))]
+pub(crate) fn step_at(alloc: Global, place: &Place, line: &[u8]) -> Result<Step, NoMemory>
+    ensures { IfOk result (λ next. next ≡ step place.now line.now) }
 {
     if are_blanks(line) {
-        return Ok(place);
+        return Ok(Step::On(*place));
     }
-    match after(alloc, place, line)? {
-        Ok(next) => Ok(next),
-        Err(fault) => Err(PsvFault::Header {
-            fault,
-            line: number,
-        }),
+    match place {
+        Place::Opening if is_version(line) => Ok(Step::On(Place::Header)),
+        Place::Opening => Ok(Step::Fault(HeaderFault::H1)),
+        Place::Header => header_step(alloc, line),
+        Place::Listing(_) if is_group(line) => Ok(Step::On(Place::Header)),
+        Place::Listing(_) if is_element(line) => Ok(Step::On(*place)),
+        Place::Listing(columns) => Ok(Step::Data(*columns)),
     }
 }

@@ -1,33 +1,64 @@
 //! Laws of the format, for all batches and lines. Nothing runs here: what the functions promise is the law.
 
-ghost use Rattle.std.specs.Prelude.{◌≡◌, ◌↔◌, ℕ, true, ◌∷◌, ◌++◌, List, codes, Some, Err, Result};
+ghost use Rattle.std.specs.Prelude.{◌≡◌, ◌↔◌, ℕ, true, ◌∷◌, ◌++◌, List, codes, Ok, Err, Result};
+ghost use Rattle.std.specs.List.{Contains};
 ghost use Rattle.ascii_text.specs.Blanks.{blanks};
 ghost use Rattle.obs_record.specs.declared.rule.HeaderFault.{HeaderFault};
 ghost use Rattle.obs_record.specs.declared.rule.RuleCode.{RuleCode};
 ghost use Rattle.obs_record.specs.declared.sighting.Sighting.{Sighting};
-ghost use Rattle.ades_psv.specs.declared.columns.Columns.{Columns};
+ghost use Rattle.ades_psv.specs.Fields.{Fields};
+ghost use Rattle.text_lines.specs.Pieces.{joined};
 ghost use Rattle.ades_psv.specs.Headers.{is_version};
 ghost use Rattle.ades_psv.specs.Rules.{IsReading};
-ghost use Rattle.ades_psv.specs.Batch.{psv_lines_of};
-ghost use Rattle.ades_psv.specs.Feeding.{complete_fault, unfed, fed_all, joined, finished};
+ghost use Rattle.text_lines.specs.Lines.{numbered_lines};
+ghost use Rattle.ades_psv.specs.Batch.{DataLine, data_lines_of, psv_lines_of};
+ghost use Rattle.ades_psv.specs.Standing.{StandsBelow};
+ghost use Rattle.ades_psv.specs.Feeding.{unfed, fed, fed_all, finished};
+
+use text_lines::laws;
 
 /// In whatever pieces a batch comes, it says the same.
 pub fn any_pieces()
     ensures { (pieces : List (List ℕ)) → finished (fed_all unfed pieces) ≡ psv_lines_of (joined pieces) }
-{}
+{
+    laws::lines();
+}
+
+/// What a reader has come to rests on the text that was fed, and not on its pieces.
+pub fn one_text()
+    ensures { (pieces : List (List ℕ)) → fed_all unfed pieces ≡ fed unfed (joined pieces) }
+{
+    laws::lines();
+}
 
 /// The first fault in the complete lines of the front of a batch is the fault of the batch, whatever may follow.
 pub fn faults_stay()
-    ensures { (text more : List ℕ) (fault : HeaderFault × ℕ) → complete_fault text ≡ Some fault → psv_lines_of (text ++ more) ≡ Err fault }
+    ensures { (text more : List ℕ) (fault : HeaderFault × ℕ) → fed unfed text ≡ Err fault → psv_lines_of (text ++ more) ≡ Err fault }
+{
+    laws::lines();
+}
+
+/// The data lines of a batch are the lines below a column header: each has the columns of the nearest column header above
+/// it, which breaks no rule, and each line that stands so is a data line.
+pub fn nearest_header()
+    ensures { (body : List ℕ) (data_lines : List DataLine) → data_lines_of body ≡ Ok data_lines → (data_line : DataLine) → Contains data_lines data_line ↔ StandsBelow (numbered_lines body) data_line }
 {}
 
 /// The line of the version is `#`, blanks, `version=2017` and blanks, no blank being asked for.
 pub fn version_line()
     ensures { (line : List ℕ) → (is_version line ≡ true) ↔ ((before : ℕ) × (after : ℕ) × (line ≡ 35 ∷ (blanks before ++ (codes "version=2017" ++ blanks after)))) }
-{}
+{
+    ascii_text::laws::texts();
+}
 
-/// A data line below a column header has one reading, and no two.
+/// A data line has one reading, and no two.
 pub fn one_reading()
-    ensures some { (columns : Columns) (line : List ℕ) → (reading : Result Sighting RuleCode) × IsReading columns line reading }
-    ensures only { (columns : Columns) (line : List ℕ) (one other : Result Sighting RuleCode) → IsReading columns line one → IsReading columns line other → one ≡ other }
-{}
+    ensures some { (fields : Fields) → (reading : Result Sighting RuleCode) × IsReading fields reading }
+    ensures only { (fields : Fields) (one other : Result Sighting RuleCode) → IsReading fields one → IsReading fields other → one ≡ other }
+{
+    ascii_text::laws::texts();
+    angle_fixed::laws::angles();
+    obs_time::laws::times();
+    packed_names::laws::names();
+    obs_record::laws::records();
+}

@@ -15,12 +15,10 @@
 
 mod cells;
 mod columns;
-mod cutting;
 mod fault;
+mod fields;
 mod header;
 pub mod laws;
-mod lines;
-mod listing;
 mod magnitude;
 mod names;
 mod position;

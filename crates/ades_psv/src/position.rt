@@ -1,10 +1,10 @@
 //! When and where something was observed.
 
 ghost use Rattle.std.specs.Prelude.{◌≡◌};
+ghost use Rattle.ades_psv.specs.Cutting.{seen};
 ghost use Rattle.ades_psv.specs.Reading.{time_in, ra_in, dec_in, stated_in, position_from};
 
-use crate::cells::field;
-use crate::columns::Columns;
+use crate::fields::Fields;
 use angle_fixed::{Dec, Ra, read_dec_degrees, read_ra_degrees};
 use obs_record::RuleCode;
 use obs_time::{Instant, read_iso};
@@ -69,12 +69,12 @@ fn dec_in(text: &[u8]) -> Result<Option<Dec>, RuleCode>
 
 /// What a data line states of when and where, or the first broken rule of S5 to S7.
 #[tactic(auto, unfolding(crate::specs::Reading::stated_in))]
-pub(crate) fn stated_in(columns: &Columns, line: &[u8]) -> Result<Stated, RuleCode>
-    ensures { result ≡ stated_in columns.now line.now }
+pub(crate) fn stated_in(fields: &Fields) -> Result<Stated, RuleCode>
+    ensures { result ≡ stated_in (seen fields.now) }
 {
-    let time = time_in(field(columns.time, line))?;
-    let ra = ra_in(field(columns.ra, line))?;
-    let dec = dec_in(field(columns.dec, line))?;
+    let time = time_in(fields.time)?;
+    let ra = ra_in(fields.ra)?;
+    let dec = dec_in(fields.dec)?;
     Ok(Stated { time, ra, dec })
 }
 

@@ -1,45 +1,79 @@
 //! The reader of a batch.
 
-ghost use Rattle.std.specs.Prelude.{◌≡◌, ℕ, ◌+◌, ◌<◌, ◌++◌, Some, None, length, IfOk, IfSome, OnOk, Err};
-ghost use Rattle.std.specs.List.{AllZip};
+ghost use Rattle.std.specs.Prelude.{◌≡◌, ℕ, List, ◌+◌, ◌<◌, ◌≤◌, ◌++◌, length, take, IfOk, IfErr, OnOk, OnErr, Ok, Err};
+ghost use Rattle.text_lines.specs.Lines.{IsNumberable};
+ghost use Rattle.text_lines.specs.Pieces.{complete_lines, unfinished};
 ghost use Rattle.ades_psv.specs.declared.fault.PsvFault.TheVariants as faults;
-ghost use Rattle.ades_psv.specs.Batch.{psv_lines_of, data_lines_of, IsReadFrom, AreInRange};
-ghost use Rattle.ades_psv.specs.Steps.{IsAnswer};
-ghost use Rattle.ades_psv.specs.Feeding.{complete_fault, unfed, Feeds, finished};
-ghost use Rattle.obs_record.specs.declared.rule.HeaderFault.{HeaderFault};
+ghost use Rattle.ades_psv.specs.Answers.{IsAnswer};
+ghost use Rattle.ades_psv.specs.Batch.{psv_lines_of, AreReadFrom, AreInRange};
+ghost use Rattle.ades_psv.specs.Walking.{Reads};
+ghost use Rattle.ades_psv.specs.Feeding.{unfed, fed, Feeds, finished};
 
 use crate::fault::PsvFault;
 use crate::header::Place;
-use crate::listing::read_lines;
-use crate::walking::{Reached, walk_end, walk_on};
-use item_list::NoMemory;
+use crate::reading::reads_right;
+use crate::walking::{Reached, ended};
+use item_list::{Bytes, NoMemory};
 use obs_record::{HeaderFault, Lines};
 use std::alloc::Global;
 use std::marker::Model;
+use text_lines::laws;
+use text_lines::pieces::line_end;
 
 /// A reader of a batch that comes in pieces.
 ///
-/// It keeps the bytes that were fed, and the fault that it told. The headers are gone through as their lines come, and the
-/// data lines are read in the end.
+/// Lines are read as they come. Of the text the reader keeps the unfinished last line alone.
 #[derive(Drop)]
 pub struct PsvReader {
     alloc: Global,
-    text: Vec<u8>,
-    told: Option<(HeaderFault, u32)>,
-    /// The line that isn't finished yet, where no fault was told.
     reached: Reached,
+    /// What stands behind the last line feed.
+    rest: Bytes,
+    /// The fault that was told.
+    told: Option<(HeaderFault, u32)>,
 }
 
 impl Model for PsvReader {
     ghost use Rattle.std.specs.Prelude.{◌≡◌, None};
     ghost use Rattle.ades_psv.specs.Feeding.{Fed};
-    ghost use Rattle.ades_psv.specs.Walking.{IsUnderWay};
 
     ghost Value = { Fed };
 
-    ghost view = { λ r. record { text = r.text.items; told = r.told } };
+    ghost use Rattle.ades_psv.specs.Readers.{what_is_fed, IsUnderWay};
 
-    ghost invariant = { λ r. r.told ≡ None → IsUnderWay r.text.items r.reached };
+    ghost view = { λ r. what_is_fed r.reached r.rest r.told };
+
+    ghost invariant = { λ r. r.told ≡ None → IsUnderWay r.reached r.rest };
+}
+
+/// Reads the lines that a piece ends, the first of which begins in the rest; what stands behind the last line feed is the
+/// rest from then on. Takes memory. After a fault the rest and what was found are those before with something behind.
+fn read_piece(
+    alloc: Global,
+    reached: &mut Reached,
+    rest: &mut Bytes,
+    piece: &[u8],
+) -> Result<(), PsvFault>
+    requires alone { unfinished rest.old ≡ rest.old }
+    requires room { reached.old.count + length rest.old + length piece.now < 4294967295 }
+    ensures exact { Reads reached.old (complete_lines (rest.old ++ piece.now)) reached.new result }
+    ensures rest { OnOk result (rest.new ≡ unfinished (rest.old ++ piece.now)) }
+    ensures alone { OnOk result (unfinished rest.new ≡ rest.new) }
+    ensures few { OnOk result (reached.new.count + length rest.new ≤ reached.old.count + length rest.old + length piece.now) }
+    ensures kept_found { take (length reached.old.found) reached.new.found ≡ reached.old.found }
+    ensures kept_rest { OnErr result (take (length rest.old) rest.new ≡ rest.old) }
+    ensures range { AreInRange reached.old.found → AreInRange reached.new.found }
+{
+    laws::lines();
+    let Some((front, behind)) = line_end(piece) else {
+        rest.extend_from_slice(piece)?;
+        return Ok(());
+    };
+    rest.extend_from_slice(front)?;
+    reached.read_complete(alloc, rest.as_slice())?;
+    let unfinished = reached.read_complete(alloc, behind)?;
+    *rest = Bytes::from_slice(alloc, unfinished)?;
+    Ok(())
 }
 
 impl PsvReader {
@@ -49,13 +83,13 @@ impl PsvReader {
     {
         Ok(PsvReader {
             alloc,
-            text: Vec::new(alloc),
-            told: None,
             reached: Reached {
                 place: Place::Opening,
-                number: 1,
-                start: 0,
+                count: 0,
+                found: Lines::new(alloc),
             },
+            rest: Bytes::new(alloc),
+            told: None,
         })
     }
 
@@ -63,35 +97,37 @@ impl PsvReader {
     ///
     /// The answer is Header once a line with a fault of the headers is complete, that is, once its line feed was fed; the
     /// fault is the first of the batch. From then on the answer is the same, and the piece is let go. After NoMemory the
-    /// reader is as it was, and the piece may be fed again. Takes memory for the piece, and while a column header is
-    /// tested, for its names.
+    /// reader is as it was, and the piece may be fed again. Where no fault was told, the complete lines so far, the bytes
+    /// of the unfinished line and those of the piece are together fewer than 4,294,967,295, as they are where all pieces
+    /// together have fewer bytes. Takes memory for the lines that are read and for the unfinished line, and while a
+    /// column header is tested, for its names.
     pub fn feed(&mut self, piece: &[u8]) -> Result<(), PsvFault>
-        requires { self.old.told ≡ None → length self.old.text + length piece.now < 4294967295 }
+        requires { IfOk self.old (λ progress. progress.count + length progress.rest + length piece.now < 4294967295) }
         ensures exact { Feeds self.old piece.now self.new result }
-        // The piece stands behind the others, and no complete line breaks a rule of headers.
-        ensures ok { OnOk result ((self.new.text ≡ self.old.text ++ piece.now) × (complete_fault self.new.text ≡ None)) }
-        // Header exactly where the complete lines have a fault, their first one.
-        ensures header { (fault : HeaderFault) (line : ℕ) → self.old.told ≡ None → result ≡ Err (faults.Header fault line) → complete_fault (self.old.text ++ piece.now) ≡ Some (fault, line) }
         // Once a fault was told, it is told again, and memory isn't wanting.
-        ensures stays { IfSome self.old.told (λ fault. (result ≡ Err (faults.Header fault.0 fault.1)) × (self.new ≡ self.old)) }
+        ensures stays { IfErr self.old (λ fault. (result ≡ Err (faults.Header fault.0 fault.1)) × (self.new ≡ self.old)) }
         ensures no_memory { result ≡ Err faults.NoMemory → self.new ≡ self.old }
     {
         if let Some((fault, line)) = self.told {
             return Err(PsvFault::Header { fault, line });
         }
-        let before = self.text.len();
-        self.text.extend_from_slice(piece)?;
-        match walk_on(self.alloc, self.text.as_slice(), before, self.reached) {
-            Ok(reached) => {
-                self.reached = reached;
-                Ok(())
-            }
+        let before = (
+            self.reached.place,
+            self.reached.count,
+            self.reached.found.len(),
+        );
+        let unfinished = self.rest.len();
+        match read_piece(self.alloc, &mut self.reached, &mut self.rest, piece) {
+            Ok(()) => Ok(()),
             Err(PsvFault::Header { fault, line }) => {
                 self.told = Some((fault, line));
                 Err(PsvFault::Header { fault, line })
             }
             Err(PsvFault::NoMemory) => {
-                self.text.truncate(before);
+                self.reached.place = before.0;
+                self.reached.count = before.1;
+                self.reached.found.truncate(before.2);
+                self.rest.truncate(unfinished);
                 Err(PsvFault::NoMemory)
             }
         }
@@ -101,20 +137,24 @@ impl PsvReader {
     ///
     /// The fault is the one that was told, or the first of the batch that wasn't told, since no line feed ends its line
     /// or since it is one of the whole batch: it has no line that isn't blank (H1, line 1), or it ends inside a header
-    /// (H2, its last line). Takes memory for the list.
+    /// (H2, its last line). Takes memory for the last line.
     pub fn finish(self) -> Result<Lines, PsvFault>
         ensures exact { IsAnswer (finished self) result }
-        ensures told { IfSome self.told (λ fault. result ≡ Err (faults.Header fault.0 fault.1)) }
-        // Each data line stands there in its place, with the reading of its fields.
-        ensures lines { IfOk result (λ found. AllZip IsReadFrom (data_lines_of self.text) found) }
+        ensures told { IfErr self (λ fault. result ≡ Err (faults.Header fault.0 fault.1)) }
         ensures range { IfOk result AreInRange }
     {
         if let Some((fault, line)) = self.told {
             return Err(PsvFault::Header { fault, line });
         }
-        walk_end(self.alloc, self.text.as_slice(), self.reached)?;
-        let found = read_lines(self.alloc, self.text.as_slice())?;
-        Ok(found)
+        let PsvReader {
+            alloc,
+            mut reached,
+            rest,
+            ..
+        } = self;
+        reached.read_last(alloc, rest.as_slice())?;
+        ended(&reached.place, reached.count)?;
+        Ok(reached.found)
     }
 }
 
@@ -123,14 +163,17 @@ impl PsvReader {
 /// The batch is cut into lines at line feeds; a carriage return before a line feed belongs to it, and what stands behind
 /// the last line feed is a line where it isn't empty. Lines count from 1, all of them. Lines of blanks alone are passed
 /// over. The first other line is `# version=2017`; the lines of headers begin with `#` or `!`; the first line below them is
-/// the column header, and data lines follow, up to the next line that begins with `#`. Takes memory.
+/// the column header, and data lines follow, up to the next line that begins with `#`. The batch has fewer than
+/// 4,294,967,295 bytes. Takes memory.
 pub fn read_psv(alloc: Global, body: &[u8]) -> Result<Lines, PsvFault>
-    requires { length body.now < 4294967295 }
+    requires { IsNumberable body.now }
     ensures exact { IsAnswer (psv_lines_of body.now) result }
     // Each data line stands there in its place, with the reading of its fields.
-    ensures lines { IfOk result (λ found. AllZip IsReadFrom (data_lines_of body.now) found) }
+    ensures lines { IfOk result (λ found. AreReadFrom body.now found) }
     ensures range { IfOk result AreInRange }
 {
+    laws::lines();
+    reads_right();
     let mut reader = PsvReader::new(alloc)?;
     reader.feed(body)?;
     reader.finish()

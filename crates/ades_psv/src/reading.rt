@@ -1,19 +1,18 @@
 //! The reading of a data line.
 
-ghost use Rattle.std.specs.Prelude.{◌≡◌, ◌<◌, ◌≤◌, Result, IfOk, pos, neg_ℤ, ◌≤ℤ◌};
+ghost use Rattle.std.specs.Prelude.{◌≡◌, ◌<◌, ◌≤◌, IfOk, pos, neg_ℤ, ◌≤ℤ◌};
 ghost use Rattle.std.specs.List.{list_all};
 ghost use Rattle.angle_fixed.specs.Angles.{circle, quarter};
 ghost use Rattle.obs_time.specs.Instants.{IsInstantNs};
-ghost use Rattle.obs_record.specs.declared.rule.RuleCode.{RuleCode};
 ghost use Rattle.obs_record.specs.declared.sighting.Coded.TheVariants.{Word};
-ghost use Rattle.obs_record.specs.declared.sighting.Sighting.{Sighting};
 ghost use Rattle.obs_record.specs.Short.{kept_short};
 ghost use Rattle.obs_record.specs.Sighting.{IsSighting};
+ghost use Rattle.ades_psv.specs.Cutting.{seen};
+ghost use Rattle.ades_psv.specs.Fields.{Fields as Texts};
 ghost use Rattle.ades_psv.specs.Rules.{IsReading, coded};
 ghost use Rattle.ades_psv.specs.Reading.{is_text_byte, names_in, lacks_field, lacks_name, lacks_band, position_in, observed, reading_of};
 
-use crate::cells::{count_cells, field};
-use crate::columns::Columns;
+use crate::fields::Fields;
 use crate::magnitude::magnitude_in;
 use crate::names::{Names, designation_in, number_in, temporary_in};
 use crate::position::{Position, Stated, position_from, stated_in};
@@ -28,54 +27,50 @@ fn are_text(line: &[u8]) -> bool
 
 /// The number and the designation, or the first broken rule of S2 and S3.
 #[tactic(auto, unfolding(crate::specs::Reading::names_in))]
-fn names_in(columns: &Columns, line: &[u8]) -> Result<Names, RuleCode>
-    ensures { result ≡ names_in columns.now line.now }
+fn names_in(fields: &Fields) -> Result<Names, RuleCode>
+    ensures { result ≡ names_in (seen fields.now) }
 {
-    if !are_text(line) {
+    if !are_text(fields.line) {
         return Err(RuleCode::S2);
     }
-    let perm = number_in(field(columns.perm, line))?;
-    let prov = designation_in(field(columns.prov, line))?;
+    let perm = number_in(fields.perm)?;
+    let prov = designation_in(fields.prov)?;
     Ok(Names { perm, prov })
 }
 
 /// Whether the station, the mode or the catalogue is missing.
 #[tactic(auto, unfolding(crate::specs::Reading::lacks_field))]
-fn lacks_field(columns: &Columns, line: &[u8]) -> bool
-    ensures { result ≡ lacks_field columns.now line.now }
+fn lacks_field(fields: &Fields) -> bool
+    ensures { result ≡ lacks_field (seen fields.now) }
 {
-    field(columns.station, line).is_empty()
-        || field(columns.mode, line).is_empty()
-        || field(columns.catalogue, line).is_empty()
+    fields.station.is_empty() || fields.mode.is_empty() || fields.catalogue.is_empty()
 }
 
 /// Whether number, designation and temporary designation are all missing.
 #[tactic(auto, unfolding(crate::specs::Reading::lacks_name))]
-fn lacks_name(columns: &Columns, line: &[u8]) -> bool
-    ensures { result ≡ lacks_name columns.now line.now }
+fn lacks_name(fields: &Fields) -> bool
+    ensures { result ≡ lacks_name (seen fields.now) }
 {
-    field(columns.perm, line).is_empty()
-        && field(columns.prov, line).is_empty()
-        && field(columns.sub, line).is_empty()
+    fields.perm.is_empty() && fields.prov.is_empty() && fields.sub.is_empty()
 }
 
 /// Whether there is a magnitude whose band is missing.
 #[tactic(auto, unfolding(crate::specs::Reading::lacks_band))]
-fn lacks_band(columns: &Columns, line: &[u8]) -> bool
-    ensures { result ≡ lacks_band columns.now line.now }
+fn lacks_band(fields: &Fields) -> bool
+    ensures { result ≡ lacks_band (seen fields.now) }
 {
-    !field(columns.mag, line).is_empty() && field(columns.band, line).is_empty()
+    !fields.mag.is_empty() && fields.band.is_empty()
 }
 
 /// When and where, or the first broken rule of S10 and S11.
 #[tactic(auto, unfolding(crate::specs::Reading::position_in))]
-fn position_in(columns: &Columns, line: &[u8], stated: Stated) -> Result<Position, RuleCode>
-    ensures { result ≡ position_in columns.now line.now stated }
+fn position_in(fields: &Fields, stated: Stated) -> Result<Position, RuleCode>
+    ensures { result ≡ position_in (seen fields.now) stated }
 {
-    if count_cells(line) > columns.count {
+    if fields.count > fields.columns {
         return Err(RuleCode::S10);
     }
-    if lacks_field(columns, line) || lacks_name(columns, line) || lacks_band(columns, line) {
+    if lacks_field(fields) || lacks_name(fields) || lacks_band(fields) {
         return Err(RuleCode::S11);
     }
     position_from(stated)
@@ -101,57 +96,71 @@ fn word(text: &[u8]) -> Coded
 
 /// The observation of a line whose parts were read.
 fn observed(
-    columns: &Columns,
-    line: &[u8],
+    fields: &Fields,
     names: Names,
     at: Position,
-    magnitude: (Option<u32>, u8),
+    magnitude: Option<(u32, u8)>,
     sub: Option<Short>,
 ) -> Sighting
-    ensures { result ≡ observed columns.now line.now names at magnitude sub }
+    ensures { result ≡ observed (seen fields.now) names at magnitude sub }
 {
     Sighting {
         perm: names.perm,
         prov: names.prov,
         sub,
-        station: Short::new(field(columns.station, line)),
+        station: Short::new(fields.station),
         time: at.time,
         ra: at.ra,
         dec: at.dec,
-        mag: magnitude.0,
-        band: coded(field(columns.band, line)),
-        mode: word(field(columns.mode, line)),
-        catalogue: word(field(columns.catalogue, line)),
+        mag: magnitude.map(|(value, _)| value),
+        band: coded(fields.band),
+        mode: word(fields.mode),
+        catalogue: word(fields.catalogue),
         note1: b' ',
-        shape: Shape::Psv { mag: magnitude.1 },
+        shape: Shape::Psv {
+            mag: magnitude.map_or(0, |(_, places)| places),
+        },
     }
 }
 
 /// What a data line says.
 #[tactic(auto, unfolding(crate::specs::Reading::reading_of))]
-fn reading(columns: &Columns, line: &[u8]) -> Result<Sighting, RuleCode>
-    ensures exact { result ≡ reading_of columns.now line.now }
+fn reading(fields: &Fields) -> Result<Sighting, RuleCode>
+    ensures exact { result ≡ reading_of (seen fields.now) }
     ensures time { IfOk result (λ s. IsInstantNs s.time) }
     ensures angles { IfOk result (λ s. (s.ra < circle) × (neg_ℤ (pos quarter) ≤ℤ s.dec) × (s.dec ≤ℤ pos quarter)) }
 {
-    let names = names_in(columns, line)?;
-    let stated = stated_in(columns, line)?;
-    let magnitude = magnitude_in(field(columns.mag, line))?;
-    let at = position_in(columns, line, stated)?;
-    let sub = temporary_in(field(columns.sub, line))?;
-    Ok(observed(columns, line, names, at, magnitude, sub))
+    let names = names_in(fields)?;
+    let stated = stated_in(fields)?;
+    let magnitude = magnitude_in(fields.mag)?;
+    let at = position_in(fields, stated)?;
+    let sub = temporary_in(fields.sub)?;
+    Ok(observed(fields, names, at, magnitude, sub))
 }
 
-/// What a data line below these columns says: the observation, or the first rule of S2, S3, S5, S6, S7, S9, S10, S11 and
+/// What a data line with these fields says: the observation, or the first rule of S2, S3, S5, S6, S7, S9, S10, S11 and
 /// S12 that the line breaks.
 ///
 /// The rules are tested in this order. Takes no memory.
-pub(crate) fn read_line(columns: &Columns, line: &[u8]) -> Result<Sighting, RuleCode>
-    ensures exact { result ≡ reading_of columns.now line.now }
-    // The observation is that of the fields; or the rule is the first that the line breaks.
-    ensures answer { IsReading columns.now line.now result }
-    ensures only { (other : Result Sighting RuleCode) → IsReading columns.now line.now other → other ≡ result }
+pub(crate) fn read_fields(fields: &Fields) -> Result<Sighting, RuleCode>
+    ensures exact { result ≡ reading_of (seen fields.now) }
     ensures range { IfOk result IsSighting }
 {
-    reading(columns, line)
+    ascii_text::laws::texts();
+    angle_fixed::laws::angles();
+    obs_time::laws::times();
+    packed_names::laws::names();
+    obs_record::laws::records();
+    reading(fields)
+}
+
+/// What is read from a data line is its reading. Nothing runs here: what the function promises is the law.
+pub(crate) fn reads_right()
+    ensures { (fields : Texts) → IsReading fields (reading_of fields) }
+{
+    ascii_text::laws::texts();
+    angle_fixed::laws::angles();
+    obs_time::laws::times();
+    packed_names::laws::names();
+    obs_record::laws::records();
 }

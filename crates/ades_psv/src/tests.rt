@@ -1,5 +1,4 @@
 use super::*;
-use item_list::NoMemory;
 use obs_record::{
     Coded, HeaderFault, Line, Lines, RuleCode, Shape, Short, Sighting, TrackName, track_name,
 };
@@ -7,27 +6,34 @@ use packed_names::{Designation, HalfMonth, Number, Provisional, Survey};
 use std::alloc::Global;
 use std::test::*;
 
-/// What is said of a batch that isn't long.
-fn said(alloc: Global, body: &[u8]) -> Result<Lines, PsvFault> {
+/// What is said of a batch that isn't long and has these parts, one behind the other.
+fn said(alloc: Global, parts: &[&[u8]]) -> Result<Lines, PsvFault> {
+    let mut body = Vec::new(alloc);
+    for part in parts {
+        body.extend_from_slice(part)?;
+    }
     if body.len() > 9999 {
         return Ok(Lines::new(alloc));
     }
-    read_psv(alloc, body)
+    read_psv(alloc, &body)
 }
 
-/// What the only line of a batch says, which stands below this column header.
-fn read_below(alloc: Global, columns: &[u8], line: &[u8]) -> Result<Line, Fail> {
-    let mut body = Vec::new(alloc);
-    body.extend_from_slice(b"# version=2017\n")?;
-    body.extend_from_slice(columns)?;
-    body.push(b'\n')?;
-    body.extend_from_slice(line)?;
-    let lines = said(alloc, &body).ok().ok_or("the headers have no fault")?;
-    if lines.len() != 1 {
-        return Err("the batch has one line".into());
+/// The only line of a batch; none where it has a fault, or not one line.
+fn only_line(said: &Result<Lines, PsvFault>) -> Option<Line> {
+    match said {
+        Ok(lines) if lines.len() == 1 => lines.get(0).copied(),
+        _ => None,
     }
-    Ok(*lines.get(0).ok_or("the batch has a line")?)
 }
+
+/// The number of the only line of a batch, and the rule that it breaks.
+fn only_rule(alloc: Global, parts: &[&[u8]]) -> Option<(u32, Option<RuleCode>)> {
+    let line = only_line(&said(alloc, parts))?;
+    Some((line.number, line.read.err()))
+}
+
+/// The first line of a batch.
+const VERSION: &[u8] = b"# version=2017\n";
 
 /// The columns of an observation under a temporary designation.
 const COLUMNS: &[u8] = b"trkSub|mode|stn|obsTime|ra|dec|astCat|mag|band";
@@ -45,16 +51,17 @@ const FIELDS: [&[u8]; 9] = [
     b"V",
 ];
 
-/// The line of these fields with another text in one of them.
-fn line_with(alloc: Global, place: usize, text: &[u8]) -> Result<Vec<u8>, NoMemory> {
-    let mut line = Vec::new(alloc);
-    for (k, field) in FIELDS.iter().enumerate() {
-        if k > 0 {
-            line.push(b'|')?;
-        }
-        line.extend_from_slice(if k == place { text } else { *field })?;
+/// The parts of a batch of a line of these fields, with another text in one of them.
+fn batch_with(place: usize, text: &'static [u8]) -> [&'static [u8]; 20] {
+    let mut f = FIELDS;
+    if place < 9 {
+        f[place] = text;
     }
-    Ok(line)
+    let bar: &[u8] = b"|";
+    [
+        VERSION, COLUMNS, b"\n", f[0], bar, f[1], bar, f[2], bar, f[3], bar, f[4], bar, f[5], bar,
+        f[6], bar, f[7], bar, f[8],
+    ]
 }
 
 /// A field, another text in it, and the rule that the line then breaks.
@@ -155,17 +162,11 @@ fn fields() -> [(usize, &'static [u8], Option<RuleCode>); 79] {
 }
 
 #[test]
-fn breaks_the_first_rule(rt: HostRuntime) -> Result<(), Fail> {
+fn breaks_the_first_rule(rt: HostRuntime) {
     for (place, text, rule) in fields() {
-        let line = line_with(rt.alloc(), place, text)?;
-        let read = read_below(rt.alloc(), COLUMNS, &line)?;
-        assert_eq!(rt;
-            (read.number, read.read.err()),
-            (3, rule),
-            "{text:?} in field {place}"
-        );
+        let found = only_rule(rt.alloc(), &batch_with(place, text));
+        assert_eq!(rt; found, Some((3, rule)), "{text:?} in field {place}");
     }
-    Ok(())
 }
 
 /// Whole lines below the same columns, and the rule that each breaks.
@@ -203,12 +204,11 @@ fn lines() -> [(&'static [u8], Option<RuleCode>); 9] {
 }
 
 #[test]
-fn reads_lines_with_fewer_fields(rt: HostRuntime) -> Result<(), Fail> {
+fn reads_lines_with_fewer_fields(rt: HostRuntime) {
     for (line, rule) in lines() {
-        let read = read_below(rt.alloc(), COLUMNS, line)?;
-        assert_eq!(rt; read.read.err(), rule, "{line:?}");
+        let found = only_rule(rt.alloc(), &[VERSION, COLUMNS, b"\n", line]);
+        assert_eq!(rt; found, Some((3, rule)), "{line:?}");
     }
-    Ok(())
 }
 
 /// A temporary designation.
@@ -244,16 +244,26 @@ fn names() -> [(&'static [u8], Result<TrackName, RuleCode>); 16] {
     ]
 }
 
-#[test]
-fn reads_names(rt: HostRuntime) -> Result<(), Fail> {
-    for (text, name) in names() {
-        let mut line = Vec::from_slice(rt.alloc(), text)?;
-        line.extend_from_slice(b"|CCD|703|2024-03-15T23:59:59.999Z|150.0|-5.5|Gaia3")?;
-        let columns = b"permID|provID|trkSub|mode|stn|obsTime|ra|dec|astCat";
-        let read = read_below(rt.alloc(), columns, &line)?;
-        assert_eq!(rt; read.read.map(|s| track_name(&s)), name, "{text:?}");
+/// The columns of names, and the fields behind these.
+const NAME_COLUMNS: &[u8] = b"permID|provID|trkSub|mode|stn|obsTime|ra|dec|astCat\n";
+
+const BEHIND_NAMES: &[u8] = b"|CCD|703|2024-03-15T23:59:59.999Z|150.0|-5.5|Gaia3";
+
+/// The name of the only line of a batch, or the rule that the line breaks.
+fn only_name(alloc: Global, parts: &[&[u8]]) -> Option<Result<TrackName, RuleCode>> {
+    let line = only_line(&said(alloc, parts))?;
+    match line.read {
+        Ok(sighting) => Some(Ok(track_name(&sighting))),
+        Err(rule) => Some(Err(rule)),
     }
-    Ok(())
+}
+
+#[test]
+fn reads_names(rt: HostRuntime) {
+    for (text, name) in names() {
+        let found = only_name(rt.alloc(), &[VERSION, NAME_COLUMNS, text, BEHIND_NAMES]);
+        assert_eq!(rt; found, Some(name), "{text:?}");
+    }
 }
 
 /// A batch of four lines in two tracklets.
@@ -272,24 +282,31 @@ fn word(text: &[u8]) -> Coded {
     Coded::Word(Short::new(text))
 }
 
+/// The observation in a place of a batch.
+fn sighting_at(said: &Result<Lines, PsvFault>, place: u64) -> Option<Sighting> {
+    match said {
+        Ok(lines) => lines.get(place)?.read.ok(),
+        Err(_) => None,
+    }
+}
+
+/// The observation in the first line of that batch: 2024-03-15T23:59:59.999Z, 150 and -5.5 degrees of 9,000,000,000,000
+/// units.
+fn is_first(s: &Sighting) -> bool {
+    s.time.ns() == 1_710_547_199_999_000_000
+        && s.ra.units() == 1_350_000_000_000_000
+        && s.dec.units() == -49_500_000_000_000
+}
+
 #[test]
 fn reads_the_fields(rt: HostRuntime) -> Result<(), Fail> {
-    let lines = said(rt.alloc(), BATCH).ok().ok_or("no fault")?;
-    let numbers: [u32; 4] = [5, 6, 7, 8];
-    assert_eq!(rt; lines.len(), 4);
-    for (line, number) in lines.iter().zip(numbers) {
-        assert_eq!(rt; (line.number, line.read.is_ok()), (number, true));
-    }
-    let first = lines.get(0).and_then(|line| line.read.ok()).ok_or("read")?;
+    let lines = said(rt.alloc(), &[BATCH]);
+    let first = sighting_at(&lines, 0).ok_or("the first line is read")?;
+    let third = sighting_at(&lines, 2).ok_or("the third line is read")?;
+    assert!(rt; is_first(&first));
     assert_eq!(rt;
         (first.perm, first.prov, first.sub),
         (None, None, Some(Short::new(b"AAA1")))
-    );
-    // 2024-03-15T23:59:59.999Z, 150 and -5.5 degrees of 9,000,000,000,000 units
-    assert_eq!(rt; first.time.ns(), 1_710_547_199_999_000_000);
-    assert_eq!(rt;
-        (first.ra.units(), first.dec.units()),
-        (1_350_000_000_000_000, -49_500_000_000_000)
     );
     assert_eq!(rt;
         (first.mag, first.shape),
@@ -300,7 +317,6 @@ fn reads_the_fields(rt: HostRuntime) -> Result<(), Fail> {
         (word(b"V"), word(b"CCD"), word(b"Gaia3"))
     );
     assert_eq!(rt; (first.station, first.note1), (Short::new(b"703"), b' '));
-    let third = lines.get(2).and_then(|line| line.read.ok()).ok_or("read")?;
     assert_eq!(rt;
         (third.mag, third.band, third.shape),
         (None, Coded::Nothing, Shape::Psv { mag: 0 })
@@ -399,7 +415,7 @@ fn faulty() -> [(&'static [u8], HeaderFault, u32); 32] {
 fn finds_the_first_fault(rt: HostRuntime) {
     for (body, fault, line) in faulty() {
         assert_eq!(rt;
-            said(rt.alloc(), body).err(),
+            said(rt.alloc(), &[body]).err(),
             Some(PsvFault::Header { fault, line }),
             "{body:?}"
         );
@@ -407,26 +423,46 @@ fn finds_the_first_fault(rt: HostRuntime) {
 }
 
 /// Batches without a fault in their headers, and the numbers of their lines, 0 for none.
-fn sound() -> [(&'static [u8], [u32; 2]); 8] {
+fn sound() -> [(&'static [u8], [u32; 4]); 9] {
     [
-        (b"# version=2017\nra|dec\n", [0, 0]),
-        (b"# version=2017\nra|dec", [0, 0]),
+        (BATCH, [5, 6, 7, 8]),
+        (b"# version=2017\nra|dec\n", [0, 0, 0, 0]),
+        (b"# version=2017\nra|dec", [0, 0, 0, 0]),
         (
             b"\n#version=2017\r\n\r\n! x\r\n ra || dec || \r\n! y\r\n \r\nAAA1\r\n",
-            [8, 0],
+            [8, 0, 0, 0],
         ),
         (
             b"# version=2017\ntrkSub|mode|stn|obsTime|ra|dec|astCat|mag|band|rmsRA\nAAA1",
-            [3, 0],
+            [3, 0, 0, 0],
         ),
-        (b"# version=2017\nra|dec\nAAA1\n!\n \nAAA1\n!", [3, 6]),
+        (b"# version=2017\nra|dec\nAAA1\n!\n \nAAA1\n!", [3, 6, 0, 0]),
         (
             b"# version=2017\nra|dec\nAAA1\n# second\n# third\n! x\ndec|ra\nAAA1",
-            [3, 8],
+            [3, 8, 0, 0],
         ),
-        (b"# version=2017\nra|dec\n version=2017\n # x\n", [3, 4]),
-        (b"# version=2017\nra|dec|Ra|RA|ra1|ra 1\nra|dec\n", [3, 0]),
+        (
+            b"# version=2017\nra|dec\n version=2017\n # x\n",
+            [3, 4, 0, 0],
+        ),
+        (
+            b"# version=2017\nra|dec|Ra|RA|ra1|ra 1\nra|dec\n",
+            [3, 0, 0, 0],
+        ),
     ]
+}
+
+/// The numbers of the lines of a batch, 0 for none; none of them where it has a fault or more than four lines.
+fn numbers(said: &Result<Lines, PsvFault>) -> Option<[u32; 4]> {
+    match said {
+        Ok(lines) if lines.len() <= 4 => Some([
+            number_at(lines, 0),
+            number_at(lines, 1),
+            number_at(lines, 2),
+            number_at(lines, 3),
+        ]),
+        _ => None,
+    }
 }
 
 /// The number of a line, 0 where there is none.
@@ -435,14 +471,11 @@ fn number_at(lines: &Lines, place: u64) -> u32 {
 }
 
 #[test]
-fn passes_over_headers_and_blank_lines(rt: HostRuntime) -> Result<(), Fail> {
-    for (body, numbers) in sound() {
-        let lines = said(rt.alloc(), body).ok().ok_or("no fault")?;
-        let found = [number_at(&lines, 0), number_at(&lines, 1)];
-        assert_eq!(rt; found, numbers, "{body:?}");
-        assert!(rt; lines.len() <= 2);
+fn passes_over_headers_and_blank_lines(rt: HostRuntime) {
+    for (body, wanted) in sound() {
+        let found = numbers(&said(rt.alloc(), &[body]));
+        assert_eq!(rt; found, Some(wanted), "{body:?}");
     }
-    Ok(())
 }
 
 /// A batch of two headers with other columns.
@@ -457,15 +490,13 @@ ra|notes|dec| trkSub |astCat|stn|  mode|obsTime|remarks
 ";
 
 #[test]
-fn reads_each_line_below_its_columns(rt: HostRuntime) -> Result<(), Fail> {
-    let lines = said(rt.alloc(), TWO_HEADERS).ok().ok_or("no fault")?;
-    assert_eq!(rt; lines.len(), 3);
-    let first: Option<Sighting> = lines.get(0).and_then(|line| line.read.ok());
-    assert!(rt; first.is_some());
-    for line in lines.iter() {
-        assert_eq!(rt; line.read.ok(), first);
+fn reads_each_line_below_its_columns(rt: HostRuntime) {
+    let lines = said(rt.alloc(), &[TWO_HEADERS]);
+    for place in 0..3 {
+        let found = sighting_at(&lines, place);
+        assert!(rt; found.is_some_and(|s| is_first(&s)), "line {place}");
     }
-    Ok(())
+    assert_eq!(rt; numbers(&lines), Some([3, 7, 8, 0]));
 }
 
 /// What is said of a batch that isn't long and comes in pieces of this size.
@@ -492,21 +523,33 @@ fn is_same(one: &Result<Lines, PsvFault>, other: &Result<Lines, PsvFault>) -> bo
     }
 }
 
-#[test]
-fn says_the_same_in_any_pieces(rt: HostRuntime) {
-    let bodies: [&[u8]; 4] = [
+/// Batches that are fed in pieces: two whole ones, one that ends in a carriage return, one with a fault.
+fn fed_batches() -> [&'static [u8]; 4] {
+    [
         BATCH,
         TWO_HEADERS,
         b"\r\n# version=2017\r\n! x\r\nra|dec\r\nAAA1\r",
         b"# version=2017\nra\r\n# second",
-    ];
-    for body in bodies {
-        let whole = said(rt.alloc(), body);
+    ]
+}
+
+/// Whether a batch says the same in pieces of this size as whole.
+fn is_same_in_pieces(alloc: Global, body: &[u8], size: usize) -> bool {
+    is_same(&said_in_pieces(alloc, body, size), &said(alloc, &[body]))
+}
+
+#[test]
+fn says_the_same_in_any_pieces(rt: HostRuntime) {
+    for body in fed_batches() {
         for size in [1, 2, 3, 7] {
-            let fed = said_in_pieces(rt.alloc(), body, size);
-            assert!(rt; is_same(&fed, &whole), "{body:?} in pieces of {size}");
+            let same = is_same_in_pieces(rt.alloc(), body, size);
+            assert!(rt; same, "{body:?} in pieces of {size}");
         }
     }
+}
+
+#[test]
+fn finds_the_first_fault_in_any_pieces(rt: HostRuntime) {
     for (body, fault, line) in faulty() {
         let fed = said_in_pieces(rt.alloc(), body, 3);
         assert_eq!(rt;
@@ -514,6 +557,56 @@ fn says_the_same_in_any_pieces(rt: HostRuntime) {
             Some(PsvFault::Header { fault, line }),
             "{body:?}"
         );
+    }
+}
+
+/// The last line of a batch as it ends, its number and the rule that it breaks. A carriage return that no line feed
+/// follows belongs to its line, and is no byte of a text.
+fn endings() -> [(&'static [u8], Option<(u32, Option<RuleCode>)>); 4] {
+    [
+        (
+            b"AAA1|CCD|703|2024-03-15T23:59:59.999Z|150.0|-5.5|Gaia3",
+            Some((3, None)),
+        ),
+        (
+            b"AAA1|CCD|703|2024-03-15T23:59:59.999Z|150.0|-5.5|Gaia3\r\n",
+            Some((3, None)),
+        ),
+        (
+            b"AAA1|CCD|703|2024-03-15T23:59:59.999Z|150.0|-5.5|Gaia3\r",
+            Some((3, Some(RuleCode::S2))),
+        ),
+        (
+            b"AAA1|CCD|703|2024-03-15T23:59:59.999Z|150.0|-5.5|Gaia3\r\r\n",
+            Some((3, Some(RuleCode::S2))),
+        ),
+    ]
+}
+
+/// The number of the only line of a batch that ends so, fed in two pieces, the second of which has so many bytes, and the
+/// rule that the line breaks.
+fn rule_cut_apart(alloc: Global, end: &[u8], last: usize) -> Option<(u32, Option<RuleCode>)> {
+    let mut reader = PsvReader::new(alloc).ok()?;
+    reader
+        .feed(b"# version=2017\ntrkSub|mode|stn|obsTime|ra|dec|astCat\n")
+        .ok()?;
+    if end.len() > 99 || last > end.len() {
+        return None;
+    }
+    let (front, back) = end.split_at(end.len() - last);
+    reader.feed(front).ok()?;
+    reader.feed(back).ok()?;
+    let line = only_line(&reader.finish())?;
+    Some((line.number, line.read.err()))
+}
+
+#[test]
+fn cuts_a_line_end_apart(rt: HostRuntime) {
+    for (end, wanted) in endings() {
+        for last in 0..3 {
+            let found = rule_cut_apart(rt.alloc(), end, last);
+            assert_eq!(rt; found, wanted, "{end:?}, the last {last} bytes apart");
+        }
     }
 }
 

@@ -1,77 +1,97 @@
-//! The headers of a text, gone through line by line.
+//! The lines of a batch, read one after another.
 
-ghost use Rattle.std.specs.Prelude.{◌≡◌, ◌+◌, ◌<◌, ◌≤◌, length, take};
-ghost use Rattle.ades_psv.specs.declared.header.Place.TheVariants.{Opening};
-ghost use Rattle.ades_psv.specs.Steps.{IsAnswer};
-ghost use Rattle.ades_psv.specs.Batch.{ended, unless_faulty};
-ghost use Rattle.ades_psv.specs.Walking.{IsReached, Reaches};
+ghost use Rattle.std.specs.Prelude.{◌≡◌, ◌+◌, ◌<◌, ◌≤◌, [], ◌∷◌, length, take, IfOk};
+ghost use Rattle.std.specs.Str.Lines.{lines};
+ghost use Rattle.text_lines.specs.Pieces.{complete_lines, unfinished};
+ghost use Rattle.ades_psv.specs.Answers.{IsAnswer};
+ghost use Rattle.ades_psv.specs.Batch.{ended, AreInRange};
+ghost use Rattle.ades_psv.specs.Walking.{Reads};
 
-use crate::cutting::cut;
 use crate::fault::PsvFault;
-use crate::header::{Place, place_after};
-use crate::lines::next_complete;
-use obs_record::HeaderFault;
+use crate::fields::cut_fields;
+use crate::header::{Place, Step, step_at};
+use crate::reading::read_fields;
+use obs_record::{HeaderFault, Line, Lines};
 use std::alloc::Global;
+use text_lines::laws;
+use text_lines::lines::next_complete;
 
-/// The line behind those that were gone through.
-#[derive(Clone, Copy)]
+/// How far a batch was read.
+#[derive(Drop)]
 pub(crate) struct Reached {
-    /// Where it stands.
+    /// Where the next line stands.
     pub(crate) place: Place,
-    /// Its number.
-    pub(crate) number: u32,
-    /// The place of its first byte, counted from 0.
-    pub(crate) start: usize,
+    /// How many lines were read.
+    pub(crate) count: u32,
+    /// The data lines among them, with their readings.
+    pub(crate) found: Lines,
 }
 
-/// Goes through the lines of a text that line feeds end, the first of which stands in this place and has this number: the
-/// line behind them, or the first fault in them. Takes memory.
-fn walk(alloc: Global, text: &[u8], first: Place, from: u32) -> Result<Reached, PsvFault>
-    requires { length text.now + from ≤ 4294967295 }
-    ensures { Reaches first from text.now result }
-{
-    let mut place = first;
-    let mut number = from;
-    let mut rest = text;
-    'lines: while let Some((line, behind)) = next_complete(rest) {
-        place = place_after(alloc, place, number, line)?;
-        number += 1;
-        rest = behind;
+impl Reached {
+    /// Reads one more line. Takes memory.
+    pub(crate) fn read_line(&mut self, alloc: Global, line: &[u8]) -> Result<(), PsvFault>
+        requires { self.old.count < 4294967295 }
+        ensures exact { Reads self.old (line.now ∷ []) self.new result }
+        ensures kept { take (length self.old.found) self.new.found ≡ self.old.found }
+        ensures range { AreInRange self.old.found → AreInRange self.new.found }
+    {
+        let number = self.count + 1;
+        match step_at(alloc, &self.place, line)? {
+            Step::On(place) => self.place = place,
+            Step::Data(columns) => {
+                let read = read_fields(&cut_fields(&columns, line));
+                self.found.push(Line { number, read })?;
+            }
+            Step::Fault(fault) => {
+                return Err(PsvFault::Header {
+                    fault,
+                    line: number,
+                });
+            }
+        }
+        self.count = number;
+        Ok(())
     }
-    let start = text.len() - rest.len();
-    Ok(Reached {
-        place,
-        number,
-        start,
-    })
-}
 
-/// Goes on behind the lines that were gone through, where a text has grown behind its first bytes, so many of which were
-/// there. Looks at the unfinished line of those again only where a line feed came. Takes memory.
-pub(crate) fn walk_on(
-    alloc: Global,
-    text: &[u8],
-    before: usize,
-    reached: Reached,
-) -> Result<Reached, PsvFault>
-    requires within { before ≤ length text.now }
-    requires room { length text.now < 4294967295 }
-    requires so_far { IsReached Opening 1 (take before text.now) reached }
-    ensures { Reaches Opening 1 text.now result }
-{
-    let (_, more) = text.split_at(before);
-    if cut(b'\n', more).1.is_none() {
-        return Ok(reached);
+    /// Reads the lines of a text that line feeds end; what stands behind the last line feed is left. Takes memory.
+    pub(crate) fn read_complete<'a>(
+        &mut self,
+        alloc: Global,
+        text: &'a [u8],
+    ) -> Result<&'a [u8], PsvFault>
+        requires { self.old.count + length text.now ≤ 4294967295 }
+        ensures exact { Reads self.old (complete_lines text.now) self.new result }
+        ensures rest { IfOk result (λ rest. rest.now ≡ unfinished text.now) }
+        ensures few { IfOk result (λ rest. self.new.count + length rest.now ≤ self.old.count + length text.now) }
+        ensures kept { take (length self.old.found) self.new.found ≡ self.old.found }
+        ensures range { AreInRange self.old.found → AreInRange self.new.found }
+    {
+        let mut rest = text;
+        'lines: while let Some((line, behind)) = next_complete(rest) {
+            self.read_line(alloc, line)?;
+            rest = behind;
+        }
+        Ok(rest)
     }
-    let (_, rest) = text.split_at(reached.start);
-    let next = walk(alloc, rest, reached.place, reached.number)?;
-    let start = reached.start + next.start;
-    Ok(Reached { start, ..next })
+
+    /// Reads the last line, which no line feed ends; there is none where it is empty. Takes memory.
+    pub(crate) fn read_last(&mut self, alloc: Global, line: &[u8]) -> Result<(), PsvFault>
+        requires alone { unfinished line.now ≡ line.now }
+        requires room { self.old.count < 4294967295 }
+        ensures exact { Reads self.old (lines line.now) self.new result }
+        ensures range { AreInRange self.old.found → AreInRange self.new.found }
+    {
+        laws::lines();
+        if line.is_empty() {
+            return Ok(());
+        }
+        self.read_line(alloc, line)
+    }
 }
 
-/// The fault of a text without a faulty line that ends in this place, its last line having this number.
-fn ended(place: Place, last: u32) -> Result<(), PsvFault>
-    ensures { IsAnswer (ended place last tt) result }
+/// The fault of a batch without a faulty line that ends in this place, its last line having this number.
+pub(crate) fn ended(place: &Place, last: u32) -> Result<(), PsvFault>
+    ensures { IsAnswer (ended last (place.now, tt)) result }
 {
     match place {
         Place::Opening => Err(PsvFault::Header {
@@ -82,20 +102,6 @@ fn ended(place: Place, last: u32) -> Result<(), PsvFault>
             fault: HeaderFault::H2,
             line: last,
         }),
-        Place::Listing => Ok(()),
+        Place::Listing(_) => Ok(()),
     }
-}
-
-/// The first fault of a whole text whose complete lines were gone through: that of its last line, which no line feed
-/// ends, or one of its end. Takes memory.
-pub(crate) fn walk_end(alloc: Global, text: &[u8], reached: Reached) -> Result<(), PsvFault>
-    requires { IsReached Opening 1 text.now reached }
-    ensures { IsAnswer (unless_faulty text.now tt) result }
-{
-    let (_, rest) = text.split_at(reached.start);
-    if rest.is_empty() {
-        return ended(reached.place, reached.number - 1);
-    }
-    let place = place_after(alloc, reached.place, reached.number, rest)?;
-    ended(place, reached.number)
 }
