@@ -1,6 +1,6 @@
 -- What becomes of a request, question by question.
 use Rattle.std.proofs.Common.{◌≡◌, ℕ, ℤ, Bool, true, false, cond, List, ◌∷◌, length, ◌<◌, Option, Some, None, Result, Ok, Err, refl, sym, ap, subst, ◌∙◌, inl, inr, arith}
-use Rattle.std.specs.Prelude.{◌⊎◌, nat_le}
+use Rattle.std.specs.Prelude.{◌⊎◌, ◌+◌, nat_le}
 use Rattle.std.proofs.lemmas.Bool.Decides.{nat_tests}
 use Rattle.act_bodies.specs.declared.key.Key.{Key}
 use Rattle.station_tables.specs.Rows.{TableRows}
@@ -27,8 +27,10 @@ use Rattle.act_model.specs.Deeds.{deeds}
 use Rattle.act_model.specs.History.{Kept, kept, next_moment}
 use Rattle.act_model.specs.Refusals.{bytes_in, hear, deed_rows, work_out}
 use Rattle.act_model.specs.Step.{Outcome, Refuses, Keeps, Adds, outcome, unless_unheard, heard_step, act_step, unless_kept, unless_refused, new_entry, step, after}
-use Rattle.desk_core.specs.Preparing.{IsRefused, IsPrepared}
+use Rattle.desk_core.specs.Preparing.{IsRefused, Prepares, IsPrepared}
 use Rattle.desk_core.specs.declared.prepared.Prep.{Prep}
+use Rattle.desk_core.specs.declared.prepared.Prep.TheVariants as prep
+use Rattle.desk_core.proofs.HearingLemmas.{hear_unnamed}
 
 module _ (founder : Key) (past : List Entry) (q : Request) (t : ℤ) where
   -- the step of a request that was heard, and what is heard before it
@@ -78,13 +80,9 @@ module _ (founder : Key) (past : List Entry) (q : Request) (t : ℤ) where
   unknown_is verbs.SubmitPsv is = absurd cc
   unknown_is verbs.Unknown is = refl
 
-  unnamed : (bytes : List ℕ) → is_unknown q.verb ≡ true → hear founder (members (deeds past)) q bytes ≡ Err (Unread part.Verb)
-  unfolding hear
-  unnamed bytes is = ap (λ (b : Bool). unless (cond b (Some (Unread part.Verb)) None) _) is
-
   pub step_query : (bytes : List ℕ) → bytes_in q.body ≡ Ok bytes → is_act q.verb ≡ false → step founder past q t ≡ (Refused (Unread part.Verb), past)
   unfolding step
-  step_query bytes body query = ap (after past) (outcome_unheard bytes (Unread part.Verb) body (unnamed bytes (unknown_is q.verb query)))
+  step_query bytes body query = ap (after past) (outcome_unheard bytes (Unread part.Verb) body (hear_unnamed founder (members (deeds past)) q bytes (unknown_is q.verb query)))
 
   pub step_bytes : (r : Refusal) → bytes_in q.body ≡ Err r → step founder past q t ≡ (Refused r, past)
   unfolding step
@@ -95,6 +93,13 @@ module _ (founder : Key) (past : List Entry) (q : Request) (t : ℤ) where
 -- the same outcome
 pub prepared_as : (past : List Entry) (o o' : Outcome) (spare : ℕ) (result : Result Prep Refusal) → o' ≡ o → IsPrepared past o spare result → IsPrepared past o' spare result
 prepared_as past o o' spare result same is = subst (λ (x : Outcome). IsPrepared past x spare result) (sym same) is
+
+-- where there was no room for the body, it is refused with want of memory
+pub no_room_prep : (past : List Entry) (due : Outcome) (spare : ℕ) (p : Prep) → due ≡ Refuses NoMemory → Prepares past due spare p → p ≡ prep.Refused NoMemory
+no_room_prep past due spare (prep.Kept reply) none is = absurd cc
+no_room_prep past due spare (prep.Refused r) none (inl is) = let same = sym none ∙ is in cc
+no_room_prep past due spare (prep.Refused r) none (inr wants) = ap (λ (x : Refusal). prep.Refused x) wants
+no_room_prep past due spare (prep.Ready ready) none is = let added = is.0 in absurd cc
 
 -- a number that was used
 pub kept_step : (past : List Entry) (heard : Heard) (bytes : List ℕ) (moment : ℤ) (k : Kept) → kept past heard.caller.number heard.number ≡ Some k

@@ -5,6 +5,7 @@ ghost use Rattle.act_model.specs.Roster.{members, IsFounder};
 ghost use Rattle.act_model.specs.Deeds.{deeds};
 ghost use Rattle.act_model.specs.OfficeTables.{tables_of};
 ghost use Rattle.act_model.specs.Observations.{observations};
+ghost use Rattle.act_model.specs.History.{next_receipt};
 ghost use Rattle.act_model.specs.Step.{outcome, step};
 ghost use Rattle.desk_core.specs.Filed.{history_of, AreAnswered};
 ghost use Rattle.desk_core.specs.Office.{IsReadyAt};
@@ -188,8 +189,16 @@ impl Core {
         self.observations
     }
 
+    /// The receipt of the entry that comes next.
+    pub(crate) fn next_receipt(&self) -> u64
+        ensures { result ≡ next_receipt self.now.history }
+    {
+        self.filed.len() as u64 + 1
+    }
+
     /// Takes the room for one more entry.
     pub(crate) fn reserve_entry(&mut self) -> Result<(), NoMemory>
+        ensures callers { length (members (deeds self.old.history)) < CALLERS }
         ensures room { OnOk result (0 < self.new.spare) }
         ensures history { self.new.history ≡ self.old.history }
         ensures founder { self.new.founder ≡ self.old.founder }

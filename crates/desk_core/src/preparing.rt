@@ -1,12 +1,11 @@
 //! What becomes of an act, worked out question by question, with the memory for it.
 
-ghost use Rattle.std.specs.Prelude.{◌≡◌, ◌<◌, ◌≤◌, ◌^◌, length, unwrap_or, true, Ok, None, IfOk};
+ghost use Rattle.std.specs.Prelude.{◌≡◌, ◌<◌, ◌≤◌, length, unwrap_or, true, Ok, None, IfOk};
 ghost use Rattle.act_model.specs.declared.request.TheConstants.{BODY_BYTES};
-ghost use Rattle.act_model.specs.declared.roster.TheConstants.{CALLERS};
 ghost use Rattle.act_model.specs.Rows.{first_row, IsDue};
 ghost use Rattle.act_model.specs.Requests.{is_act};
 ghost use Rattle.act_model.specs.Acts.{act_of, IsForward, IsForwardAsked};
-ghost use Rattle.act_model.specs.Roster.{members, with_enrolled};
+ghost use Rattle.act_model.specs.Roster.{members};
 ghost use Rattle.act_model.specs.OfficeTables.{tables_of, with_row};
 ghost use Rattle.act_model.specs.Observations.{observations, with_accepted};
 ghost use Rattle.act_model.specs.Deeds.{done_by, deed_of, deeds};
@@ -76,13 +75,14 @@ impl Core {
         ensures history { self.new.history ≡ self.old.history }
         ensures founder { self.new.founder ≡ self.old.founder }
     {
-        if let Some(place) = find(self.filed(), heard.caller.number, heard.number) {
-            return match kept_reply(alloc, self.filed(), place, heard.verb, bytes) {
-                Ok(reply) => Ok(Prep::Kept(reply)),
-                Err(_) => Err(Refusal::NoMemory),
+        let filed = self.filed();
+        if let Some(place) = find(filed, heard.caller.number, heard.number) {
+            let Ok(reply) = kept_reply(alloc, filed, place, heard.verb, bytes) else {
+                return Err(Refusal::NoMemory);
             };
+            return Ok(Prep::Kept(reply));
         }
-        let moment = next_moment(self.filed(), reading);
+        let moment = next_moment(filed, reading);
         self.prepare_new(alloc, heard, bytes, moment)
     }
 
@@ -207,7 +207,7 @@ impl Core {
     fn answer_to(&self, alloc: Global, deed: &Deed) -> Result<Bytes, NoMemory>
         ensures { IfOk result (λ text. text ≡ deed_answer (next_receipt self.now.history) (deeds self.now.history) deed.now) }
     {
-        let receipt = self.entries() + 1;
+        let receipt = self.next_receipt();
         match deed {
             Deed::Enrolled(_) => enrol_answer(alloc, receipt, self.members().len() as u64 + 1),
             Deed::Submitted { rulings, .. } => {
@@ -228,7 +228,6 @@ impl Core {
         requires free { first_row (deed_rows (members (deeds self.now.history)) (tables_of (deeds self.now.history)) deed.now) ≡ None }
         ensures tables { IfOk result (λ change. unwrap_or change.tables (tables_of (deeds self.now.history)) ≡ with_row deed.now (tables_of (deeds self.now.history))) }
         ensures observations { IfOk result (λ change. change.observations ≡ with_accepted deed.now (observations (deeds self.now.history))) }
-        ensures callers { IfOk result (λ change. length (with_enrolled deed.now (members (deeds self.now.history))) < CALLERS) }
     {
         let tables = self.tables_with(deed)?;
         let observations = self.observations_with(deed)?;
