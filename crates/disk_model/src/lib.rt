@@ -1,6 +1,11 @@
 //! One file on a disk, and what a crash at any moment may leave of it.
 #![tactic(auto)]
 
+mod calls;
 mod disk;
+mod record;
 
 pub use disk::{Disk, Failed};
+
+/// Memory was refused.
+pub type NoMemory = std::alloc::AllocError;

@@ -1,0 +1,25 @@
+-- Laws on the images of a disk in memory.
+use Rattle.std.specs.Prelude.{◌≡◌, ◌⊎◌, ◌↔◌, ℕ, zero, suc, ◌+◌, ◌≤◌, Bool, true, false, List, [], ◌∷◌, length, drop, refl}
+use Rattle.std.proofs.Common.{inl, inr, ⊎_elim, sym, ◌∙◌, ap, subst, arith}
+use Rattle.disk_model.specs.Crashes.{Torn, CutTo, Passes, EachSince}
+use Rattle.disk_model.specs.FileLaws.{torn_same, torn_part, cut_same, cut_front}
+use Rattle.disk_model.specs.Memory.{Deed, Wrote, Cut, Synced, file_after, IsImage, IsImageSince}
+
+-- the file as reads give it is an image
+pub is_image_file : (first : List ℕ) (deeds : List Deed) → IsImage first deeds (file_after first deeds)
+is_image_file first [] = refl
+is_image_file first (Wrote at bytes true ∷ past) = (file_after first past, is_image_file first past, torn_part at (length bytes) at bytes (file_after first past) (omega arith) (omega arith))
+is_image_file first (Wrote at bytes false ∷ past) = (file_after first past, is_image_file first past, torn_same at (length bytes) (file_after first past))
+is_image_file first (Cut len true ∷ past) = (file_after first past, is_image_file first past, cut_front len len (file_after first past) (omega arith))
+is_image_file first (Cut len false ∷ past) = (file_after first past, is_image_file first past, cut_same len (file_after first past))
+is_image_file first (Synced true ∷ past) = refl
+is_image_file first (Synced false ∷ past) = is_image_file first past
+
+-- an image now is one since each earlier moment
+pub is_image_since : (first : List ℕ) (deeds : List Deed) (t : ℕ) (image : List ℕ) → t ≤ length deeds → IsImage first deeds image → IsImageSince first deeds t image
+is_image_since first deeds t image le now = (0, (let bound : 0 + t ≤ length deeds = omega (arith, le) in bound), now)
+
+-- since now there is no other
+pub only_image_now : (first : List ℕ) (deeds : List Deed) (image : List ℕ) → IsImageSince first deeds (length deeds) image → IsImage first deeds image
+only_image_now first deeds image (zero, le, was) = was
+only_image_now first deeds image (suc newer, le, was) = absurd (omega (arith, le))
