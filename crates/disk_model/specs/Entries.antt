@@ -1,6 +1,6 @@
--- How a disk in memory keeps its record: entries in the order of the calls, and the bytes of all writes, one after another.
-use Rattle.std.specs.Prelude.{◌≡◌, ℕ, ◌+◌, ◌*◌, ◌/◌, ◌-◌, ◌≤◌, Bool, List, [], ◌∷◌, length, take, drop, map, reverse, All, if◌then◌else◌, ◌==◌}
-use Rattle.disk_model.specs.Memory.{Deed, file_after, record_size}
+-- How a record is kept: entries in the order of the calls, and the bytes of all writes, one after another.
+use Rattle.std.specs.Prelude.{◌≡◌, ℕ, ◌+◌, ◌*◌, ◌<◌, ◌≤◌, List, length, take, drop, map, reverse, All, ⊤}
+use Rattle.disk_model.specs.Memory.{Deed, record_size}
 use Rattle.disk_model.specs.declared.record.Entry.{Entry}
 use Rattle.disk_model.specs.declared.record.Entry.TheVariants.{Wrote, Cut, Synced}
 use Rattle.disk_model.specs.Memory as deeds
@@ -15,16 +15,13 @@ deed_of pool (Synced done) = deeds.Synced done
 abbrev pub deeds_of : List ℕ → List Entry → List Deed
 deeds_of pool entries = reverse (map (deed_of pool) entries)
 
--- where an entry's bytes end in the pool
-abbrev pub pool_end : Entry → ℕ
-pool_end (Wrote at start count done) = start + count
-pool_end _ = 0
-
--- where an entry's bytes end in the file, if it has any
-abbrev pub file_end : Entry → ℕ
-file_end (Wrote at start count done) = if count == 0 then 0 else at + count
-file_end _ = 0
-
--- an entry's bytes stand in the pool, and have room in the file
+-- an entry's bytes stand in a pool of this length, and have room in a file of this capacity
 abbrev pub IsWithin : ℕ → ℕ → Entry → Type 0
-IsWithin pool_length capacity entry = (pool_end entry ≤ pool_length) × (file_end entry ≤ capacity)
+IsWithin pool_length capacity (Wrote at start count done) = (start + count ≤ pool_length) × (0 < count → at + count ≤ capacity)
+IsWithin pool_length capacity _ = ⊤
+
+-- a record has the size that it counts, and no more than its capacity
+pub record IsKept (pool : List ℕ) (entries : List Entry) (capacity : ℕ) : Type 0 where
+  pub size : record_size (deeds_of pool entries) ≡ 32 * length entries + length pool
+  pub fits : 32 * length entries + length pool ≤ capacity
+  pub within : All (IsWithin (length pool) capacity) entries

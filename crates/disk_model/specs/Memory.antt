@@ -1,5 +1,5 @@
 -- A disk in memory: its record of writes, cuts and syncs, the file after them, and what a crash may leave.
-use Rattle.std.specs.Prelude.{◌≡◌, ℕ, ◌+◌, ◌≤◌, max, Bool, true, false, List, [], ◌∷◌, length, drop}
+use Rattle.std.specs.Prelude.{◌≡◌, ◌⊎◌, ℕ, ◌+◌, ◌≤◌, max, Bool, true, false, List, [], ◌∷◌, length, drop}
 use Rattle.disk_model.specs.Counts.{Calls, passed, failed}
 use Rattle.disk_model.specs.Files.{written, cut_to}
 use Rattle.disk_model.specs.Crashes.{Torn, CutTo, After}
@@ -42,6 +42,15 @@ record_size [] = 0
 record_size (Wrote at bytes _ ∷ past) = 32 + length bytes + record_size past
 record_size (_ ∷ past) = 32 + record_size past
 
+-- a record: its deeds, the newest first, and how many bytes it and the file may take together
+pub record RecordState : Type 0 where
+  pub deeds : List Deed
+  pub capacity : ℕ
+
+-- a record with one deed more
+abbrev pub with_deed : RecordState → Deed → RecordState
+with_deed old deed = record old { deeds = deed ∷ old.deeds }
+
 -- the file when the disk was made, the deeds since then, the newest first, the capacity in bytes, and the calls
 pub record MemoryState : Type 0 where
   pub first : List ℕ
@@ -56,6 +65,12 @@ file_of disk = file_after disk.first disk.deeds
 -- the capacity holds the record with one more deed, and the file before and after it
 abbrev pub HasRoom : MemoryState → Deed → Type 0
 HasRoom disk deed = max (length (file_of disk)) (length (file_after disk.first (deed ∷ disk.deeds))) + record_size (deed ∷ disk.deeds) ≤ disk.capacity
+
+-- what a disk in memory keeps: the file is the one after the deeds, and the capacity holds it with the record
+pub record IsHeld (first file : List ℕ) (deeds : List Deed) (capacity : ℕ) : Type 0 where
+  pub same : file ≡ file_after first deeds
+  pub fits : length file + record_size deeds ≤ capacity
+  pub start : length first ≤ capacity
 
 -- after a deed that was done
 abbrev pub after_done : MemoryState → Deed → MemoryState
@@ -74,3 +89,7 @@ moment_of disk = length disk.deeds
 
 abbrev pub images_since : MemoryState → ℕ → List ℕ → Type 0
 images_since disk = IsImageSince disk.first disk.deeds
+
+-- the record has this deed more, done or not, or it is as it was
+abbrev pub Records : MemoryState → MemoryState → (Bool → Deed) → Type 0
+Records old new deed = (new.first ≡ old.first) × ((new.deeds ≡ old.deeds) ⊎ ((done : Bool) × (new.deeds ≡ deed done ∷ old.deeds)))

@@ -6,14 +6,14 @@ use Rattle.disk_model.specs.FileLaws.{torn_same, torn_part, cut_same, cut_front}
 use Rattle.disk_model.specs.Memory.{Deed, Wrote, Cut, Synced, file_after, IsImage, IsImageSince}
 
 -- the file as reads give it is an image
-pub is_image_file : (first : List ℕ) (deeds : List Deed) → IsImage first deeds (file_after first deeds)
-is_image_file first [] = refl
-is_image_file first (Wrote at bytes true ∷ past) = (file_after first past, is_image_file first past, torn_part at (length bytes) at bytes (file_after first past) (omega arith) (omega arith))
-is_image_file first (Wrote at bytes false ∷ past) = (file_after first past, is_image_file first past, torn_same at (length bytes) (file_after first past))
-is_image_file first (Cut len true ∷ past) = (file_after first past, is_image_file first past, cut_front len len (file_after first past) (omega arith))
-is_image_file first (Cut len false ∷ past) = (file_after first past, is_image_file first past, cut_same len (file_after first past))
-is_image_file first (Synced true ∷ past) = refl
-is_image_file first (Synced false ∷ past) = is_image_file first past
+pub is_file_image : (first : List ℕ) (deeds : List Deed) → IsImage first deeds (file_after first deeds)
+is_file_image first [] = refl
+is_file_image first (Wrote at bytes true ∷ past) = (file_after first past, is_file_image first past, torn_part at (length bytes) at bytes (file_after first past) (omega arith) (omega arith))
+is_file_image first (Wrote at bytes false ∷ past) = (file_after first past, is_file_image first past, torn_same at (length bytes) (file_after first past))
+is_file_image first (Cut len true ∷ past) = (file_after first past, is_file_image first past, cut_front len len (file_after first past) (omega arith))
+is_file_image first (Cut len false ∷ past) = (file_after first past, is_file_image first past, cut_same len (file_after first past))
+is_file_image first (Synced true ∷ past) = refl
+is_file_image first (Synced false ∷ past) = is_file_image first past
 
 -- an image now is one since each earlier moment
 pub is_image_since : (first : List ℕ) (deeds : List Deed) (t : ℕ) (image : List ℕ) → t ≤ length deeds → IsImage first deeds image → IsImageSince first deeds t image
