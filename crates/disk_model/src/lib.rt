@@ -3,9 +3,11 @@
 
 mod calls;
 mod disk;
+mod memory;
 mod record;
 
 pub use disk::{Disk, Failed};
+pub use memory::MemDisk;
 
 /// Memory was refused.
 pub type NoMemory = std::alloc::AllocError;
