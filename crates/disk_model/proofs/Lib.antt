@@ -1,2 +1,3 @@
-mod Writes
 mod Records
+mod Replays
+mod Writes

@@ -3,6 +3,7 @@
 
 mod calls;
 mod disk;
+mod file;
 mod memory;
 mod record;
 

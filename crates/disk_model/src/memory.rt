@@ -4,11 +4,12 @@ ghost use Rattle.std.specs.Prelude.{◌≡◌, ℕ, ◌+◌, ◌-◌, ◌*◌, �
 ghost use Rattle.disk_model.specs.Counts.{Rises, no_calls, FailsNext, passed, failed};
 ghost use Rattle.disk_model.specs.Files.{Gives, written, cut_to};
 ghost use Rattle.disk_model.specs.Crashes.{Torn, CutTo, After, Passes, EachSince};
-ghost use Rattle.disk_model.specs.Memory.{Wrote, Cut, Synced, file_of, HasRoom, after_done, after_failed, images_of, moment_of, images_since, Records, record_size};
+ghost use Rattle.disk_model.specs.Memory.{Wrote, Cut, Synced, file_of, HasRoom, after_done, after_failed, images_of, moment_of, images_since, Records, record_size, last_synced};
 ghost use Rattle.disk_model.specs.MemoryLaws.{is_file_image, is_image_since, only_image_now};
 
 use crate::calls::CallLog;
-use crate::record::{Record, write_over};
+use crate::file::write_over;
+use crate::record::Record;
 use crate::{Disk, Failed, NoMemory};
 use std::alloc::Global;
 use std::marker::Model;
@@ -19,7 +20,7 @@ use std::marker::Model;
 pub struct MemDisk {
     first: Vec<u8>,
     file: Vec<u8>,
-    record: Record,
+    deeds: Record,
     log: CallLog,
 }
 
@@ -29,12 +30,12 @@ impl Model for MemDisk {
 
     ghost Value = { MemoryState };
 
-    ghost view = { λ d. record { first = d.first.items; deeds = d.«record».deeds; capacity = d.«record».capacity; calls = d.log } };
+    ghost view = { λ d. record { first = d.first.items; deeds = d.deeds.deeds; capacity = d.deeds.capacity; calls = d.log } };
 
     ghost invariant = { λ d.
-        IsHeld d.first.items d.file.items d.«record».deeds d.«record».capacity
-        × (d.«record».capacity ≤ vec_capacity d.first)
-        × (d.«record».capacity ≤ vec_capacity d.file) };
+        IsHeld d.first.items d.file.items d.deeds.deeds d.deeds.capacity
+        × (d.deeds.capacity ≤ vec_capacity d.first)
+        × (d.deeds.capacity ≤ vec_capacity d.file) };
 }
 
 impl MemDisk {
@@ -62,7 +63,7 @@ impl MemDisk {
         Ok(MemDisk {
             first,
             file,
-            record: Record::new(alloc, capacity)?,
+            deeds: Record::new(alloc, capacity)?,
             log: CallLog::new(alloc, fails)?,
         })
     }
@@ -134,12 +135,12 @@ impl MemDisk {
         ensures records { Records self.old self.new (Wrote at bytes.now) }
     {
         let end = end_after(self.file.len(), at, bytes.len());
-        if !has_room(&self.record, bytes.len(), end) {
+        if !has_room(&self.deeds, bytes.len(), end) {
             self.log.fail();
             return Err(Failed);
         }
         let done = !self.log.fails_next();
-        self.record.add_write(at, bytes, done);
+        self.deeds.add_write(at, bytes, done);
         if !done {
             self.log.fail();
             return Err(Failed);
@@ -156,12 +157,12 @@ impl MemDisk {
         ensures failed { OnErr result (HasRoom self.old (Cut len true) → self.new ≡ after_failed self.old (Cut len false)) }
         ensures records { Records self.old self.new (Cut len) }
     {
-        if !has_room(&self.record, 0, self.file.len() as u128) {
+        if !has_room(&self.deeds, 0, self.file.len() as u128) {
             self.log.fail();
             return Err(Failed);
         }
         let done = !self.log.fails_next();
-        self.record.add_cut(len, done);
+        self.deeds.add_cut(len, done);
         if !done {
             self.log.fail();
             return Err(Failed);
@@ -178,17 +179,48 @@ impl MemDisk {
         ensures failed { OnErr result (HasRoom self.old (Synced true) → self.new ≡ after_failed self.old (Synced false)) }
         ensures records { Records self.old self.new Synced }
     {
-        if !has_room(&self.record, 0, self.file.len() as u128) {
+        if !has_room(&self.deeds, 0, self.file.len() as u128) {
             self.log.fail();
             return Err(Failed);
         }
         let done = !self.log.fails_next();
-        self.record.add_sync(done);
+        self.deeds.add_sync(done);
         if !done {
             self.log.fail();
             return Err(Failed);
         }
         self.log.pass();
         Ok(())
+    }
+}
+
+impl MemDisk {
+    /// The disk after a crash at this moment. Its file is one of the images, chosen by the pick: 0 loses all that isn't
+    /// safe, and each digit in base 5 says what is left of one deed since the last sync. Its capacity is the same, its
+    /// record is empty, and no failure is planned.
+    pub fn crash(self, pick: u64) -> MemDisk
+        ensures image { images_of self result.first }
+        ensures all_lost { pick ≡ 0 → result.first ≡ last_synced self.first self.deeds }
+        ensures fresh { result ≡ record { first = result.first; deeds = []; capacity = self.capacity; calls = no_calls [] } }
+    {
+        let MemDisk {
+            first: mut image,
+            mut file,
+            mut deeds,
+            mut log,
+        } = self;
+        file.clear();
+        file.extend_from_slice(&image).unwrap();
+        deeds.replay(pick, &mut file, &mut image);
+        file.clear();
+        file.extend_from_slice(&image).unwrap();
+        deeds.start_again();
+        log.start_again();
+        MemDisk {
+            first: image,
+            file,
+            deeds,
+            log,
+        }
     }
 }

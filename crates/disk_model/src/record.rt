@@ -1,10 +1,11 @@
-//! What a disk in memory keeps of its writes, cuts and syncs, and how it changes the bytes of a file.
+//! What a disk in memory keeps of its writes, cuts and syncs.
 
-ghost use Rattle.std.specs.Prelude.{◌≡◌, ◌+◌, ◌<◌, ◌≤◌, ◌++◌, [], take, drop, length, vec_capacity, IfOk};
-ghost use Rattle.disk_model.specs.Files.{lengthened, written};
-ghost use Rattle.disk_model.specs.Memory.{Wrote, Cut, Synced, record_size, with_deed};
+ghost use Rattle.std.specs.Prelude.{◌≡◌, ◌+◌, ◌<◌, ◌≤◌, [], ◌∷◌, List, ℕ, length, vec_capacity, IfOk};
+ghost use Rattle.disk_model.specs.Entries.{deed_of, IsWithin};
+ghost use Rattle.disk_model.specs.Memory.{Wrote, Cut, Synced, Deed, record_size, with_deed, file_after, IsImage, last_synced};
 
 use crate::NoMemory;
+use crate::file::{tear, tear_cut, write_over};
 use std::alloc::Global;
 use std::marker::Model;
 
@@ -105,6 +106,26 @@ impl Record {
         self.entries.push_reserved(Entry::Synced { done });
     }
 
+    // Plays the deeds again, on a file and on what a crash leaves of it, both as they were at first. The pick says what
+    // is lost: of each deed since the last sync that was done, its next digit in base 5.
+    pub fn replay(&self, pick: u64, file: &mut Vec<u8>, image: &mut Vec<u8>)
+        requires same { file.old.items ≡ image.old.items }
+        requires fits { length image.old.items ≤ self.now.capacity }
+        requires file_room { self.now.capacity ≤ vec_capacity file.old }
+        requires image_room { self.now.capacity ≤ vec_capacity image.old }
+        ensures image { IsImage image.old.items self.now.deeds image.new.items }
+        ensures all_lost { pick ≡ 0 → image.new.items ≡ last_synced image.old.items self.now.deeds }
+        ensures fits { length image.new.items ≤ self.now.capacity }
+        ensures file_capacity { vec_capacity file.old ≤ vec_capacity file.new }
+        ensures image_capacity { vec_capacity image.old ≤ vec_capacity image.new }
+    {
+        let mut digits = pick;
+        for entry in &self.entries {
+            play(entry, &self.pool, self.capacity, digits, file, image);
+            digits = next_digits(entry, digits, pick);
+        }
+    }
+
     // Forgets all deeds.
     pub fn start_again(&mut self)
         ensures { self.new ≡ record self.old { deeds = [] } }
@@ -114,34 +135,66 @@ impl Record {
     }
 }
 
-// Fills the file with zeros up to this length.
-fn lengthen(file: &mut Vec<u8>, len: usize)
-    requires { len ≤ vec_capacity file.old }
-    ensures items { file.new.items ≡ lengthened len file.old.items }
-    ensures capacity { vec_capacity file.old ≤ vec_capacity file.new }
+// Does a deed again on a file. What a crash leaves of it is in the image, by the last digit.
+fn play(
+    entry: &Entry,
+    pool: &[u8],
+    capacity: usize,
+    digits: u64,
+    file: &mut Vec<u8>,
+    image: &mut Vec<u8>,
+)
+    requires within { IsWithin (length pool.now) capacity entry.now }
+    requires file_fits { length file.old.items ≤ capacity }
+    requires image_fits { length image.old.items ≤ capacity }
+    requires file_room { capacity ≤ vec_capacity file.old }
+    requires image_room { capacity ≤ vec_capacity image.old }
+
+    ensures file { (first : List ℕ) (past : List Deed) → file.old.items ≡ file_after first past →
+        file.new.items ≡ file_after first (deed_of pool.now entry.now ∷ past) }
+    ensures image { (first : List ℕ) (past : List Deed) → file.old.items ≡ file_after first past → IsImage first past image.old.items →
+        IsImage first (deed_of pool.now entry.now ∷ past) image.new.items }
+    ensures lost { (first : List ℕ) (past : List Deed) → digits ≡ 0 → file.old.items ≡ file_after first past → image.old.items ≡ last_synced first past →
+        image.new.items ≡ last_synced first (deed_of pool.now entry.now ∷ past) }
+    ensures file_fits { length file.new.items ≤ capacity }
+    ensures image_fits { length image.new.items ≤ capacity }
+    ensures file_capacity { vec_capacity file.old ≤ vec_capacity file.new }
+    ensures image_capacity { vec_capacity image.old ≤ vec_capacity image.new }
 {
-    while file.len() < len {
-        file.push_reserved(0);
+    match *entry {
+        Entry::Wrote {
+            at,
+            start,
+            count,
+            done,
+        } => {
+            let bytes = &pool[start..start + count];
+            tear(image, at as usize, bytes, digits % 5);
+            if done {
+                write_over(file, at as usize, bytes);
+            }
+        }
+        Entry::Cut { len, done } => {
+            tear_cut(image, len as usize, digits % 5);
+            if done {
+                file.truncate(len as usize);
+            }
+        }
+        Entry::Synced { done } => {
+            if done {
+                image.clear();
+                image.extend_from_slice(file).unwrap();
+            }
+        }
     }
 }
 
-// Puts the bytes in the place of as many others.
-fn replace(bytes: &mut [u8], at: usize, others: &[u8])
-    requires { at + length others.now ≤ length bytes.old }
-    ensures { bytes.new ≡ take at bytes.old ++ others.now ++ drop (at + length others.now) bytes.old }
+// The digits for the next deed. Those of a pick begin again after a sync that was done.
+fn next_digits(entry: &Entry, digits: u64, pick: u64) -> u64
+    ensures { pick ≡ 0 → digits ≡ 0 → result ≡ 0 }
 {
-    bytes[at..at + others.len()].copy_from_slice(others);
-}
-
-// Writes the bytes over what is there, and past the end.
-pub fn write_over(file: &mut Vec<u8>, at: usize, bytes: &[u8])
-    requires { 0 < length bytes.now → at + length bytes.now ≤ vec_capacity file.old }
-    ensures items { file.new.items ≡ written at bytes.now file.old.items }
-    ensures capacity { vec_capacity file.old ≤ vec_capacity file.new }
-{
-    if bytes.is_empty() {
-        return;
+    match entry {
+        Entry::Synced { done: true } => pick,
+        _ => digits / 5,
     }
-    lengthen(file, at + bytes.len());
-    replace(file, at, bytes);
 }

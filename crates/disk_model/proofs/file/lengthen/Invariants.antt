@@ -1,5 +1,5 @@
 use Rattle.std.proofs.Common.{◌≡◌, ◌-◌, ◌≤◌, ◌++◌, max, length, replicate, vec_capacity}
-use Rattle.disk_model.proofs.record.lengthen.Given as goal
+use Rattle.disk_model.proofs.file.lengthen.Given as goal
 
 abbrev pub invariant-loop-file : goal.invariant-loop-file
 invariant-loop-file l = record {
