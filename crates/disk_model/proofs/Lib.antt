@@ -1,3 +1,4 @@
 mod Records
 mod Replays
+mod Steps
 mod Writes

@@ -1,9 +1,9 @@
 -- Laws on the images of a disk in memory.
-use Rattle.std.specs.Prelude.{◌≡◌, ◌⊎◌, ◌↔◌, ℕ, zero, suc, ◌+◌, ◌≤◌, Bool, true, false, List, [], ◌∷◌, length, drop, refl}
+use Rattle.std.specs.Prelude.{◌≡◌, ◌⊎◌, ◌↔◌, ℕ, zero, suc, ◌+◌, ◌≤◌, Bool, true, false, List, [], ◌∷◌, length, drop, refl, Option, Some, unwrap_or}
 use Rattle.std.proofs.Common.{inl, inr, ⊎_elim, sym, ◌∙◌, ap, subst, arith}
 use Rattle.disk_model.specs.Crashes.{Torn, CutTo, Passes, EachSince}
 use Rattle.disk_model.specs.FileLaws.{torn_same, torn_part, cut_same, cut_front}
-use Rattle.disk_model.specs.Memory.{Deed, Wrote, Cut, Synced, file_after, IsImage, IsImageSince}
+use Rattle.disk_model.specs.Memory.{Deed, Wrote, Cut, Synced, MemoryState, file_after, file_of, IsImage, IsImageSince}
 
 -- the file as reads give it is an image
 pub is_file_image : (first : List ℕ) (deeds : List Deed) → IsImage first deeds (file_after first deeds)
@@ -23,3 +23,7 @@ is_image_since first deeds t image le now = (0, (let bound : 0 + t ≤ length de
 pub only_image_now : (first : List ℕ) (deeds : List Deed) (image : List ℕ) → IsImageSince first deeds (length deeds) image → IsImage first deeds image
 only_image_now first deeds image (zero, le, was) = was
 only_image_now first deeds image (suc newer, le, was) = absurd (omega (arith, le))
+
+-- the file that reads give is an image
+pub as_read : (disk : MemoryState) (file : List ℕ) → Some (file_of disk) ≡ Some file → IsImage disk.first disk.deeds file
+as_read disk file is = subst (λ (l : List ℕ). IsImage disk.first disk.deeds l) (ap (λ (o : Option (List ℕ)). unwrap_or o []) is) (is_file_image disk.first disk.deeds)

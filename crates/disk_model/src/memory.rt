@@ -1,11 +1,11 @@
 //! A disk in memory. It fails at the calls that it is told to, and else does what it can.
 
-ghost use Rattle.std.specs.Prelude.{◌≡◌, ℕ, ◌+◌, ◌-◌, ◌*◌, ◌^◌, ◌<◌, ◌≤◌, ◌↔◌, ◌⊎◌, ◌++◌, [], ◌∷◌, List, Bool, true, false, length, take, drop, min, max, vec_capacity, IsTrue, IsErr, IfOk, OnOk, OnErr, Some};
+ghost use Rattle.std.specs.Prelude.{◌≡◌, ℕ, ◌+◌, ◌-◌, ◌*◌, ◌^◌, ◌<◌, ◌≤◌, ◌↔◌, ◌⊎◌, ◌++◌, [], ◌∷◌, List, Bool, true, false, length, take, drop, min, max, vec_capacity, IsTrue, IsErr, IfOk, IfSome, OnOk, OnErr, Some};
 ghost use Rattle.disk_model.specs.Counts.{Rises, no_calls, FailsNext, passed, failed};
 ghost use Rattle.disk_model.specs.Files.{Gives, written, cut_to};
 ghost use Rattle.disk_model.specs.Crashes.{Torn, CutTo, After, Passes, EachSince};
 ghost use Rattle.disk_model.specs.Memory.{Wrote, Cut, Synced, file_of, HasRoom, after_done, after_failed, images_of, moment_of, images_since, Records, record_size, last_synced};
-ghost use Rattle.disk_model.specs.MemoryLaws.{is_file_image, is_image_since, only_image_now};
+ghost use Rattle.disk_model.specs.MemoryLaws.{as_read, is_image_since, only_image_now};
 
 use crate::calls::CallLog;
 use crate::file::write_over;
@@ -95,6 +95,8 @@ impl MemDisk {
         ensures given { IfOk result (λ n. n ≡ length (file_of self.old)) }
         ensures passed { OnOk result (self.new ≡ record self.old { calls = passed self.old.calls }) }
         ensures failed { OnErr result (self.new ≡ record self.old { calls = failed self.old.calls }) }
+        ensures counts { self.old.calls.faults ≤ self.new.calls.faults }
+        ensures same { (self.new.first ≡ self.old.first) × (self.new.deeds ≡ self.old.deeds) }
     {
         if self.log.fails_next() {
             self.log.fail();
@@ -111,6 +113,8 @@ impl MemDisk {
         ensures passed { OnOk result (self.new ≡ record self.old { calls = passed self.old.calls }) }
         ensures failed { OnErr result (self.new ≡ record self.old { calls = failed self.old.calls }) }
         ensures untouched { OnErr result (piece.new ≡ piece.old) }
+        ensures counts { self.old.calls.faults ≤ self.new.calls.faults }
+        ensures same { (self.new.first ≡ self.old.first) × (self.new.deeds ≡ self.old.deeds) }
     {
         if self.log.fails_next() {
             self.log.fail();
@@ -132,6 +136,7 @@ impl MemDisk {
         ensures done { OnOk result (self.new ≡ after_done self.old (Wrote at bytes.now true)) }
         ensures no_room { (¬ HasRoom self.old (Wrote at bytes.now true)) → self.new ≡ record self.old { calls = failed self.old.calls } }
         ensures failed { OnErr result (HasRoom self.old (Wrote at bytes.now true) → self.new ≡ after_failed self.old (Wrote at bytes.now false)) }
+        ensures counts { self.old.calls.faults ≤ self.new.calls.faults }
         ensures records { Records self.old self.new (Wrote at bytes.now) }
     {
         let end = end_after(self.file.len(), at, bytes.len());
@@ -155,6 +160,7 @@ impl MemDisk {
         ensures done { OnOk result (self.new ≡ after_done self.old (Cut len true)) }
         ensures no_room { (¬ HasRoom self.old (Cut len true)) → self.new ≡ record self.old { calls = failed self.old.calls } }
         ensures failed { OnErr result (HasRoom self.old (Cut len true) → self.new ≡ after_failed self.old (Cut len false)) }
+        ensures counts { self.old.calls.faults ≤ self.new.calls.faults }
         ensures records { Records self.old self.new (Cut len) }
     {
         if !has_room(&self.deeds, 0, self.file.len() as u128) {
@@ -177,6 +183,7 @@ impl MemDisk {
         ensures done { OnOk result (self.new ≡ after_done self.old (Synced true)) }
         ensures no_room { (¬ HasRoom self.old (Synced true)) → self.new ≡ record self.old { calls = failed self.old.calls } }
         ensures failed { OnErr result (HasRoom self.old (Synced true) → self.new ≡ after_failed self.old (Synced false)) }
+        ensures counts { self.old.calls.faults ≤ self.new.calls.faults }
         ensures records { Records self.old self.new Synced }
     {
         if !has_room(&self.deeds, 0, self.file.len() as u128) {
@@ -223,4 +230,102 @@ impl MemDisk {
             log,
         }
     }
+}
+
+impl Disk for MemDisk {
+    ghost reads = { λ disk. Some (file_of disk) };
+
+    ghost leaves = { images_of };
+
+    ghost moment = { moment_of };
+
+    ghost since = { images_since };
+
+    ghost faults = { λ disk. disk.calls.faults };
+
+    fn len(&mut self) -> Result<u64, Failed>
+        ensures fails { IsErr result ↔ FailsNext self.old.calls }
+        ensures exact { IfOk result (λ n. n ≡ length (file_of self.old)) }
+        ensures passed { OnOk result (self.new ≡ record self.old { calls = passed self.old.calls }) }
+        ensures failed { OnErr result (self.new ≡ record self.old { calls = failed self.old.calls }) }
+
+        ensures given { IfOk result (λ n. IfSome (Some (file_of self.old)) (λ file. n ≡ length file)) }
+        ensures reads { Some (file_of self.new) ≡ Some (file_of self.old) }
+        ensures time { Passes moment_of images_since self.old self.new }
+        ensures images { EachSince moment_of images_since self.old self.new (images_of self.old) }
+        ensures counts { self.old.calls.faults ≤ self.new.calls.faults }
+        ensures cause { OnErr result (Rises self.old.calls.faults self.new.calls.faults) }
+    {
+        self.try_len()
+    }
+
+    fn read_at(&mut self, at: u64, piece: &mut [u8]) -> Result<usize, Failed>
+        ensures fails { IsErr result ↔ FailsNext self.old.calls }
+        ensures amount { IfOk result (λ n. n ≡ min (length piece.old) (length (file_of self.old) - at)) }
+        ensures passed { OnOk result (self.new ≡ record self.old { calls = passed self.old.calls }) }
+        ensures failed { OnErr result (self.new ≡ record self.old { calls = failed self.old.calls }) }
+        ensures untouched { OnErr result (piece.new ≡ piece.old) }
+
+        ensures given { IfOk result (λ n. IfSome (Some (file_of self.old)) (λ file. Gives file at n piece.old piece.new)) }
+        ensures within { IfOk result (λ n. n ≤ length piece.old) }
+        ensures reads { Some (file_of self.new) ≡ Some (file_of self.old) }
+        ensures time { Passes moment_of images_since self.old self.new }
+        ensures images { EachSince moment_of images_since self.old self.new (images_of self.old) }
+        ensures counts { self.old.calls.faults ≤ self.new.calls.faults }
+        ensures cause { OnErr result (Rises self.old.calls.faults self.new.calls.faults) }
+    {
+        self.try_read(at, piece)
+    }
+
+    fn write_at(&mut self, at: u64, bytes: &[u8]) -> Result<(), Failed>
+        ensures fails { IsErr result ↔ (FailsNext self.old.calls ⊎ (¬ HasRoom self.old (Wrote at bytes.now true))) }
+        ensures done { OnOk result (self.new ≡ after_done self.old (Wrote at bytes.now true)) }
+        ensures no_room { (¬ HasRoom self.old (Wrote at bytes.now true)) → self.new ≡ record self.old { calls = failed self.old.calls } }
+        ensures failed { OnErr result (HasRoom self.old (Wrote at bytes.now true) → self.new ≡ after_failed self.old (Wrote at bytes.now false)) }
+
+        ensures wrote { OnOk result (IfSome (Some (file_of self.old)) (λ file. Some (file_of self.new) ≡ Some (written at bytes.now file))) }
+        ensures time { Passes moment_of images_since self.old self.new }
+        ensures images { EachSince moment_of images_since self.old self.new (After (Torn at (length bytes.now)) (images_of self.old)) }
+        ensures counts { self.old.calls.faults ≤ self.new.calls.faults }
+        ensures cause { OnErr result (Rises self.old.calls.faults self.new.calls.faults) }
+    {
+        self.try_write(at, bytes)
+    }
+
+    fn cut(&mut self, len: u64) -> Result<(), Failed>
+        ensures fails { IsErr result ↔ (FailsNext self.old.calls ⊎ (¬ HasRoom self.old (Cut len true))) }
+        ensures done { OnOk result (self.new ≡ after_done self.old (Cut len true)) }
+        ensures no_room { (¬ HasRoom self.old (Cut len true)) → self.new ≡ record self.old { calls = failed self.old.calls } }
+        ensures failed { OnErr result (HasRoom self.old (Cut len true) → self.new ≡ after_failed self.old (Cut len false)) }
+
+        ensures cut { OnOk result (IfSome (Some (file_of self.old)) (λ file. Some (file_of self.new) ≡ Some (cut_to len file))) }
+        ensures time { Passes moment_of images_since self.old self.new }
+        ensures images { EachSince moment_of images_since self.old self.new (After (CutTo len) (images_of self.old)) }
+        ensures counts { self.old.calls.faults ≤ self.new.calls.faults }
+        ensures cause { OnErr result (Rises self.old.calls.faults self.new.calls.faults) }
+    {
+        self.try_cut(len)
+    }
+
+    fn sync(&mut self) -> Result<(), Failed>
+        ensures fails { IsErr result ↔ (FailsNext self.old.calls ⊎ (¬ HasRoom self.old (Synced true))) }
+        ensures done { OnOk result (self.new ≡ after_done self.old (Synced true)) }
+        ensures no_room { (¬ HasRoom self.old (Synced true)) → self.new ≡ record self.old { calls = failed self.old.calls } }
+        ensures failed { OnErr result (HasRoom self.old (Synced true) → self.new ≡ after_failed self.old (Synced false)) }
+
+        ensures safe { OnOk result ((image : List ℕ) → images_of self.new image → Some (file_of self.new) ≡ Some image) }
+        ensures reads { Some (file_of self.new) ≡ Some (file_of self.old) }
+        ensures time { Passes moment_of images_since self.old self.new }
+        ensures images { EachSince moment_of images_since self.old self.new (images_of self.old) }
+        ensures counts { self.old.calls.faults ≤ self.new.calls.faults }
+        ensures cause { OnErr result (Rises self.old.calls.faults self.new.calls.faults) }
+    {
+        self.try_sync()
+    }
+
+    ghost as_read = { λ disk file is. as_read disk file is };
+
+    ghost counts_now = { λ disk t image le now. is_image_since disk.first disk.deeds t image le now };
+
+    ghost only_now = { λ disk image since. only_image_now disk.first disk.deeds image since };
 }
