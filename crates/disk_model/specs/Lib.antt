@@ -6,3 +6,4 @@ pub mod FileLaws
 pub mod Memory
 pub mod MemoryLaws
 pub mod Entries
+pub mod Real

@@ -5,10 +5,15 @@ mod calls;
 mod disk;
 mod file;
 mod memory;
+mod real;
 mod record;
 
 pub use disk::{Disk, Failed};
 pub use memory::MemDisk;
+pub use real::FileDisk;
 
 /// Memory was refused.
 pub type NoMemory = std::alloc::AllocError;
+
+#[cfg(test)]
+mod tests;
