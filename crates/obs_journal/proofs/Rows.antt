@@ -1,0 +1,2 @@
+-- Rows of gates and parcels.
+use Rattle.std.proofs.Common.{◌≡◌, ℕ}
