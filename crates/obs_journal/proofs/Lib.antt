@@ -1,2 +1,5 @@
 pub mod Bytes
 pub mod Rows
+pub mod Writes
+pub mod Appends
+pub mod Steps

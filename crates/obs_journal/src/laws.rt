@@ -1,8 +1,9 @@
 //! Laws of files and their parcels, each the contract of a function that does nothing: a caller that calls it may use it.
 
-ghost use Rattle.std.specs.Prelude.{◌≡◌, ◌+◌, ℕ, List, ◌++◌, ◌∷◌, length};
-ghost use Rattle.obs_journal.specs.Parcels.{RawParcel, IsParcel, parcel_bytes, room};
-ghost use Rattle.obs_journal.specs.Files.{opened, row_length, Spells, IsDamagedAt};
+ghost use Rattle.std.specs.Prelude.{◌≡◌, ◌⊎◌, ℕ, List, [], ◌++◌, ◌∷◌};
+ghost use Rattle.obs_journal.specs.Parcels.{RawParcel, IsParcel, parcel_bytes};
+ghost use Rattle.obs_journal.specs.Files.{IsRow, Spells, IsDamagedAt};
+ghost use Rattle.obs_journal.specs.Journals.{IsDoubtful};
 
 /// A file spells at most one list of parcels.
 pub fn one_list()
@@ -19,4 +20,10 @@ pub fn damage()
 pub fn one_parcel()
     ensures { (p q : RawParcel) (x y : List ℕ) → IsParcel p → IsParcel q →
         parcel_bytes p ++ x ≡ parcel_bytes q ++ y → (p ≡ q) × (x ≡ y) }
+{}
+
+/// A file that holds parcels, and one in doubt behind them, spells those parcels, without that one or with it.
+pub fn in_doubt()
+    ensures { (file : List ℕ) (parcels : List RawParcel) (doubt : RawParcel) → IsDoubtful file parcels doubt →
+        IsRow file parcels ⊎ IsRow file (parcels ++ doubt ∷ []) }
 {}

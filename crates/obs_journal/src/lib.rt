@@ -1,10 +1,17 @@
 //! A journal on a disk: a row of gates, each followed by a parcel where it is open.
 #![tactic(auto)]
 
+mod journal;
 pub mod laws;
 mod parcel;
+mod writing;
 
+pub use journal::{AppendFault, Journal, Settled};
 pub use parcel::{NoMemory, Parcel};
 
 /// The longest body of a parcel, in bytes.
 pub const BODY_BYTES: usize = 1_048_576;
+
+// The gate of a parcel that counts. Any other byte is a closed gate, and a new one is this.
+const OPEN: u8 = 1;
+const CLOSED: u8 = 0;

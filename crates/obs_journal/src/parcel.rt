@@ -1,10 +1,10 @@
 //! One record of the journal, and its bytes.
 
 ghost use Rattle.std.specs.Prelude.{◌≡◌, ◌≤◌, ◌+◌, [], ◌∷◌, ◌++◌, length, IfOk};
+ghost use Rattle.obs_journal.specs.Parcels.{IsParcel, parcel_bytes, room};
 ghost use Rattle.obs_journal.specs.Stored.{body_of};
 
-use crate::BODY_BYTES;
-use item_list::Bytes;
+use crate::CLOSED;
 use std::alloc::{AllocError, Global};
 use std::marker::Model;
 
@@ -64,7 +64,7 @@ impl Parcel {
         bytes.extend_from_slice(&moment.to_be_bytes())?;
         bytes.push(verb)?;
         bytes.extend_from_slice(body)?;
-        bytes.push(0)?;
+        bytes.push(CLOSED)?;
         Ok(Parcel {
             caller,
             number,
@@ -107,6 +107,15 @@ impl Parcel {
         ensures { result.now ≡ self.now.body }
     {
         between(&self.bytes)
+    }
+
+    /// The parcel and the closed gate after it, as they stand in the file.
+    pub(crate) fn bytes(&self) -> &[u8]
+        ensures bytes { result.now ≡ parcel_bytes self.now ++ 0 ∷ [] }
+        ensures length { length result.now ≡ room self.now }
+        ensures fits { IsParcel self.now }
+    {
+        &self.bytes
     }
 }
 

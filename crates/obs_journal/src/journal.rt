@@ -1,0 +1,123 @@
+//! A journal that is open: parcels are added to it, and a parcel in doubt is settled.
+
+ghost use Rattle.std.specs.Prelude.{◌≡◌, ◌⊎◌, ◌+◌, ◌<◌, ◌≤◌, ◌^◌, ℕ, List, [], ◌∷◌, ◌++◌, length, if◌then◌else◌, OnOk, OnErr, IsErrOf, IsSome, is_ok, Some, None};
+ghost use Rattle.disk_model.specs.Counts.{Rises};
+ghost use Rattle.disk_model.specs.Crashes.{During};
+ghost use Rattle.obs_journal.specs.Parcels.{RawParcel, room};
+ghost use Rattle.obs_journal.specs.Files.{IsRow};
+ghost use Rattle.obs_journal.specs.Journals.{StandsFor};
+
+use crate::Parcel;
+use crate::writing::{open_gate, stage};
+use disk_model::{Disk, Failed};
+use std::error::Error;
+use std::fmt;
+use std::fmt::{Display, Formatter};
+use std::marker::Model;
+
+/// Why a parcel was not acknowledged. The disk failed in either case.
+#[derive(Clone, Copy, Debug, PartialEq, Eq)]
+pub enum AppendFault {
+    /// The parcel isn't in the file, and the journal goes on without it.
+    Untouched,
+    /// The parcel is in doubt: a crash may leave the file with it or without it. `mend` settles that.
+    InDoubt,
+}
+
+impl Display for AppendFault {
+    fn fmt<W: fmt::Write>(&self, f: &mut Formatter<W>) -> fmt::Result {
+        f.pad(match self {
+            AppendFault::Untouched => "the disk failed, and nothing was added",
+            AppendFault::InDoubt => "the disk failed, and it is in doubt whether the parcel was added",
+        })
+    }
+}
+
+impl Error for AppendFault {}
+
+/// What became of the parcel in doubt.
+#[derive(Clone, Copy, Debug, PartialEq, Eq)]
+pub enum Settled {
+    /// No parcel was in doubt.
+    Nothing,
+    /// Its gate is open: it counts.
+    Added,
+    /// Its gate is closed: it doesn't count.
+    Dropped,
+}
+
+/// An open journal.
+#[derive(Drop)]
+pub struct Journal<D: Disk> {
+    disk: D,
+    // the bytes up to and with the closed gate
+    position: u64,
+    // while a parcel is in doubt: the position once it is added
+    in_doubt: Option<u64>,
+}
+
+impl<D: Disk> Model for Journal<D> {
+    ghost use Rattle.std.specs.Prelude.{◌<◌};
+    ghost use Rattle.obs_journal.specs.Journals.{JournalState};
+
+    ghost Value = { JournalState D };
+
+    ghost view = { λ j. record { disk = j.disk; position = j.position; in_doubt = j.in_doubt } };
+
+    ghost invariant = { λ j. 0 < j.position };
+}
+
+impl<D: Disk> Journal<D> {
+    /// How many bytes of the file count: those up to and with the closed gate.
+    pub fn position(&self) -> u64
+        ensures { result ≡ self.now.position }
+    {
+        self.position
+    }
+
+    /// Gives the disk back, also with a parcel in doubt. No device is called.
+    pub fn close(self) -> D
+        ensures { result ≡ self.disk }
+    {
+        let Journal { disk, .. } = self;
+        disk
+    }
+
+    /// Adds a parcel. Once it is acknowledged, a crash at any later moment leaves a file that has it.
+    ///
+    /// # Errors
+    /// `Untouched` where the disk failed before the parcel's gate was written, `InDoubt` where it failed then.
+    pub fn append(&mut self, parcel: Parcel) -> Result<(), AppendFault>
+        requires settled { self.old.in_doubt ≡ None }
+        requires space { self.old.position + room parcel < 2 ^ 64 }
+
+        ensures added { OnOk result ((parcels : List RawParcel) →
+            StandsFor D.leaves self.old parcels None → StandsFor D.leaves self.new (parcels ++ parcel ∷ []) None) }
+        ensures untouched { IsErrOf result AppendFault.Untouched → (parcels : List RawParcel) →
+            StandsFor D.leaves self.old parcels None → StandsFor D.leaves self.new parcels None }
+        ensures in_doubt { IsErrOf result AppendFault.InDoubt → (parcels : List RawParcel) →
+            StandsFor D.leaves self.old parcels None → StandsFor D.leaves self.new parcels (Some parcel) }
+
+        // A crash at any moment of the call leaves the parcels from before it, with the new one or without.
+        ensures any_moment { (parcels : List RawParcel) → StandsFor D.leaves self.old parcels None →
+            During D.moment D.since self.old.disk self.new.disk (λ image. IsRow image parcels ⊎ IsRow image (parcels ++ parcel ∷ [])) }
+
+        ensures position { self.new.position ≡ (if is_ok result then self.old.position + room parcel else self.old.position) }
+        ensures doubt { IsErrOf result AppendFault.InDoubt → self.new.in_doubt ≡ Some (self.old.position + room parcel) }
+        ensures no_doubt { (IsErrOf result AppendFault.InDoubt → ⊥) → self.new.in_doubt ≡ None }
+        ensures counts { D.faults self.old.disk ≤ D.faults self.new.disk }
+        ensures cause { OnErr result (Rises (D.faults self.old.disk) (D.faults self.new.disk)) }
+    {
+        let gate = self.position - 1;
+        let after = self.position + parcel.bytes().len() as u64;
+        let Ok(()) = stage(&mut self.disk, self.position, parcel.bytes()) else {
+            return Err(AppendFault::Untouched);
+        };
+        let Ok(()) = open_gate(&mut self.disk, gate) else {
+            self.in_doubt = Some(after);
+            return Err(AppendFault::InDoubt);
+        };
+        self.position = after;
+        Ok(())
+    }
+}
