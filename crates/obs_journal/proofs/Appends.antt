@@ -1,7 +1,7 @@
 -- What a crash may leave of a file while a parcel is added.
 use Rattle.std.proofs.Common.{◌≡◌, ◌≢◌, ◌⊎◌, inl, inr, ℕ, ◌+◌, ◌-◌, ◌<◌, ◌≤◌, min, List, [], ◌∷◌, ◌++◌, length, get_or, take, drop, refl, sym, ◌∙◌, ap, subst, arith, append_assoc, length-append, take-append-drop}
 use Rattle.std.specs.Prelude.{replicate}
-use Rattle.std.proofs.lemmas.List.{take_at, drop_at, drop-drop, drop_more, append-nil}
+use Rattle.std.proofs.lemmas.List.{take_at, drop_at, drop-drop, drop_more, append-nil, get_or_at}
 use Rattle.std.proofs.lemmas.Bool.{cases_eq}
 use Rattle.std.specs.List.{AllByRecursion}
 use Rattle.disk_model.specs.Files.{written}
@@ -143,3 +143,10 @@ module _ (ps : List RawParcel) (p : RawParcel) where
         closed = doubtful.closed;
         each = each_more ps p doubtful.each doubtful.fits;
       }
+
+  -- what stands at the gate
+  pub gate_is : (position : ℕ) (image : List ℕ) → position ≡ row_length ps + 1 → (doubtful : IsDoubtful image ps p) → get_or image (position - 1) 0 ≡ doubtful.gate
+  gate_is position image position_is doubtful =
+      let behind = parcel_bytes p ++ doubtful.next ∷ doubtful.rest in
+      let at : length (opened ps []) ≡ position - 1 = omega (arith, length-row_front ps, position_is) in
+      ap (λ l. get_or l (position - 1) 0) (doubtful.image_is ∙ row_front ps (doubtful.gate ∷ behind)) ∙ get_or_at (opened ps []) doubtful.gate behind 0 (position - 1) at

@@ -1,5 +1,6 @@
 -- The images over the calls of an append.
 use Rattle.std.proofs.Common.{◌≡◌, ◌≢◌, ◌⊎◌, inl, inr, ℕ, ◌+◌, ◌-◌, ◌≤◌, List, [], ◌∷◌, ◌++◌, length, refl, sym, ◌∙◌, ap, subst, arith}
+use Rattle.std.specs.Prelude.{IfSome}
 use Rattle.std.specs.declared.option.Option.{Option}
 use Rattle.std.specs.declared.option.Option.TheVariants.{None, Some}
 use Rattle.disk_model.specs.Crashes.{Torn, After, Passes, EachSince, During}
@@ -50,3 +51,7 @@ module _ {D : Type 0} (reads : D → Option (List ℕ)) (leaves : D → List ℕ
 -- the position with one parcel more
 pub position_more : (ps : List RawParcel) (p : RawParcel) (position n : ℕ) → position ≡ row_length ps + 1 → n ≡ room p → position + n ≡ row_length (ps ++ p ∷ []) + 1
 position_more ps p position n is long = omega (arith, row_length-append ps (p ∷ []))
+
+-- what is said of known reads, at what they are
+pub at_known : (known : Option (List ℕ)) (P : List ℕ → Type 0) (file : List ℕ) → IfSome known P → known ≡ Some file → P file
+at_known known P file said is = subst (λ r. IfSome r P) is said

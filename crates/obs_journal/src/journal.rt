@@ -1,13 +1,14 @@
 //! A journal that is open: parcels are added to it, and a parcel in doubt is settled.
 
-ghost use Rattle.std.specs.Prelude.{◌≡◌, ◌⊎◌, ◌+◌, ◌<◌, ◌≤◌, ◌^◌, ℕ, List, [], ◌∷◌, ◌++◌, length, if◌then◌else◌, OnOk, OnErr, IsErrOf, IsSome, is_ok, Some, None};
+ghost use Rattle.std.specs.Prelude.{◌≡◌, ◌≢◌, ◌⊎◌, ◌↔◌, ◌+◌, ◌-◌, ◌<◌, ◌≤◌, ◌^◌, ℕ, List, [], ◌∷◌, ◌++◌, slice_index, if◌then◌else◌, IfOk, IfSome, OnOk, OnErr, IsErrOf, is_ok, Ok, Some, None};
 ghost use Rattle.disk_model.specs.Counts.{Rises};
 ghost use Rattle.disk_model.specs.Crashes.{During};
 ghost use Rattle.obs_journal.specs.Parcels.{RawParcel, room};
 ghost use Rattle.obs_journal.specs.Files.{IsRow};
-ghost use Rattle.obs_journal.specs.Journals.{StandsFor};
+ghost use Rattle.obs_journal.specs.Journals.{StandsFor, IsUnwritten};
 
 use crate::Parcel;
+use crate::reading::is_open_for_good;
 use crate::writing::{open_gate, stage};
 use disk_model::{Disk, Failed};
 use std::error::Error;
@@ -57,14 +58,14 @@ pub struct Journal<D: Disk> {
 }
 
 impl<D: Disk> Model for Journal<D> {
-    ghost use Rattle.std.specs.Prelude.{◌<◌};
+    ghost use Rattle.std.specs.Prelude.{◌<◌, IfSome};
     ghost use Rattle.obs_journal.specs.Journals.{JournalState};
 
     ghost Value = { JournalState D };
 
     ghost view = { λ j. record { disk = j.disk; position = j.position; in_doubt = j.in_doubt } };
 
-    ghost invariant = { λ j. 0 < j.position };
+    ghost invariant = { λ j. (0 < j.position) × IfSome j.in_doubt (λ after. 0 < after) };
 }
 
 impl<D: Disk> Journal<D> {
@@ -119,5 +120,44 @@ impl<D: Disk> Journal<D> {
         };
         self.position = after;
         Ok(())
+    }
+    /// Settles the parcel in doubt: waits until the file is safe, and reads the parcel's gate. With nothing in doubt
+    /// no device is called. Nothing is written.
+    ///
+    /// # Errors
+    /// `Failed` where the disk failed. The doubt stays.
+    pub fn mend(&mut self) -> Result<Settled, Failed>
+        ensures nothing { (result ≡ Ok Settled.Nothing) ↔ (self.old.in_doubt ≡ None) }
+        ensures no_call { self.old.in_doubt ≡ None → self.new ≡ self.old }
+
+        ensures added_where_open { result ≡ Ok Settled.Added →
+            IfSome (D.reads self.old.disk) (λ file. slice_index file (self.old.position - 1) ≡ 1) }
+        ensures dropped_where_closed { result ≡ Ok Settled.Dropped →
+            IfSome (D.reads self.old.disk) (λ file. slice_index file (self.old.position - 1) ≢ 1) }
+        ensures added { result ≡ Ok Settled.Added → (parcels : List RawParcel) (doubt : RawParcel) →
+            StandsFor D.leaves self.old parcels (Some doubt) → StandsFor D.leaves self.new (parcels ++ doubt ∷ []) None }
+        ensures dropped { result ≡ Ok Settled.Dropped → (parcels : List RawParcel) (doubt : RawParcel) →
+            StandsFor D.leaves self.old parcels (Some doubt) → StandsFor D.leaves self.new parcels None }
+        ensures still_in_doubt { OnErr result ((parcels : List RawParcel) (doubt : RawParcel) →
+            StandsFor D.leaves self.old parcels (Some doubt) → StandsFor D.leaves self.new parcels (Some doubt)) }
+
+        ensures after { IfOk result (λ settled. (self.new.in_doubt ≡ None)
+            × (settled ≡ Settled.Added → self.old.in_doubt ≡ Some self.new.position)
+            × (settled ≡ Settled.Dropped → self.new.position ≡ self.old.position)) }
+        ensures as_before { OnErr result ((self.new.in_doubt ≡ self.old.in_doubt) × (self.new.position ≡ self.old.position)) }
+        ensures unwritten { IsUnwritten D.reads D.moment D.since self.old.disk self.new.disk }
+        ensures counts { D.faults self.old.disk ≤ D.faults self.new.disk }
+        ensures cause { OnErr result (Rises (D.faults self.old.disk) (D.faults self.new.disk)) }
+    {
+        let Some(after) = self.in_doubt else {
+            return Ok(Settled::Nothing);
+        };
+        let is_open = is_open_for_good(&mut self.disk, self.position - 1)?;
+        self.in_doubt = None;
+        if !is_open {
+            return Ok(Settled::Dropped);
+        }
+        self.position = after;
+        Ok(Settled::Added)
     }
 }

@@ -4,6 +4,7 @@
 mod journal;
 pub mod laws;
 mod parcel;
+mod reading;
 mod writing;
 
 pub use journal::{AppendFault, Journal, Settled};
