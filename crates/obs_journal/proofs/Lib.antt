@@ -3,3 +3,4 @@ pub mod Rows
 pub mod Writes
 pub mod Appends
 pub mod Steps
+pub mod Quiet

@@ -1,5 +1,6 @@
 pub mod Parcels
 pub mod Stored
 pub mod Files
+pub mod Fronts
 pub mod Journals
 pub mod Writing
