@@ -4,3 +4,5 @@ pub mod Writes
 pub mod Appends
 pub mod Steps
 pub mod Quiet
+pub mod Heads
+pub mod Fronts
