@@ -6,3 +6,4 @@ pub mod Steps
 pub mod Quiet
 pub mod Heads
 pub mod Fronts
+pub mod Places

@@ -3,4 +3,5 @@ pub mod Stored
 pub mod Files
 pub mod Fronts
 pub mod Journals
+pub mod Opening
 pub mod Writing

@@ -5,6 +5,7 @@ mod fault;
 mod gates;
 mod journal;
 pub mod laws;
+mod opening;
 mod parcel;
 mod reading;
 
@@ -12,6 +13,7 @@ mod writing;
 
 pub use fault::OpenFault;
 pub use journal::{AppendFault, Journal, Settled};
+pub use opening::{Parcels, Placed};
 pub use parcel::{NoMemory, Parcel};
 
 /// The longest body of a parcel, in bytes.

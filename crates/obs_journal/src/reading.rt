@@ -7,6 +7,19 @@ ghost use Rattle.obs_journal.specs.Journals.{IsUnwritten};
 use crate::{CLOSED, OPEN, OpenFault, PIECE_BYTES};
 use disk_model::{Disk, Failed};
 
+/// Reads whether the gate at this offset is open.
+pub(crate) fn reads_open<D: Disk>(disk: &mut D, gate: u64) -> Result<bool, Failed>
+    ensures given { IfOk result (λ is_open. IfSome (D.reads disk.old) (λ file. IsTrue is_open ↔ (slice_index file gate ≡ 1))) }
+
+    ensures unwritten { IsUnwritten D.reads D.moment D.since disk.old disk.new }
+    ensures counts { D.faults disk.old ≤ D.faults disk.new }
+    ensures cause { OnErr result (Rises (D.faults disk.old) (D.faults disk.new)) }
+{
+    let mut byte = [CLOSED];
+    let count = disk.read_at(gate, &mut byte)?;
+    Ok(count == 1 && byte[0] == OPEN)
+}
+
 /// Waits until the file is safe, and reads whether the gate at this offset is open.
 pub(crate) fn is_open_for_good<D: Disk>(disk: &mut D, gate: u64) -> Result<bool, Failed>
     ensures given { IfOk result (λ is_open. IfSome (D.reads disk.old) (λ file. IsTrue is_open ↔ (slice_index file gate ≡ 1))) }
@@ -17,9 +30,7 @@ pub(crate) fn is_open_for_good<D: Disk>(disk: &mut D, gate: u64) -> Result<bool,
     ensures cause { OnErr result (Rises (D.faults disk.old) (D.faults disk.new)) }
 {
     disk.sync()?;
-    let mut byte = [CLOSED];
-    let count = disk.read_at(gate, &mut byte)?;
-    Ok(count == 1 && byte[0] == OPEN)
+    reads_open(disk, gate)
 }
 
 /// Puts so many bytes of the file, from this offset on, behind those that are there, a piece after the other. False
