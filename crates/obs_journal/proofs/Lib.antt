@@ -7,3 +7,4 @@ pub mod Quiet
 pub mod Heads
 pub mod Fronts
 pub mod Places
+pub mod Recovery

@@ -1,16 +1,19 @@
 //! A journal that is open: parcels are added to it, and a parcel in doubt is settled.
 
-ghost use Rattle.std.specs.Prelude.{◌≡◌, ◌≢◌, ◌⊎◌, ◌↔◌, ◌+◌, ◌-◌, ◌<◌, ◌≤◌, ◌^◌, ℕ, List, [], ◌∷◌, ◌++◌, slice_index, if◌then◌else◌, IfOk, IfSome, OnOk, OnErr, IsErrOf, is_ok, Ok, Some, None};
+ghost use Rattle.std.specs.Prelude.{◌≡◌, ◌≢◌, ◌⊎◌, ◌↔◌, ◌+◌, ◌-◌, ◌<◌, ◌≤◌, ◌^◌, ℕ, List, [], ◌∷◌, ◌++◌, slice_index, if◌then◌else◌, IfOk, IfErr, IfSome, IsSome, OnOk, OnErr, IsErrOf, is_ok, Ok, Some, None};
 ghost use Rattle.disk_model.specs.Counts.{Rises};
 ghost use Rattle.disk_model.specs.Crashes.{During};
 ghost use Rattle.obs_journal.specs.Parcels.{RawParcel, room};
-ghost use Rattle.obs_journal.specs.Files.{IsRow};
+ghost use Rattle.obs_journal.specs.Files.{IsRow, Spells, IsDamagedAt};
 ghost use Rattle.obs_journal.specs.Journals.{StandsFor, IsUnwritten};
+ghost use Rattle.obs_journal.specs.Opening.{parcels_of, placed_from, disk_after, SpellsAlike};
 
-use crate::Parcel;
+use crate::opening::recover;
 use crate::reading::is_open_for_good;
 use crate::writing::{open_gate, stage};
+use crate::{OpenFault, Parcel, Parcels};
 use disk_model::{Disk, Failed};
+use std::alloc::Global;
 use std::error::Error;
 use std::fmt;
 use std::fmt::{Display, Formatter};
@@ -69,6 +72,43 @@ impl<D: Disk> Model for Journal<D> {
 }
 
 impl<D: Disk> Journal<D> {
+    /// Opens the journal on a disk: waits until the file is safe, reads its parcels from the front, and puts a closed
+    /// gate into a fresh file. A file is fresh where it is empty or the one byte 1.
+    ///
+    /// # Errors
+    /// The disk comes back beside the fault: `DiskFault` where the disk failed, `Damaged` where the file spells no list
+    /// of parcels, with the offset of the gate where it stops, `NoMemory` where memory was refused.
+    pub fn open(alloc: Global, mut disk: D) -> Result<(Journal<D>, Parcels), (OpenFault, D)>
+        ensures spelled { IfOk result (λ opened. IfSome (D.reads disk) (λ file. Spells file (parcels_of opened.1))) }
+        ensures offsets { IfOk result (λ opened. opened.1 ≡ placed_from 0 (parcels_of opened.1)) }
+        ensures stands { IfOk result (λ opened. StandsFor D.leaves opened.0 (parcels_of opened.1) None) }
+
+        ensures damaged { IfErr result (λ failed. (offset : ℕ) → failed.0 ≡ OpenFault.Damaged offset →
+            IfSome (D.reads disk) (λ file. IsDamagedAt file offset)) }
+        // Where each image of a disk with known reads spells a list, nothing is damaged.
+        ensures sound { IfErr result (λ failed. (offset : ℕ) → failed.0 ≡ OpenFault.Damaged offset → IsSome (D.reads disk) →
+            ((image : List ℕ) → D.leaves disk image → (parcels : List RawParcel) × Spells image parcels) → ⊥) }
+
+        // A crash at any moment of the call leaves what it could leave before, or the same parcels.
+        ensures any_moment { During D.moment D.since disk (disk_after result) (SpellsAlike (D.reads disk)) }
+        ensures unwritten { IfErr result (λ failed. failed.0 ≢ OpenFault.DiskFault →
+            IsUnwritten D.reads D.moment D.since disk failed.1) }
+        ensures counts { D.faults disk ≤ D.faults (disk_after result) }
+        ensures cause { IfErr result (λ failed. failed.0 ≡ OpenFault.DiskFault → Rises (D.faults disk) (D.faults failed.1)) }
+    {
+        match recover(alloc, &mut disk) {
+            Ok((parcels, position)) => {
+                let journal = Journal {
+                    disk,
+                    position,
+                    in_doubt: None,
+                };
+                Ok((journal, parcels))
+            }
+            Err(fault) => Err((fault, disk)),
+        }
+    }
+
     /// How many bytes of the file count: those up to and with the closed gate.
     pub fn position(&self) -> u64
         ensures { result ≡ self.now.position }

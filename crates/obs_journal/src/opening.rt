@@ -1,14 +1,16 @@
 //! Opening a journal: its file is read from the front, and a fresh one gets its first gate.
 
-ghost use Rattle.std.specs.Prelude.{◌≡◌, ◌≢◌, ◌↔◌, ◌+◌, ◌<◌, ◌≤◌, ◌∷◌, [], ℕ, List, length, IfOk, IfSome, IsErrOf, OnErr, OnOk, IsTrue, true, false, Ok, Err, Some};
+ghost use Rattle.std.specs.Prelude.{◌≡◌, ◌≢◌, ◌↔◌, ◌+◌, ◌<◌, ◌≤◌, ◌∷◌, [], ℕ, List, length, IfOk, IfSome, IsErr, IsErrOf, OnErr, OnOk, IsTrue, true, false, Ok, Err, Some};
 ghost use Rattle.disk_model.specs.Counts.{Rises};
-ghost use Rattle.obs_journal.specs.Files.{IsFresh, IsRow, IsDamagedAt, row_length};
+ghost use Rattle.disk_model.specs.Crashes.{During};
+ghost use Rattle.obs_journal.specs.Files.{IsFresh, IsRow, Spells, IsDamagedAt, row_length};
 ghost use Rattle.obs_journal.specs.Journals.{IsUnwritten};
-ghost use Rattle.obs_journal.specs.Opening.{parcels_of, placed_from};
+ghost use Rattle.obs_journal.specs.Opening.{parcels_of, placed_from, SpellsAlike};
 
 use crate::gates::{Front, read_front};
 use crate::reading::reads_open;
-use crate::{OpenFault, Parcel};
+use crate::writing::write_and_sync;
+use crate::{CLOSED, OpenFault, Parcel};
 use disk_model::{Disk, Failed};
 use item_list::ItemList;
 use std::alloc::Global;
@@ -87,4 +89,25 @@ fn safe_end<D: Disk>(disk: &mut D) -> Result<u64, Failed>
 {
     disk.sync()?;
     disk.len()
+}
+
+/// Reads the file, and puts a closed gate into a fresh one: the parcels, and the bytes up to and with the closed gate.
+pub(crate) fn recover<D: Disk>(alloc: Global, disk: &mut D) -> Result<(Parcels, u64), OpenFault>
+    ensures spelled { IfOk result (λ row. IfSome (D.reads disk.old) (λ file. Spells file (parcels_of row.0))) }
+    ensures offsets { IfOk result (λ row. row.0 ≡ placed_from 0 (parcels_of row.0)) }
+    ensures position { IfOk result (λ row. row.1 ≡ row_length (parcels_of row.0) + 1) }
+    ensures rows { IfOk result (λ row. (image : List ℕ) → D.leaves disk.new image → IsRow image (parcels_of row.0)) }
+    ensures damaged { (offset : ℕ) → result ≡ Err (OpenFault.Damaged offset) → IfSome (D.reads disk.old) (λ file. IsDamagedAt file offset) }
+
+    ensures any_moment { During D.moment D.since disk.old disk.new (SpellsAlike (D.reads disk.old)) }
+    ensures unwritten { IsErr result → result ≢ Err OpenFault.DiskFault → IsUnwritten D.reads D.moment D.since disk.old disk.new }
+    ensures counts { D.faults disk.old ≤ D.faults disk.new }
+    ensures cause { result ≡ Err OpenFault.DiskFault → Rises (D.faults disk.old) (D.faults disk.new) }
+{
+    let end = safe_end(disk)?;
+    if !is_fresh(disk, end)? {
+        return read_row(alloc, disk, end);
+    }
+    write_and_sync(disk, 0, &[CLOSED])?;
+    Ok((Parcels::new(alloc), 1))
 }
