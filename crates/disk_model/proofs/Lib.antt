@@ -1,0 +1,4 @@
+mod Records
+mod Replays
+mod Steps
+mod Writes

@@ -1,5 +1,5 @@
--- A count of faults, which never falls.
-use Rattle.std.specs.Prelude.{ℕ, ◌+◌, ◌-◌, ◌^◌, ◌≤◌, min}
+-- Counts of calls and of faults, which never fall.
+use Rattle.std.specs.Prelude.{ℕ, ◌+◌, ◌-◌, ◌^◌, ◌≤◌, min, List, Contains}
 
 -- a count that went up by one: at the end of its type it stands still
 abbrev pub one_more : ℕ → ℕ
@@ -8,3 +8,25 @@ one_more n = min (n + 1) (2 ^ 64 - 1)
 -- a count rose, or stands at the end of its type
 abbrev pub Rises : ℕ → ℕ → Type 0
 Rises before now = one_more before ≤ now
+
+-- which calls are to fail, counted from 1, how many were made, and how many of them failed
+pub record Calls : Type 0 where
+  pub fails : List ℕ
+  pub made : ℕ
+  pub faults : ℕ
+
+-- no call was made yet
+abbrev pub no_calls : List ℕ → Calls
+no_calls fails = record { fails = fails; made = 0; faults = 0 }
+
+-- the next call is one of those that are to fail
+abbrev pub FailsNext : Calls → Type 0
+FailsNext calls = Contains calls.fails (one_more calls.made)
+
+-- after a call that did what it could
+abbrev pub passed : Calls → Calls
+passed calls = record calls { made = one_more calls.made }
+
+-- after a call that failed
+abbrev pub failed : Calls → Calls
+failed calls = record calls { made = one_more calls.made; faults = one_more calls.faults }

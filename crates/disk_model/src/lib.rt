@@ -1,6 +1,19 @@
 //! One file on a disk, and what a crash at any moment may leave of it.
 #![tactic(auto)]
 
+mod calls;
 mod disk;
+mod file;
+mod memory;
+mod real;
+mod record;
 
 pub use disk::{Disk, Failed};
+pub use memory::MemDisk;
+pub use real::FileDisk;
+
+/// Memory was refused.
+pub type NoMemory = std::alloc::AllocError;
+
+#[cfg(test)]
+mod tests;

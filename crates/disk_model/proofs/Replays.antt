@@ -1,0 +1,30 @@
+-- A record's deeds, played again.
+use Rattle.std.proofs.Common.{◌≡◌, ℕ, ◌+◌, ◌<◌, Bool, true, List, [], ◌∷◌, ◌++◌, length, get_or, take, drop, map, reverse, refl, sym, ◌∙◌, ap, subst, arith}
+use Rattle.std.proofs.lemmas.List.{take_more, map-append, reverse-append}
+use Rattle.disk_model.specs.Files.{written}
+use Rattle.disk_model.specs.Crashes.{Torn}
+use Rattle.disk_model.specs.Memory.{Deed, file_after, IsImage}
+use Rattle.disk_model.specs.Entries.{deed_of, deeds_of}
+use Rattle.disk_model.specs.declared.record.Entry.{Entry}
+use Rattle.disk_model.specs.declared.record.Entry.TheVariants.{Wrote}
+
+-- a write that was done
+pub file_written : (pool first bytes old new : List ℕ) (past : List Deed) (entry : Entry) (at start count : ℕ) (done : Bool)
+    → entry ≡ Wrote at start count done → done ≡ true → bytes ≡ take count (drop start pool) → old ≡ file_after first past → new ≡ written at bytes old
+    → new ≡ file_after first (deed_of pool entry ∷ past)
+file_written pool first bytes old new past entry at start count done is was_done part same made =
+    made ∙ (λ i. written at (part i) (same i)) ∙ ap (λ (e : Entry). file_after first (deed_of pool e ∷ past)) (sym (is ∙ ap (λ (d : Bool). Wrote at start count d) was_done))
+
+-- what a crash leaves of a write
+pub image_torn : (pool first bytes old new : List ℕ) (past : List Deed) (entry : Entry) (at start count : ℕ) (done : Bool)
+    → entry ≡ Wrote at start count done → bytes ≡ take count (drop start pool) → IsImage first past old → Torn at (length bytes) old new
+    → IsImage first (deed_of pool entry ∷ past) new
+image_torn pool first bytes old new past entry at start count done is part was torn =
+    subst (λ (e : Entry). IsImage first (deed_of pool e ∷ past) new) (sym is) (old, was, subst (λ (l : List ℕ). Torn at (length l) old new) part torn)
+
+-- one deed more of the record
+pub deeds_next : (pool : List ℕ) (entries : List Entry) (k : ℕ) (d : Entry) → k < length entries → deeds_of pool (take (k + 1) entries) ≡ deed_of pool (get_or entries k d) ∷ deeds_of pool (take k entries)
+deeds_next pool entries k d in_bounds =
+    ap (λ (l : List Entry). deeds_of pool l) (take_more entries k d in_bounds)
+    ∙ ap (λ (l : List Deed). reverse l) (map-append (deed_of pool) (take k entries) (get_or entries k d ∷ []))
+    ∙ reverse-append (map (deed_of pool) (take k entries)) (deed_of pool (get_or entries k d) ∷ [])

@@ -1,0 +1,271 @@
+//! A disk over a real file. Nothing of its content is known to a proof: that it keeps the model is trusted.
+
+ghost use Rattle.std.specs.Prelude.{◌≡◌, ℕ, ◌≤◌, List, length, true, false, IfOk, IfSome, OnOk, OnErr, IsErr, Ok, Some};
+ghost use Rattle.disk_model.specs.Counts.{Rises, one_more};
+ghost use Rattle.disk_model.specs.Files.{Gives, written, cut_to};
+ghost use Rattle.disk_model.specs.Crashes.{Torn, CutTo, After, Passes, EachSince};
+ghost use Rattle.disk_model.specs.Real.{untold, unread, no_image, no_image_since, no_moment};
+
+use crate::{Disk, Failed};
+use std::fs::File;
+use std::io;
+use std::io::ErrorKind;
+use std::marker::Model;
+use std::os::unix::fs::FileExt;
+use std::rt::Files;
+
+/// The file's name in the current folder.
+const NAME: &str = "desk.journal";
+
+/// The file `desk.journal` of the current folder. It is opened at the first call, and made where it isn't there. As long
+/// as the disk lives it holds an exclusive lock of the file, so that a second one on the same file gets a fault.
+///
+/// It tells nothing of its content, and counts each error as a fault. An offset past 2^63 - 1 is an error of the system.
+#[derive(Debug, Drop)]
+pub struct FileDisk<R: Files<File = File> + Copy> {
+    system: R,
+    file: Option<File>,
+    faults: u64,
+}
+
+impl<R: Files<File = File> + Copy> Model for FileDisk<R> {
+    ghost use Rattle.std.specs.Prelude.{is_some};
+    ghost use Rattle.disk_model.specs.Real.{FileState};
+
+    ghost Value = { FileState };
+
+    ghost view = { λ disk. record { is_open = is_some disk.file; faults = disk.faults } };
+}
+
+// Opens the file, takes its lock, and syncs the folder, so that a file that was made outlives a crash.
+fn open_file<R: Files<File = File>>(system: &R) -> io::Result<File> {
+    let file = File::options()
+        .read(true)
+        .write(true)
+        .create(true)
+        .open(system, NAME)?;
+    file.try_lock()?;
+    let folder = File::open(system, ".")?;
+    folder.sync_all()?;
+    Ok(file)
+}
+
+// Reads once, and again after an interrupt.
+fn read_some(file: &File, at: u64, piece: &mut [u8]) -> io::Result<usize>
+    ensures { IfOk result (λ n. n ≤ length piece.old) }
+{
+    for _ in 0..u64::MAX {
+        match file.read_at(piece, at) {
+            Err(error) if error.kind() == ErrorKind::Interrupted => {}
+            answer => return answer,
+        }
+    }
+    Err(io::Error::from(ErrorKind::Interrupted))
+}
+
+// Cuts a file that is longer.
+fn cut_file(file: &File, len: u64) -> io::Result<()> {
+    if len < file.metadata()?.len() {
+        file.set_len(len)?;
+    }
+    Ok(())
+}
+
+impl<R: Files<File = File> + Copy> FileDisk<R> {
+    /// A disk that isn't opened yet.
+    pub fn new(system: R) -> FileDisk<R>
+        ensures { result ≡ record { is_open = false; faults = 0 } }
+    {
+        FileDisk {
+            system,
+            file: None,
+            faults: 0,
+        }
+    }
+
+    // Opens the file, if it isn't open.
+    fn open(&mut self) -> io::Result<()>
+        ensures opened { OnOk result (self.new ≡ record self.old { is_open = true }) }
+        ensures unopened { OnErr result (self.new ≡ self.old) }
+    {
+        if self.file.is_none() {
+            self.file = Some(open_file(&self.system)?);
+        }
+        Ok(())
+    }
+
+    fn try_len(&mut self) -> io::Result<u64>
+        ensures faults { self.new.faults ≡ self.old.faults }
+        ensures opened { OnOk result (self.new.is_open ≡ true) }
+        ensures stays { self.old.is_open ≡ true → self.new.is_open ≡ true }
+    {
+        self.open()?;
+        let Some(file) = &self.file else {
+            unreachable!();
+        };
+        Ok(file.metadata()?.len())
+    }
+
+    fn try_read(&mut self, at: u64, piece: &mut [u8]) -> io::Result<usize>
+        ensures within { IfOk result (λ n. n ≤ length piece.old) }
+        ensures faults { self.new.faults ≡ self.old.faults }
+        ensures opened { OnOk result (self.new.is_open ≡ true) }
+        ensures stays { self.old.is_open ≡ true → self.new.is_open ≡ true }
+    {
+        self.open()?;
+        let Some(file) = &self.file else {
+            unreachable!();
+        };
+        read_some(file, at, piece)
+    }
+
+    fn try_write(&mut self, at: u64, bytes: &[u8]) -> io::Result<()>
+        ensures faults { self.new.faults ≡ self.old.faults }
+        ensures opened { OnOk result (self.new.is_open ≡ true) }
+        ensures stays { self.old.is_open ≡ true → self.new.is_open ≡ true }
+    {
+        self.open()?;
+        let Some(file) = &self.file else {
+            unreachable!();
+        };
+        file.write_all_at(bytes, at)
+    }
+
+    fn try_cut(&mut self, len: u64) -> io::Result<()>
+        ensures faults { self.new.faults ≡ self.old.faults }
+        ensures opened { OnOk result (self.new.is_open ≡ true) }
+        ensures stays { self.old.is_open ≡ true → self.new.is_open ≡ true }
+    {
+        self.open()?;
+        let Some(file) = &self.file else {
+            unreachable!();
+        };
+        cut_file(file, len)
+    }
+
+    fn try_sync(&mut self) -> io::Result<()>
+        ensures faults { self.new.faults ≡ self.old.faults }
+        ensures opened { OnOk result (self.new.is_open ≡ true) }
+        ensures stays { self.old.is_open ≡ true → self.new.is_open ≡ true }
+    {
+        self.open()?;
+        let Some(file) = &self.file else {
+            unreachable!();
+        };
+        file.sync_all()
+    }
+}
+
+// The answer, with each error counted.
+fn counted<T: Drop>(answer: io::Result<T>, faults: &mut u64) -> Result<T, Failed>
+    ensures passed { IfOk answer (λ value. result ≡ Ok value) }
+    ensures same { OnOk answer (faults.new ≡ faults.old) }
+    ensures failed { OnErr answer (IsErr result) }
+    ensures more { OnErr answer (faults.new ≡ one_more faults.old) }
+    ensures counts { faults.old ≤ faults.new }
+{
+    match answer {
+        Ok(value) => Ok(value),
+        Err(_) => {
+            *faults = faults.saturating_add(1);
+            Err(Failed)
+        }
+    }
+}
+
+impl<R: Files<File = File> + Copy> Disk for FileDisk<R> {
+    ghost reads = { unread };
+
+    ghost leaves = { no_image };
+
+    ghost moment = { no_moment };
+
+    ghost since = { no_image_since };
+
+    ghost faults = { λ disk. disk.faults };
+
+    fn len(&mut self) -> Result<u64, Failed>
+        ensures opened { OnOk result (self.new ≡ record self.old { is_open = true }) }
+        ensures failed { OnErr result (self.new.faults ≡ one_more self.old.faults) }
+        ensures stays { self.old.is_open ≡ true → self.new.is_open ≡ true }
+
+        ensures given { IfOk result (λ n. IfSome (unread self.old) (λ file. n ≡ length file)) }
+        ensures reads { unread self.new ≡ unread self.old }
+        ensures time { Passes no_moment no_image_since self.old self.new }
+        ensures images { EachSince no_moment no_image_since self.old self.new (no_image self.old) }
+        ensures counts { self.old.faults ≤ self.new.faults }
+        ensures cause { OnErr result (Rises self.old.faults self.new.faults) }
+    {
+        let answer = self.try_len();
+        counted(answer, &mut self.faults)
+    }
+
+    fn read_at(&mut self, at: u64, piece: &mut [u8]) -> Result<usize, Failed>
+        ensures opened { OnOk result (self.new ≡ record self.old { is_open = true }) }
+        ensures failed { OnErr result (self.new.faults ≡ one_more self.old.faults) }
+        ensures stays { self.old.is_open ≡ true → self.new.is_open ≡ true }
+
+        ensures given { IfOk result (λ n. IfSome (unread self.old) (λ file. Gives file at n piece.old piece.new)) }
+        ensures within { IfOk result (λ n. n ≤ length piece.old) }
+        ensures reads { unread self.new ≡ unread self.old }
+        ensures time { Passes no_moment no_image_since self.old self.new }
+        ensures images { EachSince no_moment no_image_since self.old self.new (no_image self.old) }
+        ensures counts { self.old.faults ≤ self.new.faults }
+        ensures cause { OnErr result (Rises self.old.faults self.new.faults) }
+    {
+        let answer = self.try_read(at, piece);
+        counted(answer, &mut self.faults)
+    }
+
+    fn write_at(&mut self, at: u64, bytes: &[u8]) -> Result<(), Failed>
+        ensures opened { OnOk result (self.new ≡ record self.old { is_open = true }) }
+        ensures failed { OnErr result (self.new.faults ≡ one_more self.old.faults) }
+        ensures stays { self.old.is_open ≡ true → self.new.is_open ≡ true }
+
+        ensures wrote { OnOk result (IfSome (unread self.old) (λ file. unread self.new ≡ Some (written at bytes.now file))) }
+        ensures time { Passes no_moment no_image_since self.old self.new }
+        ensures images { EachSince no_moment no_image_since self.old self.new (After (Torn at (length bytes.now)) (no_image self.old)) }
+        ensures counts { self.old.faults ≤ self.new.faults }
+        ensures cause { OnErr result (Rises self.old.faults self.new.faults) }
+    {
+        let answer = self.try_write(at, bytes);
+        counted(answer, &mut self.faults)
+    }
+
+    fn cut(&mut self, len: u64) -> Result<(), Failed>
+        ensures opened { OnOk result (self.new ≡ record self.old { is_open = true }) }
+        ensures failed { OnErr result (self.new.faults ≡ one_more self.old.faults) }
+        ensures stays { self.old.is_open ≡ true → self.new.is_open ≡ true }
+
+        ensures cut { OnOk result (IfSome (unread self.old) (λ file. unread self.new ≡ Some (cut_to len file))) }
+        ensures time { Passes no_moment no_image_since self.old self.new }
+        ensures images { EachSince no_moment no_image_since self.old self.new (After (CutTo len) (no_image self.old)) }
+        ensures counts { self.old.faults ≤ self.new.faults }
+        ensures cause { OnErr result (Rises self.old.faults self.new.faults) }
+    {
+        let answer = self.try_cut(len);
+        counted(answer, &mut self.faults)
+    }
+
+    fn sync(&mut self) -> Result<(), Failed>
+        ensures opened { OnOk result (self.new ≡ record self.old { is_open = true }) }
+        ensures failed { OnErr result (self.new.faults ≡ one_more self.old.faults) }
+        ensures stays { self.old.is_open ≡ true → self.new.is_open ≡ true }
+
+        ensures safe { OnOk result ((image : List ℕ) → no_image self.new image → unread self.new ≡ Some image) }
+        ensures reads { unread self.new ≡ unread self.old }
+        ensures time { Passes no_moment no_image_since self.old self.new }
+        ensures images { EachSince no_moment no_image_since self.old self.new (no_image self.old) }
+        ensures counts { self.old.faults ≤ self.new.faults }
+        ensures cause { OnErr result (Rises self.old.faults self.new.faults) }
+    {
+        let answer = self.try_sync();
+        counted(answer, &mut self.faults)
+    }
+
+    ghost as_read = { λ disk file is. untold file is };
+
+    ghost counts_now = { λ disk t image le now. now };
+
+    ghost only_now = { λ disk image since. since };
+}
