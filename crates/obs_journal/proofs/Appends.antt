@@ -139,7 +139,7 @@ module _ (ps : List RawParcel) (p : RawParcel) where
         gate = doubtful.next;
         rest = doubtful.rest;
         file_is = is ∙ written_between at (1 ∷ []) (opened ps []) (doubtful.gate ∷ behind) file (λ e. cc) (length-row_front ps ∙ sym at_is) (doubtful.image_is ∙ row_front ps (doubtful.gate ∷ behind))
-          ∙ sym (row_front ps (1 ∷ behind)) ∙ sym (row_more doubtful.next doubtful.rest);
+            ∙ sym (row_front ps (1 ∷ behind)) ∙ sym (row_more doubtful.next doubtful.rest);
         closed = doubtful.closed;
         each = each_more ps p doubtful.each doubtful.fits;
       }

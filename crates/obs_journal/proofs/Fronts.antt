@@ -33,7 +33,7 @@ put_together file bytes body gate n head front spelled body_is long inside =
     let rest_is : rest ≡ get_or rest 0 0 ∷ drop 1 rest = drop_more rest 0 0 more in
     let behind_is : behind ≡ body ++ (get_or rest 0 0 ∷ drop 1 rest) = sym (take-append-drop n behind) ∙ ap (λ l. l ++ rest) (sym body_is) ∙ ap (λ l. body ++ l) rest_is in
     sym (take-append-drop 26 (drop gate file)) ∙ ap (λ l. l ++ drop 26 (drop gate file)) (sym front ∙ spelled) ∙ ap (λ l. (1 ∷ head_spelled head) ++ l) (drop-drop 26 gate file ∙ behind_is)
-      ∙ ap (λ l. 1 ∷ l) (sym (append_assoc (head_spelled head) body (get_or rest 0 0 ∷ drop 1 rest)) ∙ ap (λ l. l ++ (get_or rest 0 0 ∷ drop 1 rest)) (sym (with_body_bytes head body long)))
+    ∙ ap (λ l. 1 ∷ l) (sym (append_assoc (head_spelled head) body (get_or rest 0 0 ∷ drop 1 rest)) ∙ ap (λ l. l ++ (get_or rest 0 0 ∷ drop 1 rest)) (sym (with_body_bytes head body long)))
 
 -- what holds of each value that a result may be
 pub each_ok : {T E : Type 0} (result : Result T E) (P : T → Type 0) → ((value : T) → result ≡ Ok value → P value) → IfOk result P
@@ -48,16 +48,16 @@ pub front_read : (front : Front) (known : Option (List ℕ)) (bytes : List ℕ) 
 front_read Closed known bytes gate end count head count_is whole spelled room open_is long fits ends not_closed = absurd (not_closed refl)
 front_read Damaged known bytes gate end count head count_is whole spelled room open_is long fits ends not_closed =
     if_both (λ file. bytes ≡ take count (drop gate file)) (λ file. length file < gate + 26 + (head.counted - 21)) (λ file. length file ≡ end → StandsAtFront (drop gate file) Damaged) known
-      (λ file was short at_end. absurd (omega (arith, short, at_end, room.least, room.inside))) whole (ends refl)
+    (λ file was short at_end. absurd (omega (arith, short, at_end, room.least, room.inside))) whole (ends refl)
 front_read (Open parcel) known bytes gate end count head count_is whole spelled room open_is long fits ends not_closed =
     if_both (λ file. bytes ≡ take count (drop gate file)) (λ file. parcel ≡ with_body head (take (head.counted - 21) (drop (gate + 26) file))) (λ file. length file ≡ end → StandsAtFront (drop gate file) (Open parcel)) known
-      (λ file was is at_end.
-        let n = head.counted - 21 in
-        let body = take n (drop (gate + 26) file) in
-        let body_long : length body + 21 ≡ head.counted = ap (λ (p : RawParcel). length p.body + 21) (sym is) ∙ long parcel refl in
-        let there = put_together file bytes body gate n head (was ∙ ap (λ c. take c (drop gate file)) count_is) spelled refl body_long (omega (arith, at_end, room.least, room.inside)) in
-        subst (λ (p : RawParcel). StandsAtFront (drop gate file) (Open p)) (sym is) (get_or (drop n (drop (gate + 26) file)) 0 0, drop 1 (drop n (drop (gate + 26) file)), there, subst (λ (p : RawParcel). IsParcel p) is (fits parcel refl)))
-      whole (open_is parcel refl)
+    (λ file was is at_end.
+    let n = head.counted - 21 in
+    let body = take n (drop (gate + 26) file) in
+    let body_long : length body + 21 ≡ head.counted = ap (λ (p : RawParcel). length p.body + 21) (sym is) ∙ long parcel refl in
+    let there = put_together file bytes body gate n head (was ∙ ap (λ c. take c (drop gate file)) count_is) spelled refl body_long (omega (arith, at_end, room.least, room.inside)) in
+    subst (λ (p : RawParcel). StandsAtFront (drop gate file) (Open p)) (sym is) (get_or (drop n (drop (gate + 26) file)) 0 0, drop 1 (drop n (drop (gate + 26) file)), there, subst (λ (p : RawParcel). IsParcel p) is (fits parcel refl)))
+    whole (open_is parcel refl)
 
 -- the gate and the head among the bytes that were read
 pub gate_and_head : (bytes all : List ℕ) (byte : ℕ) (head : Head) → all ≡ bytes → 1 ≤ length bytes → byte ≡ get_or bytes 0 byte → byte ≡ 1 → take (length all - 1) (drop 1 all) ≡ head_spelled head → bytes ≡ 1 ∷ head_spelled head

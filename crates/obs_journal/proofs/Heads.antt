@@ -22,7 +22,7 @@ spelled_by bytes r1 r2 r3 r4 head d long e1 e2 e3 e4 moment verb =
     let whole : bytes ≡ to_be_bytes w32 head.counted ++ (to_be_bytes w32 head.caller ++ (to_be_bytes w64 head.number ++ (to_be_bytes w64 d ++ r4))) = e1 ∙ ap (λ l. to_be_bytes w32 head.counted ++ l) (e2 ∙ ap (λ l. to_be_bytes w32 head.caller ++ l) (e3 ∙ ap (λ l. to_be_bytes w64 head.number ++ l) e4)) in
     let one : length r4 ≡ 1 = omega (arith, long, ap length whole) in
     whole ∙ ap (λ l. to_be_bytes w32 head.counted ++ (to_be_bytes w32 head.caller ++ (to_be_bytes w64 head.number ++ (to_be_bytes w64 d ++ l)))) (one_left r4 one ∙ ap (λ v. v ∷ []) (sym verb))
-      ∙ ap (λ n. to_be_bytes w32 head.counted ++ (to_be_bytes w32 head.caller ++ (to_be_bytes w64 head.number ++ (to_be_bytes w64 n ++ head.verb ∷ [])))) (sym moment)
+    ∙ ap (λ n. to_be_bytes w32 head.counted ++ (to_be_bytes w32 head.caller ++ (to_be_bytes w64 head.number ++ (to_be_bytes w64 n ++ head.verb ∷ [])))) (sym moment)
 
 -- a signed number as it is kept, once more as bits
 pub kept_bits : (z : ℤ) (d : ℕ) → z ≡ cast_signed w64 d → d < 2 ^ 64 → FitsSigned w64 z → cast_unsigned w64 (cast_signed w64 (cast_unsigned w64 z)) ≡ d

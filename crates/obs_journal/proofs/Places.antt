@@ -44,16 +44,16 @@ pub places_more : (places : List Placed) (p : RawParcel) (gate : ℕ) → gate �
 places_more places p gate place offsets =
     let last : Placed = record { offset = gate; parcel = p } in
     ap (λ l. l ++ last ∷ []) offsets ∙ ap (λ (n : ℕ). let placed : Placed = record { offset = n; parcel = p } in placed_from 0 (parcels_of places) ++ placed ∷ []) (omega (arith, place)) ∙ sym (placed_more 0 (parcels_of places) p)
-      ∙ ap (λ l. placed_from 0 l) (sym (parcels_more places last))
+    ∙ ap (λ l. placed_from 0 l) (sym (parcels_more places last))
 
 -- the known bytes, one parcel further
 pub told_more : (known : Option (List ℕ)) (places new : List Placed) (front : Front) (p : RawParcel) (gate next end : ℕ) → front ≡ Open p → next ≡ gate + room p → new ≡ places ++ record { offset = gate; parcel = p } ∷ []
     → IfSome known (λ file. length file ≡ end → IsRead file (parcels_of places) gate) → IfSome known (λ file. length file ≡ end → StandsAtFront (drop gate file) front) → IfSome known (λ file. length file ≡ end → IsRead file (parcels_of new) next)
 told_more known places new front p gate next end front_is next_is new_is read stands =
     if_both (λ file. length file ≡ end → IsRead file (parcels_of places) gate) (λ file. length file ≡ end → StandsAtFront (drop gate file) front) (λ file. length file ≡ end → IsRead file (parcels_of new) next) known
-      (λ file was is at_end. subst (λ ps. IsRead file ps next) (sym (ap parcels_of new_is ∙ parcels_more places (record { offset = gate; parcel = p })))
-        (more_read file (parcels_of places) gate next p next_is (was at_end) (subst (λ f. StandsAtFront (drop gate file) f) front_is (is at_end))))
-      read stands
+    (λ file was is at_end. subst (λ ps. IsRead file ps next) (sym (ap parcels_of new_is ∙ parcels_more places (record { offset = gate; parcel = p })))
+    (more_read file (parcels_of places) gate next p next_is (was at_end) (subst (λ f. StandsAtFront (drop gate file) f) front_is (is at_end))))
+    read stands
 
 pub place_more : (places new : List Placed) (p : RawParcel) (gate next : ℕ) → next ≡ gate + room p → new ≡ places ++ record { offset = gate; parcel = p } ∷ [] → gate ≡ row_length (parcels_of places) → next ≡ row_length (parcels_of new)
 place_more places new p gate next next_is new_is place =

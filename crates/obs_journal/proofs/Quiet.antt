@@ -48,4 +48,4 @@ pub piece_more : (file initial bytes new piece old rest : List ℕ) (at count fr
 piece_more file initial bytes new piece old rest at count from got left le gives new_is told =
     let front = given_front file from got old piece rest gives in
     ap (λ l. l ++ take (left - got) (drop (from + got) file)) (new_is ∙ ap (λ l. bytes ++ l) front) ∙ append_assoc bytes (take got (drop from file)) (take (left - got) (drop (from + got) file))
-      ∙ ap (λ l. bytes ++ (take got (drop from file) ++ take (left - got) l)) (sym (drop-drop got from file)) ∙ ap (λ l. bytes ++ l) (sym (left_in_two got left (drop from file) le)) ∙ told
+    ∙ ap (λ l. bytes ++ (take got (drop from file) ++ take (left - got) l)) (sym (drop-drop got from file)) ∙ ap (λ l. bytes ++ l) (sym (left_in_two got left (drop from file) le)) ∙ told

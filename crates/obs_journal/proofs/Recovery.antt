@@ -68,7 +68,7 @@ module _ {D : Type 0} (reads : D → Option (List ℕ)) (leaves : D → List ℕ
       → During moment since old new (SpellsAlike (reads old))
   during_fresh {old = old} end is_fresh so long safe fresh unwritten after passes torn =
       during_one_more (during_weaker (SpellsAlike (reads old)) (λ image none. absurd none) unwritten.no_image) passes (λ image was.
-        let from = torn image was in
-        let is = safe from.0 (image_before after from.0 from.1) in
-        let fresh_there = at_known (reads old) (λ file. length file ≡ end → (IsTrue is_fresh ↔ IsFresh file)) from.0 fresh is (at_known (reads old) (λ file. length file ≡ end) from.0 long is) in
-        fresh_torn (reads old) from.0 image is (fresh_there.0 so) from.2)
+      let from = torn image was in
+      let is = safe from.0 (image_before after from.0 from.1) in
+      let fresh_there = at_known (reads old) (λ file. length file ≡ end → (IsTrue is_fresh ↔ IsFresh file)) from.0 fresh is (at_known (reads old) (λ file. length file ≡ end) from.0 long is) in
+      fresh_torn (reads old) from.0 image is (fresh_there.0 so) from.2)

@@ -20,6 +20,6 @@ module _ {D : Type 0} (reads : D → Option (List ℕ)) (leaves : D → List ℕ
       → reads new ≡ reads mid → Passes moment since mid new → EachSince moment since mid new (leaves mid) → ((image : List ℕ) → leaves new image → reads new ≡ Some image) → IsSafe reads leaves at bytes old new
   safe_after {old = old} {mid = mid} {new = new} at bytes wrote first torn same second kept safe =
       λ image now.
-        let middle : leaves mid image = kept image (counts_now new (moment mid) image second.later now) in
-        let from = torn image (counts_now mid (moment old) image first.later middle) in
-        is_known image at bytes (reads old) (reads mid) (reads new) (known old from.0 from.1) wrote same (safe image now)
+      let middle : leaves mid image = kept image (counts_now new (moment mid) image second.later now) in
+      let from = torn image (counts_now mid (moment old) image first.later middle) in
+      is_known image at bytes (reads old) (reads mid) (reads new) (known old from.0 from.1) wrote same (safe image now)

@@ -46,7 +46,10 @@ fn four(bytes: &[u8]) -> (u32, &[u8])
     ensures { bytes.now ≡ to_be_bytes w32 result.0 ++ result.1.now }
 {
     let (front, rest) = bytes.split_at(4);
-    (u32::from_be_bytes([front[0], front[1], front[2], front[3]]), rest)
+    (
+        u32::from_be_bytes([front[0], front[1], front[2], front[3]]),
+        rest,
+    )
 }
 
 // The number in the first eight bytes, big-endian, and what follows.
@@ -132,7 +135,14 @@ fn read_parcel<D: Disk>(
     if !read_bytes(disk, at, head.counted as usize - FIELD_BYTES, bytes)? {
         return Ok(Front::Damaged);
     }
-    let parcel = Parcel::make(alloc, head.caller, head.number, head.moment, head.verb, bytes)?;
+    let parcel = Parcel::make(
+        alloc,
+        head.caller,
+        head.number,
+        head.moment,
+        head.verb,
+        bytes,
+    )?;
     Ok(Front::Open(parcel))
 }
 

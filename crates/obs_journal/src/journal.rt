@@ -32,7 +32,8 @@ impl Display for AppendFault {
     fn fmt<W: fmt::Write>(&self, f: &mut Formatter<W>) -> fmt::Result {
         f.pad(match self {
             AppendFault::Untouched => "the disk failed, and nothing was added",
-            AppendFault::InDoubt => "the disk failed, and it is in doubt whether the parcel was added",
+            AppendFault::InDoubt =>
+                "the disk failed, and it is in doubt whether the parcel was added",
         })
     }
 }

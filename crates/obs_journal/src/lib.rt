@@ -8,7 +8,6 @@ pub mod laws;
 mod opening;
 mod parcel;
 mod reading;
-
 mod writing;
 
 pub use fault::OpenFault;
@@ -21,7 +20,11 @@ pub const BODY_BYTES: usize = 1_048_576;
 
 // The gate of a parcel that counts. Any other byte is a closed gate, and a new one is this.
 const OPEN: u8 = 1;
+
 const CLOSED: u8 = 0;
 
 // How many bytes one read asks for, at most.
 const PIECE_BYTES: usize = 8_192;
+
+#[cfg(test)]
+mod tests;

@@ -28,11 +28,7 @@ pub struct Placed {
 pub type Parcels = ItemList<Placed>;
 
 // Reads the row of gates of a file that ends at `end`: its parcels, and the bytes up to and with the closed gate.
-fn read_row<D: Disk>(
-    alloc: Global,
-    disk: &mut D,
-    end: u64,
-) -> Result<(Parcels, u64), OpenFault>
+fn read_row<D: Disk>(alloc: Global, disk: &mut D, end: u64) -> Result<(Parcels, u64), OpenFault>
     requires { 0 < end }
     ensures row { IfOk result (λ row. IfSome (D.reads disk.old) (λ file. length file ≡ end → IsRow file (parcels_of row.0))) }
     ensures offsets { IfOk result (λ row. row.0 ≡ placed_from 0 (parcels_of row.0)) }

@@ -15,9 +15,9 @@ returns-clause-front g c =
     let head = c.in-Some.head in
     let whole = subst (λ b. IfSome (g.D.Disk.reads c.args.disk.now) (λ file. c.read_bytes.new.bytes.items ≡ b ++ take c.min-count.result (drop c.args.gate file))) c.clear.ensures.items said in
     each_ok c.read_parcel.result _ (λ front is.
-      front_read front (g.D.Disk.reads c.args.disk.now) c.read_bytes.new.bytes.items c.args.gate c.args.end c.min-count.result head full whole spelled room
-        (λ parcel e. subst (λ r. IfSome r (λ file. parcel ≡ with_body head (take (head.counted - 21) (drop (c.args.gate + 26) file)))) same (c.read_parcel.ensures.open parcel (is ∙ ap Ok e)))
-        (λ parcel e. c.read_parcel.ensures.long parcel (is ∙ ap Ok e))
-        (λ parcel e. c.read_parcel.ensures.fits parcel (is ∙ ap Ok e))
-        (λ e. subst (λ r. IfSome r (λ file. length file < c.args.gate + 26 + (head.counted - 21))) same (c.read_parcel.ensures.ends (is ∙ ap Ok e)))
-        (λ e. c.read_parcel.ensures.not_closed (is ∙ ap Ok e)))
+    front_read front (g.D.Disk.reads c.args.disk.now) c.read_bytes.new.bytes.items c.args.gate c.args.end c.min-count.result head full whole spelled room
+    (λ parcel e. subst (λ r. IfSome r (λ file. parcel ≡ with_body head (take (head.counted - 21) (drop (c.args.gate + 26) file)))) same (c.read_parcel.ensures.open parcel (is ∙ ap Ok e)))
+    (λ parcel e. c.read_parcel.ensures.long parcel (is ∙ ap Ok e))
+    (λ parcel e. c.read_parcel.ensures.fits parcel (is ∙ ap Ok e))
+    (λ e. subst (λ r. IfSome r (λ file. length file < c.args.gate + 26 + (head.counted - 21))) same (c.read_parcel.ensures.ends (is ∙ ap Ok e)))
+    (λ e. c.read_parcel.ensures.not_closed (is ∙ ap Ok e)))

@@ -18,7 +18,7 @@ gates-preserved g c =
       place = place_more c.gates.parcels c.push.new.self parcel c.gates.gate _ next new h.place;
       offsets = new ∙ places_more c.gates.parcels parcel c.gates.gate h.place h.offsets ∙ ap (λ l. placed_from 0 (parcels_of l)) (sym new);
       told = told_more (g.D.Disk.reads c.args.disk.now) c.gates.parcels c.push.new.self c.in_ok-read_front.field-0 parcel c.gates.gate _ c.args.end c.in-Open.is next new h.told
-        (subst (λ r. IfSome r (λ file. length file ≡ c.args.end → StandsAtFront (drop c.gates.gate file) c.in_ok-read_front.field-0)) h.unwritten.same c.in_ok-read_front.ensures.front);
+          (subst (λ r. IfSome r (λ file. length file ≡ c.args.end → StandsAtFront (drop c.gates.gate file) c.in_ok-read_front.field-0)) h.unwritten.same c.in_ok-read_front.ensures.front);
       unwritten = unwritten_joined h.unwritten c.read_front.ensures.unwritten;
       counts = omega (arith, h.counts, c.read_front.ensures.counts);
     }

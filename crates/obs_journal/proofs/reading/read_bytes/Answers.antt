@@ -18,7 +18,7 @@ loop-left-preserved g c =
       within = omega (arith, h.within);
       size = omega (arith, h.size, ap length items, length-append c.loop-left.bytes.items (take c.in_ok-got.got (c.read_at.new.piece ++ drop c.min-want.result c.loop-left.piece)), taken, piece_long);
       told = if_both _ _ _ (g.D.Disk.reads c.args.disk.now) (λ file told given. piece_more file c.args.bytes.now.items c.loop-left.bytes.items _ c.read_at.new.piece (take c.min-want.result c.loop-left.piece) _ c.args.at c.args.count c.loop-left.from c.in_ok-got.got c.loop-left.left got_le given items told)
-        h.told (subst (λ r. IfSome r (λ file. Gives file c.loop-left.from c.in_ok-got.got (take c.min-want.result c.loop-left.piece) c.read_at.new.piece)) h.unwritten.same c.in_ok-got.ensures.given);
+          h.told (subst (λ r. IfSome r (λ file. Gives file c.loop-left.from c.in_ok-got.got (take c.min-want.result c.loop-left.piece) c.read_at.new.piece)) h.unwritten.same c.in_ok-got.ensures.given);
       unwritten = unwritten_joined h.unwritten (unwritten_call g.D.Disk.reads g.D.Disk.leaves g.D.Disk.moment g.D.Disk.since g.met.D.Disk.counts_now c.read_at.ensures.reads c.read_at.ensures.time c.read_at.ensures.images);
       counts = omega (arith, h.counts, c.read_at.ensures.counts);
     }

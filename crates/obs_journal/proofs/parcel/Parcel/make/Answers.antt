@@ -20,11 +20,11 @@ bytes_are c =
     let e5 : c.push.new.self.items ≡ c.extend_from_slice-4.new.self.items ++ c.args.verb ∷ [] = c.in_ok-push.ensures.items in
     let e6 : c.extend_from_slice-5.new.self.items ≡ c.push.new.self.items ++ c.args.body.now = c.in_ok-extend_from_slice-5.ensures.items in
     laid (kept c) _ _ _ _ _ _ _
-      (e1 ∙ ap (λ b. b ++ c.to_be_bytes.result) c.in_ok-bytes.ensures.items ∙ c.to_be_bytes.ensures)
-      (e2 ∙ ap (λ b. c.extend_from_slice.new.self.items ++ b) c.to_be_bytes-2.ensures)
-      (e3 ∙ ap (λ b. c.extend_from_slice-2.new.self.items ++ b) c.to_be_bytes-3.ensures)
-      (e4 ∙ ap (λ b. c.extend_from_slice-3.new.self.items ++ b) c.to_be_bytes-4.ensures)
-      e5 e6 c.in_ok-push-2.ensures.items
+    (e1 ∙ ap (λ b. b ++ c.to_be_bytes.result) c.in_ok-bytes.ensures.items ∙ c.to_be_bytes.ensures)
+    (e2 ∙ ap (λ b. c.extend_from_slice.new.self.items ++ b) c.to_be_bytes-2.ensures)
+    (e3 ∙ ap (λ b. c.extend_from_slice-2.new.self.items ++ b) c.to_be_bytes-3.ensures)
+    (e4 ∙ ap (λ b. c.extend_from_slice-3.new.self.items ++ b) c.to_be_bytes-4.ensures)
+    e5 e6 c.in_ok-push-2.ensures.items
 
 body_is : (c : goal.In_ok-push-2) → body_of c.push-2.new.self.items ≡ c.args.body.now
 body_is c = body_of_bytes (kept c) _ (bytes_are c)
