@@ -1,0 +1,39 @@
+use Rattle.std.proofs.Common.{◌≡◌, ◌+◌, ◌-◌, ◌≤◌, ◌↔◌, ℕ, List, [], ◌∷◌, ◌++◌, length, get_or, Some, None, refl, sym, ◌∙◌, ap, arith}
+use Rattle.std.specs.Prelude.{IsTrue, Bool, true, false}
+use Rattle.obs_journal.specs.Parcels.{RawParcel, room}
+use Rattle.obs_journal.specs.Journals.{StandsFor, IsDoubtful}
+use Rattle.obs_journal.proofs.Appends.{gate_is, left_out_where_closed, added_where_open}
+use Rattle.obs_journal.proofs.Steps.{at_known, position_more}
+use Rattle.obs_journal.proofs.journal.Journal.mend.Goals as goal
+
+after_is : (after position n : ℕ) → Some after ≡ Some (position + n) → after ≡ position + n
+after_is after position n e = cc
+
+same_bool : (b : Bool) → IsTrue b → b ≡ false → ⊥
+same_bool b t f = cc (t, f)
+
+is_true : (b : Bool) → b ≡ true → IsTrue b
+is_true b t = t
+
+pub returns-then-not-is_open-clause-dropped : goal.returns-then-not-is_open-clause-dropped
+returns-then-not-is_open-clause-dropped g c = rw (← c.self.view_is) (λ _ ps p h. record {
+  images = λ image now.
+      let is = c.in_ok-is_open.ensures.safe image now in
+      let doubtful = h.images image (g.met.D.Disk.as_read c.self.inside.disk image is) in
+      let test = at_known _ (λ file. IsTrue c.in_ok-is_open.is_open ↔ (get_or file (c.self.inside.position - 1) 0 ≡ 1)) image c.in_ok-is_open.ensures.given is in
+      left_out_where_closed ps p image doubtful (λ shut. let t = test.1 (gate_is ps p c.self.inside.position image h.position doubtful ∙ shut) in let f = c.if-not-is_open.true in absurd (same_bool _ t f));
+  position = h.position;
+  in_doubt = refl;
+})
+
+pub returns-clause-added : goal.returns-clause-added
+returns-clause-added g c = rw (← c.self.view_is) (λ _ ps p h. record {
+  images = λ image now.
+      let is = c.in_ok-is_open.ensures.safe image now in
+      let doubtful = h.images image (g.met.D.Disk.as_read c.self.inside.disk image is) in
+      let test = at_known _ (λ file. IsTrue c.in_ok-is_open.is_open ↔ (get_or file (c.self.inside.position - 1) 0 ≡ 1)) image c.in_ok-is_open.ensures.given is in
+      let f = c.if-not-is_open.false in
+      added_where_open ps p image doubtful (sym (gate_is ps p c.self.inside.position image h.position doubtful) ∙ test.0 (is_true _ f));
+  position = after_is _ _ _ (sym c.in-Some.is ∙ h.in_doubt) ∙ position_more ps p c.self.inside.position (room p) h.position refl;
+  in_doubt = refl;
+})

@@ -1,0 +1,109 @@
+//! Opening a journal: its file is read from the front, and a fresh one gets its first gate.
+
+ghost use Rattle.std.specs.Prelude.{◌≡◌, ◌≢◌, ◌↔◌, ◌+◌, ◌<◌, ◌≤◌, ◌∷◌, [], ℕ, List, length, IfOk, IfSome, IsErr, IsErrOf, OnErr, OnOk, IsTrue, true, false, Ok, Err, Some};
+ghost use Rattle.disk_model.specs.Counts.{Rises};
+ghost use Rattle.disk_model.specs.Crashes.{During};
+ghost use Rattle.obs_journal.specs.Files.{IsFresh, IsRow, Spells, IsDamagedAt, row_length};
+ghost use Rattle.obs_journal.specs.Journals.{IsUnwritten};
+ghost use Rattle.obs_journal.specs.Opening.{parcels_of, placed_from, SpellsAlike};
+
+use crate::gates::{Front, read_front};
+use crate::reading::reads_open;
+use crate::writing::write_and_sync;
+use crate::{CLOSED, OpenFault, Parcel};
+use disk_model::{Disk, Failed};
+use item_list::ItemList;
+use std::alloc::Global;
+
+/// A parcel of the file.
+#[derive(Debug, Drop)]
+pub struct Placed {
+    /// The offset of its gate.
+    pub offset: u64,
+    /// The parcel.
+    pub parcel: Parcel,
+}
+
+/// The parcels of a file, in its order.
+pub type Parcels = ItemList<Placed>;
+
+// Reads the row of gates of a file that ends at `end`: its parcels, and the bytes up to and with the closed gate.
+fn read_row<D: Disk>(alloc: Global, disk: &mut D, end: u64) -> Result<(Parcels, u64), OpenFault>
+    requires { 0 < end }
+    ensures row { IfOk result (λ row. IfSome (D.reads disk.old) (λ file. length file ≡ end → IsRow file (parcels_of row.0))) }
+    ensures offsets { IfOk result (λ row. row.0 ≡ placed_from 0 (parcels_of row.0)) }
+    ensures position { IfOk result (λ row. row.1 ≡ row_length (parcels_of row.0) + 1) }
+    ensures damaged { (offset : ℕ) → result ≡ Err (OpenFault.Damaged offset) →
+        IfSome (D.reads disk.old) (λ file. length file ≡ end → file ≢ 1 ∷ [] → IsDamagedAt file offset) }
+
+    ensures unwritten { IsUnwritten D.reads D.moment D.since disk.old disk.new }
+    ensures counts { D.faults disk.old ≤ D.faults disk.new }
+    ensures cause { IsErrOf result OpenFault.DiskFault → Rises (D.faults disk.old) (D.faults disk.new) }
+{
+    let mut bytes = Vec::new(alloc);
+    let mut parcels = Parcels::new(alloc);
+    let mut gate = 0u64;
+    'gates: loop {
+        match read_front(alloc, disk, gate, end, &mut bytes)? {
+            Front::Closed => return Ok((parcels, gate + 1)),
+            Front::Damaged => return Err(OpenFault::Damaged { offset: gate }),
+            Front::Open(parcel) => {
+                let next = gate + parcel.bytes().len() as u64;
+                parcels.push(Placed {
+                    offset: gate,
+                    parcel,
+                })?;
+                gate = next;
+            }
+        }
+    }
+}
+
+// Whether nothing was added to the file yet, which ends at `end`.
+fn is_fresh<D: Disk>(disk: &mut D, end: u64) -> Result<bool, Failed>
+    ensures fresh { IfOk result (λ is_fresh. IfSome (D.reads disk.old) (λ file. length file ≡ end → (IsTrue is_fresh ↔ IsFresh file))) }
+    ensures some { result ≡ Ok false → 0 < end }
+
+    ensures unwritten { IsUnwritten D.reads D.moment D.since disk.old disk.new }
+    ensures counts { D.faults disk.old ≤ D.faults disk.new }
+    ensures cause { OnErr result (Rises (D.faults disk.old) (D.faults disk.new)) }
+{
+    if end != 1 {
+        return Ok(end == 0);
+    }
+    reads_open(disk, 0)
+}
+
+// Waits until the file is safe, and gives its length.
+fn safe_end<D: Disk>(disk: &mut D) -> Result<u64, Failed>
+    ensures end { IfOk result (λ end. IfSome (D.reads disk.old) (λ file. length file ≡ end)) }
+    ensures safe { OnOk result ((image : List ℕ) → D.leaves disk.new image → D.reads disk.old ≡ Some image) }
+
+    ensures unwritten { IsUnwritten D.reads D.moment D.since disk.old disk.new }
+    ensures counts { D.faults disk.old ≤ D.faults disk.new }
+    ensures cause { OnErr result (Rises (D.faults disk.old) (D.faults disk.new)) }
+{
+    disk.sync()?;
+    disk.len()
+}
+
+/// Reads the file, and puts a closed gate into a fresh one: the parcels, and the bytes up to and with the closed gate.
+pub(crate) fn recover<D: Disk>(alloc: Global, disk: &mut D) -> Result<(Parcels, u64), OpenFault>
+    ensures spelled { IfOk result (λ row. IfSome (D.reads disk.old) (λ file. Spells file (parcels_of row.0))) }
+    ensures offsets { IfOk result (λ row. row.0 ≡ placed_from 0 (parcels_of row.0)) }
+    ensures position { IfOk result (λ row. row.1 ≡ row_length (parcels_of row.0) + 1) }
+    ensures rows { IfOk result (λ row. (image : List ℕ) → D.leaves disk.new image → IsRow image (parcels_of row.0)) }
+    ensures damaged { (offset : ℕ) → result ≡ Err (OpenFault.Damaged offset) → IfSome (D.reads disk.old) (λ file. IsDamagedAt file offset) }
+
+    ensures any_moment { During D.moment D.since disk.old disk.new (SpellsAlike (D.reads disk.old)) }
+    ensures unwritten { IsErr result → result ≢ Err OpenFault.DiskFault → IsUnwritten D.reads D.moment D.since disk.old disk.new }
+    ensures counts { D.faults disk.old ≤ D.faults disk.new }
+    ensures cause { result ≡ Err OpenFault.DiskFault → Rises (D.faults disk.old) (D.faults disk.new) }
+{
+    let end = safe_end(disk)?;
+    if !is_fresh(disk, end)? {
+        return read_row(alloc, disk, end);
+    }
+    write_and_sync(disk, 0, &[CLOSED])?;
+    Ok((Parcels::new(alloc), 1))
+}

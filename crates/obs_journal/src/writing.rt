@@ -1,0 +1,46 @@
+//! Writes that are safe once they are done.
+
+ghost use Rattle.std.specs.Prelude.{ℕ, List, [], ◌∷◌, ◌≤◌, length, OnOk, OnErr};
+ghost use Rattle.disk_model.specs.Counts.{Rises};
+ghost use Rattle.disk_model.specs.Crashes.{Torn, After, Passes, EachSince};
+ghost use Rattle.obs_journal.specs.Writing.{IsSafe};
+
+use crate::OPEN;
+use disk_model::{Disk, Failed};
+
+/// Writes the bytes, and waits until they are safe.
+pub(crate) fn write_and_sync<D: Disk>(disk: &mut D, at: u64, bytes: &[u8]) -> Result<(), Failed>
+    ensures safe { OnOk result (IsSafe D.reads D.leaves at bytes.now disk.old disk.new) }
+
+    ensures time { Passes D.moment D.since disk.old disk.new }
+    ensures images { EachSince D.moment D.since disk.old disk.new (After (Torn at (length bytes.now)) (D.leaves disk.old)) }
+    ensures counts { D.faults disk.old ≤ D.faults disk.new }
+    ensures cause { OnErr result (Rises (D.faults disk.old) (D.faults disk.new)) }
+{
+    disk.write_at(at, bytes)?;
+    disk.sync()
+}
+
+/// Writes a parcel and the closed gate after it behind the closed gate, and waits until they are safe.
+pub(crate) fn stage<D: Disk>(disk: &mut D, position: u64, bytes: &[u8]) -> Result<(), Failed>
+    ensures safe { OnOk result (IsSafe D.reads D.leaves position bytes.now disk.old disk.new) }
+
+    ensures time { Passes D.moment D.since disk.old disk.new }
+    ensures images { EachSince D.moment D.since disk.old disk.new (After (Torn position (length bytes.now)) (D.leaves disk.old)) }
+    ensures counts { D.faults disk.old ≤ D.faults disk.new }
+    ensures cause { OnErr result (Rises (D.faults disk.old) (D.faults disk.new)) }
+{
+    write_and_sync(disk, position, bytes)
+}
+
+/// Opens the gate at this offset, and waits until that is safe.
+pub(crate) fn open_gate<D: Disk>(disk: &mut D, gate: u64) -> Result<(), Failed>
+    ensures safe { OnOk result (IsSafe D.reads D.leaves gate (1 ∷ []) disk.old disk.new) }
+
+    ensures time { Passes D.moment D.since disk.old disk.new }
+    ensures images { EachSince D.moment D.since disk.old disk.new (After (Torn gate 1) (D.leaves disk.old)) }
+    ensures counts { D.faults disk.old ≤ D.faults disk.new }
+    ensures cause { OnErr result (Rises (D.faults disk.old) (D.faults disk.new)) }
+{
+    write_and_sync(disk, gate, &[OPEN])
+}
