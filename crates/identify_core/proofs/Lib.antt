@@ -1,0 +1,6 @@
+mod OrderLemmas
+mod LinkLemmas
+mod WalkLemmas
+mod ActLemmas
+mod RunLemmas
+mod ChangeLemmas

@@ -1,0 +1,28 @@
+-- The principal of a designation by the acts on links. Lists of acts have the newest first.
+use Rattle.std.specs.Prelude.{Bool, false, if◌then◌else◌, List, [], ◌∷◌, Option, Some, None, option_map}
+use Rattle.std.specs.Ordering.{eq_by_cmp}
+use Rattle.packed_names.specs.declared.name.Designation.{Designation}
+use Rattle.packed_names.specs.Order.{designation_cmp}
+
+-- A designation is given; the objects of a principal and of a secondary are identified; a secondary is separated.
+pub data LinkAct : Type 0 where
+  Given : Designation → LinkAct
+  Joined : Designation → Designation → LinkAct
+  Parted : Designation → LinkAct
+
+-- whether a designation is the principal
+abbrev pub is_principal_of : Designation → Option Designation → Bool
+is_principal_of p None = false
+is_principal_of p (Some q) = eq_by_cmp designation_cmp q p
+
+-- The principal of d after an act, from what it was before. A designation that is given is its own principal. The
+-- secondary's designations get the other's principal. What is separated becomes its own principal, alone.
+abbrev pub principal_after : LinkAct → Designation → Option Designation → Option Designation
+principal_after (Given given) d before = if eq_by_cmp designation_cmp given d then Some given else before
+principal_after (Joined p s) d before = if is_principal_of s before then Some p else before
+principal_after (Parted s) d before = if eq_by_cmp designation_cmp d s then option_map (λ _. s) before else before
+
+-- the principal of d; none where it wasn't given
+abbrev pub principal : List LinkAct → Designation → Option Designation
+principal [] d = None
+principal (act ∷ past) d = principal_after act d (principal past d)
