@@ -141,7 +141,7 @@ own_given given old new follows own d p some =
     ]
 
 -- the principal that is meant is a designation's
-principal_is : (s : Designation) (before : Option Designation) → is_principal_of s before ≡ true → before ≡ Some s
+pub principal_is : (s : Designation) (before : Option Designation) → is_principal_of s before ≡ true → before ≡ Some s
 principal_is s None h = absurd (cc)
 principal_is s (Some q) h = ap Some (designation_same q s h)
 

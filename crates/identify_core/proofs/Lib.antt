@@ -4,3 +4,4 @@ mod WalkLemmas
 mod ActLemmas
 mod RunLemmas
 mod ChangeLemmas
+mod OrderedLemmas

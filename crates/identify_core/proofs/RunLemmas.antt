@@ -186,7 +186,7 @@ behind_first d p link links once rest =
     ]
 
 -- what a list begins with, or what follows it
-first_or_later : (e : Designation) (ds : List Designation) (d : Designation) → Contains (e ∷ ds) d → (e ≡ d) ⊎ Contains ds d
+pub first_or_later : (e : Designation) (ds : List Designation) (d : Designation) → Contains (e ∷ ds) d → (e ≡ d) ⊎ Contains ds d
 first_or_later e ds d (zero, below, here) = inl here
 first_or_later e ds d (suc k, below, here) = inr (k, omega (arith, below), here)
 

@@ -1,6 +1,7 @@
 -- The principal of a designation by the acts on links. Lists of acts have the newest first.
 use Rattle.std.specs.Prelude.{Bool, false, if◌then◌else◌, List, [], ◌∷◌, Option, Some, None, option_map}
-use Rattle.std.specs.Ordering.{eq_by_cmp}
+use Rattle.std.specs.List.{filter}
+use Rattle.std.specs.Ordering.{eq_by_cmp, match_ordering}
 use Rattle.packed_names.specs.declared.name.Designation.{Designation}
 use Rattle.packed_names.specs.Order.{designation_cmp}
 
@@ -26,3 +27,19 @@ principal_after (Parted s) d before = if eq_by_cmp designation_cmp d s then opti
 abbrev pub principal : List LinkAct → Designation → Option Designation
 principal [] d = None
 principal (act ∷ past) d = principal_after act d (principal past d)
+
+-- a designation put in its place among others that ascend; it stands once
+abbrev pub placed : Designation → List Designation → List Designation
+placed d [] = d ∷ []
+placed d (e ∷ ds) = match_ordering (designation_cmp d e) (d ∷ e ∷ ds) (e ∷ ds) (e ∷ placed d ds)
+
+-- the designations that were given, in their order
+abbrev pub given_in_order : List LinkAct → List Designation
+given_in_order [] = []
+given_in_order (Given d ∷ past) = placed d (given_in_order past)
+given_in_order (Joined p s ∷ past) = given_in_order past
+given_in_order (Parted s ∷ past) = given_in_order past
+
+-- the designations whose principal is p, in their order
+abbrev pub members : List LinkAct → Designation → List Designation
+members acts p = filter (λ d. is_principal_of p (principal acts d)) (given_in_order acts)

@@ -5,6 +5,7 @@ use Rattle.std.specs.Ordering.{eq_by_cmp}
 use Rattle.packed_names.specs.declared.name.Designation.{Designation}
 use Rattle.packed_names.specs.Order.{designation_cmp}
 use Rattle.identify_core.specs.declared.link.Link.{Link}
+use Rattle.identify_core.specs.Acts.{LinkAct, principal}
 
 -- what contracts see of links: the links, and for how many more there is memory
 pub record LinksValue : Type 0 where
@@ -29,3 +30,7 @@ IsBefore d (e ∷ ds) = (designation_cmp d e ≡ Less) × IsBefore d ds
 abbrev pub IsAscending : List Designation → Type 0
 IsAscending [] = Unit {0}
 IsAscending (d ∷ ds) = IsBefore d ds × IsAscending ds
+
+-- the links stand for acts, the newest first: each designation has the same principal by both
+abbrev pub StandFor : List Link → List LinkAct → Type 0
+StandFor links acts = (d : Designation) → principal_of links d ≡ principal acts d

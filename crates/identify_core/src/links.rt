@@ -1,11 +1,11 @@
 //! The links of all designations.
 
-ghost use Rattle.std.specs.Prelude.{◌≡◌, ◌≢◌, ◌↔◌, ◌+◌, ◌≤◌, [], map, All, Some, None, IfSome, IfOk};
+ghost use Rattle.std.specs.Prelude.{◌≡◌, ◌≢◌, ◌↔◌, ◌+◌, ◌≤◌, List, [], ◌∷◌, map, All, Some, None, IfSome, IfOk};
 ghost use Rattle.std.specs.List.{Contains};
 ghost use Rattle.packed_names.specs.declared.name.Designation.{Designation};
-ghost use Rattle.identify_core.specs.Acts.{principal_after};
+ghost use Rattle.identify_core.specs.Acts.{LinkAct, principal_after, members};
 ghost use Rattle.identify_core.specs.Acts.LinkAct.{Given, Joined, Parted};
-ghost use Rattle.identify_core.specs.Principals.{principal_of, IsPrincipal, IsAscending};
+ghost use Rattle.identify_core.specs.Principals.{principal_of, IsPrincipal, IsAscending, StandFor};
 
 use crate::link::Link;
 use crate::walk;
@@ -68,6 +68,7 @@ impl Links {
         requires absent { principal_of self.old.links d ≡ None }
         requires room { 1 ≤ self.old.spare }
         ensures principals { (e : Designation) → principal_of self.new.links e ≡ principal_after (Given d) e (principal_of self.old.links e) }
+        ensures acts { (acts : List LinkAct) → StandFor self.old.links acts → StandFor self.new.links (Given d ∷ acts) }
         ensures spare { self.old.spare ≤ self.new.spare + 1 }
     {
         self.links.push_reserved(Link {
@@ -92,6 +93,8 @@ impl Links {
         ensures principal { All (λ link. link.principal ≡ p) result.now }
         ensures members { (d : Designation) → Contains (map (λ link. link.member) result.now) d ↔ (principal_of self.now.links d ≡ Some p) }
         ensures order { IsAscending (map (λ link. link.member) result.now) }
+        ensures none { (¬ IsPrincipal self.now.links p) → result.now ≡ [] }
+        ensures acts { (acts : List LinkAct) → StandFor self.now.links acts → map (λ link. link.member) result.now ≡ members acts p }
     {
         walk::run_of(self.links.as_slice(), p)
     }
@@ -103,6 +106,7 @@ impl Links {
         requires secondary { IsPrincipal self.old.links s }
         requires two { p ≢ s }
         ensures principals { (e : Designation) → principal_of self.new.links e ≡ principal_after (Joined p s) e (principal_of self.old.links e) }
+        ensures acts { (acts : List LinkAct) → StandFor self.old.links acts → StandFor self.new.links (Joined p s ∷ acts) }
         ensures spare { self.old.spare ≤ self.new.spare }
     {
         walk::relabel(self.links.as_mut_slice(), p, s);
@@ -113,6 +117,7 @@ impl Links {
     pub fn part(&mut self, s: Designation)
         requires secondary { ¬ IsPrincipal self.old.links s }
         ensures principals { (e : Designation) → principal_of self.new.links e ≡ principal_after (Parted s) e (principal_of self.old.links e) }
+        ensures acts { (acts : List LinkAct) → StandFor self.old.links acts → StandFor self.new.links (Parted s ∷ acts) }
         ensures spare { self.old.spare ≤ self.new.spare }
     {
         walk::part(self.links.as_mut_slice(), s);

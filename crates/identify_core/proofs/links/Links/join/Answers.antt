@@ -20,3 +20,6 @@ returns-clause-principals c = λ e.
     follows_joined c.args.p c.args.s c.self.inside.links.items _ _ c.self.invariant (take_at _ _ _ long ∙ c.relabel.ensures ∙ ap (map (relabelled c.args.p c.args.s)) c.as_mut_slice.ensures.value)
     c.sort_unstable.ensures.permutation e
     ∙ ap (λ (v : LinksValue). principal_after (Joined c.args.p c.args.s) e (principal_of v.links e)) c.self.view_is
+
+pub returns-clause-acts : goal.returns-clause-acts
+returns-clause-acts c = λ acts stand e. returns-clause-principals c e ∙ ap (principal_after (Joined c.args.p c.args.s) e) (stand e)

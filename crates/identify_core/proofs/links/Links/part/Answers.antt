@@ -21,3 +21,6 @@ returns-clause-principals c = λ e.
     follows_parted c.args.s c.self.inside.links.items _ _ c.self.invariant (take_at _ _ _ long ∙ c.part.ensures ∙ ap (map (parted c.args.s)) c.as_mut_slice.ensures.value)
     c.sort_unstable.ensures.permutation e
     ∙ ap (λ (v : LinksValue). principal_after (Parted c.args.s) e (principal_of v.links e)) c.self.view_is
+
+pub returns-clause-acts : goal.returns-clause-acts
+returns-clause-acts c = λ acts stand e. returns-clause-principals c e ∙ ap (principal_after (Parted c.args.s) e) (stand e)
