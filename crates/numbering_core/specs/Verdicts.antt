@@ -1,5 +1,5 @@
 -- Verdicts on orbits, from where they are set to where they are voided. Lists of acts have the newest first.
-use Rattle.std.specs.Prelude.{ℕ, Bool, false, nat_le, ◌&&◌, if◌then◌else◌, List, [], ◌∷◌, Option, Some, None}
+use Rattle.std.specs.Prelude.{◌≡◌, ℕ, Bool, false, nat_le, ◌&&◌, if◌then◌else◌, List, [], ◌∷◌, Option, Some, None}
 use Rattle.std.specs.Ordering.{eq_by_cmp}
 use Rattle.packed_names.specs.declared.name.Designation.{Designation}
 use Rattle.packed_names.specs.Order.{designation_cmp}
@@ -30,3 +30,7 @@ is_good (Some verdict) = nat_le verdict.u 2 && nat_le 4 verdict.oppositions
 abbrev pub verdict_of : List Verdict → Designation → Option Verdict
 verdict_of [] d = None
 verdict_of (verdict ∷ verdicts) d = if eq_by_cmp designation_cmp verdict.principal d then Some verdict else verdict_of verdicts d
+
+-- the verdicts stand for acts, the newest first: on each designation the same one is in force by both
+abbrev pub StandFor : List Verdict → List VerdictAct → Type 0
+StandFor verdicts acts = (d : Designation) → verdict_of verdicts d ≡ verdict_in_force acts d

@@ -13,3 +13,6 @@ returns-clause-verdicts c = λ d.
     ∙ ap (λ (vs : List Verdict). verdict_of (vs ++ verdict ∷ []) d) c.remove.ensures.items
     ∙ set_after verdict d c.self.inside.verdicts.items
     ∙ ap (λ (v : RegisterValue). verdict_after (Set c.args.p c.args.u c.args.oppositions) d (verdict_of v.verdicts d)) c.self.view_is
+
+pub returns-clause-acts : goal.returns-clause-acts
+returns-clause-acts c = λ acts stand d. returns-clause-verdicts c d ∙ ap (verdict_after (Set c.args.p c.args.u c.args.oppositions) d) (stand d)

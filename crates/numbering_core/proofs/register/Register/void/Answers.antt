@@ -11,3 +11,6 @@ returns-clause-verdicts c = λ d.
     ap (λ (vs : List Verdict). verdict_of vs d) c.remove.ensures.items
     ∙ voided c.args.p d c.self.inside.verdicts.items
     ∙ ap (λ (v : RegisterValue). verdict_after (Voided c.args.p) d (verdict_of v.verdicts d)) c.self.view_is
+
+pub returns-clause-acts : goal.returns-clause-acts
+returns-clause-acts c = λ acts stand d. returns-clause-verdicts c d ∙ ap (verdict_after (Voided c.args.p) d) (stand d)
