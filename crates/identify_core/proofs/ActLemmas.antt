@@ -5,9 +5,9 @@ use Rattle.std.proofs.lemmas.Bool.{cases_Bool, false_from_ne_true}
 use Rattle.packed_names.specs.declared.name.Designation.{Designation}
 use Rattle.packed_names.specs.Order.{designation_cmp}
 use Rattle.identify_core.specs.declared.link.Link.{Link}
-use Rattle.identify_core.specs.Acts.{LinkAct, principal_after, is_principal_of}
+use Rattle.identify_core.specs.Acts.{principal_after, is_principal_of}
 use Rattle.identify_core.specs.Acts.LinkAct.{Given, Joined, Parted}
-use Rattle.identify_core.specs.Principals.{principal_of, IsPrincipal}
+use Rattle.identify_core.specs.Principals.{principal_of, IsPrincipal, ChangedBy}
 use Rattle.identify_core.specs.Walks.{has_member, has_principal, relabelled, parted}
 use Rattle.identify_core.proofs.OrderLemmas.{designation_same, designation_itself}
 use Rattle.identify_core.proofs.LinkLemmas.{EachOnce, linked, principal_of-here, principal_of-past, count-here, count-past, count_from_none, some_same}
@@ -120,11 +120,7 @@ principals_parted s d (link ∷ links) =
 abbrev pub AreOwn : List Link → Type 0
 AreOwn links = (d p : Designation) → principal_of links d ≡ Some p → IsPrincipal links p
 
--- the links have the principals that others had, after an act
-abbrev pub Follows : LinkAct → List Link → List Link → Type 0
-Follows act old new = (d : Designation) → principal_of new d ≡ principal_after act d (principal_of old d)
-
-pub own_given : (given : Designation) (old new : List Link) → Follows (Given given) old new → AreOwn old → AreOwn new
+pub own_given : (given : Designation) (old new : List Link) → ChangedBy (Given given) old new → AreOwn old → AreOwn new
 own_given given old new follows own d p some =
     elim (cases_Bool (eq_by_cmp designation_cmp given d)) [
       | inl same ↦
@@ -145,7 +141,7 @@ pub principal_is : (s : Designation) (before : Option Designation) → is_princi
 principal_is s None h = absurd (cc)
 principal_is s (Some q) h = ap Some (designation_same q s h)
 
-pub own_joined : (p s : Designation) (old new : List Link) → IsPrincipal old p → p ≢ s → Follows (Joined p s) old new → AreOwn old → AreOwn new
+pub own_joined : (p s : Designation) (old new : List Link) → IsPrincipal old p → p ≢ s → ChangedBy (Joined p s) old new → AreOwn old → AreOwn new
 own_joined p s old new principal two follows own d q some =
     elim (cases_Bool (is_principal_of s (principal_of old d))) [
       | inl moved ↦
@@ -165,7 +161,7 @@ mapped_is : (s q : Designation) (before : Option Designation) → option_map (λ
 mapped_is s q None h = absurd (cc)
 mapped_is s q (Some x) h = some_same s q h
 
-pub own_parted : (s : Designation) (old new : List Link) → (¬ IsPrincipal old s) → Follows (Parted s) old new → AreOwn old → AreOwn new
+pub own_parted : (s : Designation) (old new : List Link) → (¬ IsPrincipal old s) → ChangedBy (Parted s) old new → AreOwn old → AreOwn new
 own_parted s old new secondary follows own d q some =
     elim (cases_Bool (eq_by_cmp designation_cmp d s)) [
       | inl same ↦

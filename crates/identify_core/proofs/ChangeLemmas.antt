@@ -7,11 +7,11 @@ use Rattle.packed_names.specs.declared.name.Designation.{Designation}
 use Rattle.identify_core.specs.contracts.link.LinkOrd.TheImpl as derived_links
 use Rattle.identify_core.specs.declared.link.Link.{Link}
 use Rattle.identify_core.specs.Acts.LinkAct.{Given, Joined, Parted}
-use Rattle.identify_core.specs.Principals.{principal_of, IsPrincipal}
+use Rattle.identify_core.specs.Principals.{principal_of, IsPrincipal, ChangedBy}
 use Rattle.identify_core.specs.Walks.{relabelled, parted, AreLinks}
 use Rattle.identify_core.proofs.OrderLemmas.{link_order}
 use Rattle.identify_core.proofs.LinkLemmas.{EachOnce, linked, once_permuted, principal_of-permuted}
-use Rattle.identify_core.proofs.ActLemmas.{AreOwn, Follows, once_given, once_joined, once_parted, principals_joined, principals_parted, own_given, own_joined, own_parted}
+use Rattle.identify_core.proofs.ActLemmas.{AreOwn, once_given, once_joined, once_parted, principals_joined, principals_parted, own_given, own_joined, own_parted}
 
 -- links that were put in order
 are_links : (changed links : List Link) → IsPermutation changed links → IsSorted (derived_links.ghosts).cmp links → EachOnce changed → AreOwn links → AreLinks links
@@ -26,7 +26,7 @@ to_front old pushed links link pushed_is moved =
     let front : IsPermutation pushed (link ∷ old) = subst (λ (ls : List Link). IsPermutation ls (link ∷ old)) (sym pushed_is) (IsPermutation-to_front old link) in
     IsPermutation-trans (link ∷ old) pushed links (IsPermutation-sym pushed (link ∷ old) front) moved
 
-pub follows_given : (d : Designation) (old pushed links : List Link) → AreLinks old → principal_of old d ≡ None → pushed ≡ old ++ linked d d ∷ [] → IsPermutation pushed links → Follows (Given d) old links
+pub follows_given : (d : Designation) (old pushed links : List Link) → AreLinks old → principal_of old d ≡ None → pushed ≡ old ++ linked d d ∷ [] → IsPermutation pushed links → ChangedBy (Given d) old links
 follows_given d old pushed links are absent pushed_is moved =
     principal_of-permuted (linked d d ∷ old) links (to_front old pushed links (linked d d) pushed_is moved) (once_given d old absent are.once)
 
@@ -36,7 +36,7 @@ links_given d old pushed links are absent pushed_is moved sorted =
     are_links (linked d d ∷ old) links (to_front old pushed links (linked d d) pushed_is moved) sorted (once_given d old absent are.once)
     (own_given d old links (follows_given d old pushed links are absent pushed_is moved) are.own)
 
-pub follows_joined : (p s : Designation) (old changed links : List Link) → AreLinks old → changed ≡ map (relabelled p s) old → IsPermutation changed links → Follows (Joined p s) old links
+pub follows_joined : (p s : Designation) (old changed links : List Link) → AreLinks old → changed ≡ map (relabelled p s) old → IsPermutation changed links → ChangedBy (Joined p s) old links
 follows_joined p s old changed links are changed_is moved d =
     principal_of-permuted changed links moved (subst EachOnce (sym changed_is) (once_joined p s old are.once)) d
     ∙ ap (λ (ls : List Link). principal_of ls d) changed_is
@@ -48,7 +48,7 @@ links_joined p s old changed links are principal two changed_is moved sorted =
     are_links changed links moved sorted (subst EachOnce (sym changed_is) (once_joined p s old are.once))
     (own_joined p s old links principal two (follows_joined p s old changed links are changed_is moved) are.own)
 
-pub follows_parted : (s : Designation) (old changed links : List Link) → AreLinks old → changed ≡ map (parted s) old → IsPermutation changed links → Follows (Parted s) old links
+pub follows_parted : (s : Designation) (old changed links : List Link) → AreLinks old → changed ≡ map (parted s) old → IsPermutation changed links → ChangedBy (Parted s) old links
 follows_parted s old changed links are changed_is moved d =
     principal_of-permuted changed links moved (subst EachOnce (sym changed_is) (once_parted s old are.once)) d
     ∙ ap (λ (ls : List Link). principal_of ls d) changed_is

@@ -18,7 +18,8 @@ has_member d link = eq_by_cmp designation_cmp link.member d
 
 -- by principal, then by member
 abbrev pub link_cmp : Link → Link → Ordering
-link_cmp one other = ordering_then (designation_cmp one.principal other.principal) (designation_cmp one.member other.member)
+link_cmp one other =
+    ordering_then (designation_cmp one.principal other.principal) (designation_cmp one.member other.member)
 
 -- the links from the first of the principal on, as long as they are of it
 abbrev pub run_of : Designation → List Link → List Link

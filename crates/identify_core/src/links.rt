@@ -3,9 +3,9 @@
 ghost use Rattle.std.specs.Prelude.{◌≡◌, ◌≢◌, ◌↔◌, ◌+◌, ◌≤◌, List, [], ◌∷◌, map, All, Some, None, IfSome, IfOk};
 ghost use Rattle.std.specs.List.{Contains};
 ghost use Rattle.packed_names.specs.declared.name.Designation.{Designation};
-ghost use Rattle.identify_core.specs.Acts.{LinkAct, principal_after, members};
+ghost use Rattle.identify_core.specs.Acts.{LinkAct, members};
 ghost use Rattle.identify_core.specs.Acts.LinkAct.{Given, Joined, Parted};
-ghost use Rattle.identify_core.specs.Principals.{principal_of, IsPrincipal, IsAscending, StandFor};
+ghost use Rattle.identify_core.specs.Principals.{principal_of, IsPrincipal, IsAscending, ChangedBy, StandFor};
 
 use crate::link::Link;
 use crate::walk;
@@ -67,8 +67,9 @@ impl Links {
     pub fn add(&mut self, d: Designation)
         requires absent { principal_of self.old.links d ≡ None }
         requires room { 1 ≤ self.old.spare }
-        ensures principals { (e : Designation) → principal_of self.new.links e ≡ principal_after (Given d) e (principal_of self.old.links e) }
-        ensures acts { (acts : List LinkAct) → StandFor self.old.links acts → StandFor self.new.links (Given d ∷ acts) }
+        ensures principals { ChangedBy (Given d) self.old.links self.new.links }
+        ensures acts { (acts : List LinkAct)
+            → StandFor self.old.links acts → StandFor self.new.links (Given d ∷ acts) }
         ensures spare { self.old.spare ≤ self.new.spare + 1 }
     {
         self.links.push_reserved(Link {
@@ -87,14 +88,16 @@ impl Links {
         walk::principal_of(self.links.as_slice(), d)
     }
 
-    /// The links of all designations with this principal, itself among them, in the order of designations. Empty for what
-    /// is no principal.
+    /// The links of all designations with this principal, itself among them, in the order of designations. Empty for
+    /// what is no principal.
     pub fn members(&self, p: Designation) -> &[Link]
         ensures principal { All (λ link. link.principal ≡ p) result.now }
-        ensures members { (d : Designation) → Contains (map (λ link. link.member) result.now) d ↔ (principal_of self.now.links d ≡ Some p) }
+        ensures members { (d : Designation)
+            → Contains (map (λ link. link.member) result.now) d ↔ (principal_of self.now.links d ≡ Some p) }
         ensures order { IsAscending (map (λ link. link.member) result.now) }
         ensures none { (¬ IsPrincipal self.now.links p) → result.now ≡ [] }
-        ensures acts { (acts : List LinkAct) → StandFor self.now.links acts → map (λ link. link.member) result.now ≡ members acts p }
+        ensures acts { (acts : List LinkAct)
+            → StandFor self.now.links acts → map (λ link. link.member) result.now ≡ members acts p }
     {
         walk::run_of(self.links.as_slice(), p)
     }
@@ -105,8 +108,9 @@ impl Links {
         requires principal { IsPrincipal self.old.links p }
         requires secondary { IsPrincipal self.old.links s }
         requires two { p ≢ s }
-        ensures principals { (e : Designation) → principal_of self.new.links e ≡ principal_after (Joined p s) e (principal_of self.old.links e) }
-        ensures acts { (acts : List LinkAct) → StandFor self.old.links acts → StandFor self.new.links (Joined p s ∷ acts) }
+        ensures principals { ChangedBy (Joined p s) self.old.links self.new.links }
+        ensures acts { (acts : List LinkAct)
+            → StandFor self.old.links acts → StandFor self.new.links (Joined p s ∷ acts) }
         ensures spare { self.old.spare ≤ self.new.spare }
     {
         walk::relabel(self.links.as_mut_slice(), p, s);
@@ -116,8 +120,9 @@ impl Links {
     /// Separates `s`, which is no principal, from its object: it becomes its own principal, alone. It takes no memory.
     pub fn part(&mut self, s: Designation)
         requires secondary { ¬ IsPrincipal self.old.links s }
-        ensures principals { (e : Designation) → principal_of self.new.links e ≡ principal_after (Parted s) e (principal_of self.old.links e) }
-        ensures acts { (acts : List LinkAct) → StandFor self.old.links acts → StandFor self.new.links (Parted s ∷ acts) }
+        ensures principals { ChangedBy (Parted s) self.old.links self.new.links }
+        ensures acts { (acts : List LinkAct)
+            → StandFor self.old.links acts → StandFor self.new.links (Parted s ∷ acts) }
         ensures spare { self.old.spare ≤ self.new.spare }
     {
         walk::part(self.links.as_mut_slice(), s);

@@ -15,7 +15,8 @@ next_number (newest ∷ past) = Some (newest.number.0 + 1)
 -- the number of a designation
 abbrev pub number_of : List Numbering → Designation → Option Number
 number_of [] d = None
-number_of (newest ∷ past) d = if eq_by_cmp designation_cmp newest.designation d then Some newest.number else number_of past d
+number_of (newest ∷ past) d =
+    if eq_by_cmp designation_cmp newest.designation d then Some newest.number else number_of past d
 
 -- the designation that a number was given to
 abbrev pub named : List Numbering → ℕ → Option Designation
@@ -26,4 +27,7 @@ named (newest ∷ past) n = if newest.number.0 == n then Some newest.designation
 abbrev pub IsUnbroken : List Numbering → Type 0
 IsUnbroken [] = Unit {0}
 IsUnbroken (newest ∷ past) =
-    IsNumber newest.number.0 × IfSome (next_number past) (λ next. newest.number.0 ≡ next) × (number_of past newest.designation ≡ None) × IsUnbroken past
+    IsNumber newest.number.0
+    × IfSome (next_number past) (λ next. newest.number.0 ≡ next)
+    × (number_of past newest.designation ≡ None)
+    × IsUnbroken past

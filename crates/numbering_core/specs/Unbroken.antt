@@ -31,7 +31,9 @@ AreDifferent (x ∷ xs) = (¬ Contains xs x) × AreDifferent xs
 
 -- the numbers are the first, the one after it, and so on
 abbrev pub WithoutGap : Type 0
-WithoutGap = (numbered : List Numbering) → IsUnbroken numbered → numbers numbered ≡ down_to (first_number (numbers numbered)) (length numbered)
+WithoutGap =
+    (numbered : List Numbering)
+    → IsUnbroken numbered → numbers numbered ≡ down_to (first_number (numbers numbered)) (length numbered)
 
 -- no number was given twice
 abbrev pub NumbersOnce : Type 0

@@ -29,7 +29,12 @@ is_good (Some verdict) = nat_le verdict.u 2 && nat_le 4 verdict.oppositions
 -- the verdict on d among others
 abbrev pub verdict_of : List Verdict → Designation → Option Verdict
 verdict_of [] d = None
-verdict_of (verdict ∷ verdicts) d = if eq_by_cmp designation_cmp verdict.principal d then Some verdict else verdict_of verdicts d
+verdict_of (verdict ∷ verdicts) d =
+    if eq_by_cmp designation_cmp verdict.principal d then Some verdict else verdict_of verdicts d
+
+-- on each designation that verdict is in force which an act leaves, from what was in force before
+abbrev pub ChangedBy : VerdictAct → List Verdict → List Verdict → Type 0
+ChangedBy act old new = (d : Designation) → verdict_of new d ≡ verdict_after act d (verdict_of old d)
 
 -- the verdicts stand for acts, the newest first: on each designation the same one is in force by both
 abbrev pub StandFor : List Verdict → List VerdictAct → Type 0

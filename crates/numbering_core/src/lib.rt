@@ -1,8 +1,8 @@
 //! Verdicts on orbits, and the permanent numbers of minor planets.
 //!
-//! A minor planet is numbered once its orbit is known well. How well it is known, the Minor Planet Center states by the
-//! uncertainty parameter U, from 0 for the best to 9, and by the number of oppositions at which the object was observed.
-//! Numbers are given one after the other, and none is given twice.
+//! A minor planet is numbered once its orbit is known well. How well it is known, the Minor Planet Center states by
+//! the uncertainty parameter U, from 0 for the best to 9, and by the number of oppositions at which the object was
+//! observed. Numbers are given one after the other, and none is given twice.
 //!
 //! ```text
 //! register.reserve(1)?;

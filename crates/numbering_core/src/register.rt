@@ -3,7 +3,7 @@
 ghost use Rattle.std.specs.Prelude.{◌≡◌, ◌+◌, ◌≤◌, List, [], ◌∷◌, Some, None, IfSome, IfOk};
 ghost use Rattle.packed_names.specs.declared.name.Designation.{Designation};
 ghost use Rattle.packed_names.specs.Ranges.{IsNumber};
-ghost use Rattle.numbering_core.specs.Verdicts.{VerdictAct, verdict_of, verdict_after, verdict_in_force, is_good, StandFor};
+ghost use Rattle.numbering_core.specs.Verdicts.{VerdictAct, verdict_of, verdict_in_force, is_good, ChangedBy, StandFor};
 ghost use Rattle.numbering_core.specs.Verdicts.VerdictAct.{Set, Voided};
 ghost use Rattle.numbering_core.specs.Numbers.{number_of, named, next_number, IsUnbroken};
 
@@ -78,8 +78,9 @@ impl Register {
     /// longer in force. It takes no memory: `reserve` has left room.
     pub fn set(&mut self, p: Designation, u: u8, oppositions: u8)
         requires { 1 ≤ self.old.spare }
-        ensures verdicts { (d : Designation) → verdict_of self.new.verdicts d ≡ verdict_after (Set p u oppositions) d (verdict_of self.old.verdicts d) }
-        ensures acts { (acts : List VerdictAct) → StandFor self.old.verdicts acts → StandFor self.new.verdicts (Set p u oppositions ∷ acts) }
+        ensures verdicts { ChangedBy (Set p u oppositions) self.old.verdicts self.new.verdicts }
+        ensures acts { (acts : List VerdictAct)
+            → StandFor self.old.verdicts acts → StandFor self.new.verdicts (Set p u oppositions ∷ acts) }
         ensures numbered { self.new.numbered ≡ self.old.numbered }
         ensures spare { self.old.spare ≤ self.new.spare + 1 }
     {
@@ -93,18 +94,21 @@ impl Register {
 
     /// Voids the verdict on a designation, where there is one. It takes no memory.
     pub fn void(&mut self, p: Designation)
-        ensures verdicts { (d : Designation) → verdict_of self.new.verdicts d ≡ verdict_after (Voided p) d (verdict_of self.old.verdicts d) }
-        ensures acts { (acts : List VerdictAct) → StandFor self.old.verdicts acts → StandFor self.new.verdicts (Voided p ∷ acts) }
+        ensures verdicts { ChangedBy (Voided p) self.old.verdicts self.new.verdicts }
+        ensures acts { (acts : List VerdictAct)
+            → StandFor self.old.verdicts acts → StandFor self.new.verdicts (Voided p ∷ acts) }
         ensures numbered { self.new.numbered ≡ self.old.numbered }
         ensures spare { self.old.spare ≤ self.new.spare }
     {
         lists::remove(&mut self.verdicts, p);
     }
 
-    /// Whether a verdict on the designation is in force and is good: U is at most 2, and the oppositions are at least 4.
+    /// Whether a verdict on the designation is in force and is good: U is at most 2, and the oppositions are at least
+    /// 4.
     pub fn good(&self, p: Designation) -> bool
         ensures good { result ≡ is_good (verdict_of self.now.verdicts p) }
-        ensures acts { (acts : List VerdictAct) → StandFor self.now.verdicts acts → result ≡ is_good (verdict_in_force acts p) }
+        ensures acts { (acts : List VerdictAct)
+            → StandFor self.now.verdicts acts → result ≡ is_good (verdict_in_force acts p) }
     {
         lists::is_good(lists::verdict_of(self.verdicts.as_slice(), p))
     }
