@@ -5,3 +5,4 @@ mod ActLemmas
 mod RunLemmas
 mod ChangeLemmas
 mod OrderedLemmas
+mod PlaceLemmas

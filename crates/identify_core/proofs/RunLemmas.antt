@@ -32,13 +32,13 @@ all_behind : (one : Link) (links : List Link) → ((j : ℕ) (x : Link) → j < 
 all_behind one [] each = tt
 all_behind one (other ∷ links) each = (each 0 other (omega arith), all_behind one links (λ j x below. each (suc j) x (omega (arith, below))))
 
-behind_from : (o : Ordering) → is_lt o ≡ false → (o ≡ Equal → ⊥) → ordering_reverse o ≡ Less
+pub behind_from : (o : Ordering) → is_lt o ≡ false → (o ≡ Equal → ⊥) → ordering_reverse o ≡ Less
 behind_from Less h apart = absurd (cc)
 behind_from Equal h apart = absurd (apart refl)
 behind_from Greater h apart = refl
 
 -- links that compare equal have one member
-tied_member : (one other : Link) → link_cmp one other ≡ Equal → has_member other.member one ≡ true
+pub tied_member : (one other : Link) → link_cmp one other ≡ Equal → has_member other.member one ≡ true
 tied_member one other tied = (then_parts (designation_cmp one.principal other.principal) (designation_cmp one.member other.member) (ap is_eq tied)).1
 
 behind_at : (one : Link) (links : List Link) → IsSorted link_cmp (one ∷ links) → EachOnce (one ∷ links) → (j : ℕ) (x : Link) → j < length links → link_cmp one (get_or links j x) ≡ Less

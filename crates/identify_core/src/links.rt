@@ -72,11 +72,14 @@ impl Links {
             → StandFor self.old.links acts → StandFor self.new.links (Given d ∷ acts) }
         ensures spare { self.old.spare ≤ self.new.spare + 1 }
     {
-        self.links.push_reserved(Link {
+        let link = Link {
             principal: d,
             member: d,
-        });
-        self.links.sort_unstable();
+        };
+        let place = walk::place_of(self.links.as_slice(), link);
+        if self.links.insert(place, link).is_err() {
+            unreachable!("reserve has left room")
+        }
     }
 
     /// The principal designation of a designation's object, which is its own principal. None exactly where the

@@ -2,10 +2,10 @@
 
 ghost use Rattle.std.specs.Prelude.{◌≡◌, ◌≤◌, not, map, length};
 ghost use Rattle.std.specs.List.{prefix_len};
-ghost use Rattle.std.specs.Ordering.{eq_by_cmp};
+ghost use Rattle.std.specs.Ordering.{eq_by_cmp, is_lt};
 ghost use Rattle.packed_names.specs.Order.{designation_cmp};
 ghost use Rattle.identify_core.specs.Principals.{principal_of};
-ghost use Rattle.identify_core.specs.Walks.{has_principal, run_of, relabelled, parted};
+ghost use Rattle.identify_core.specs.Walks.{has_principal, link_cmp, run_of, relabelled, parted};
 
 use crate::link::Link;
 use packed_names::Designation;
@@ -52,6 +52,24 @@ pub fn run_of(links: &[Link], p: Designation) -> &[Link]
     let (_, rest) = links.split_at(count_before(links, p));
     let (run, _) = rest.split_at(count_front(rest, p));
     run
+}
+
+/// Whether a link comes before another one.
+fn is_before(one: Link, other: Link) -> bool
+    ensures { result ≡ is_lt (link_cmp one other) }
+{
+    one.cmp(&other).is_lt()
+}
+
+/// The place of a link among links that are in order: how many come before it.
+pub fn place_of(links: &[Link], link: Link) -> usize
+    ensures count { result ≡ prefix_len (λ other. is_lt (link_cmp other link)) links.now }
+    ensures within { result ≤ length links.now }
+{
+    links
+        .iter()
+        .take_while(|other| is_before(**other, link))
+        .count()
 }
 
 /// The link after the secondary `s` was identified with the principal `p`.
