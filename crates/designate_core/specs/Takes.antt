@@ -21,7 +21,8 @@ pub record RowsValue : Type 0 where
 -- how many designations were given in a half-month
 abbrev pub given_in : HalfMonth → List Take → ℕ
 given_in half [] = 0
-given_in half (take ∷ past) = if eq_by_cmp half_cmp take.half half then given_in half past + 1 else given_in half past
+given_in half (take ∷ past) =
+    if eq_by_cmp half_cmp take.half half then given_in half past + 1 else given_in half past
 
 -- the designation that comes next in a half-month: its order is one more than the count
 abbrev pub next_in : HalfMonth → List Take → Provisional
@@ -40,4 +41,5 @@ designations_given (take ∷ past) = next_in take.half past ∷ designations_giv
 abbrev pub discovery_of : Designation → List Take → Option ℕ
 discovery_of d [] = None
 discovery_of d (take ∷ past) =
-    if eq_by_cmp designation_cmp d (designations.Provisional (next_in take.half past)) then Some take.discovery else discovery_of d past
+    let given = designations.Provisional (next_in take.half past) in
+    if eq_by_cmp designation_cmp d given then Some take.discovery else discovery_of d past

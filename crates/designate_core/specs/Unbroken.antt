@@ -11,7 +11,8 @@ use Rattle.designate_core.specs.Takes.{Take, given_in, designations_given}
 -- the orders of the designations that are of a half-month
 abbrev pub orders_in : HalfMonth → List Provisional → List ℕ
 orders_in half [] = []
-orders_in half (given ∷ past) = if eq_by_cmp half_cmp given.half half then given.order ∷ orders_in half past else orders_in half past
+orders_in half (given ∷ past) =
+    if eq_by_cmp half_cmp given.half half then given.order ∷ orders_in half past else orders_in half past
 
 -- the numbers from n down to 1
 abbrev pub down_from : ℕ → List ℕ
@@ -30,11 +31,13 @@ AreDifferent (given ∷ past) = (¬ Contains past given) × AreDifferent past
 
 -- from the newest to the oldest, the orders given in a half-month are N, N - 1, and so on down to 1
 abbrev pub UnbrokenRow : Type 0
-UnbrokenRow = (half : HalfMonth) (takes : List Take) → orders_in half (designations_given takes) ≡ down_from (given_in half takes)
+UnbrokenRow =
+    (half : HalfMonth) (takes : List Take) → orders_in half (designations_given takes) ≡ down_from (given_in half takes)
 
 -- a half-month has no more designations than its limit
 abbrev pub EachWithinLimit : Type 0
-EachWithinLimit = (half : HalfMonth) (takes : List Take) → AreWithinLimits takes → given_in half takes ≤ limit_of half
+EachWithinLimit =
+    (half : HalfMonth) (takes : List Take) → AreWithinLimits takes → given_in half takes ≤ limit_of half
 
 -- no designation was given twice
 abbrev pub EachGivenOnce : Type 0

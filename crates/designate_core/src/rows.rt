@@ -61,8 +61,8 @@ impl Rows {
         self.taken.reserve(1)
     }
 
-    /// The designation that is given next in a half-month: its order is one more than the count of those that were given
-    /// in it. None exactly where that count is the half-month's limit.
+    /// The designation that is given next in a half-month: its order is one more than the count of those that were
+    /// given in it. None exactly where that count is the half-month's limit.
     pub fn next(&self, half: HalfMonth) -> Option<Provisional>
         requires { IsHalfMonth half }
         ensures next { result ≡ next_of half self.now.takes }
@@ -81,8 +81,8 @@ impl Rows {
         }
     }
 
-    /// Gives the next designation of a half-month, which isn't full, to the object of this discovery observation. It takes
-    /// no memory: `reserve` has left room.
+    /// Gives the next designation of a half-month, which isn't full, to the object of this discovery observation. It
+    /// takes no memory: `reserve` has left room.
     pub fn take(&mut self, half: HalfMonth, discovery: u64) -> Provisional
         requires half { IsHalfMonth half }
         requires free { given_in half self.old.takes < limit_of half }

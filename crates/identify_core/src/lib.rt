@@ -1,0 +1,23 @@
+//! Identifications: which designations were found to be one object, and which of them is its principal designation.
+//!
+//! An object that was designated twice keeps all its designations. One of them is the principal one, under which its
+//! observations are published; the others are secondary. Identifying two objects makes the one's principal designation
+//! that of all the other's; separating a secondary designation makes an object of its own of it.
+//!
+//! ```text
+//! links.reserve()?;
+//! links.add(d);
+//! links.join(principal, secondary);
+//! for link in links.members(principal) {}
+//! ```
+#![tactic(auto)]
+
+mod link;
+mod links;
+mod walk;
+
+pub use link::Link;
+pub use links::Links;
+
+#[cfg(test)]
+mod tests;

@@ -1,0 +1,12 @@
+use packed_names::Designation;
+
+/// A designation that was given, and the principal designation of its object.
+///
+/// Links are in the order of their principals, and those of one principal in the order of their members.
+#[derive(Clone, Copy, Debug, PartialEq, Eq, PartialOrd, Ord)]
+pub struct Link {
+    /// The principal designation of the member's object.
+    pub principal: Designation,
+    /// The designation.
+    pub member: Designation,
+}

@@ -1,0 +1,134 @@
+//! The links of all designations.
+
+ghost use Rattle.std.specs.Prelude.{◌≡◌, ◌≢◌, ◌↔◌, ◌+◌, ◌≤◌, List, [], ◌∷◌, map, All, Some, None, IfSome, IfOk};
+ghost use Rattle.std.specs.List.{Contains};
+ghost use Rattle.packed_names.specs.declared.name.Designation.{Designation};
+ghost use Rattle.identify_core.specs.Acts.{LinkAct, members};
+ghost use Rattle.identify_core.specs.Acts.LinkAct.{Given, Joined, Parted};
+ghost use Rattle.identify_core.specs.Principals.{principal_of, IsPrincipal, IsAscending, ChangedBy, StandFor};
+
+use crate::link::Link;
+use crate::walk;
+use item_list::NoMemory;
+use packed_names::Designation;
+use std::alloc::Global;
+use std::marker::Model;
+
+/// The links of all designations that were given.
+///
+/// Contracts see the links, from which `principal_of` gives the principal of each designation, and for how many more
+/// memory is there.
+#[derive(Drop)]
+pub struct Links {
+    links: Vec<Link>,
+}
+
+impl Model for Links {
+    ghost use Rattle.std.specs.Prelude.{◌-◌, vec_len, vec_capacity};
+    ghost use Rattle.identify_core.specs.Principals.{LinksValue};
+
+    ghost Value = { LinksValue };
+
+    ghost use Rattle.identify_core.specs.Walks.{AreLinks};
+
+    ghost view = { λ l. record { links = l.links.items; spare = vec_capacity l.links - vec_len l.links } };
+
+    ghost invariant = { λ l. AreLinks l.links.items };
+}
+
+impl Links {
+    /// Links of no designation.
+    ///
+    /// # Errors
+    ///
+    /// Memory was refused.
+    pub fn new(alloc: Global) -> Result<Links, NoMemory>
+        ensures { IfOk result (λ links. links.links ≡ []) }
+    {
+        Ok(Links {
+            links: Vec::new(alloc),
+        })
+    }
+
+    /// Takes the memory for one more designation. The links stay, whatever the answer.
+    ///
+    /// # Errors
+    ///
+    /// Memory was refused.
+    pub fn reserve(&mut self) -> Result<(), NoMemory>
+        ensures room { IfOk result (λ _. 1 ≤ self.new.spare) }
+        ensures kept { self.old.spare ≤ self.new.spare }
+        ensures links { self.new.links ≡ self.old.links }
+    {
+        self.links.reserve(1)
+    }
+
+    /// Adds a designation that was given, which is its own principal. It takes no memory: `reserve` has left room.
+    pub fn add(&mut self, d: Designation)
+        requires absent { principal_of self.old.links d ≡ None }
+        requires room { 1 ≤ self.old.spare }
+        ensures principals { ChangedBy (Given d) self.old.links self.new.links }
+        ensures acts { (acts : List LinkAct)
+            → StandFor self.old.links acts → StandFor self.new.links (Given d ∷ acts) }
+        ensures spare { self.old.spare ≤ self.new.spare + 1 }
+    {
+        let link = Link {
+            principal: d,
+            member: d,
+        };
+        let place = walk::place_of(self.links.as_slice(), link);
+        if self.links.insert(place, link).is_err() {
+            unreachable!("reserve has left room")
+        }
+    }
+
+    /// The principal designation of a designation's object, which is its own principal. None exactly where the
+    /// designation wasn't given.
+    pub fn principal(&self, d: Designation) -> Option<Designation>
+        ensures principal { result ≡ principal_of self.now.links d }
+        ensures own { IfSome result (IsPrincipal self.now.links) }
+    {
+        walk::principal_of(self.links.as_slice(), d)
+    }
+
+    /// The links of all designations with this principal, itself among them, in the order of designations. Empty for
+    /// what is no principal.
+    pub fn members(&self, p: Designation) -> &[Link]
+        ensures principal { All (λ link. link.principal ≡ p) result.now }
+        ensures members { (d : Designation)
+            → Contains (map (λ link. link.member) result.now) d ↔ (principal_of self.now.links d ≡ Some p) }
+        ensures order { IsAscending (map (λ link. link.member) result.now) }
+        ensures none { (¬ IsPrincipal self.now.links p) → result.now ≡ [] }
+        ensures acts { (acts : List LinkAct)
+            → StandFor self.now.links acts → map (λ link. link.member) result.now ≡ members acts p }
+    {
+        walk::run_of(self.links.as_slice(), p)
+    }
+
+    /// Identifies the object of the principal `s` with that of the principal `p`: every designation whose principal was
+    /// `s` gets `p`. It takes no memory.
+    pub fn join(&mut self, p: Designation, s: Designation)
+        requires principal { IsPrincipal self.old.links p }
+        requires secondary { IsPrincipal self.old.links s }
+        requires two { p ≢ s }
+        ensures principals { ChangedBy (Joined p s) self.old.links self.new.links }
+        ensures acts { (acts : List LinkAct)
+            → StandFor self.old.links acts → StandFor self.new.links (Joined p s ∷ acts) }
+        ensures spare { self.old.spare ≤ self.new.spare }
+    {
+        walk::relabel(self.links.as_mut_slice(), p, s);
+        self.links.sort_unstable();
+    }
+
+    /// Separates `s`, which is no principal, from its object: it becomes its own principal, alone. It takes no memory.
+    pub fn part(&mut self, s: Designation)
+        requires secondary { ¬ IsPrincipal self.old.links s }
+        ensures principals { ChangedBy (Parted s) self.old.links self.new.links }
+        ensures acts { (acts : List LinkAct)
+            → StandFor self.old.links acts → StandFor self.new.links (Parted s ∷ acts) }
+        ensures spare { self.old.spare ≤ self.new.spare }
+    {
+        walk::part(self.links.as_mut_slice(), s);
+        self.links.sort_unstable();
+    }
+}

@@ -1,0 +1,5 @@
+pub mod Verdicts
+pub mod Numbers
+pub mod Unbroken
+pub mod RegisterValue
+pub mod Lists
