@@ -1,0 +1,4 @@
+pub mod Numbering
+pub mod Observations
+pub mod Tracklets
+pub mod Contents
