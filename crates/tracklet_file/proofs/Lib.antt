@@ -1,2 +1,3 @@
 mod NumberingLemmas
 mod TrackLemmas
+mod CountLemmas

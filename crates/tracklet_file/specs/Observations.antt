@@ -1,5 +1,5 @@
 -- The observations that the office accepted, the newest first.
-use Rattle.std.specs.Prelude.{ℕ, ℤ, Bool, true, false, not, ◌&&◌, ◌==◌, nat_lt, List, [], ◌∷◌, ◌++◌, Option, IsSome, slice_get, if◌then◌else◌}
+use Rattle.std.specs.Prelude.{◌≡◌, ℕ, ℤ, Bool, true, false, not, ◌&&◌, ◌==◌, nat_lt, List, [], ◌∷◌, ◌++◌, Option, Some, IsSome, slice_get, if◌then◌else◌}
 use Rattle.std.specs.List.{list_any}
 use Rattle.std.specs.Option.{option_map, option_map_or, option_and_then}
 use Rattle.std.specs.Str.{bytes_eq}
@@ -64,6 +64,11 @@ first_of observations t = slice_get (observations_of observations t) 0
 -- the one that comes next after k in k's own tracklet
 abbrev pub next_of : List Observation → ℕ → Option ℕ
 next_of observations k = option_and_then (λ t. slice_get (later_of_track observations t k) 0) (track_of observations k)
+
+-- where `next` comes next after k, the later ones of k's tracklet are `next` and those that are later still
+abbrev pub IsFollowedBy : List Observation → ℕ → ℕ → Type 0
+IsFollowedBy observations k next =
+    (t : ℕ) → track_of observations k ≡ Some t → later_of_track observations t k ≡ next ∷ later_of_track observations t next
 
 -- ---- changes
 
