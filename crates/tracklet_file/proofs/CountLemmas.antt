@@ -1,7 +1,7 @@
 -- Counts of observations by their places.
 use Rattle.std.proofs.Common.{◌≡◌, ℕ, ◌+◌, ◌<◌, ◌≤◌, Bool, true, false, cond, List, [], ◌∷◌, length, Option, Some, None, refl, ap, sym, subst, ◌∙◌, lit≤, add-zero, arith}
-use Rattle.std.specs.Prelude.{not, ◌&&◌, ◌==◌, count_by, is_none, is_some, IsSome}
-use Rattle.std.specs.Option.{option_map, option_and_then}
+use Rattle.std.specs.Prelude.{not, ◌&&◌, ◌==◌, count_by, is_none, is_some, IsSome, IfSome}
+use Rattle.std.specs.Option.{option_map, option_map_or, option_and_then}
 use Rattle.std.proofs.lemmas.Bool.{eqb-true, false≢true}
 use Rattle.std.proofs.lemmas.Option.{none-some, same_Some}
 use Rattle.std.proofs.lemmas.List.Sums.{sum_by-cons}
@@ -9,8 +9,8 @@ use Rattle.tracklet_file.specs.declared.observation.Observation.{Observation}
 use Rattle.tracklet_file.specs.declared.tracklet.Tracklet.{Tracklet}
 use Rattle.packed_names.specs.declared.name.Designation.{Designation}
 use Rattle.tracklet_file.specs.Numbering.{next_number, numbered, changed_at}
-use Rattle.tracklet_file.specs.Observations.{with_retraction}
-use Rattle.tracklet_file.specs.Contents.{AreInTracklets}
+use Rattle.tracklet_file.specs.Observations.{track_of, is_live, with_retraction}
+use Rattle.tracklet_file.specs.Contents.{AreInTracklets, IsCounted}
 use Rattle.tracklet_file.proofs.NumberingLemmas.{numbered_stays, numbered_changed, numbered_others}
 use Rattle.tracklet_file.specs.Tracklets.{IsTracklet, with_home, home_of, is_isolated, is_homed, is_retracted, isolated_in, homed_in, retracted_in}
 
@@ -32,6 +32,21 @@ places_together tracklets (o ∷ older) =
     let homed = sum_by-cons (λ (o : Observation). cond (is_homed tracklets o) 1 0) o older in
     let retracted = sum_by-cons (λ (o : Observation). cond (is_retracted o) 1 0) o older in
     omega arith
+
+-- ---- tracklets that are there
+
+-- the tracklet of an observation is there
+pub track_there : (tracklets : List Tracklet) (observations : List Observation) (k : ℕ) → AreInTracklets tracklets observations → IfSome (track_of observations k) (IsTracklet tracklets)
+track_there tracklets [] k there = tt
+track_there tracklets (newest ∷ older) k there = by (k == next_number older) (track_there tracklets older k there.1)
+  where
+    by : (b : Bool) → IfSome (track_of older k) (IsTracklet tracklets) → IfSome (option_map (λ (o : Observation). o.track) (cond b (Some newest) (numbered older k))) (IsTracklet tracklets)
+    by true rest = there.0
+    by false rest = rest
+
+pub tracklet_at : (tracklets : List Tracklet) (observations : List Observation) (k : ℕ) (o : Observation) → AreInTracklets tracklets observations → numbered observations k ≡ Some o → IsTracklet tracklets o.track
+tracklet_at tracklets observations k o there is =
+    subst (λ (found : Option Observation). IfSome (option_map (λ (o : Observation). o.track) found) (IsTracklet tracklets)) is (track_there tracklets observations k there)
 
 -- ---- one more tracklet
 
@@ -204,3 +219,77 @@ pub retracted_more : (observations : List Observation) (k : ℕ) (o : Observatio
 retracted_more observations k o there live =
     sym (add-zero (retracted_in (with_retraction observations k))) ∙ ap (λ (b : Bool). retracted_in (with_retraction observations k) + cond (not b) 1 0) (sym live)
     ∙ count_changed is_retracted (λ (o : Observation). record o { live = false }) observations k o there
+
+-- ---- the file's own counts
+
+pub counted_more : (newest : Tracklet) (tracklets : List Tracklet) (observations : List Observation) {isolated retracted : ℕ} → IsCounted tracklets observations isolated retracted
+    → IsCounted (newest ∷ tracklets) observations isolated retracted
+counted_more newest tracklets observations counted = record {
+  in_tracklets = in_more newest tracklets observations counted.in_tracklets;
+  isolated_are = counted.isolated_are ∙ sym (isolated_more newest tracklets observations counted.in_tracklets);
+  retracted_are = counted.retracted_are;
+}
+
+-- what a test for none tells
+pub none_told : {A : Type 0} (o : Option A) (none : Bool) → is_some o ≡ not none → none ≡ is_none o
+none_told o true told = sym (ap not told)
+none_told o false told = sym (ap not told)
+
+-- a live observation is there
+pub live_there : (observations : List Observation) (k : ℕ) → is_live observations k ≡ true → IsSome (numbered observations k)
+live_there observations k live = by (numbered observations k) live
+  where
+    by : (found : Option Observation) → option_map_or (λ (o : Observation). o.live) found false ≡ true → IsSome found
+    by None live = absurd (false≢true live)
+    by (Some o) live = refl
+
+pub counted_added : (tracklets : List Tracklet) (observations : List Observation) (o : Observation) {isolated retracted : ℕ} → o.live ≡ true → IsTracklet tracklets o.track → IsCounted tracklets observations isolated retracted
+    → (more : ℕ) → more ≡ isolated + cond (is_none (home_of tracklets o.track)) 1 0 → IsCounted tracklets (o ∷ observations) more retracted
+counted_added tracklets observations o {isolated} {retracted} live there counted more more_is = record {
+  in_tracklets = (there, counted.in_tracklets);
+  isolated_are =
+    let new : ◌≡◌ {A = ℕ} (cond (is_isolated tracklets o) 1 0) (cond (is_none (home_of tracklets o.track)) 1 0) = ap (λ (b : Bool). cond (b && is_none (home_of tracklets o.track)) 1 0) live in
+    let all = sum_by-cons (λ (o : Observation). cond (is_isolated tracklets o) 1 0) o observations in
+    let before : isolated ≡ isolated_in tracklets observations = counted.isolated_are in
+    omega arith;
+  retracted_are =
+    let new : ◌≡◌ {A = ℕ} (cond (is_retracted o) 1 0) 0 = ap (λ (b : Bool). cond (not b) 1 0) live in
+    let all = sum_by-cons (λ (o : Observation). cond (is_retracted o) 1 0) o observations in
+    let before : retracted ≡ retracted_in observations = counted.retracted_are in
+    omega arith;
+}
+
+pub counted_retracted : (tracklets : List Tracklet) (observations : List Observation) (k : ℕ) (o : Observation) {isolated retracted : ℕ} → numbered observations k ≡ Some o → o.live ≡ true
+    → IsCounted tracklets observations isolated retracted → (fewer : ℕ) → fewer + cond (is_none (home_of tracklets o.track)) 1 0 ≡ isolated → IsCounted tracklets (with_retraction observations k) fewer (retracted + 1)
+counted_retracted tracklets observations k o {isolated} {retracted} there live counted fewer fewer_is = record {
+  in_tracklets = in_retracted tracklets observations k counted.in_tracklets;
+  isolated_are =
+    let after = isolated_retracted tracklets observations k o there live in
+    let before : isolated ≡ isolated_in tracklets observations = counted.isolated_are in
+    omega arith;
+  retracted_are = ap (λ (n : ℕ). n + 1) counted.retracted_are ∙ sym (retracted_more observations k o there live);
+}
+
+pub counted_rehomed : (tracklets : List Tracklet) (observations : List Observation) (t : ℕ) (home : Option Designation) {isolated retracted : ℕ} → IsTracklet tracklets t
+    → IsCounted tracklets observations isolated retracted → (after : ℕ)
+    → after + cond (is_none (home_of tracklets t)) (count_by (is_live_of t) observations) 0 ≡ isolated + cond (is_none home) (count_by (is_live_of t) observations) 0
+    → IsCounted (with_home tracklets t home) observations after retracted
+counted_rehomed tracklets observations t home {isolated} {retracted} there counted after after_is = record {
+  in_tracklets = in_rehomed tracklets t home observations counted.in_tracklets;
+  isolated_are =
+    let moved = isolated_rehomed tracklets t home there observations in
+    let before : isolated ≡ isolated_in tracklets observations = counted.isolated_are in
+    omega arith;
+  retracted_are = counted.retracted_are;
+}
+
+-- a live observation of an isolated tracklet is among the isolated ones
+pub some_isolated : (tracklets : List Tracklet) (observations : List Observation) (k : ℕ) (o : Observation) → numbered observations k ≡ Some o → o.live ≡ true → is_none (home_of tracklets o.track) ≡ true
+    → 0 < isolated_in tracklets observations
+some_isolated tracklets observations k o there live isolated =
+    let after = isolated_retracted tracklets observations k o there live in
+    let one : ◌≡◌ {A = ℕ} (cond (is_none (home_of tracklets o.track)) 1 0) 1 = ap (λ (b : Bool). cond b 1 0) isolated in
+    omega arith
+
+pub live_at : (observations : List Observation) (k : ℕ) (o : Observation) → numbered observations k ≡ Some o → is_live observations k ≡ true → o.live ≡ true
+live_at observations k o there live = sym (ap (λ (found : Option Observation). option_map_or (λ (o : Observation). o.live) found false) there) ∙ live

@@ -1,6 +1,6 @@
 -- The observations of a tracklet in order of number.
 use Rattle.std.proofs.Common.{◌≡◌, ℕ, ◌+◌, ◌<◌, ◌≤◌, Bool, true, false, cond, List, [], ◌∷◌, ◌++◌, length, get_or, take, drop, Option, Some, None, refl, ap, sym, ◌∙◌, arith}
-use Rattle.std.specs.Prelude.{reverse, ◌==◌, ◌&&◌, nat_lt, slice_get, IsSome}
+use Rattle.std.specs.Prelude.{reverse, ◌==◌, ◌&&◌, nat_lt, slice_get, IsSome, IfSome}
 use Rattle.std.specs.Option.{option_map}
 use Rattle.std.proofs.lemmas.List.{reverse-append, length-reverse, length-take, take-append-drop}
 use Rattle.std.proofs.lemmas.Bool.{and_parts, eqb-true, eq-eqb}
@@ -128,3 +128,7 @@ first_is (newest ∷ older) t after k head = by (later_of_track older t after) r
     by [] none first = first_newest newest older t after k head none
     by (x ∷ xs) some first =
         first_older newest older t after k head (ap (λ (ys : List ℕ). slice_get ys 0) some ∙ sym (ap (λ (ys : List ℕ). slice_get (ys ++ cond ((newest.track == t) && nat_lt after (next_number older)) (next_number older ∷ []) []) 0) some) ∙ head) first
+
+pub found_first : (observations : List Observation) (t after : ℕ) (found : Option ℕ) → found ≡ slice_get (later_of_track observations t after) 0 → IfSome found (ComesFirst observations t after)
+found_first observations t after None is = tt
+found_first observations t after (Some k) is = first_is observations t after k (sym is)
