@@ -67,10 +67,10 @@ isolated_more newest tracklets (o ∷ older) there =
 
 -- ---- another home for a tracklet
 
-home_of_others : (tracklets : List Tracklet) (t other : ℕ) (home : Option Designation) → (other == t) ≡ false → home_of (with_home tracklets t home) other ≡ home_of tracklets other
+pub home_of_others : (tracklets : List Tracklet) (t other : ℕ) (home : Option Designation) → (other == t) ≡ false → home_of (with_home tracklets t home) other ≡ home_of tracklets other
 home_of_others tracklets t other home differs = ap (option_and_then (λ (tracklet : Tracklet). tracklet.home)) (numbered_others (λ (tracklet : Tracklet). record tracklet { home = home }) tracklets t other differs)
 
-home_of_given : (tracklets : List Tracklet) (t : ℕ) (home : Option Designation) → IsTracklet tracklets t → home_of (with_home tracklets t home) t ≡ home
+pub home_of_given : (tracklets : List Tracklet) (t : ℕ) (home : Option Designation) → IsTracklet tracklets t → home_of (with_home tracklets t home) t ≡ home
 home_of_given tracklets t home there =
     ap (option_and_then (λ (tracklet : Tracklet). tracklet.home)) (numbered_changed (λ (tracklet : Tracklet). record tracklet { home = home }) tracklets t) ∙ by (numbered tracklets t) there
   where

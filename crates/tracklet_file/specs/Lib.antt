@@ -2,3 +2,4 @@ pub mod Numbering
 pub mod Observations
 pub mod Tracklets
 pub mod Contents
+pub mod Changes

@@ -19,3 +19,6 @@ mod tracklet;
 pub use file::TrackletFile;
 pub use observation::Observation;
 pub use tracklet::Tracklet;
+
+#[cfg(test)]
+mod tests;
