@@ -57,12 +57,8 @@ fn observe(file: &mut TrackletFile, track: u64, ns: i64) -> Result<u64, NoMemory
     }
 }
 
-fn is_live(file: &TrackletFile, k: u64) -> bool {
-    file.sighting(k).is_some() && file.is_live(k)
-}
-
 fn retract(file: &mut TrackletFile, k: u64) {
-    if is_live(file, k) {
+    if file.sighting(k).is_some() && file.is_live(k) {
         file.retract(k);
     }
 }
@@ -73,22 +69,19 @@ fn set_home(file: &mut TrackletFile, t: u64, home: Option<Designation>) {
     }
 }
 
-fn home(file: &TrackletFile, t: u64) -> Option<Designation> {
-    match file.name(t) {
-        Some(_) => file.home(t),
-        None => None,
-    }
-}
-
 // Tracklet 1, isolated, with the observations 1, 3, 5 and 6, and tracklet 2, which has a home, with 2 and 4. Then
 // observation 3 is retracted, tracklet 1 gets the home, and tracklet 2 loses it.
 fn filled(alloc: Global) -> Result<TrackletFile, NoMemory> {
     let mut file = TrackletFile::new(alloc)?;
-    for home in [None, Some(HOME)] {
-        begin_track(&mut file, home)?;
+    for (number, home) in [(1, None), (2, Some(HOME))] {
+        if begin_track(&mut file, home)? != number {
+            return Err(AllocError);
+        }
     }
-    for (track, ns) in [(1, 10), (2, 20), (1, 30), (2, 40), (1, 50), (1, 60)] {
-        observe(&mut file, track, ns)?;
+    for (number, ns, track) in [(1, 1, 1), (2, 2, 2), (3, 3, 1), (4, 4, 2), (5, 5, 1), (6, 6, 1)] {
+        if observe(&mut file, track, ns)? != number {
+            return Err(AllocError);
+        }
     }
     retract(&mut file, 3);
     set_home(&mut file, 1, Some(HOME));
@@ -96,65 +89,73 @@ fn filled(alloc: Global) -> Result<TrackletFile, NoMemory> {
     Ok(file)
 }
 
-#[test]
-fn numbers_without_a_gap(rt: HostRuntime) -> Result<(), Fail> {
-    let mut file = TrackletFile::new(rt.alloc())?;
-    assert_eq!(rt; begin_track(&mut file, None)?, 1);
-    assert_eq!(rt; observe(&mut file, 1, 10)?, 1);
-    assert_eq!(rt; begin_track(&mut file, Some(HOME))?, 2);
-    assert_eq!(rt; observe(&mut file, 1, 20)?, 2);
-    assert_eq!(rt; observe(&mut file, 2, 20)?, 3);
-    Ok(())
+fn is_live(file: &TrackletFile, k: u64) -> bool {
+    file.sighting(k).is_some() && file.is_live(k)
+}
+
+// What an observation is of, when it was made, whether it is live, and which comes next.
+fn observation(file: &TrackletFile, k: u64) -> (Option<u64>, Option<i64>, bool, Option<u64>) {
+    let time = file.sighting(k).map(|s| s.time.ns());
+    (file.track_of(k), time, is_live(file, k), file.next_of(k))
+}
+
+fn home(file: &TrackletFile, t: u64) -> Option<Designation> {
+    match file.name(t) {
+        Some(_) => file.home(t),
+        None => None,
+    }
+}
+
+fn counts(file: &TrackletFile) -> [u64; 5] {
+    [
+        file.isolated(),
+        file.homed(),
+        file.retracted(),
+        file.observations(),
+        file.tracks(),
+    ]
+}
+
+fn has_live(file: &TrackletFile, station: &[u8], ns: i64) -> bool {
+    seen(ns).is_some_and(|s| file.has_live(Short::new(station), s.time, s.ra, s.dec))
 }
 
 #[test]
-fn observations_of_tracklets(rt: HostRuntime) -> Result<(), Fail> {
+fn observations_in_their_places(rt: HostRuntime) -> Result<(), Fail> {
     let file = filled(rt.alloc())?;
     let rows = [
-        (0, None, false, None),
-        (1, Some(1), true, Some(3)),
-        (2, Some(2), true, Some(4)),
-        (3, Some(1), false, Some(5)),
-        (4, Some(2), true, None),
-        (5, Some(1), true, Some(6)),
-        (6, Some(1), true, None),
-        (7, None, false, None),
+        (0, (None, None, false, None)),
+        (1, (Some(1), Some(1), true, Some(3))),
+        (2, (Some(2), Some(2), true, Some(4))),
+        (3, (Some(1), Some(3), false, Some(5))),
+        (4, (Some(2), Some(4), true, None)),
+        (5, (Some(1), Some(5), true, Some(6))),
+        (6, (Some(1), Some(6), true, None)),
+        (7, (None, None, false, None)),
     ];
-    for (k, track, live, next) in rows {
-        assert_eq!(rt; file.track_of(k), track, "of {k}");
-        assert_eq!(rt; is_live(&file, k), live, "of {k}");
-        assert_eq!(rt; file.next_of(k), next, "of {k}");
+    for (k, want) in rows {
+        assert_eq!(rt; observation(&file, k), want, "of {k}");
     }
-    for (t, first, place) in [(0, None, None), (1, Some(1), Some(HOME)), (2, Some(2), None), (3, None, None)] {
-        assert_eq!(rt; file.first_of(t), first, "of {t}");
-        assert_eq!(rt; home(&file, t), place, "of {t}");
-    }
+    assert_eq!(rt; file.entry_of(6), Some(ENTRY));
+    assert_eq!(rt; counts(&file), [2, 3, 1, 6, 2]);
     Ok(())
 }
 
 #[test]
-fn what_was_handed_in(rt: HostRuntime) -> Result<(), Fail> {
+fn tracklets_and_positions(rt: HostRuntime) -> Result<(), Fail> {
     let file = filled(rt.alloc())?;
-    assert_eq!(rt; file.entry_of(4), Some(ENTRY));
-    assert_eq!(rt; file.entry_of(7), None);
-    assert_eq!(rt; file.sighting(5).map(|s| s.time.ns()), Some(50));
-    assert_eq!(rt; file.name(2), Some(name()));
-    assert_eq!(rt; file.station(2), Some(Short::new(b"703")));
-    assert_eq!(rt; file.station(3), None);
-    Ok(())
-}
-
-#[test]
-fn places_and_positions(rt: HostRuntime) -> Result<(), Fail> {
-    let file = filled(rt.alloc())?;
-    assert_eq!(rt; file.isolated(), 2);
-    assert_eq!(rt; file.homed(), 3);
-    assert_eq!(rt; file.retracted(), 1);
-    assert_eq!(rt; file.observations(), 6);
-    assert_eq!(rt; file.tracks(), 2);
-    for (code, ns, want) in [(b"703", 10, true), (b"703", 30, false), (b"W84", 10, false), (b"703", 11, false)] {
-        let found = seen(ns).is_some_and(|s| file.has_live(Short::new(code), s.time, s.ra, s.dec));
-        assert_eq!(rt; found, want, "at {ns}");
+    let station = Some(Short::new(b"703"));
+    let rows = [
+        (0, (None, None, None)),
+        (1, (Some(1), Some(HOME), station)),
+        (2, (Some(2), None, station)),
+        (3, (None, None, None)),
+    ];
+    for (t, want) in rows {
+        assert_eq!(rt; (file.first_of(t), home(&file, t), file.station(t)), want, "of {t}");
+    }
+    for (code, ns, want) in [(b"703", 1, true), (b"703", 3, false), (b"W84", 1, false), (b"703", 7, false)] {
+        assert_eq!(rt; has_live(&file, code, ns), want, "at {ns}");
     }
     Ok(())
 }
