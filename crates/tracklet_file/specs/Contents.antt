@@ -1,5 +1,5 @@
 -- What contracts see of the file.
-use Rattle.std.specs.Prelude.{◌≡◌, ℕ, ◌≤◌, List, [], ◌∷◌}
+use Rattle.std.specs.Prelude.{◌≡◌, ℕ, ◌+◌, ◌≤◌, List, [], ◌∷◌}
 use Rattle.tracklet_file.specs.declared.observation.Observation.{Observation}
 use Rattle.tracklet_file.specs.declared.tracklet.Tracklet.{Tracklet}
 use Rattle.tracklet_file.specs.Tracklets.{IsTracklet, retracted_in, isolated_in}
@@ -10,6 +10,10 @@ pub record Contents : Type 0 where
   pub tracklets : List Tracklet
   pub observation_room : ℕ
   pub tracklet_room : ℕ
+
+-- room for one was used: there is less by one at most, and no more, since no memory was taken
+abbrev pub UsesOne : ℕ → ℕ → Type 0
+UsesOne old new = (old ≤ new + 1) × (new ≤ old)
 
 -- there is no less room than before
 pub record KeepsRoom (old new : Contents) : Type 0 where

@@ -2,7 +2,7 @@ ghost use Rattle.std.specs.Prelude.{◌≡◌, ◌+◌, ◌<◌, ◌≤◌, ◌�
 ghost use Rattle.tracklet_file.specs.Numbering.{next_number};
 ghost use Rattle.tracklet_file.specs.Observations.{IsObservation, sighting_of, entry_of, track_of, is_live, has_live, later_of_track, observations_of, first_of, next_of, IsFollowedBy, with_observation, with_retraction};
 ghost use Rattle.tracklet_file.specs.Tracklets.{IsTracklet, name_of_track, station_of, home_of, retracted_in, isolated_in, homed_in, with_tracklet, with_home};
-ghost use Rattle.tracklet_file.specs.Contents.{KeepsRoom};
+ghost use Rattle.tracklet_file.specs.Contents.{UsesOne, KeepsRoom};
 
 use crate::counting::{isolated_after, with_one, without_one};
 use crate::observation::Observation;
@@ -86,15 +86,16 @@ impl TrackletFile {
         ensures number { result ≡ next_number self.old.tracklets }
         ensures added { self.new.tracklets ≡ with_tracklet self.old.tracklets name station home }
         ensures observations { self.new.observations ≡ self.old.observations }
-        ensures tracklet_room { self.old.tracklet_room ≤ self.new.tracklet_room + 1 }
-        ensures observation_room { self.old.observation_room ≤ self.new.observation_room }
+        ensures tracklet_room { UsesOne self.old.tracklet_room self.new.tracklet_room }
+        ensures observation_room { self.new.observation_room ≡ self.old.observation_room }
     {
+        let number = self.tracklets.len() as u64 + 1;
         self.tracklets.push_reserved(Tracklet {
             name,
             station,
             home,
         });
-        self.tracklets.len() as u64
+        number
     }
 
     /// Adds a live observation of a tracklet that is there, and gives its number, the next one. The entry is the number
@@ -105,9 +106,10 @@ impl TrackletFile {
         ensures number { result ≡ next_number self.old.observations }
         ensures added { self.new.observations ≡ with_observation self.old.observations track s entry }
         ensures tracklets { self.new.tracklets ≡ self.old.tracklets }
-        ensures observation_room { self.old.observation_room ≤ self.new.observation_room + 1 }
-        ensures tracklet_room { self.old.tracklet_room ≤ self.new.tracklet_room }
+        ensures observation_room { UsesOne self.old.observation_room self.new.observation_room }
+        ensures tracklet_room { self.new.tracklet_room ≡ self.old.tracklet_room }
     {
+        let number = self.observations.len() as u64 + 1;
         let isolated = self.home(track).is_none();
         self.isolated = with_one(self.isolated, isolated);
         self.observations.push_reserved(Observation {
@@ -116,7 +118,7 @@ impl TrackletFile {
             entry,
             live: true,
         });
-        self.observations.len() as u64
+        number
     }
 
     /// Retracts a live observation, for good. It keeps its number and its tracklet, and the tracklet its home.
