@@ -1,15 +1,14 @@
 -- What lists of changes leave.
-use Rattle.std.proofs.Common.{◌≡◌, ℕ, ◌+◌, ◌<◌, ◌≤◌, Bool, true, false, not, ◌||◌, cond, List, [], ◌∷◌, length, Option, Some, None, refl, ap, sym, ◌∙◌, arith}
+use Rattle.std.proofs.Common.{◌≡◌, ℕ, ◌<◌, ◌≤◌, Bool, true, false, not, ◌||◌, cond, List, [], ◌∷◌, length, Option, Some, None, refl, ap, sym, ◌∙◌, arith}
 use Rattle.std.specs.Prelude.{◌==◌, IsSome, is_some, option_map}
 use Rattle.std.specs.Option.{option_map_or, option_and_then}
 use Rattle.std.proofs.lemmas.Bool.{eqb-true, false≢true}
 use Rattle.std.proofs.lemmas.Bool.Decides.{nat_tests}
-use Rattle.packed_names.specs.declared.name.Designation.{Designation}
 use Rattle.tracklet_file.specs.declared.observation.Observation.{Observation}
 use Rattle.tracklet_file.specs.declared.tracklet.Tracklet.{Tracklet}
 use Rattle.tracklet_file.specs.Numbering.{next_number, numbered}
 use Rattle.tracklet_file.specs.Observations.{IsObservation, is_live, with_retraction}
-use Rattle.tracklet_file.specs.Tracklets.{IsTracklet, home_of, with_home}
+use Rattle.tracklet_file.specs.Tracklets.{home_of, with_home}
 use Rattle.tracklet_file.specs.Changes.{Change, AreCalls, observations_after, tracklets_after, is_gone, last_home}
 use Rattle.tracklet_file.specs.Changes.Change.{AddTrack, Add, Retract, SetHome}
 use Rattle.tracklet_file.proofs.NumberingLemmas.{numbered_within, numbered_changed, numbered_others, length-changed_at}

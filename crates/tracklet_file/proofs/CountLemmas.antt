@@ -116,7 +116,7 @@ recounted before after own false false each (o ∷ older) =
 
 pub isolated_rehomed : (tracklets : List Tracklet) (t : ℕ) (home : Option Designation) → IsTracklet tracklets t → (observations : List Observation)
     → isolated_in (with_home tracklets t home) observations + cond (is_none (home_of tracklets t)) (count_by (is_live_of t) observations) 0
-      ≡ isolated_in tracklets observations + cond (is_none home) (count_by (is_live_of t) observations) 0
+    ≡ isolated_in tracklets observations + cond (is_none home) (count_by (is_live_of t) observations) 0
 isolated_rehomed tracklets t home there observations =
     recounted (is_isolated tracklets) (is_isolated (with_home tracklets t home)) (is_live_of t) (is_none (home_of tracklets t)) (is_none home) each observations
   where
@@ -243,30 +243,14 @@ live_there observations k live = by (numbered observations k) live
     by None live = absurd (false≢true live)
     by (Some o) live = refl
 
-pub counted_added : (tracklets : List Tracklet) (observations : List Observation) (o : Observation) {isolated retracted : ℕ} → o.live ≡ true → IsTracklet tracklets o.track → IsCounted tracklets observations isolated retracted
-    → (more : ℕ) → more ≡ isolated + cond (is_none (home_of tracklets o.track)) 1 0 → IsCounted tracklets (o ∷ observations) more retracted
-counted_added tracklets observations o {isolated} {retracted} live there counted more more_is = record {
-  in_tracklets = (there, counted.in_tracklets);
-  isolated_are =
-    let new : ◌≡◌ {A = ℕ} (cond (is_isolated tracklets o) 1 0) (cond (is_none (home_of tracklets o.track)) 1 0) = ap (λ (b : Bool). cond (b && is_none (home_of tracklets o.track)) 1 0) live in
-    let all = sum_by-cons (λ (o : Observation). cond (is_isolated tracklets o) 1 0) o observations in
-    let before : isolated ≡ isolated_in tracklets observations = counted.isolated_are in
-    omega arith;
-  retracted_are =
-    let new : ◌≡◌ {A = ℕ} (cond (is_retracted o) 1 0) 0 = ap (λ (b : Bool). cond (not b) 1 0) live in
-    let all = sum_by-cons (λ (o : Observation). cond (is_retracted o) 1 0) o observations in
-    let before : retracted ≡ retracted_in observations = counted.retracted_are in
-    omega arith;
-}
-
 pub counted_retracted : (tracklets : List Tracklet) (observations : List Observation) (k : ℕ) (o : Observation) {isolated retracted : ℕ} → numbered observations k ≡ Some o → o.live ≡ true
     → IsCounted tracklets observations isolated retracted → (fewer : ℕ) → fewer + cond (is_none (home_of tracklets o.track)) 1 0 ≡ isolated → IsCounted tracklets (with_retraction observations k) fewer (retracted + 1)
 counted_retracted tracklets observations k o {isolated} {retracted} there live counted fewer fewer_is = record {
   in_tracklets = in_retracted tracklets observations k counted.in_tracklets;
   isolated_are =
-    let after = isolated_retracted tracklets observations k o there live in
-    let before : isolated ≡ isolated_in tracklets observations = counted.isolated_are in
-    omega arith;
+      let after = isolated_retracted tracklets observations k o there live in
+      let before : isolated ≡ isolated_in tracklets observations = counted.isolated_are in
+      omega arith;
   retracted_are = ap (λ (n : ℕ). n + 1) counted.retracted_are ∙ sym (retracted_more observations k o there live);
 }
 
@@ -277,9 +261,9 @@ pub counted_rehomed : (tracklets : List Tracklet) (observations : List Observati
 counted_rehomed tracklets observations t home {isolated} {retracted} there counted after after_is = record {
   in_tracklets = in_rehomed tracklets t home observations counted.in_tracklets;
   isolated_are =
-    let moved = isolated_rehomed tracklets t home there observations in
-    let before : isolated ≡ isolated_in tracklets observations = counted.isolated_are in
-    omega arith;
+      let moved = isolated_rehomed tracklets t home there observations in
+      let before : isolated ≡ isolated_in tracklets observations = counted.isolated_are in
+      omega arith;
   retracted_are = counted.retracted_are;
 }
 

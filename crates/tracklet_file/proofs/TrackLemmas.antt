@@ -94,8 +94,8 @@ module _ (newest : Observation) (older : List Observation) (t after k : ℕ) whe
         within = omega arith;
         own = track_stays newest older k t inner.own;
         rest =
-          ap (λ (xs : List ℕ). xs ++ cond ((newest.track == t) && nat_lt after (next_number older)) (next_number older ∷ []) []) inner.rest
-          ∙ ap (λ (b : Bool). k ∷ (later_of_track older t k ++ cond ((newest.track == t) && b) (next_number older ∷ []) [])) (before ∙ sym behind);
+            ap (λ (xs : List ℕ). xs ++ cond ((newest.track == t) && nat_lt after (next_number older)) (next_number older ∷ []) []) inner.rest
+            ∙ ap (λ (b : Bool). k ∷ (later_of_track older t k ++ cond ((newest.track == t) && b) (next_number older ∷ []) [])) (before ∙ sym behind);
       }
 
   -- the first is the newest
@@ -112,8 +112,8 @@ module _ (newest : Observation) (older : List Observation) (t after k : ℕ) whe
         within = omega arith;
         own = ap (λ (n : ℕ). track_of (newest ∷ older) n) last ∙ ap (λ (b : Bool). option_map (λ (o : Observation). o.track) (cond b (Some newest) (numbered older (next_number older)))) (eq-eqb (next_number older) (next_number older) refl) ∙ ap (λ (n : ℕ). Some n) (eqb-true _ _ parts.0);
         rest =
-          ap (λ (xs : List ℕ). xs ++ cond ((newest.track == t) && nat_lt after (next_number older)) (next_number older ∷ []) []) none
-          ∙ ap (λ (b : Bool). cond b (next_number older ∷ []) []) is.0 ∙ ap (λ (n : ℕ). n ∷ []) is.1 ∙ ap (λ (xs : List ℕ). k ∷ xs) (sym (later_none (newest ∷ older) t k (omega arith)));
+            ap (λ (xs : List ℕ). xs ++ cond ((newest.track == t) && nat_lt after (next_number older)) (next_number older ∷ []) []) none
+            ∙ ap (λ (b : Bool). cond b (next_number older ∷ []) []) is.0 ∙ ap (λ (n : ℕ). n ∷ []) is.1 ∙ ap (λ (xs : List ℕ). k ∷ xs) (sym (later_none (newest ∷ older) t k (omega arith)));
       }
     where
       tested : (b : Bool) → slice_get (cond b (next_number older ∷ []) []) 0 ≡ Some k → (b ≡ true) × (next_number older ≡ k)

@@ -1,4 +1,5 @@
--- Lists of changes to the file, the newest first, from an empty file on; and what they say of an observation or a tracklet.
+-- Lists of changes to the file, the newest first, from an empty file on; and what they say of an observation or a
+-- tracklet.
 use Rattle.std.specs.Prelude.{ℕ, Bool, false, ◌==◌, List, [], ◌∷◌, Option, None, IsTrue, if◌then◌else◌}
 use Rattle.std.specs.List.{list_any}
 use Rattle.packed_names.specs.declared.name.Designation.{Designation}
@@ -59,7 +60,8 @@ is_gone changes k = list_any (names_retracted k) changes
 -- what the last change that names tracklet t says of its home
 abbrev pub last_home : List Change → ℕ → Option Designation
 last_home [] t = None
-last_home (AddTrack name station home ∷ past) t = if t == next_number (tracklets_after past) then home else last_home past t
+last_home (AddTrack name station home ∷ past) t =
+    if t == next_number (tracklets_after past) then home else last_home past t
 last_home (SetHome other home ∷ past) t = if t == other then home else last_home past t
 last_home (Add track s entry ∷ past) t = last_home past t
 last_home (Retract k ∷ past) t = last_home past t

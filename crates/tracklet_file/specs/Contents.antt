@@ -26,7 +26,8 @@ AreInTracklets tracklets [] = Unit {0}
 AreInTracklets tracklets (newest ∷ older) = IsTracklet tracklets newest.track × AreInTracklets tracklets older
 
 -- the tracklet of each observation is there, and these are the counts of isolated and of retracted observations
-pub record IsCounted (tracklets : List Tracklet) (observations : List Observation) (isolated retracted : ℕ) : Type 0 where
+pub record IsCounted (tracklets : List Tracklet) (observations : List Observation) (isolated retracted : ℕ)
+    : Type 0 where
   pub in_tracklets : AreInTracklets tracklets observations
   pub isolated_are : isolated ≡ isolated_in tracklets observations
   pub retracted_are : retracted ≡ retracted_in observations

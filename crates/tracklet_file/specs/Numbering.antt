@@ -1,5 +1,5 @@
--- Lists that stand newest first. Items are numbered from 1 in the order in which they came: the number of an item is one
--- more than how many are older.
+-- Lists that stand newest first. Items are numbered from 1 in the order in which they came: the number of an item is
+-- one more than how many are older.
 use Rattle.std.specs.Prelude.{ℕ, ◌+◌, ◌==◌, List, [], ◌∷◌, length, Option, Some, None, if◌then◌else◌}
 
 -- the number of the item that comes next

@@ -1,5 +1,5 @@
 -- The observations that the office accepted, the newest first.
-use Rattle.std.specs.Prelude.{◌≡◌, ℕ, ℤ, Bool, true, false, not, ◌&&◌, ◌==◌, nat_lt, List, [], ◌∷◌, ◌++◌, Option, Some, IsSome, slice_get, if◌then◌else◌}
+use Rattle.std.specs.Prelude.{◌≡◌, ℕ, ℤ, Bool, true, false, ◌&&◌, ◌==◌, nat_lt, List, [], ◌∷◌, ◌++◌, Option, Some, IsSome, slice_get, if◌then◌else◌}
 use Rattle.std.specs.List.{list_any}
 use Rattle.std.specs.Option.{option_map, option_map_or, option_and_then}
 use Rattle.std.specs.Str.{bytes_eq}
@@ -35,10 +35,14 @@ is_live observations k = option_map_or (λ o. o.live) (numbered observations k) 
 abbrev pub same_station : Short → Short → Bool
 same_station a b = (a.len == b.len) && bytes_eq a.bytes b.bytes
 
+-- it was observed from this station, at this time and position
+abbrev pub is_at : Short → ℤ → ℕ → ℤ → Sighting → Bool
+is_at station time ra dec s =
+    same_station s.station station && (int_eq s.time time && ((s.ra == ra) && int_eq s.dec dec))
+
 -- the observation is live, and of this station, time and position
 abbrev pub is_live_at : Short → ℤ → ℕ → ℤ → Observation → Bool
-is_live_at station time ra dec o =
-    o.live && (same_station o.sighting.station station && (int_eq o.sighting.time time && ((o.sighting.ra == ra) && int_eq o.sighting.dec dec)))
+is_live_at station time ra dec o = o.live && is_at station time ra dec o.sighting
 
 -- a live observation has this station, time and position
 abbrev pub has_live : List Observation → Short → ℤ → ℕ → ℤ → Bool
@@ -68,7 +72,8 @@ next_of observations k = option_and_then (λ t. slice_get (later_of_track observ
 -- where `next` comes next after k, the later ones of k's tracklet are `next` and those that are later still
 abbrev pub IsFollowedBy : List Observation → ℕ → ℕ → Type 0
 IsFollowedBy observations k next =
-    (t : ℕ) → track_of observations k ≡ Some t → later_of_track observations t k ≡ next ∷ later_of_track observations t next
+    (t : ℕ) → track_of observations k ≡ Some t
+    → later_of_track observations t k ≡ next ∷ later_of_track observations t next
 
 -- ---- changes
 

@@ -41,7 +41,8 @@ impl Model for TrackletFile {
       tracklet_room = vec_capacity f.tracklets - vec_len f.tracklets;
     } };
 
-    ghost invariant = { λ f. IsCounted (reverse f.tracklets.items) (reverse f.observations.items) f.isolated f.retracted };
+    ghost invariant = { λ f.
+        IsCounted (reverse f.tracklets.items) (reverse f.observations.items) f.isolated f.retracted };
 }
 
 impl TrackletFile {
@@ -89,13 +90,13 @@ impl TrackletFile {
         ensures tracklet_room { UsesOne self.old.tracklet_room self.new.tracklet_room }
         ensures observation_room { self.new.observation_room ≡ self.old.observation_room }
     {
-        let number = self.tracklets.len() as u64 + 1;
+        let track = self.tracklets.len() as u64 + 1;
         self.tracklets.push_reserved(Tracklet {
             name,
             station,
             home,
         });
-        number
+        track
     }
 
     /// Adds a live observation of a tracklet that is there, and gives its number, the next one. The entry is the number
@@ -211,7 +212,8 @@ impl TrackletFile {
     pub fn first_of(&self, t: u64) -> Option<u64>
         ensures first { result ≡ first_of self.now.observations t }
         ensures own { IfSome result (λ k. track_of self.now.observations k ≡ Some t) }
-        ensures rest { IfSome result (λ k. observations_of self.now.observations t ≡ k ∷ later_of_track self.now.observations t k) }
+        ensures rest { IfSome result (λ k.
+            observations_of self.now.observations t ≡ k ∷ later_of_track self.now.observations t k) }
     {
         first_after(self.observations.as_slice(), t, 0)
     }
@@ -260,7 +262,8 @@ impl TrackletFile {
     /// retracted ones together are all of them.
     pub fn observations(&self) -> u64
         ensures count { result ≡ length self.now.observations }
-        ensures places { isolated_in self.now.tracklets self.now.observations + homed_in self.now.tracklets self.now.observations + retracted_in self.now.observations ≡ result }
+        ensures places { isolated_in self.now.tracklets self.now.observations + homed_in self.now.tracklets self.now.observations
+            + retracted_in self.now.observations ≡ result }
     {
         self.observations.len() as u64
     }

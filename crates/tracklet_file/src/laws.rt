@@ -10,7 +10,8 @@ ghost use Rattle.tracklet_file.specs.Changes.{Change, AreCalls, observations_aft
 /// Each observation stands in one place: the isolated, the homed and the retracted ones together are all.
 pub fn one_place()
     ensures { (tracklets : List Tracklet) (observations : List Observation) →
-        isolated_in tracklets observations + homed_in tracklets observations + retracted_in observations ≡ length observations }
+        isolated_in tracklets observations + homed_in tracklets observations + retracted_in observations
+        ≡ length observations }
 {}
 
 /// Over every list of calls, an observation is live exactly where none of them retracted it.

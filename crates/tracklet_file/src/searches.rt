@@ -52,7 +52,10 @@ pub(crate) fn has_live(
 pub(crate) fn live_of_track(observations: &[Observation], track: u64) -> u64
     ensures { result ≡ count_by (λ o. o.live && (o.track == track)) (reverse observations.now) }
 {
-    observations.iter().filter(|o| o.live && o.track == track).count() as u64
+    observations
+        .iter()
+        .filter(|o| o.live && o.track == track)
+        .count() as u64
 }
 
 /// The first observation of the tracklet that has a number over `after`.

@@ -78,7 +78,14 @@ fn filled(alloc: Global) -> Result<TrackletFile, NoMemory> {
             return Err(AllocError);
         }
     }
-    for (number, ns, track) in [(1, 1, 1), (2, 2, 2), (3, 3, 1), (4, 4, 2), (5, 5, 1), (6, 6, 1)] {
+    for (number, ns, track) in [
+        (1, 1, 1),
+        (2, 2, 2),
+        (3, 3, 1),
+        (4, 4, 2),
+        (5, 5, 1),
+        (6, 6, 1),
+    ] {
         if observe(&mut file, track, ns)? != number {
             return Err(AllocError);
         }
@@ -152,9 +159,18 @@ fn tracklets_and_positions(rt: HostRuntime) -> Result<(), Fail> {
         (3, (None, None, None)),
     ];
     for (t, want) in rows {
-        assert_eq!(rt; (file.first_of(t), home(&file, t), file.station(t)), want, "of {t}");
+        assert_eq!(rt;
+            (file.first_of(t), home(&file, t), file.station(t)),
+            want,
+            "of {t}"
+        );
     }
-    for (code, ns, want) in [(b"703", 1, true), (b"703", 3, false), (b"W84", 1, false), (b"703", 7, false)] {
+    for (code, ns, want) in [
+        (b"703", 1, true),
+        (b"703", 3, false),
+        (b"W84", 1, false),
+        (b"703", 7, false),
+    ] {
         assert_eq!(rt; has_live(&file, code, ns), want, "at {ns}");
     }
     Ok(())

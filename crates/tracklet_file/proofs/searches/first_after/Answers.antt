@@ -1,4 +1,4 @@
-use Rattle.std.proofs.Common.{◌≡◌, ℕ, ◌<◌, ◌≤◌, true, List, [], take, length, get_or, ap, sym, ◌∙◌, arith}
+use Rattle.std.proofs.Common.{◌≡◌, true, take, get_or, sym, arith}
 use Rattle.std.specs.Prelude.{reverse, ◌==◌}
 use Rattle.std.proofs.lemmas.List.{length-reverse, length-take}
 use Rattle.std.proofs.lemmas.Bool.{eq-eqb}

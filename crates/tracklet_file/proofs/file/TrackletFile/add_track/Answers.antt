@@ -9,5 +9,5 @@ use Rattle.tracklet_file.proofs.file.TrackletFile.add_track.Goals as goal
 pub invariant_of-self : goal.invariant_of-self
 invariant_of-self c =
     subst (λ (tracklets : List Tracklet). IsCounted tracklets (reverse c.self.inside.observations.items) c.self.inside.isolated c.self.inside.retracted)
-      (sym (ap reverse c.push_reserved.ensures.items ∙ reverse_push c.self.inside.tracklets.items _))
-      (counted_more _ (reverse c.self.inside.tracklets.items) (reverse c.self.inside.observations.items) c.self.invariant)
+    (sym (ap reverse c.push_reserved.ensures.items ∙ reverse_push c.self.inside.tracklets.items _))
+    (counted_more _ (reverse c.self.inside.tracklets.items) (reverse c.self.inside.observations.items) c.self.invariant)

@@ -1,5 +1,5 @@
-use Rattle.std.proofs.Common.{ℕ, List, Option, sym, subst, ap, ◌∙◌}
-use Rattle.std.specs.Prelude.{reverse, IfSome, slice_get}
+use Rattle.std.proofs.Common.{List, ap, ◌∙◌}
+use Rattle.std.specs.Prelude.{reverse, slice_get}
 use Rattle.std.proofs.lemmas.Option.{IfSome_then}
 use Rattle.tracklet_file.specs.declared.observation.Observation.{Observation}
 use Rattle.tracklet_file.specs.Observations.{later_of_track}

@@ -1,4 +1,4 @@
-use Rattle.std.proofs.Common.{◌≡◌, ℕ, ◌∷◌, List, Option, Some, sym, subst, ap, ◌∙◌}
+use Rattle.std.proofs.Common.{◌≡◌, ℕ, ◌∷◌, List, sym, subst, ap, ◌∙◌}
 use Rattle.std.specs.Prelude.{reverse, slice_get}
 use Rattle.std.specs.Option.{option_and_then}
 use Rattle.std.proofs.lemmas.Option.{IfSome_then, same_Some}
@@ -20,15 +20,15 @@ returns-clause-next c = found c
 pub returns-clause-later : goal.returns-clause-later
 returns-clause-later c =
     IfSome_then c.first_after.result (found_first c.args.self.now.observations c.in_ok-track.track c.args.k c.first_after.result
-      (found c ∙ sym (ap (option_and_then (λ (t : ℕ). slice_get (later_of_track c.args.self.now.observations t c.args.k) 0)) c.in_ok-track.ensures.track))) (λ next first. first.later)
+    (found c ∙ sym (ap (option_and_then (λ (t : ℕ). slice_get (later_of_track c.args.self.now.observations t c.args.k) 0)) c.in_ok-track.ensures.track))) (λ next first. first.later)
 
 pub returns-clause-own : goal.returns-clause-own
 returns-clause-own c =
     IfSome_then c.first_after.result (found_first c.args.self.now.observations c.in_ok-track.track c.args.k c.first_after.result
-      (found c ∙ sym (ap (option_and_then (λ (t : ℕ). slice_get (later_of_track c.args.self.now.observations t c.args.k) 0)) c.in_ok-track.ensures.track))) (λ next first. first.own ∙ c.in_ok-track.ensures.track)
+    (found c ∙ sym (ap (option_and_then (λ (t : ℕ). slice_get (later_of_track c.args.self.now.observations t c.args.k) 0)) c.in_ok-track.ensures.track))) (λ next first. first.own ∙ c.in_ok-track.ensures.track)
 
 pub returns-clause-rest : goal.returns-clause-rest
 returns-clause-rest c =
     IfSome_then c.first_after.result (found_first c.args.self.now.observations c.in_ok-track.track c.args.k c.first_after.result
-      (found c ∙ sym (ap (option_and_then (λ (t : ℕ). slice_get (later_of_track c.args.self.now.observations t c.args.k) 0)) c.in_ok-track.ensures.track)))
-      (λ next first. λ t own. subst (λ (t : ℕ). later_of_track c.args.self.now.observations t c.args.k ≡ next ∷ later_of_track c.args.self.now.observations t next) (same_Some _ _ (c.in_ok-track.ensures.track ∙ own)) first.rest)
+    (found c ∙ sym (ap (option_and_then (λ (t : ℕ). slice_get (later_of_track c.args.self.now.observations t c.args.k) 0)) c.in_ok-track.ensures.track)))
+    (λ next first. λ t own. subst (λ (t : ℕ). later_of_track c.args.self.now.observations t c.args.k ≡ next ∷ later_of_track c.args.self.now.observations t next) (same_Some _ _ (c.in_ok-track.ensures.track ∙ own)) first.rest)

@@ -1,4 +1,4 @@
-use Rattle.std.proofs.Common.{◌≡◌, ℕ, ◌+◌, ◌-◌, ◌<◌, ◌≤◌, true, not, List, length, Option, cond, subst, sym, ap, ◌∙◌, arith}
+use Rattle.std.proofs.Common.{◌≡◌, ℕ, ◌+◌, ◌-◌, ◌<◌, true, not, List, length, Option, cond, subst, sym, ap, ◌∙◌, arith}
 use Rattle.std.specs.Prelude.{reverse, is_none, count_by}
 use Rattle.packed_names.specs.declared.name.Designation.{Designation}
 use Rattle.tracklet_file.specs.declared.observation.Observation.{Observation}
@@ -38,12 +38,12 @@ invariant_of-self c =
     c.live_of_track-live.ensures ∙ ap (λ (os : List Observation). count_by (is_live_of c.args.t) (reverse os)) c.as_slice.ensures.value in
     let was : c.home-was.result ≡ home_of tracklets c.args.t = c.home-was.ensures ∙ sym (ap (λ (v : Contents). home_of v.tracklets c.args.t) c.self.view_is) in
     subst (λ (after : List Tracklet). IsCounted after observations c.isolated_after-self-inside.result c.self.inside.retracted)
-      (changed_in_place (λ (tracklet : Tracklet). record tracklet { home = c.args.home }) c.self.inside.tracklets.items c.args.t c.index_mut.result.now there c.index_mut.ensures.value)
-      (counted_rehomed tracklets observations c.args.t c.args.home there c.self.invariant c.isolated_after-self-inside.result
-        (ap (λ (h : Option Designation). c.isolated_after-self-inside.result + cond (is_none h) (count_by (is_live_of c.args.t) observations) 0) (sym was)
-        ∙ ap (λ (n : ℕ). c.isolated_after-self-inside.result + cond (is_none c.home-was.result) n 0) (sym live)
-        ∙ c.isolated_after-self-inside.ensures
-        ∙ ap (λ (n : ℕ). c.self.inside.isolated + cond (is_none c.args.home) n 0) live))
+    (changed_in_place (λ (tracklet : Tracklet). record tracklet { home = c.args.home }) c.self.inside.tracklets.items c.args.t c.index_mut.result.now there c.index_mut.ensures.value)
+    (counted_rehomed tracklets observations c.args.t c.args.home there c.self.invariant c.isolated_after-self-inside.result
+    (ap (λ (h : Option Designation). c.isolated_after-self-inside.result + cond (is_none h) (count_by (is_live_of c.args.t) observations) 0) (sym was)
+    ∙ ap (λ (n : ℕ). c.isolated_after-self-inside.result + cond (is_none c.home-was.result) n 0) (sym live)
+    ∙ c.isolated_after-self-inside.ensures
+    ∙ ap (λ (n : ℕ). c.self.inside.isolated + cond (is_none c.args.home) n 0) live))
 
 pub returns-clause-home : goal.returns-clause-home
 returns-clause-home c =
