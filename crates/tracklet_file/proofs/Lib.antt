@@ -1,0 +1,4 @@
+mod NumberingLemmas
+mod TrackLemmas
+mod CountLemmas
+mod ChangeLemmas

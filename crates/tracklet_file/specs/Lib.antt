@@ -1,0 +1,5 @@
+pub mod Numbering
+pub mod Observations
+pub mod Tracklets
+pub mod Contents
+pub mod Changes

@@ -1,0 +1,270 @@
+ghost use Rattle.std.specs.Prelude.{◌≡◌, ◌+◌, ◌<◌, ◌≤◌, ◌∷◌, [], length, IsTrue, IfOk, OnOk, IfSome, Some, option_copied};
+ghost use Rattle.tracklet_file.specs.Numbering.{next_number};
+ghost use Rattle.tracklet_file.specs.Observations.{IsObservation, sighting_of, entry_of, track_of, is_live, has_live, later_of_track, observations_of, first_of, next_of, IsFollowedBy, with_observation, with_retraction};
+ghost use Rattle.tracklet_file.specs.Tracklets.{IsTracklet, name_of_track, station_of, home_of, retracted_in, isolated_in, homed_in, with_tracklet, with_home};
+ghost use Rattle.tracklet_file.specs.Contents.{UsesOne, KeepsRoom};
+
+use crate::counting::{isolated_after, with_one, without_one};
+use crate::observation::Observation;
+use crate::searches::{self, first_after, live_of_track, numbered};
+use crate::tracklet::Tracklet;
+use angle_fixed::{Dec, Ra};
+use item_list::NoMemory;
+use obs_record::{Short, Sighting, TrackName};
+use obs_time::Instant;
+use packed_names::Designation;
+use std::alloc::Global;
+use std::marker::Model;
+
+/// For how many observations and tracklets the memory is taken at first.
+const FIRST_ROOM: usize = 16;
+
+/// The observations that the office accepted, and their tracklets.
+#[derive(Debug, Drop)]
+pub struct TrackletFile {
+    observations: Vec<Observation>,
+    tracklets: Vec<Tracklet>,
+    isolated: u64,
+    retracted: u64,
+}
+
+impl Model for TrackletFile {
+    ghost use Rattle.std.specs.Prelude.{◌-◌, reverse, vec_len, vec_capacity};
+    ghost use Rattle.tracklet_file.specs.Contents.{Contents, IsCounted};
+
+    ghost Value = { Contents };
+
+    ghost view = { λ f. record {
+      observations = reverse f.observations.items;
+      tracklets = reverse f.tracklets.items;
+      observation_room = vec_capacity f.observations - vec_len f.observations;
+      tracklet_room = vec_capacity f.tracklets - vec_len f.tracklets;
+    } };
+
+    ghost invariant = { λ f.
+        IsCounted (reverse f.tracklets.items) (reverse f.observations.items) f.isolated f.retracted };
+}
+
+impl TrackletFile {
+    /// A file without observations and tracklets.
+    ///
+    /// # Errors
+    ///
+    /// Memory was refused.
+    pub fn new(alloc: Global) -> Result<TrackletFile, NoMemory>
+        ensures observations { IfOk result (λ file. file.observations ≡ []) }
+        ensures tracklets { IfOk result (λ file. file.tracklets ≡ []) }
+    {
+        Ok(TrackletFile {
+            observations: Vec::with_capacity(alloc, FIRST_ROOM)?,
+            tracklets: Vec::with_capacity(alloc, FIRST_ROOM)?,
+            isolated: 0,
+            retracted: 0,
+        })
+    }
+
+    /// Takes the memory for so many more observations, and so many more tracklets. What is in the file stays, and no
+    /// room that there was is given up.
+    ///
+    /// # Errors
+    ///
+    /// Memory was refused.
+    pub fn reserve(&mut self, sightings: u32, tracks: u32) -> Result<(), NoMemory>
+        ensures observation_room { OnOk result (sightings ≤ self.new.observation_room) }
+        ensures tracklet_room { OnOk result (tracks ≤ self.new.tracklet_room) }
+        ensures room_stays { KeepsRoom self.old self.new }
+        ensures observations { self.new.observations ≡ self.old.observations }
+        ensures tracklets { self.new.tracklets ≡ self.old.tracklets }
+    {
+        self.observations.reserve(sightings as usize)?;
+        self.tracklets.reserve(tracks as usize)?;
+        Ok(())
+    }
+
+    /// Adds a tracklet, and gives its number, the next one. It takes no memory: there is room.
+    pub fn add_track(&mut self, name: TrackName, station: Short, home: Option<Designation>) -> u64
+        requires { 0 < self.old.tracklet_room }
+        ensures number { result ≡ next_number self.old.tracklets }
+        ensures added { self.new.tracklets ≡ with_tracklet self.old.tracklets name station home }
+        ensures observations { self.new.observations ≡ self.old.observations }
+        ensures tracklet_room { UsesOne self.old.tracklet_room self.new.tracklet_room }
+        ensures observation_room { self.new.observation_room ≡ self.old.observation_room }
+    {
+        let track = self.tracklets.len() as u64 + 1;
+        self.tracklets.push_reserved(Tracklet {
+            name,
+            station,
+            home,
+        });
+        track
+    }
+
+    /// Adds a live observation of a tracklet that is there, and gives its number, the next one. The entry is the number
+    /// of the one that brings it. It takes no memory: there is room.
+    pub fn add(&mut self, track: u64, s: Sighting, entry: u64) -> u64
+        requires room { 0 < self.old.observation_room }
+        requires there { IsTracklet self.old.tracklets track }
+        ensures number { result ≡ next_number self.old.observations }
+        ensures added { self.new.observations ≡ with_observation self.old.observations track s entry }
+        ensures tracklets { self.new.tracklets ≡ self.old.tracklets }
+        ensures observation_room { UsesOne self.old.observation_room self.new.observation_room }
+        ensures tracklet_room { self.new.tracklet_room ≡ self.old.tracklet_room }
+    {
+        let number = self.observations.len() as u64 + 1;
+        let isolated = self.home(track).is_none();
+        self.isolated = with_one(self.isolated, isolated);
+        self.observations.push_reserved(Observation {
+            track,
+            sighting: s,
+            entry,
+            live: true,
+        });
+        number
+    }
+
+    /// Retracts a live observation, for good. It keeps its number and its tracklet, and the tracklet its home.
+    pub fn retract(&mut self, k: u64)
+        requires { IsTrue (is_live self.old.observations k) }
+        ensures retracted { self.new.observations ≡ with_retraction self.old.observations k }
+        ensures tracklets { self.new.tracklets ≡ self.old.tracklets }
+        ensures room_stays { KeepsRoom self.old self.new }
+    {
+        let place = (k - 1) as usize;
+        let isolated = self.home(self.observations[place].track).is_none();
+        self.isolated = without_one(self.isolated, isolated);
+        self.retracted += 1;
+        self.observations[place].live = false;
+    }
+
+    /// Gives a tracklet that is there another home, or makes it isolated.
+    pub fn set_home(&mut self, t: u64, home: Option<Designation>)
+        requires { IsTracklet self.old.tracklets t }
+        ensures home { self.new.tracklets ≡ with_home self.old.tracklets t home }
+        ensures observations { self.new.observations ≡ self.old.observations }
+        ensures room_stays { KeepsRoom self.old self.new }
+    {
+        let was = self.home(t);
+        let live = live_of_track(self.observations.as_slice(), t);
+        self.isolated = isolated_after(self.isolated, live, was, home);
+        self.tracklets[(t - 1) as usize].home = home;
+    }
+
+    /// The designation that a tracklet was given to. None means that it is isolated.
+    pub fn home(&self, t: u64) -> Option<Designation>
+        requires { IsTracklet self.now.tracklets t }
+        ensures { result ≡ home_of self.now.tracklets t }
+    {
+        self.tracklets[(t - 1) as usize].home
+    }
+
+    /// Whether an observation that is there isn't retracted.
+    pub fn is_live(&self, k: u64) -> bool
+        requires { IsObservation self.now.observations k }
+        ensures { result ≡ is_live self.now.observations k }
+    {
+        self.observations[(k - 1) as usize].live
+    }
+
+    /// Whether a live observation has this station, time and position.
+    pub fn has_live(&self, station: Short, time: Instant, ra: Ra, dec: Dec) -> bool
+        ensures { result ≡ has_live self.now.observations station time ra dec }
+    {
+        searches::has_live(self.observations.as_slice(), station, time, ra, dec)
+    }
+
+    /// What was observed; None exactly for what isn't there.
+    pub fn sighting(&self, k: u64) -> Option<&Sighting>
+        ensures { option_copied result ≡ sighting_of self.now.observations k }
+    {
+        numbered(self.observations.as_slice(), k).map(|o| &o.sighting)
+    }
+
+    /// The number of the entry that brought the observation; None exactly for what isn't there.
+    pub fn entry_of(&self, k: u64) -> Option<u64>
+        ensures { result ≡ entry_of self.now.observations k }
+    {
+        numbered(self.observations.as_slice(), k).map(|o| o.entry)
+    }
+
+    /// The number of the observation's tracklet, which is there; None exactly for an observation that isn't there.
+    pub fn track_of(&self, k: u64) -> Option<u64>
+        ensures track { result ≡ track_of self.now.observations k }
+        ensures there { IfSome result (IsTracklet self.now.tracklets) }
+    {
+        numbered(self.observations.as_slice(), k).map(|o| o.track)
+    }
+
+    /// The name that the tracklet's lines go by; None exactly for what isn't there.
+    pub fn name(&self, t: u64) -> Option<TrackName>
+        ensures { result ≡ name_of_track self.now.tracklets t }
+    {
+        numbered(self.tracklets.as_slice(), t).map(|tracklet| tracklet.name)
+    }
+
+    /// The code of the tracklet's station; None exactly for what isn't there.
+    pub fn station(&self, t: u64) -> Option<Short>
+        ensures { result ≡ station_of self.now.tracklets t }
+    {
+        numbered(self.tracklets.as_slice(), t).map(|tracklet| tracklet.station)
+    }
+
+    /// The least number of an observation of the tracklet, retracted ones included; None exactly where there is none.
+    pub fn first_of(&self, t: u64) -> Option<u64>
+        ensures first { result ≡ first_of self.now.observations t }
+        ensures own { IfSome result (λ k. track_of self.now.observations k ≡ Some t) }
+        ensures rest { IfSome result (λ k.
+            observations_of self.now.observations t ≡ k ∷ later_of_track self.now.observations t k) }
+    {
+        first_after(self.observations.as_slice(), t, 0)
+    }
+
+    /// The next greater number of an observation of the same tracklet, retracted ones included; None exactly where
+    /// there is none, and for what isn't there.
+    pub fn next_of(&self, k: u64) -> Option<u64>
+        ensures next { result ≡ next_of self.now.observations k }
+        ensures later { IfSome result (λ next. k < next) }
+        ensures own { IfSome result (λ next. track_of self.now.observations next ≡ track_of self.now.observations k) }
+        ensures rest { IfSome result (λ next. IsFollowedBy self.now.observations k next) }
+    {
+        let track = self.track_of(k)?;
+        first_after(self.observations.as_slice(), track, k)
+    }
+
+    /// How many live observations are of isolated tracklets.
+    pub fn isolated(&self) -> u64
+        ensures { result ≡ isolated_in self.now.tracklets self.now.observations }
+    {
+        self.isolated
+    }
+
+    /// How many live observations are of tracklets with a home.
+    pub fn homed(&self) -> u64
+        ensures { result ≡ homed_in self.now.tracklets self.now.observations }
+    {
+        self.observations() - self.isolated - self.retracted
+    }
+
+    /// How many observations are retracted.
+    pub fn retracted(&self) -> u64
+        ensures { result ≡ retracted_in self.now.observations }
+    {
+        self.retracted
+    }
+
+    /// How many tracklets there are, which is the number of the newest one.
+    pub fn tracks(&self) -> u64
+        ensures { result ≡ length self.now.tracklets }
+    {
+        self.tracklets.len() as u64
+    }
+
+    /// How many observations there are, which is the number of the newest one. The isolated, the homed and the
+    /// retracted ones together are all of them.
+    pub fn observations(&self) -> u64
+        ensures count { result ≡ length self.now.observations }
+        ensures places { isolated_in self.now.tracklets self.now.observations + homed_in self.now.tracklets self.now.observations
+            + retracted_in self.now.observations ≡ result }
+    {
+        self.observations.len() as u64
+    }
+}
