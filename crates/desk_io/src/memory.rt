@@ -4,7 +4,7 @@ ghost use Rattle.std.specs.Prelude.{◌≡◌, ℕ, ◌<◌, ◌≤◌, ◌↔�
 ghost use Rattle.std.specs.Io.KnownBytes.{ReadConsumes, WriteAppends, Keeps};
 ghost use Rattle.desk_io.specs.Outside.{Rises};
 ghost use Rattle.desk_io.specs.Calls.{no_calls, FailsNext, passed, failed};
-ghost use Rattle.desk_io.specs.Memory.{given_length, after_giving, room, WriteFails, after_taking};
+ghost use Rattle.desk_io.specs.Memory.{given_length, after_giving, GivesOnce, room, WriteFails, after_taking};
 
 use crate::{Failed, Sink, Source};
 use std::alloc::{AllocError, Global};
@@ -114,7 +114,7 @@ impl Source for MemSource {
 
     ghost is_open = { λ source. source.is_open };
 
-    ghost gives = { λ before bytes after. after ≡ after_giving before (length bytes) };
+    ghost gives = { λ before bytes after. GivesOnce before bytes after };
 
     fn read(&mut self, piece: &mut [u8]) -> Result<usize, Failed>
         ensures fails { IsErr result ↔ FailsNext self.old.calls }
@@ -126,7 +126,8 @@ impl Source for MemSource {
 
         ensures bytes { ReadConsumes (Some self.old.left) (Some self.new.left) result piece.new }
         ensures within { IfOk result (λ n. n ≤ length piece.old) }
-        ensures gives { IfOk result (λ n. self.new ≡ after_giving self.old (length (take n piece.new))) }
+        ensures gives { IfOk result (λ n. GivesOnce self.old (take n piece.new) self.new) }
+        ensures gives_none { OnErr result (GivesOnce self.old [] self.new) }
         ensures counts { self.old.calls.faults ≤ self.new.calls.faults }
         ensures faultless { OnOk result (self.new.calls.faults ≡ self.old.calls.faults) }
         ensures cause { OnErr result (Rises self.old.calls.faults self.new.calls.faults) }

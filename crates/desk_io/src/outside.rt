@@ -2,7 +2,7 @@
 //!
 //! What an object holds is told or untold: a file or a socket tells nothing. How often it failed, whether it is
 //! open, and what a clock read last is always told.
-ghost use Rattle.std.specs.Prelude.{◌≡◌, ℕ, ◌<◌, ◌≤◌, ◌+◌, ℤ, Bool, false, List, length, take, IfOk, OnOk, OnErr, IfSome, Option};
+ghost use Rattle.std.specs.Prelude.{◌≡◌, ℕ, ◌<◌, ◌≤◌, ◌+◌, ℤ, Bool, false, List, [], length, take, IfOk, OnOk, OnErr, IfSome, Option};
 ghost use Rattle.std.specs.Io.KnownBytes.{ReadConsumes, WriteAppends, Appends, Keeps};
 ghost use Rattle.desk_io.specs.Outside.{Rises, AppendsPart};
 
@@ -26,7 +26,7 @@ pub trait Source: Drop {
     /// Whether the real thing behind it is still there.
     ghost is_open: { Self → Bool };
 
-    /// One read that gave these bytes, from the source before it to the source after it.
+    /// One read, from the source before it to the source after it: it gave these bytes, and none where it failed.
     ghost gives: { Self → List ℕ → Self → Type 0 };
 
     /// Reads into the front of the piece and says how many bytes it read: 0 for a piece that isn't
@@ -35,6 +35,7 @@ pub trait Source: Drop {
         ensures bytes { ReadConsumes (left self.old) (left self.new) result piece.new }
         ensures within { IfOk result (λ n. n ≤ length piece.old) }
         ensures gives { IfOk result (λ n. gives self.old (take n piece.new) self.new) }
+        ensures gives_none { OnErr result (gives self.old [] self.new) }
         ensures counts { faults self.old ≤ faults self.new }
         ensures faultless { OnOk result (faults self.new ≡ faults self.old) }
         ensures cause { OnErr result (Rises (faults self.old) (faults self.new)) }

@@ -1,9 +1,9 @@
 //! A source over a reader and a sink over a writer: standard input and output, files, sockets.
 
-ghost use Rattle.std.specs.Prelude.{◌≡◌, ◌<◌, ◌≤◌, ◌^◌, ◌-◌, length, take, true, false, IsErr, IfOk, OnOk, OnErr, Ok, None};
+ghost use Rattle.std.specs.Prelude.{◌≡◌, ◌<◌, ◌≤◌, ◌^◌, ◌-◌, [], length, take, true, false, IsErr, IfOk, OnOk, OnErr, Ok, None};
 ghost use Rattle.std.specs.Io.KnownBytes.{ReadConsumes, WriteAppends, Keeps};
 ghost use Rattle.desk_io.specs.Outside.{Rises, one_more};
-ghost use Rattle.desk_io.specs.Streams.{after_read};
+ghost use Rattle.desk_io.specs.Streams.{after_read, GivesOnce};
 
 use crate::{Failed, Sink, Source};
 use std::io::{Read, Write};
@@ -48,7 +48,7 @@ impl<R: Read + Drop> Source for StreamSource<R> {
 
     ghost is_open = { λ source. source.is_open };
 
-    ghost gives = { λ before bytes after. after ≡ after_read before (length bytes) };
+    ghost gives = { λ before bytes after. GivesOnce before bytes after };
 
     fn read(&mut self, piece: &mut [u8]) -> Result<usize, Failed>
         ensures ended { self.old.is_open ≡ false → result ≡ Ok 0 }
@@ -58,7 +58,8 @@ impl<R: Read + Drop> Source for StreamSource<R> {
 
         ensures bytes { ReadConsumes None None result piece.new }
         ensures within { IfOk result (λ n. n ≤ length piece.old) }
-        ensures gives { IfOk result (λ n. self.new ≡ after_read self.old (length (take n piece.new))) }
+        ensures gives { IfOk result (λ n. GivesOnce self.old (take n piece.new) self.new) }
+        ensures gives_none { OnErr result (GivesOnce self.old [] self.new) }
         ensures counts { self.old.faults ≤ self.new.faults }
         ensures faultless { OnOk result (self.new.faults ≡ self.old.faults) }
         ensures cause { OnErr result (Rises self.old.faults self.new.faults) }
