@@ -8,7 +8,7 @@ use Rattle.frame_reader.specs.declared.frame.Ending.TheVariants as endings
 use Rattle.frame_reader.specs.declared.frame.FrameBody.{FrameBody}
 use Rattle.frame_reader.specs.declared.frame.ReadFrame.{ReadFrame}
 use Rattle.frame_reader.specs.declared.head.HeldHead.{HeldHead}
-use Rattle.frame_reader.specs.Reading.{IsAwaited, AwaitsFrame, LacksText}
+use Rattle.frame_reader.specs.Reading.{AwaitsFrame, LacksText}
 use Rattle.frame_reader.specs.Frames.{parts_of, Ends, IfKept, IsFrameRead, IsHeadRead, IsTextRead, IsCut}
 
 -- the frame that a head and a body make

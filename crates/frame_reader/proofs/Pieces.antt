@@ -8,7 +8,7 @@ use Rattle.desk_frames.specs.Frames.{NoFrame}
 use Rattle.frame_reader.specs.declared.frame.Ending.{Ending}
 use Rattle.frame_reader.specs.declared.head.HeldHead.{HeldHead}
 use Rattle.frame_reader.specs.Reading.{IsAwaited, AwaitsFrame, LacksText, ReadsOnce, ReadsAhead}
-use Rattle.frame_reader.specs.Frames.{Ends, IsHeadRead}
+use Rattle.frame_reader.specs.Frames.{Ends, IsHeadRead, IsCut}
 
 -- a head that stands at the front of what is read ahead, and is used
 pub head_used : (pending ahead rest : List ℕ) (head : HeldHead) → pending ≡ ahead → rest ≡ drop head.size ahead → IsHeadRead pending head (drop head.size pending) → IsHeadRead ahead head rest
@@ -98,6 +98,14 @@ module _ {S : Type 0} (left : S → Option (List ℕ)) (gives : Passes S) where
         long = taken.long;
         same = taken.same;
       }
+
+  -- the source stopped while bytes were missing
+  pub text_cut : (a b c : S) (ahead rest more : List ℕ) (size missing : ℕ) (kept : Option (List ℕ)) → 0 < missing → IsTaken a b ahead rest size missing kept → ReadsAhead left gives b c rest more → more ≡ []
+      → (ending : Ending) → IsCut (left c) ending → (piece : List ℕ) × Comes left gives (LacksText ahead size) a c piece × ((length (ahead ++ piece) < size) × IsCut (left c) ending)
+  text_cut a b c ahead rest more size missing kept some taken came none ending cut =
+      let all = taken_grows a b c ahead rest more size missing kept some taken came in
+      let lacks : length (ahead ++ all.piece) < size = omega (arith, ap length all.stands, length-append all.text more, ap length none, all.long) in
+      (all.piece, all.came, (lacks, cut))
 
   -- bytes that were missing are used, and next is left
   pub taken_more : (a b : S) (ahead rest pending used next : List ℕ) (size missing count : ℕ) (old new : Option (List ℕ)) → IsTaken a b ahead rest size missing old

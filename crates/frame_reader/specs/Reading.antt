@@ -1,7 +1,7 @@
 -- Bytes that come out of a source, and what a reader makes of them.
 use Rattle.std.specs.Prelude.{◌≡◌, ℕ, ◌+◌, ◌*◌, ◌<◌, ◌⊎◌, List, [], ◌++◌, length}
 use Rattle.std.specs.declared.option.Option.{Option}
-use Rattle.std.specs.Io.KnownBytes.{Consumes, Keeps}
+use Rattle.std.specs.Io.KnownBytes.{Consumes}
 use Rattle.desk_frames.specs.Frames.{NoFrame, NeverFrame}
 use Rattle.desk_io.specs.Reads.{Passes}
 use Rattle.frame_reader.specs.declared.TheConstants.{BUFFER_BYTES}

@@ -1,4 +1,4 @@
-use Rattle.std.proofs.Common.{◌≡◌, [], ◌++◌, refl}
+use Rattle.std.proofs.Common.{[], refl}
 use Rattle.frame_reader.proofs.head.held_front.Goals as goal
 
 -- a frame may still come, since bytes that may follow complete a head

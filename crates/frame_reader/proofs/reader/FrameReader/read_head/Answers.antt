@@ -1,4 +1,5 @@
-use Rattle.std.proofs.Common.{refl, subst, ◌∙◌, arith, rules}
+use Rattle.std.proofs.Common.{refl, subst, ◌∙◌, arith}
+use Rattle.frame_reader.specs.Reading.{IsAwaited}
 use Rattle.frame_reader.specs.Frames.{IsHeadRead}
 use Rattle.frame_reader.proofs.Pieces.{grows_none, grows_more, of_all, head_used, ended, failed}
 use Rattle.frame_reader.proofs.reader.FrameReader.read_head.Goals as goal
@@ -17,7 +18,12 @@ pub loop-head-init : goal.loop-head-init
 loop-head-init g c = record { came = grows_none _ _ _ _; faultless = refl; stays = refl; work = omega arith }
 
 pub loop-head-preserved : goal.loop-head-preserved
-loop-head-preserved g c = ?
+loop-head-preserved g c = record {
+  came = grows_more _ _ _ _ _ _ _ _ c.loop-head.invariant.came (subst IsAwaited c.pending.ensures c.in-Part.ensures.0) c.in-Ok.ensures.came;
+  faultless = c.in-Ok.ensures.faultless ∙ c.loop-head.invariant.faultless;
+  stays = c.in-Ok.ensures.stays ∙ c.loop-head.invariant.stays;
+  work = omega (arith, c.loop-head.invariant.work, c.in-Ok.ensures.work);
+}
 
 pub returns-in-Err-clause-came : goal.returns-in-Err-clause-came
 returns-in-Err-clause-came g c = failed _ _ _ _ _ _ _ _ _ c.loop-head.invariant.came c.in-Err.ensures.came c.in-Err.ensures.failed c.pending.ensures c.in-Part.ensures.0
