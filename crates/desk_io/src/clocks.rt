@@ -4,7 +4,7 @@ ghost use Rattle.std.specs.Prelude.{◌≡◌, ◌≤ℤ◌, ◌+◌, ℕ, ℤ, 
 ghost use Rattle.std.specs.Int.{int_min};
 ghost use Rattle.std.specs.Duration.{as_nanos};
 ghost use Rattle.desk_io.specs.Ticks.{tick};
-ghost use Rattle.obs_time.specs.Instants.{last_instant};
+ghost use Rattle.obs_time.specs.Instants.{IsInstantNs, last_instant};
 
 use crate::Clock;
 use obs_time::Instant;
@@ -52,6 +52,15 @@ fn start_of_1970() -> Instant
     Instant::new(0).unwrap()
 }
 
+// A moment lies in the years 1800 to 2199, of which callers then know.
+fn in_years(moment: Instant) -> Instant
+    ensures same { result ≡ moment }
+    ensures years { IsInstantNs result }
+{
+    let _ns = moment.ns();
+    moment
+}
+
 // The moment so many nanoseconds later, but no later than the last moment of the year 2199.
 fn later(moment: Instant, step: u64) -> Instant
     ensures next { result ≡ tick (record { last = moment; next = moment; step = step }) 1 }
@@ -73,8 +82,9 @@ impl Clock for TickClock {
         ensures told { IfSome (Some (tick self.old 0)) (λ t. result ≡ t) }
         ensures later { (k : ℕ) → Some (tick self.new k) ≡ Some (tick self.old (k + 1)) }
         ensures last { self.new.last ≡ result }
+        ensures years { IsInstantNs result }
     {
-        let now = self.next;
+        let now = in_years(self.next);
         self.last = now;
         self.next = later(now, self.step);
         now
@@ -139,11 +149,12 @@ impl<R: rt::Clock + Copy> Clock for SystemClock<R> {
     /// Where the system's clock can't be read this is the last reading again, and at first the start of 1970.
     fn now(&mut self) -> Instant
         ensures last { self.new ≡ result }
+        ensures years { IsInstantNs result }
     {
         if let Ok(time) = self.system.since_1970() {
             self.last = moment_after_1970(time);
         }
-        self.last
+        in_years(self.last)
     }
 
     fn another(&mut self) -> Self

@@ -5,6 +5,7 @@
 ghost use Rattle.std.specs.Prelude.{◌≡◌, ℕ, ◌<◌, ◌≤◌, ◌+◌, ℤ, Bool, false, List, [], length, take, IfOk, OnOk, OnErr, IfSome, Option};
 ghost use Rattle.std.specs.Io.KnownBytes.{ReadConsumes, WriteAppends, Appends, Keeps};
 ghost use Rattle.desk_io.specs.Outside.{Rises, AppendsPart};
+ghost use Rattle.obs_time.specs.Instants.{IsInstantNs};
 
 use obs_time::Instant;
 
@@ -87,11 +88,12 @@ pub trait Clock: Drop {
     /// The last reading, in nanoseconds since 1970, and 0 before the first one.
     ghost last: { Self → ℤ };
 
-    /// Reads the clock.
+    /// Reads the clock. A reading lies in the years 1800 to 2199.
     fn now(&mut self) -> Instant
         ensures told { IfSome (reading self.old 0) (λ t. result ≡ t) }
         ensures later { (k : ℕ) → reading self.new k ≡ reading self.old (k + 1) }
-        ensures last { last self.new ≡ result };
+        ensures last { last self.new ≡ result }
+        ensures years { IsInstantNs result };
 
     /// Another clock with the same readings to come and the same last one. This one's stay.
     fn another(&mut self) -> Self
