@@ -1,13 +1,20 @@
-use Rattle.std.proofs.Common.{Ok, ap, sym, subst, ◌∙◌}
+use Rattle.std.proofs.Common.{ap, ◌∙◌}
+use Rattle.std.specs.Prelude.{unwrap_or}
 use Rattle.act_model.specs.declared.entry.Entry.{Entry}
-use Rattle.act_model.specs.Acts.{act_of}
-use Rattle.desk_core.specs.Office.{IsChange}
-use Rattle.desk_core.proofs.Steps.{ready_at}
+use Rattle.act_model.specs.Deeds.{deed_of, deeds}
+use Rattle.act_model.specs.OfficeTables.{tables_of}
+use Rattle.desk_core.specs.declared.prepared.Change.{Change}
+use Rattle.desk_core.proofs.Readying.{ready_at}
 use Rattle.desk_core.proofs.office.Core.ready.Goals as goal
 
 pub returns-clause-at : goal.returns-clause-at
 returns-clause-at c =
-    ready_at c.args.self.now.history c.args.act.now c.new.result
-    (ap (λ (e : Entry). act_of e.verb e.body) c.new.ensures.entry ∙ ap (act_of c.args.request.now.verb) (c.in_ok-from_slice.ensures ∙ c.bytes.ensures) ∙ c.requires.act)
+    let past = c.args.self.now.history in
+    ready_at past c.new.result c.args.deed
+    (ap (λ (e : Entry). deed_of (deeds past) e) c.new.ensures.entry ∙ c.requires.deed)
+    c.new.ensures.deed
     (c.new.ensures.answer ∙ c.in_ok-answer.ensures)
-    (subst (IsChange c.args.self.now.history (Ok c.args.act.now)) (sym c.new.ensures.change) c.in_ok-change.ensures)
+    (ap (λ (change : Change). unwrap_or change.tables (tables_of (deeds past))) c.new.ensures.change ∙ c.in_ok-change.ensures.tables)
+    (ap (λ (change : Change). change.observations) c.new.ensures.change ∙ c.in_ok-change.ensures.observations)
+    c.in_ok-reserve_entry.ensures.callers
+    c.requires.free

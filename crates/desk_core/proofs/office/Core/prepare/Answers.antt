@@ -1,0 +1,11 @@
+use Rattle.desk_core.specs.declared.prepared.Prep.TheVariants as prep
+use Rattle.desk_core.proofs.Steps.{outcome_no_room, no_room_prep}
+use Rattle.desk_core.proofs.office.Core.prepare.Goals as goal
+
+pub returns-in-Ok-clause-no_room : goal.returns-in-Ok-clause-no_room
+returns-in-Ok-clause-no_room c =
+    λ none. no_room_prep c.args.self.now.history _ _ c.in-Ok.prep (outcome_no_room c.args.self.now.founder c.args.self.now.history c.args.request.now c.args.reading none) c.in-Ok.ensures.answer
+
+pub returns-in-Err-clause-no_room : goal.returns-in-Err-clause-no_room
+returns-in-Err-clause-no_room c =
+    λ none. no_room_prep c.args.self.now.history _ 0 (prep.Refused c.in-Err.refusal) (outcome_no_room c.args.self.now.founder c.args.self.now.history c.args.request.now c.args.reading none) c.in-Err.ensures.answer

@@ -1,0 +1,13 @@
+use Rattle.std.proofs.Common.{ap, sym, ◌∙◌, Some, None}
+use Rattle.act_model.specs.declared.reply.Reply.{Reply}
+use Rattle.act_model.specs.History.{next_moment}
+use Rattle.act_model.specs.Step.{Keeps}
+use Rattle.desk_core.proofs.Steps.{kept_step, new_step, kept_by, prepared_as}
+use Rattle.desk_core.proofs.office.Core.prepare_heard.Goals as goal
+
+pub returns-in-Some-clause-answer : goal.returns-in-Some-clause-answer
+returns-in-Some-clause-answer c =
+    let past = c.args.self.now.history in
+    let found = c.in-Some.ensures.found in
+    kept_step past c.args.heard c.args.bytes.now (next_moment past c.args.reading) found.0 (kept_by past _ _ _ (Some found.0) (sym c.filed-filed.ensures.history) found.1)
+    ∙ ap (λ (r : Reply). Keeps r) (sym (c.in-Ok.ensures found.0 found.2))
