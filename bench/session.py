@@ -100,4 +100,5 @@ def main():
             measure(path, verb)
 
 
-main()
+if __name__ == "__main__":
+    main()

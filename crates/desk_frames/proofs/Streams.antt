@@ -1,10 +1,14 @@
 -- Frames, and the sessions that they make.
-use Rattle.std.proofs.Common.{◌≡◌, ℕ, ◌+◌, ◌<◌, ◌≤◌, List, [], ◌∷◌, ◌++◌, length, take, drop, replicate, refl, sym, ap, ◌∙◌, append_assoc, arith}
+use Rattle.std.proofs.Common.{◌≡◌, ℕ, ◌+◌, ◌<◌, ◌≤◌, List, [], ◌∷◌, ◌++◌, length, take, drop, replicate, refl, sym, ap, ◌∙◌, append_assoc, arith, inr, lit<}
 use Rattle.std.specs.List.{AllByRecursion}
 use Rattle.std.proofs.lemmas.List.{append-nil, length-append, length-replicate, length-take, length-drop, drop-drop, take-append-drop, take_at, drop_at}
 use Rattle.desk_frames.specs.Frames.{Frame, IsFrame, framed, streamed, NoFrame, NeverFrame, IsSession, reached, HeadParts, IsHead, headed, head_of, frame_of, NoHead, BeginsHead}
 use Rattle.desk_frames.specs.Reading.{IsHeadAt}
 use Rattle.desk_frames.proofs.Heads.{one_head, head_before, head_some}
+
+-- a head has bytes, whatever follows it
+pub head_begun : (h : HeadParts) (rest : List ℕ) → 0 < length (headed h rest)
+head_begun h rest = omega (arith, ap length (head_before h [] rest), length-append (headed h []) rest, head_some h)
 
 pub head_good : (f : Frame) → IsFrame f → IsHead (head_of f)
 head_good f good = record { key = good.key; number = good.number; verb = good.verb; length = good.body }
@@ -120,3 +124,22 @@ no_head_never bytes none more = no_head_no_frame (bytes ++ more) (none more)
 
 pub never_head : (bytes : List ℕ) → NeverFrame bytes → (more : List ℕ) → NoHead (bytes ++ more)
 never_head bytes never more h rest good is = not_never (bytes ++ more) h rest good is (never_goes_on bytes more never)
+
+-- a frame as short as they come
+shortest : Frame
+shortest = record { key = 43 ∷ []; number = 0; verb = 97 ∷ []; body = [] }
+
+shortest_good : IsFrame shortest
+unfolding shortest
+shortest_good =
+    record {
+      key = record { some = omega arith; few = omega arith; each = ((omega arith, omega arith), tt) };
+      number = lit< tt;
+      verb = record { some = omega arith; few = omega arith; each = (inr (omega arith, omega arith), tt) };
+      body = lit< tt;
+    }
+
+-- where no frame can come, a byte has come
+pub never_some : (bytes : List ℕ) → NeverFrame bytes → 0 < length bytes
+never_some [] never = absurd (never (framed shortest []) shortest [] shortest_good refl)
+never_some (byte ∷ bytes) never = omega arith

@@ -87,11 +87,17 @@ pub fn no_frame_yet()
     ensures nothing { NoFrame [] }
 {}
 
-/// Where no frame can come, none stands, and none can come behind bytes that come later.
+/// A head has bytes.
+pub fn heads_have_bytes()
+    ensures { (h : HeadParts) (rest : List ℕ) → 0 < length (headed h rest) }
+{}
+
+/// Where no frame can come, none stands, none can come behind bytes that come later, and a byte has come.
 pub fn never_a_frame()
     ensures now { (bytes : List ℕ) → NeverFrame bytes → NoFrame bytes }
     ensures later { (bytes more : List ℕ) →
         NeverFrame bytes → NeverFrame (bytes ++ more) }
     ensures heads { (bytes : List ℕ) →
         NeverFrame bytes → (more : List ℕ) → NoHead (bytes ++ more) }
+    ensures some { (bytes : List ℕ) → NeverFrame bytes → 0 < length bytes }
 {}

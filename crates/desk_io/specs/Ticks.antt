@@ -3,8 +3,9 @@ use Rattle.std.specs.Prelude.{ℕ, ℤ, pos, ◌*◌, ◌+ℤ◌}
 use Rattle.std.specs.Int.{int_min}
 use Rattle.obs_time.specs.Instants.{last_instant}
 
--- the next reading, and by how many nanoseconds each later one is later
+-- the last reading, the next one, and by how many nanoseconds each one is later than the one before
 pub record TickState : Type 0 where
+  pub last : ℤ
   pub next : ℤ
   pub step : ℕ
 

@@ -1,10 +1,10 @@
 //! A source and a sink in memory. They fail at the calls that they are told to, and else do what they can.
 
-ghost use Rattle.std.specs.Prelude.{◌≡◌, ℕ, ◌<◌, ◌≤◌, ◌↔◌, ◌⊎◌, ◌++◌, [], List, length, take, drop, min, IsTrue, IsErr, IfOk, OnErr, Some};
+ghost use Rattle.std.specs.Prelude.{◌≡◌, ℕ, ◌<◌, ◌≤◌, ◌↔◌, ◌⊎◌, ◌++◌, [], List, length, take, drop, min, true, false, IsTrue, IsErr, IfOk, OnOk, OnErr, Some};
 ghost use Rattle.std.specs.Io.KnownBytes.{ReadConsumes, WriteAppends, Keeps};
 ghost use Rattle.desk_io.specs.Outside.{Rises};
 ghost use Rattle.desk_io.specs.Calls.{no_calls, FailsNext, passed, failed};
-ghost use Rattle.desk_io.specs.Memory.{given_length, after_giving, room, WriteFails, after_taking};
+ghost use Rattle.desk_io.specs.Memory.{given_length, after_giving, GivesOnce, room, WriteFails, after_taking};
 
 use crate::{Failed, Sink, Source};
 use std::alloc::{AllocError, Global};
@@ -68,6 +68,7 @@ pub struct MemSource {
     at: usize,
     greatest: usize,
     log: CallLog,
+    is_open: bool,
 }
 
 impl Model for MemSource {
@@ -76,7 +77,7 @@ impl Model for MemSource {
 
     ghost Value = { SourceState };
 
-    ghost view = { λ s. record { left = drop s.at s.bytes.items; greatest = s.greatest; calls = s.log } };
+    ghost view = { λ s. record { left = drop s.at s.bytes.items; greatest = s.greatest; calls = s.log; is_open = s.is_open } };
 
     ghost invariant = { λ s. (s.at ≤ length s.bytes.items) × (0 < s.greatest) };
 }
@@ -92,13 +93,14 @@ impl MemSource {
     ) -> Result<MemSource, NoMemory>
         requires { 0 < greatest }
         ensures { IfOk result (λ source.
-            source ≡ record { left = bytes.now; greatest = greatest; calls = no_calls fails.now }) }
+            source ≡ record { left = bytes.now; greatest = greatest; calls = no_calls fails.now; is_open = true }) }
     {
         Ok(MemSource {
             bytes: Vec::from_slice(alloc, bytes)?,
             at: 0,
             greatest,
             log: CallLog::new(alloc, fails)?,
+            is_open: true,
         })
     }
 }
@@ -110,6 +112,10 @@ impl Source for MemSource {
 
     ghost reads = { λ source. length source.left };
 
+    ghost is_open = { λ source. source.is_open };
+
+    ghost gives = { λ before bytes after. GivesOnce before bytes after };
+
     fn read(&mut self, piece: &mut [u8]) -> Result<usize, Failed>
         ensures fails { IsErr result ↔ FailsNext self.old.calls }
         ensures amount { IfOk result (λ n. n ≡ given_length self.old (length piece.old)) }
@@ -120,8 +126,12 @@ impl Source for MemSource {
 
         ensures bytes { ReadConsumes (Some self.old.left) (Some self.new.left) result piece.new }
         ensures within { IfOk result (λ n. n ≤ length piece.old) }
+        ensures gives { IfOk result (λ n. GivesOnce self.old (take n piece.new) self.new) }
+        ensures gives_none { OnErr result (GivesOnce self.old [] self.new) }
         ensures counts { self.old.calls.faults ≤ self.new.calls.faults }
+        ensures faultless { OnOk result (self.new.calls.faults ≡ self.old.calls.faults) }
         ensures cause { OnErr result (Rises self.old.calls.faults self.new.calls.faults) }
+        ensures stays { self.new.is_open ≡ self.old.is_open }
         ensures reads { length self.new.left ≤ length self.old.left }
         ensures nearer { IfOk result (λ n. 0 < n → length self.new.left < length self.old.left) }
     {
@@ -138,13 +148,17 @@ impl Source for MemSource {
         Ok(count)
     }
 
+    /// It notes that it was ended. Later reads give its bytes as before.
     fn end(&mut self)
-        ensures same { self.new ≡ self.old }
+        ensures closed { self.new ≡ record self.old { is_open = false } }
 
         ensures bytes { Keeps (Some self.old.left) (Some self.new.left) }
         ensures counts { self.new.calls.faults ≡ self.old.calls.faults }
+        ensures closes { self.new.is_open ≡ false }
         ensures reads { length self.new.left ≤ length self.old.left }
-    {}
+    {
+        self.is_open = false;
+    }
 }
 
 /// A sink that takes bytes into memory, which it has from the start.
@@ -153,6 +167,7 @@ pub struct MemSink {
     bytes: Vec<u8>,
     capacity: usize,
     log: CallLog,
+    is_open: bool,
 }
 
 impl Model for MemSink {
@@ -161,7 +176,7 @@ impl Model for MemSink {
 
     ghost Value = { SinkState };
 
-    ghost view = { λ s. record { taken = s.bytes.items; capacity = s.capacity; calls = s.log } };
+    ghost view = { λ s. record { taken = s.bytes.items; capacity = s.capacity; calls = s.log; is_open = s.is_open } };
 
     ghost invariant = { λ s. (length s.bytes.items ≤ s.capacity) × (s.capacity ≤ vec_capacity s.bytes) };
 }
@@ -171,12 +186,13 @@ impl MemSink {
     /// lists fail.
     pub fn new(alloc: Global, capacity: usize, fails: &[u64]) -> Result<MemSink, NoMemory>
         ensures { IfOk result (λ sink.
-            sink ≡ record { taken = []; capacity = capacity; calls = no_calls fails.now }) }
+            sink ≡ record { taken = []; capacity = capacity; calls = no_calls fails.now; is_open = true }) }
     {
         Ok(MemSink {
             bytes: Vec::with_capacity(alloc, capacity)?,
             capacity,
             log: CallLog::new(alloc, fails)?,
+            is_open: true,
         })
     }
 
@@ -193,6 +209,8 @@ impl Sink for MemSink {
 
     ghost faults = { λ sink. sink.calls.faults };
 
+    ghost is_open = { λ sink. sink.is_open };
+
     fn write(&mut self, piece: &[u8]) -> Result<usize, Failed>
         ensures fails { IsErr result ↔ WriteFails self.old (length piece.now) }
         ensures amount { IfOk result (λ n. n ≡ min (length piece.now) (room self.old)) }
@@ -203,7 +221,9 @@ impl Sink for MemSink {
         ensures within { IfOk result (λ n. n ≤ length piece.now) }
         ensures some { IfOk result (λ n. 0 < length piece.now → 0 < n) }
         ensures counts { self.old.calls.faults ≤ self.new.calls.faults }
+        ensures faultless { OnOk result (self.new.calls.faults ≡ self.old.calls.faults) }
         ensures cause { OnErr result (Rises self.old.calls.faults self.new.calls.faults) }
+        ensures stays { self.new.is_open ≡ self.old.is_open }
     {
         let room = self.capacity - self.bytes.len();
         let count = piece.len().min(room);
@@ -218,10 +238,14 @@ impl Sink for MemSink {
         Ok(count)
     }
 
+    /// It notes that it was ended. Later writes take bytes as before.
     fn end(&mut self)
-        ensures same { self.new ≡ self.old }
+        ensures closed { self.new ≡ record self.old { is_open = false } }
 
         ensures bytes { Keeps (Some self.old.taken) (Some self.new.taken) }
         ensures counts { self.new.calls.faults ≡ self.old.calls.faults }
-    {}
+        ensures closes { self.new.is_open ≡ false }
+    {
+        self.is_open = false;
+    }
 }

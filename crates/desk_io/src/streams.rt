@@ -1,9 +1,9 @@
 //! A source over a reader and a sink over a writer: standard input and output, files, sockets.
 
-ghost use Rattle.std.specs.Prelude.{◌≡◌, ◌<◌, ◌≤◌, ◌^◌, ◌-◌, length, true, false, IsErr, IfOk, OnOk, OnErr, Ok, None};
+ghost use Rattle.std.specs.Prelude.{◌≡◌, ◌<◌, ◌≤◌, ◌^◌, ◌-◌, [], length, take, true, false, IsErr, IfOk, OnOk, OnErr, Ok, None};
 ghost use Rattle.std.specs.Io.KnownBytes.{ReadConsumes, WriteAppends, Keeps};
 ghost use Rattle.desk_io.specs.Outside.{Rises, one_more};
-ghost use Rattle.desk_io.specs.Streams.{after_read};
+ghost use Rattle.desk_io.specs.Streams.{after_read, GivesOnce};
 
 use crate::{Failed, Sink, Source};
 use std::io::{Read, Write};
@@ -46,6 +46,10 @@ impl<R: Read + Drop> Source for StreamSource<R> {
 
     ghost reads = { λ source. source.reads };
 
+    ghost is_open = { λ source. source.is_open };
+
+    ghost gives = { λ before bytes after. GivesOnce before bytes after };
+
     fn read(&mut self, piece: &mut [u8]) -> Result<usize, Failed>
         ensures ended { self.old.is_open ≡ false → result ≡ Ok 0 }
         ensures spent { self.old.is_open ≡ true → self.old.reads ≡ 0 → IsErr result }
@@ -54,8 +58,12 @@ impl<R: Read + Drop> Source for StreamSource<R> {
 
         ensures bytes { ReadConsumes None None result piece.new }
         ensures within { IfOk result (λ n. n ≤ length piece.old) }
+        ensures gives { IfOk result (λ n. GivesOnce self.old (take n piece.new) self.new) }
+        ensures gives_none { OnErr result (GivesOnce self.old [] self.new) }
         ensures counts { self.old.faults ≤ self.new.faults }
+        ensures faultless { OnOk result (self.new.faults ≡ self.old.faults) }
         ensures cause { OnErr result (Rises self.old.faults self.new.faults) }
+        ensures stays { self.new.is_open ≡ self.old.is_open }
         ensures reads { self.new.reads ≤ self.old.reads }
         ensures nearer { IfOk result (λ n. 0 < n → self.new.reads < self.old.reads) }
     {
@@ -80,6 +88,7 @@ impl<R: Read + Drop> Source for StreamSource<R> {
 
         ensures bytes { Keeps None None }
         ensures counts { self.new.faults ≡ self.old.faults }
+        ensures closes { self.new.is_open ≡ false }
         ensures reads { self.new.reads ≤ self.old.reads }
     {
         self.stream = None;
@@ -120,6 +129,8 @@ impl<W: Write + Drop> Sink for StreamSink<W> {
 
     ghost faults = { λ sink. sink.faults };
 
+    ghost is_open = { λ sink. sink.is_open };
+
     fn write(&mut self, piece: &[u8]) -> Result<usize, Failed>
         ensures ended { self.old.is_open ≡ false → IsErr result }
         ensures took { OnOk result (self.new ≡ self.old) }
@@ -129,7 +140,9 @@ impl<W: Write + Drop> Sink for StreamSink<W> {
         ensures within { IfOk result (λ n. n ≤ length piece.now) }
         ensures some { IfOk result (λ n. 0 < length piece.now → 0 < n) }
         ensures counts { self.old.faults ≤ self.new.faults }
+        ensures faultless { OnOk result (self.new.faults ≡ self.old.faults) }
         ensures cause { OnErr result (Rises self.old.faults self.new.faults) }
+        ensures stays { self.new.is_open ≡ self.old.is_open }
     {
         if let Some(stream) = &mut self.stream {
             if let Ok(count) = stream.write(piece) {
@@ -148,6 +161,7 @@ impl<W: Write + Drop> Sink for StreamSink<W> {
 
         ensures bytes { Keeps None None }
         ensures counts { self.new.faults ≡ self.old.faults }
+        ensures closes { self.new.is_open ≡ false }
     {
         self.stream = None;
     }

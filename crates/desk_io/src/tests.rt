@@ -8,37 +8,32 @@ use std::io::{ErrorKind, Read};
 use std::process::Abort;
 use std::test::Fail;
 
-// Reads into a piece of each length, and gets these bytes, or a failure.
-fn expect_reads<S: Source>(rt: &impl Abort, source: &mut S, reads: &[(usize, Option<&str>)]) {
-    for (room, want) in reads {
-        let mut piece = [0u8; 16];
-        assert!(rt; *room <= piece.len());
-        let got = source.read(&mut piece[..*room]).ok();
-        assert_eq!(rt; got, want.map(|text| text.len()), "into {room}");
-        if let Some(count) = got {
-            assert!(rt; count <= piece.len());
-            assert_eq!(rt; &piece[..count], want.unwrap_or("").as_bytes());
-        }
-    }
+// Reads into a piece of so many bytes, and gets these bytes, or a failure.
+fn expect_read<S: Source>(rt: &impl Abort, source: &mut S, room: usize, want: Option<&str>) {
+    let mut piece = [0u8; 16];
+    assert!(rt; room <= piece.len());
+    let (front, _) = piece.split_at_mut(room);
+    let got = source.read(front).ok();
+    assert_eq!(rt; got, want.map(|text| text.len()), "into {room}");
+    let text = want.unwrap_or("").as_bytes();
+    assert!(rt; text.len() <= piece.len());
+    let (given, _) = piece.split_at(text.len());
+    assert_eq!(rt; given, text, "into {room}");
 }
 
-// Writes each piece, of which so many bytes are taken, or none because of a failure.
-fn expect_writes<K: Sink>(rt: &impl Abort, sink: &mut K, writes: &[(&str, Option<usize>)]) {
-    for (piece, want) in writes {
-        let got = sink.write(piece.as_bytes()).ok();
-        assert_eq!(rt; got, *want, "{piece}");
-    }
+// Writes a piece, of which so many bytes are taken, or none because of a failure.
+fn expect_write<K: Sink>(rt: &impl Abort, sink: &mut K, piece: &str, want: Option<usize>) {
+    let got = sink.write(piece.as_bytes()).ok();
+    assert_eq!(rt; got, want, "{piece}");
 }
 
-// Reads the clock once for each of these moments.
-fn expect_readings<C: Clock>(rt: &impl Abort, clock: &mut C, moments: &[i64]) {
-    for ns in moments {
-        assert_eq!(rt; clock.now().ns(), *ns);
-    }
+// Reads the clock, which gives this moment.
+fn expect_reading<C: Clock>(rt: &impl Abort, clock: &mut C, ns: i64) {
+    assert_eq!(rt; clock.now().ns(), ns);
 }
 
 #[test]
-fn memory(rt: HostRuntime) -> Result<(), Fail> {
+fn source_in_memory(rt: HostRuntime) -> Result<(), Fail> {
     let mut source = MemSource::new(rt.alloc(), b"abcdefg", 3, &[2])?;
     let reads = [
         (2, Some("ab")),
@@ -48,8 +43,14 @@ fn memory(rt: HostRuntime) -> Result<(), Fail> {
         (9, Some("fg")),
         (9, Some("")),
     ];
-    expect_reads(&rt, &mut source, &reads);
+    for (room, want) in reads {
+        expect_read(&rt, &mut source, room, want);
+    }
+    Ok(())
+}
 
+#[test]
+fn sink_in_memory(rt: HostRuntime) -> Result<(), Fail> {
     let mut sink = MemSink::new(rt.alloc(), 5, &[2])?;
     let writes = [
         ("abc", Some(3)),
@@ -59,26 +60,40 @@ fn memory(rt: HostRuntime) -> Result<(), Fail> {
         ("fg", None),
         ("", Some(0)),
     ];
-    expect_writes(&rt, &mut sink, &writes);
+    for (piece, want) in writes {
+        expect_write(&rt, &mut sink, piece, want);
+    }
     assert_eq!(rt; sink.bytes(), b"abcde".as_slice());
+    Ok(())
+}
 
+#[test]
+fn whole_writes_in_memory(rt: HostRuntime) -> Result<(), Fail> {
     let mut narrow = MemSink::new(rt.alloc(), 5, &[])?;
     assert_eq!(rt; write_all(&mut narrow, b"abc"), Ok(()));
     assert_eq!(rt; write_all(&mut narrow, b"defg"), Err(Failed));
     assert_eq!(rt; narrow.bytes(), b"abcde".as_slice());
+    Ok(())
+}
 
+// Readings a step apart, until the last moment of the year 2199.
+const MOMENTS: [i64; 5] = [
+    7_258_118_399_999_999_990,
+    7_258_118_399_999_999_994,
+    7_258_118_399_999_999_998,
+    7_258_118_399_999_999_999,
+    7_258_118_399_999_999_999,
+];
+
+#[test]
+fn clock_by_steps(rt: HostRuntime) -> Result<(), Fail> {
     let first = Instant::new(7_258_118_399_999_999_990).ok_or("out of range")?;
     let mut clock = TickClock::new(first, 4);
     let mut twin = clock.another();
-    let moments = [
-        7_258_118_399_999_999_990,
-        7_258_118_399_999_999_994,
-        7_258_118_399_999_999_998,
-        7_258_118_399_999_999_999,
-        7_258_118_399_999_999_999,
-    ];
-    expect_readings(&rt, &mut clock, &moments);
-    expect_readings(&rt, &mut twin, &moments);
+    for ns in MOMENTS {
+        expect_reading(&rt, &mut clock, ns);
+        expect_reading(&rt, &mut twin, ns);
+    }
     Ok(())
 }
 
@@ -113,30 +128,41 @@ fn source_over_a_reader(rt: HostRuntime) {
         (9, Some("")),
         (9, Some("")),
     ];
-    expect_reads(&rt, &mut source, &reads);
-
-    let mut broken = StreamSource::new(Broken { calls: 0 });
-    let reads = [(9, Some("x")), (9, None), (9, Some("x"))];
-    expect_reads(&rt, &mut broken, &reads);
-    broken.end();
-    expect_reads(&rt, &mut broken, &[(9, Some(""))]);
+    for (room, want) in reads {
+        expect_read(&rt, &mut source, room, want);
+    }
 }
 
 #[test]
-fn sink_over_a_writer(rt: HostRuntime) -> Result<(), Fail> {
+fn source_over_a_broken_reader(rt: HostRuntime) {
+    let mut broken = StreamSource::new(Broken { calls: 0 });
+    let reads = [(9, Some("x")), (9, None), (9, Some("x"))];
+    for (room, want) in reads {
+        expect_read(&rt, &mut broken, room, want);
+    }
+    broken.end();
+    expect_read(&rt, &mut broken, 9, Some(""));
+}
+
+#[test]
+fn sink_over_a_writer(rt: HostRuntime) {
     let mut bytes = Vec::new(rt.alloc());
     let mut sink = StreamSink::new(&mut bytes);
     assert_eq!(rt; write_all(&mut sink, b"abcde"), Ok(()));
     sink.end();
     assert_eq!(rt; write_all(&mut sink, b"f"), Err(Failed));
     assert_eq!(rt; bytes.as_slice(), b"abcde".as_slice());
+}
 
-    // A slice that is full takes nothing more.
+// A slice that is full takes nothing more.
+#[test]
+fn sink_over_a_full_writer(rt: HostRuntime) {
     let mut room = [0u8; 3];
     let mut full = StreamSink::new(room.as_mut_slice());
     let writes = [("abcd", Some(3)), ("d", None), ("", Some(0))];
-    expect_writes(&rt, &mut full, &writes);
-    Ok(())
+    for (piece, want) in writes {
+        expect_write(&rt, &mut full, piece, want);
+    }
 }
 
 #[test]

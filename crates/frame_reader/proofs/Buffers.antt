@@ -2,10 +2,11 @@
 use Rattle.std.proofs.Common.{◌≡◌, ℕ, ◌+◌, ◌-◌, ◌≤◌, List, [], ◌++◌, length, take, drop, slice_range, Option, Result, Ok, Err, IfOk, OnErr, sym, ap, ◌∙◌, arith}
 use Rattle.std.proofs.lemmas.List.{append-nil, take_at, drop_at, take-append-le, length-take-le, drop-take, drop-drop}
 use Rattle.std.proofs.KnownBytes.{Consumes-nil, Consumes-kept}
-use Rattle.std.specs.Io.KnownBytes.{Keeps, ReadConsumes}
+use Rattle.std.specs.Io.KnownBytes.{ReadConsumes}
+use Rattle.desk_io.specs.Reads.{Passes}
 use borrow.Rule.Slice.PartMut.{put_mid, post_of}
 use lib.Seq.{take-add}
-use Rattle.frame_reader.specs.Reading.{Grows}
+use Rattle.frame_reader.specs.Reading.{ReadsOnce}
 
 -- the bytes that are kept, and behind them the front of what was written there
 take_behind : (xs ys : List ℕ) (kept k n : ℕ) → kept ≤ length xs → n ≤ length ys → take (kept + n) (put_mid kept k xs ys) ≡ take kept xs ++ take n ys
@@ -18,20 +19,22 @@ take_behind xs ys kept k n within few =
     ∙ ap (λ (t : List ℕ). front ++ take n t) (drop_at front after kept long)
     ∙ ap (λ (t : List ℕ). front ++ t) (take-append-le n ys (post_of kept k xs) few)
 
-pub nothing_came : (a b : Option (List ℕ)) (ahead grown : List ℕ) → Keeps a b → grown ≡ ahead → Grows a b ahead grown
-nothing_came a b ahead grown keeps same =
-    record { piece = []; came = Consumes-kept a a b [] (Consumes-nil a) keeps; behind = same ∙ sym (append-nil ahead) }
-
-module _ (a b : Option (List ℕ)) (xs ys : List ℕ) (kept k room : ℕ) (within : kept ≤ length xs) (long : length ys ≡ room) where
+module _ {S : Type 0} (left : S → Option (List ℕ)) (gives : Passes S) (a b : S) (xs ys : List ℕ) (kept k room : ℕ) (within : kept ≤ length xs) (long : length ys ≡ room) where
   -- a read that gave n bytes, or none
-  pub read_grows : {E : Type 0} (r : Result ℕ E) → IfOk r (λ n. n ≤ room) → ReadConsumes a b r ys → IfOk r (λ n. Grows a b (take kept xs) (take (kept + n) (put_mid kept k xs ys)))
-  read_grows (Ok n) few came = record { piece = take n ys; came = came.0; behind = take_behind xs ys kept k n within (omega arith) }
-  read_grows (Err e) few came = tt
+  pub read_once : {E : Type 0} (r : Result ℕ E) → IfOk r (λ n. n ≤ room) → ReadConsumes (left a) (left b) r ys → IfOk r (λ n. gives a (take n ys) b)
+      → IfOk r (λ n. ReadsOnce left gives a b (take kept xs) (take (kept + n) (put_mid kept k xs ys)))
+  read_once (Ok n) few came gave = record { piece = take n ys; consumed = came.0; gave = gave; behind = take_behind xs ys kept k n within (omega arith) }
+  read_once (Err e) few came gave = tt
 
-  pub failed_grows : {E : Type 0} (r : Result ℕ E) → ReadConsumes a b r ys → OnErr r (Grows a b (take kept xs) (take kept (put_mid kept k xs ys)))
-  failed_grows (Ok n) came = tt
-  failed_grows (Err e) keeps =
-      nothing_came a b (take kept xs) (take kept (put_mid kept k xs ys)) keeps (take_at (take kept xs) (ys ++ post_of kept k xs) kept (length-take-le kept xs within))
+  pub failed_once : {E : Type 0} (r : Result ℕ E) → ReadConsumes (left a) (left b) r ys → OnErr r (gives a [] b)
+      → OnErr r (ReadsOnce left gives a b (take kept xs) (take kept (put_mid kept k xs ys)))
+  failed_once (Ok n) came gave = tt
+  failed_once (Err e) keeps gave = record {
+    piece = [];
+    consumed = Consumes-kept (left a) (left a) (left b) [] (Consumes-nil (left a)) keeps;
+    gave = gave;
+    behind = take_at (take kept xs) (ys ++ post_of kept k xs) kept (length-take-le kept xs within) ∙ sym (append-nil (take kept xs));
+  }
 
 -- bytes that are used from the front of a part of a buffer
 pub part_used : (xs : List ℕ) (start end count : ℕ) → start + count ≤ end → slice_range xs (start + count) end ≡ drop count (slice_range xs start end)

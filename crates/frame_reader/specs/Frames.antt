@@ -2,8 +2,10 @@
 use Rattle.std.specs.Prelude.{◌≡◌, ℕ, ◌<◌, ◌≤◌, ◌⊎◌, List, [], ◌++◌, length, drop, Result, Ok, Err, IfSome}
 use Rattle.std.specs.declared.option.Option.{Option}
 use Rattle.std.specs.Io.KnownBytes.{IsAtEnd}
+use Rattle.desk_io.specs.Outside.{Rises}
 use Rattle.desk_frames.specs.declared.TheConstants.{HEAD_BYTES}
 use Rattle.desk_frames.specs.Frames.{Frame, IsFrame, framed, NoFrame, NeverFrame, HeadParts, IsHead, headed}
+use Rattle.frame_reader.specs.Reading.{IsAwaited}
 use Rattle.frame_reader.specs.declared.TheConstants.{BODY_BYTES}
 use Rattle.frame_reader.specs.declared.frame.FrameBody.{FrameBody}
 use Rattle.frame_reader.specs.declared.frame.FrameBody.TheVariants as bodies
@@ -58,6 +60,13 @@ OnFrame answers.End P = Unit {0}
 OnFrame answers.Bad P = Unit {0}
 OnFrame answers.Failed P = Unit {0}
 
+-- the source's count of faults rose in a call that answers Failed, and stayed in any other
+abbrev pub Counts : NextFrame → ℕ → ℕ → Type 0
+Counts answers.Failed before now = Rises before now
+Counts (answers.Frame read) before now = now ≡ before
+Counts answers.End before now = now ≡ before
+Counts answers.Bad before now = now ≡ before
+
 -- ---- a frame's head and its body, one after the other
 
 -- why no frame was read
@@ -65,6 +74,13 @@ abbrev pub Ends : List ℕ → List ℕ → Option (List ℕ) → Ending → Typ
 Ends front rest left endings.End = IsOver front rest left
 Ends front rest left endings.Bad = NoFrameComes front left
 Ends front rest left endings.Failed = NoFrame front
+
+-- the count of faults rose where it is said that the source failed, and stayed in any other call
+abbrev pub Counted : {X : Type 0} → Result X Ending → ℕ → ℕ → Type 0
+Counted (Ok x) before now = now ≡ before
+Counted (Err endings.End) before now = now ≡ before
+Counted (Err endings.Bad) before now = now ≡ before
+Counted (Err endings.Failed) before now = Rises before now
 
 -- what a head says
 abbrev pub parts_of : HeldHead → HeadParts
@@ -80,7 +96,7 @@ pub record IsHeadRead (front : List ℕ) (head : HeldHead) (rest : List ℕ) : T
 -- what the front of the bytes that have come is
 abbrev pub ReadsFront : List ℕ → HeldFront → Type 0
 ReadsFront bytes (fronts.Whole head) = IsHeadRead bytes head (drop head.size bytes) × (head.size ≤ length bytes)
-ReadsFront bytes fronts.Part = NoFrame bytes × (length bytes < HEAD_BYTES)
+ReadsFront bytes fronts.Part = IsAwaited bytes × (length bytes < HEAD_BYTES)
 ReadsFront bytes fronts.Bad = NeverFrame bytes
 
 -- a head was read, or it is said why no frame is

@@ -48,6 +48,7 @@ pub fn held_front(bytes: &[u8]) -> HeldFront
 {
     laws::goes_on();
     laws::no_frame_yet();
+    laws::never_a_frame();
     match read_head(bytes) {
         Front::Whole(head) => HeldFront::Whole(HeldHead {
             key: held(head.key),

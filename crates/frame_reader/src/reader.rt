@@ -1,11 +1,12 @@
 //! The reader and its buffer.
 
 ghost use Rattle.std.specs.Prelude.{◌≡◌, ◌≢◌, ℕ, ◌+◌, ◌<◌, ◌≤◌, List, [], ◌++◌, length, take, drop, Option, Ok, Err, IfOk, IfErr, OnOk, OnErr, IfSome, IsSomeAnd};
-ghost use Rattle.std.specs.Io.KnownBytes.{Consumes, IsAtEnd};
+ghost use Rattle.std.specs.Io.KnownBytes.{Consumes, IsAtEnd, Keeps};
 ghost use Rattle.desk_io.specs.Outside.{Rises};
+ghost use Rattle.desk_io.specs.Reads.{Comes};
 ghost use Rattle.desk_frames.specs.Frames.{NoFrame};
-ghost use Rattle.frame_reader.specs.Reading.{Grows, work};
-ghost use Rattle.frame_reader.specs.Frames.{ReadsFrame, OnFrame, Ends, IfKept, ReadsHead, IsAllOf, ReadsText, ReadsWhole, IsCut};
+ghost use Rattle.frame_reader.specs.Reading.{AwaitsFrame, LacksText, ReadsOnce, ReadsAhead, work};
+ghost use Rattle.frame_reader.specs.Frames.{ReadsFrame, OnFrame, Counts, Ends, Counted, IfKept, ReadsHead, IsAllOf, ReadsText, ReadsWhole, IsCut};
 
 use crate::frame::{Ending, FrameBody, NextFrame, ReadFrame};
 use crate::head::{HeldFront, HeldHead, held_front};
@@ -70,12 +71,14 @@ impl FrameReader {
     // came: 0 is the end of the source.
     fn refill<S: Source>(&mut self, source: &mut S) -> Result<usize, Failed>
         requires { length self.old < BUFFER_BYTES }
-        ensures came { Grows (S.left source.old) (S.left source.new) self.old self.new }
+        ensures came { ReadsOnce S.left S.gives source.old source.new self.old self.new }
         ensures amount { IfOk result (λ n. length self.new ≡ length self.old + n) }
         ensures end { result ≡ Ok 0 → IsAtEnd (S.left source.new) }
         ensures failed { OnErr result (self.new ≡ self.old) }
         ensures counts { S.faults source.old ≤ S.faults source.new }
+        ensures faultless { OnOk result (S.faults source.new ≡ S.faults source.old) }
         ensures cause { OnErr result (Rises (S.faults source.old) (S.faults source.new)) }
+        ensures stays { S.is_open source.new ≡ S.is_open source.old }
         ensures work { work (S.reads source.new) self.new ≤ work (S.reads source.old) self.old }
         ensures nearer { IfOk result (λ n. 0 < n →
             work (S.reads source.new) self.new < work (S.reads source.old) self.old) }
@@ -91,12 +94,13 @@ impl FrameReader {
 
     // Reads ahead where nothing is read ahead.
     fn read_ahead<S: Source>(&mut self, source: &mut S) -> Result<(), Ending>
-        ensures came { Grows (S.left source.old) (S.left source.new) self.old self.new }
+        ensures came { ReadsAhead S.left S.gives source.old source.new self.old self.new }
         ensures some { OnOk result (0 < length self.new) }
         ensures none { OnErr result (self.new ≡ []) }
         ensures cut { IfErr result (IsCut (S.left source.new)) }
         ensures counts { S.faults source.old ≤ S.faults source.new }
-        ensures cause { result ≡ Err Ending.Failed → Rises (S.faults source.old) (S.faults source.new) }
+        ensures faults { Counted result (S.faults source.old) (S.faults source.new) }
+        ensures stays { S.is_open source.new ≡ S.is_open source.old }
         ensures work { work (S.reads source.new) self.new ≤ work (S.reads source.old) self.old }
     {
         if !self.pending().is_empty() {
@@ -118,10 +122,11 @@ impl FrameReader {
         room: Option<Bytes>,
     ) -> Result<Option<Bytes>, Ending>
         requires { IfSome room (λ bytes. bytes ≡ []) }
-        ensures came { (piece : List ℕ) × Consumes (S.left source.old) (S.left source.new) piece
+        ensures came { (piece : List ℕ) × Comes S.left S.gives (LacksText self.old size) source.old source.new piece
             × ReadsText IsAllOf (self.old ++ piece) size self.new (S.left source.new) result }
         ensures counts { S.faults source.old ≤ S.faults source.new }
-        ensures cause { result ≡ Err Ending.Failed → Rises (S.faults source.old) (S.faults source.new) }
+        ensures faults { Counted result (S.faults source.old) (S.faults source.new) }
+        ensures stays { S.is_open source.new ≡ S.is_open source.old }
         ensures work { work (S.reads source.new) self.new ≤ work (S.reads source.old) self.old }
     {
         let mut missing = size as usize;
@@ -140,10 +145,11 @@ impl FrameReader {
 
     // Reads a body of this length to its end. No memory is taken for one that is too long to be kept.
     fn read_body<S: Source>(&mut self, source: &mut S, size: u64) -> Result<FrameBody, Ending>
-        ensures came { (piece : List ℕ) × Consumes (S.left source.old) (S.left source.new) piece
+        ensures came { (piece : List ℕ) × Comes S.left S.gives (LacksText self.old size) source.old source.new piece
             × ReadsText IfKept (self.old ++ piece) size self.new (S.left source.new) result }
         ensures counts { S.faults source.old ≤ S.faults source.new }
-        ensures cause { result ≡ Err Ending.Failed → Rises (S.faults source.old) (S.faults source.new) }
+        ensures faults { Counted result (S.faults source.old) (S.faults source.new) }
+        ensures stays { S.is_open source.new ≡ S.is_open source.old }
         ensures work { work (S.reads source.new) self.new ≤ work (S.reads source.old) self.old }
     {
         if size > BODY_BYTES {
@@ -159,10 +165,11 @@ impl FrameReader {
 
     // Reads until a head stands at the front, and uses it.
     fn read_head<S: Source>(&mut self, source: &mut S) -> Result<HeldHead, Ending>
-        ensures came { (piece : List ℕ) × Consumes (S.left source.old) (S.left source.new) piece
+        ensures came { (piece : List ℕ) × Comes S.left S.gives (AwaitsFrame self.old) source.old source.new piece
             × ReadsHead (self.old ++ piece) self.new (S.left source.new) result }
         ensures counts { S.faults source.old ≤ S.faults source.new }
-        ensures cause { result ≡ Err Ending.Failed → Rises (S.faults source.old) (S.faults source.new) }
+        ensures faults { Counted result (S.faults source.old) (S.faults source.new) }
+        ensures stays { S.is_open source.new ≡ S.is_open source.old }
         ensures work { work (S.reads source.new) self.new ≤ work (S.reads source.old) self.old }
         ensures progress { OnOk result (work (S.reads source.new) self.new < work (S.reads source.old) self.old) }
     {
@@ -197,16 +204,19 @@ impl FrameReader {
 
     // Reads a head and its body.
     fn read_frame<S: Source>(&mut self, source: &mut S) -> Result<ReadFrame, Ending>
-        ensures came { (piece : List ℕ) × Consumes (S.left source.old) (S.left source.new) piece
+        ensures came { (piece : List ℕ) × Comes S.left S.gives (AwaitsFrame self.old) source.old source.new piece
             × ReadsWhole (self.old ++ piece) self.new (S.left source.new) result }
         ensures counts { S.faults source.old ≤ S.faults source.new }
-        ensures cause { result ≡ Err Ending.Failed → Rises (S.faults source.old) (S.faults source.new) }
+        ensures faults { Counted result (S.faults source.old) (S.faults source.new) }
+        ensures stays { S.is_open source.new ≡ S.is_open source.old }
         ensures work { work (S.reads source.new) self.new ≤ work (S.reads source.old) self.old }
         ensures progress { OnOk result (work (S.reads source.new) self.new < work (S.reads source.old) self.old) }
     {
         laws::goes_on();
         laws::head_and_body();
+        laws::heads_have_bytes();
         laws::no_frame_yet();
+        laws::never_a_frame();
         let head = self.read_head(source)?;
         let body = self.read_body(source, head.length)?;
         Ok(ReadFrame {
@@ -224,12 +234,15 @@ impl FrameReader {
     /// next frame is read all the same.
     /// After `Bad` and `Failed` it isn't told which bytes were used.
     pub fn next_frame<S: Source>(&mut self, source: &mut S) -> NextFrame
-        // What the answer says of the bytes that were read ahead and of those that came behind them.
-        ensures came { (piece : List ℕ) × Consumes (S.left source.old) (S.left source.new) piece
+        // What the answer says of the bytes that were read ahead and of those that came behind them. No read
+        // was made but while a frame was awaited.
+        ensures came { (piece : List ℕ) × Comes S.left S.gives (AwaitsFrame self.old) source.old source.new piece
             × ReadsFrame (self.old ++ piece) self.new (S.left source.new) result }
         ensures counts { S.faults source.old ≤ S.faults source.new }
-        // It is `Failed` only where the source failed.
-        ensures cause { result ≡ NextFrame.Failed → Rises (S.faults source.old) (S.faults source.new) }
+        // It is `Failed` where the source failed in this call, and another answer where it didn't.
+        ensures faults { Counts result (S.faults source.old) (S.faults source.new) }
+        // The source isn't given up.
+        ensures stays { S.is_open source.new ≡ S.is_open source.old }
         // The work that is left gets less with each frame.
         ensures work { work (S.reads source.new) self.new ≤ work (S.reads source.old) self.old }
         ensures progress { OnFrame result (work (S.reads source.new) self.new < work (S.reads source.old) self.old) }
@@ -255,15 +268,17 @@ fn extended(body: Option<Bytes>, text: &[u8]) -> Option<Bytes>
 // Reads once into a buffer, behind the bytes that it keeps at its front.
 fn read_behind<S: Source>(source: &mut S, buffer: &mut [u8], kept: usize) -> Result<usize, Failed>
     requires { kept < length buffer.old }
-    ensures came { IfOk result (λ n. Grows (S.left source.old) (S.left source.new)
+    ensures came { IfOk result (λ n. ReadsOnce S.left S.gives source.old source.new
         (take kept buffer.old) (take (kept + n) buffer.new)) }
     ensures within { IfOk result (λ n. kept + n ≤ length buffer.old) }
     ensures end { result ≡ Ok 0 → IsAtEnd (S.left source.new) }
-    ensures failed { OnErr result (Grows (S.left source.old) (S.left source.new)
+    ensures failed { OnErr result (ReadsOnce S.left S.gives source.old source.new
         (take kept buffer.old) (take kept buffer.new)) }
     ensures same { OnErr result (take kept buffer.new ≡ take kept buffer.old) }
     ensures counts { S.faults source.old ≤ S.faults source.new }
+    ensures faultless { OnOk result (S.faults source.new ≡ S.faults source.old) }
     ensures cause { OnErr result (Rises (S.faults source.old) (S.faults source.new)) }
+    ensures stays { S.is_open source.new ≡ S.is_open source.old }
     ensures reads { S.reads source.new ≤ S.reads source.old }
     ensures nearer { IfOk result (λ n. 0 < n → S.reads source.new < S.reads source.old) }
 {

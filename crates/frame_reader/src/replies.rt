@@ -31,7 +31,9 @@ pub fn write_reply_frame<K: Sink>(sink: &mut K, status: u16, text: &[u8]) -> Res
     ensures whole { OnOk result (Appends (K.taken sink.old) (K.taken sink.new) (reply_frame status text.now)) }
     ensures part { OnErr result (AppendsPart (K.taken sink.old) (K.taken sink.new) (reply_frame status text.now)) }
     ensures counts { K.faults sink.old ≤ K.faults sink.new }
+    ensures faultless { OnOk result (K.faults sink.new ≡ K.faults sink.old) }
     ensures cause { OnErr result (Rises (K.faults sink.old) (K.faults sink.new)) }
+    ensures stays { K.is_open sink.new ≡ K.is_open sink.old }
 {
     let written = reply_head(status, text.len() as u64);
     let head = written.as_slice();

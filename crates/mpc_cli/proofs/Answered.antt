@@ -1,5 +1,5 @@
 -- How a frame that was read is answered.
-use Rattle.std.proofs.Common.{◌≡◌, ℕ, ◌≤◌, ◌<◌, Bool, true, false, cond, List, length, Option, Some, Result, Ok, Err, refl, sym, ap, subst, ◌∙◌, inl, inr, arith}
+use Rattle.std.proofs.Common.{◌≡◌, ℕ, ◌≤◌, ◌<◌, Bool, true, false, cond, List, length, Option, Some, Result, Ok, Err, refl, sym, ap, subst, ◌∙◌, inl, inr, arith, ℤ}
 use Rattle.std.specs.Prelude.{◌⊎◌, nat_lt}
 use Rattle.std.specs.Io.KnownBytes.{Appends}
 use Rattle.std.proofs.lemmas.Bool.Decides.{nat_tests}
@@ -17,6 +17,7 @@ use Rattle.act_model.specs.declared.request.Body.TheVariants.{Whole, TooLong, No
 use Rattle.act_model.specs.declared.request.Request.{Request}
 use Rattle.act_model.specs.declared.request.TheConstants.{BODY_BYTES}
 use Rattle.act_model.specs.declared.entry.Entry.{Entry}
+use Rattle.act_model.specs.declared.reply.Refusal.{Refusal}
 use Rattle.act_model.specs.declared.reply.Refusal.TheVariants.{NoMemory}
 use Rattle.act_model.specs.declared.reply.Reply.{Reply}
 use Rattle.act_model.specs.declared.reply.Reply.TheVariants.{Done, Refused}
@@ -24,9 +25,10 @@ use Rattle.act_model.specs.Requests.{body_of, verb_of}
 use Rattle.act_model.specs.Replies.{status_of}
 use Rattle.act_model.specs.Turns.{request_of, written_reply}
 use Rattle.mpc_cli.specs.declared.spoken.Spoken.{Spoken}
-use Rattle.mpc_cli.specs.Serving.{Readings, TakesTurn}
+use Rattle.mpc_cli.specs.Serving.{ClockState, TakesTurn}
 use Rattle.mpc_cli.specs.Spoken.{text_bytes, IsSpoken, Speaks}
 use Rattle.mpc_cli.specs.Steps.{body_read, request_read, Writes, AnswersFrame}
+use Rattle.act_model.specs.Step.{step}
 use Rattle.mpc_cli.proofs.Served.{turn_for, turn_wanting}
 
 -- a body that was read is the request's, but for one that had no room
@@ -40,7 +42,8 @@ body_kept (kept.TooLong size) text (is, long) =
 body_kept kept.NoRoom text small = inr refl
 
 -- the turn of the request that was read is that of the frame's request
-module _ (founder : Key) (past next : List Entry) (before after : Readings) (read : ReadFrame) (reply : Reply) (turn : TakesTurn founder past (request_read read) reply next before after)
+module _ (refusals : (founder : Key) (past after : List Entry) (request : Request) (reading : ℤ) (refusal : Refusal) → step founder past request reading ≡ (Refused refusal, after) → after ≡ past)
+    (founder : Key) (past next : List Entry) (before after : ClockState) (read : ReadFrame) (reply : Reply) (turn : TakesTurn founder past (request_read read) reply next before after)
     (no_room : (request_read read).body ≡ NoRoom → reply ≡ Refused NoMemory) where
   turn_of_frame : (front rest : List ℕ) (r : IsFrameRead front read rest) → TakesTurn founder past (request_of r.frame) reply next before after
   turn_of_frame front rest r = by (body_kept read.body r.frame.body r.body)
@@ -59,7 +62,7 @@ module _ (founder : Key) (past next : List Entry) (before after : Readings) (rea
       by (inr none) =
           let wants : reply ≡ Refused NoMemory = no_room (ap body_read none) in
           subst (λ (x : Reply). TakesTurn founder past (request_of r.frame) x next before after) (sym wants)
-          (turn_for founder past (request_read read) (request_of r.frame) next before after verb (subst (λ (x : Reply). TakesTurn founder past (request_read read) x next before after) wants turn))
+          (turn_for founder past refusals (request_read read) (request_of r.frame) next before after verb (subst (λ (x : Reply). TakesTurn founder past (request_read read) x next before after) wants turn))
 
 -- the frame of what was spoken was written, or a front of it
 abbrev pub Wrote : Option (List ℕ) → Option (List ℕ) → Spoken → Result ℕ Failed → Type 0
@@ -75,17 +78,18 @@ writes_of old new reply spoken (Ok size) is wrote = subst (λ (b : List ℕ). Ap
 writes_of old new reply spoken (Err failed) is wrote = subst (λ (b : List ℕ). AppendsPart old new b) (frame_is reply spoken is) wrote
 
 -- a frame that was read is answered by the turn of its request, or by want of memory in the place of a refusal
-module _ (founder : Key) (past next : List Entry) (before after : Readings) (old new : Option (List ℕ)) (read : ReadFrame) (spoken : Spoken) (result : Result ℕ Failed) where
+module _ (refusals : (founder : Key) (past after : List Entry) (request : Request) (reading : ℤ) (refusal : Refusal) → step founder past request reading ≡ (Refused refusal, after) → after ≡ past)
+    (founder : Key) (past next : List Entry) (before after : ClockState) (old new : Option (List ℕ)) (read : ReadFrame) (spoken : Spoken) (result : Result ℕ Failed) where
   pub answered : (reply : Reply) → TakesTurn founder past (request_read read) reply next before after → ((request_read read).body ≡ NoRoom → reply ≡ Refused NoMemory)
       → Speaks reply spoken → Wrote old new spoken result → (front rest : List ℕ) (r : IsFrameRead front read rest) → AnswersFrame founder past next before after old new r.frame result
   answered (Done text) turn no_room is wrote front rest r =
-      record { reply = Done text; turn = turn_of_frame founder past next before after read (Done text) turn no_room front rest r; writes = writes_of old new (Done text) spoken result is wrote }
+      record { reply = Done text; turn = turn_of_frame refusals founder past next before after read (Done text) turn no_room front rest r; writes = writes_of old new (Done text) spoken result is wrote }
   answered (Refused refusal) turn no_room (inl is) wrote front rest r =
-      record { reply = Refused refusal; turn = turn_of_frame founder past next before after read (Refused refusal) turn no_room front rest r; writes = writes_of old new (Refused refusal) spoken result is wrote }
+      record { reply = Refused refusal; turn = turn_of_frame refusals founder past next before after read (Refused refusal) turn no_room front rest r; writes = writes_of old new (Refused refusal) spoken result is wrote }
   answered (Refused refusal) turn no_room (inr is) wrote front rest r =
       record {
         reply = Refused NoMemory;
-        turn = turn_wanting founder past (request_of r.frame) refusal next before after (turn_of_frame founder past next before after read (Refused refusal) turn no_room front rest r);
+        turn = turn_wanting founder past refusals (request_of r.frame) refusal next before after (turn_of_frame refusals founder past next before after read (Refused refusal) turn no_room front rest r);
         writes = writes_of old new (Refused NoMemory) spoken result is wrote;
       }
 

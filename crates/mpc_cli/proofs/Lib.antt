@@ -1,4 +1,6 @@
-pub mod Answered
-pub mod Complete
-pub mod Progress
+pub mod Laws
+pub mod Clocks
 pub mod Served
+pub mod Answered
+pub mod Progress
+pub mod Complete

@@ -1,14 +1,43 @@
 -- What a run of the program leaves, by the status with which it ended.
-use Rattle.std.specs.Prelude.{◌≡◌, ℕ, ◌-◌, ◌^◌, ◌<◌, min, List, [], length, Option, Some}
-use Rattle.std.specs.Io.KnownBytes.{Consumes}
-use Rattle.desk_frames.specs.Frames.{Frame, NoFrame, IsSession, reached}
+use Rattle.std.specs.Prelude.{◌≡◌, ℕ, ◌-◌, ◌^◌, ◌<◌, ◌≤◌, min, List, [], ◌++◌, length, Option, Some, None, IfSome}
+use Rattle.desk_io.specs.Reads.{Passes, Comes}
+use Rattle.desk_frames.specs.Frames.{Frame, NoFrame, NeverFrame, IsSession, reached}
 use Rattle.act_bodies.specs.declared.key.Key.{Key}
 use Rattle.act_model.specs.declared.entry.Entry.{Entry}
 use Rattle.act_model.specs.History.{EachNumberOnce}
 use Rattle.act_model.specs.Conducts.{HadMemory, IsStepped}
 use Rattle.mpc_cli.specs.declared.status.Status.{Status}
 use Rattle.mpc_cli.specs.declared.status.Status.TheVariants.{Done, Usage, BadFrame, ReadFault, WriteFault, NoMemory}
-use Rattle.mpc_cli.specs.Serving.{Readings, Served, CutShort}
+use Rattle.mpc_cli.specs.Serving.{ClockState, Served, CutShort}
+
+-- ---- what a run took from its source and wrote
+
+-- The bytes that came from the source, and behind them those that are left there, none where that isn't known; how many frames
+-- were answered, each with its whole reply; and the bytes that were written.
+pub record Run : Type 0 where
+  pub came : List ℕ
+  pub more : List ℕ
+  pub answered : ℕ
+  pub texts : List ℕ
+
+-- these are the bytes that are left in a source, as far as they are known
+abbrev pub Remains : Option (List ℕ) → List ℕ → Type 0
+Remains None more = more ≡ []
+Remains (Some left) more = left ≡ more
+
+-- behind the frames that have come, which were all answered, a further frame may still come
+abbrev pub AwaitsNext : ℕ → List ℕ → Type 0
+AwaitsNext answered came =
+    (frames : List Frame) × (rest : List ℕ) × IsSession came frames rest × (length frames ≤ answered) × ¬ NeverFrame rest
+
+-- The run's bytes came out of the source, and all bytes that the source held, where they are known, are those and what is left.
+-- No read was made but while the next frame was awaited, so that no byte was taken without need.
+pub record Supplies {S : Type 0} (left : S → Option (List ℕ)) (gives : Passes S) (before after : S) (run : Run) : Type 0 where
+  pub whole : IfSome (left before) (λ bytes. bytes ≡ run.came ++ run.more)
+  pub rest : Remains (left after) run.more
+  pub comes : Comes left gives (AwaitsNext run.answered) before after run.came
+
+-- ---- what stands at each end
 
 -- a history with so many entries, in which each caller's number stands for at most one
 pub record IsLeft (history : List Entry) (count : ℕ) : Type 0 where
@@ -17,9 +46,10 @@ pub record IsLeft (history : List Entry) (count : ℕ) : Type 0 where
 
 -- All frames of the bytes' session were answered, up to a rest at which no frame stands. Where no reply was refused for
 -- want of memory, the conduct is the step, one after another.
-pub record RunsOver (founder : Key) (before after : Readings) (bytes rest texts : List ℕ) (count : ℕ) : Type 0 where
+pub record RunsOver (founder : Key) (before after : ClockState) (bytes rest : List ℕ) (run : Run) (count : ℕ) : Type 0 where
   pub history : List Entry
-  pub served : Served founder before after bytes rest texts history
+  pub served : Served founder before after bytes rest run.texts history
+  pub answered : run.answered ≡ length served.frames
   pub ended : NoFrame rest
   pub left : IsLeft history count
   pub stepped : HadMemory served.turns → IsStepped founder [] served.turns history
@@ -32,40 +62,40 @@ IsWhole bytes = (frames : List Frame) × IsSession bytes frames []
 abbrev pub offset_at : ℕ → ℕ
 offset_at place = min place (2 ^ 64 - 1)
 
--- the frames before the bytes' first place at which no frame stands were answered, and that place is the offset
-pub record StopsAt (founder : Key) (before after : Readings) (bytes texts : List ℕ) (count offset : ℕ) : Type 0 where
-  pub rest : List ℕ
-  pub over : RunsOver founder before after bytes rest texts count
-  pub some : 0 < length rest
-  pub place : offset ≡ offset_at (reached bytes rest)
+-- the source was read to its end, and its bytes are frames, which were answered
+abbrev pub IsDone : Key → ClockState → ClockState → Run → ℕ → Type 0
+IsDone founder before after run count = (run.more ≡ []) × RunsOver founder before after run.came [] run count
 
--- the source failed: the frames of the bytes that were taken from it were answered
-pub record StopsReading (founder : Key) (before after : Readings) (bytes : List ℕ) (left : Option (List ℕ)) (texts : List ℕ) (count : ℕ) : Type 0 where
-  pub came : List ℕ
+-- the frames before the bytes' first place at which no frame stands were answered, and that place is the offset
+pub record StopsAt (founder : Key) (before after : ClockState) (run : Run) (count offset : ℕ) : Type 0 where
   pub rest : List ℕ
-  pub taken : Consumes (Some bytes) left came
-  pub over : RunsOver founder before after came rest texts count
+  pub over : RunsOver founder before after (run.came ++ run.more) rest run count
+  pub some : 0 < length rest
+  pub place : offset ≡ offset_at (reached (run.came ++ run.more) rest)
+
+-- the source failed: the frames of the bytes that came were answered
+abbrev pub StopsReading : Key → ClockState → ClockState → Run → ℕ → Type 0
+StopsReading founder before after run count = (rest : List ℕ) × RunsOver founder before after run.came rest run count
 
 -- the sink failed inside a reply
-pub record StopsWriting (founder : Key) (before after : Readings) (bytes texts : List ℕ) (count : ℕ) : Type 0 where
+pub record StopsWriting (founder : Key) (before after : ClockState) (run : Run) (count : ℕ) : Type 0 where
   pub history : List Entry
-  pub cut : CutShort founder before after bytes texts history
+  pub cut : CutShort founder before after run.came run.texts history
+  pub answered : run.answered ≡ length cut.served.frames
   pub left : IsLeft history count
 
 -- nothing was done
-pub record DoesNothing (texts : List ℕ) (count : ℕ) : Type 0 where
-  pub texts_are : texts ≡ []
-  pub entries : count ≡ 0
+abbrev pub DoesNothing : Run → ℕ → Type 0
+DoesNothing run count = (run.came ≡ []) × (run.texts ≡ []) × (count ≡ 0)
 
--- what stands at each end of a run over these bytes, of which the source has `left` at the end: the texts that the sink
--- took, and the entries that the history has
-abbrev pub Ends : Key → Readings → Readings → List ℕ → Option (List ℕ) → List ℕ → ℕ → Status → Type 0
-Ends founder before after bytes left texts count Done = RunsOver founder before after bytes [] texts count
-Ends founder before after bytes left texts count (BadFrame offset) = StopsAt founder before after bytes texts count offset
-Ends founder before after bytes left texts count ReadFault = StopsReading founder before after bytes left texts count
-Ends founder before after bytes left texts count WriteFault = StopsWriting founder before after bytes texts count
-Ends founder before after bytes left texts count NoMemory = DoesNothing texts count
-Ends founder before after bytes left texts count Usage = DoesNothing texts count
+-- what stands at each end of a run, and how many entries the history then has
+abbrev pub Ends : Key → ClockState → ClockState → Run → ℕ → Status → Type 0
+Ends founder before after run count Done = IsDone founder before after run count
+Ends founder before after run count (BadFrame offset) = StopsAt founder before after run count offset
+Ends founder before after run count ReadFault = StopsReading founder before after run count
+Ends founder before after run count WriteFault = StopsWriting founder before after run count
+Ends founder before after run count NoMemory = DoesNothing run count
+Ends founder before after run count Usage = DoesNothing run count
 
 -- the run came to its end, or wanted for memory
 abbrev pub IsDoneOrWants : Status → Type 0

@@ -1,5 +1,6 @@
 -- How far a run of the office came over the bytes of its source.
-use Rattle.std.specs.Prelude.{◌≡◌, ℕ, ◌+◌, ◌<◌, ℤ, pos, List, [], ◌++◌, length, map, take, Option, unwrap_or, option_to_list}
+use Rattle.std.specs.Prelude.{◌≡◌, ℕ, ◌+◌, ◌<◌, ℤ, pos, List, [], ◌∷◌, ◌++◌, length, map, take, Option, IfSome, unwrap_or, option_to_list}
+use Rattle.obs_time.specs.Instants.{IsInstantNs}
 use Rattle.std.specs.List.{AllByRecursion}
 use Rattle.desk_frames.specs.Frames.{Frame, IsFrame, framed, streamed}
 use Rattle.act_bodies.specs.declared.key.Key.{Key}
@@ -8,39 +9,52 @@ use Rattle.act_model.specs.declared.entry.Entry.{Entry}
 use Rattle.act_model.specs.declared.reply.Reply.{Reply}
 use Rattle.act_model.specs.Turns.{Turn, TakesReading, Answers, Conduct, AreReadings, request_of, requests_of, readings_of, written_reply, written}
 
--- a clock: its k-th reading to come, where it is told
-abbrev pub Readings : Type 0
-Readings = ℕ → Option ℤ
+-- a clock: its k-th reading to come, where it is known, and its last reading
+pub record ClockState : Type 0 where
+  pub to_come : ℕ → Option ℤ
+  pub last : ℤ
 
--- the clock gave so many readings
-abbrev pub LaterBy : ℕ → Readings → Readings → Type 0
-LaterBy count before after = (k : ℕ) → after k ≡ before (k + count)
+-- what a clock tells of itself
+abbrev pub clock_of : {C : Type 0} → (C → ℕ → Option ℤ) → (C → ℤ) → C → ClockState
+clock_of reading last clock = record { to_come = reading clock; last = last clock }
 
--- one turn of the office: the request was answered at this history, with a reading of the clock where it took one
-pub record TakesTurn (founder : Key) (past : List Entry) (request : Request) (reply : Reply) (next : List Entry) (before after : Readings) : Type 0 where
+-- the last of some readings, and the one before them where there are none
+abbrev pub last_of : ℤ → List ℤ → ℤ
+last_of before [] = before
+last_of before (reading ∷ readings) = last_of reading readings
+
+-- the clock gave these readings and no others, as far as they are known, and the last of them is its last reading
+pub record Gives (before after : ClockState) (readings : List ℤ) : Type 0 where
+  pub known : AreReadings before.to_come 0 readings
+  pub later : (k : ℕ) → after.to_come k ≡ before.to_come (k + length readings)
+  pub last : after.last ≡ last_of before.last readings
+
+-- one turn of the office: the request was answered at this history, with a reading of the clock where it took one; that is
+-- the clock's last reading then, a moment of the years 1800 to 2199
+pub record TakesTurn (founder : Key) (past : List Entry) (request : Request) (reply : Reply) (next : List Entry) (before after : ClockState) : Type 0 where
   pub reading : Option ℤ
   pub reads : TakesReading request.verb reading
+  pub years : IfSome reading IsInstantNs
   pub answers : Answers founder past request (unwrap_or reading (pos 0)) reply next
-  pub told : AreReadings before 0 (option_to_list reading)
-  pub later : LaterBy (length (option_to_list reading)) before after
+  pub clock : Gives before after (option_to_list reading)
 
 -- The bytes are frames before a rest, and the frames were answered in their order: their requests are those of a
 -- conduct from the empty history, with the clock's readings in order, and the texts of its replies were written.
-pub record Served (founder : Key) (before after : Readings) (bytes rest texts : List ℕ) (history : List Entry) : Type 0 where
+pub record Served (founder : Key) (before after : ClockState) (bytes rest texts : List ℕ) (history : List Entry) : Type 0 where
   pub frames : List Frame
   pub turns : List Turn
   pub stream : bytes ≡ streamed frames rest
   pub whole : AllByRecursion IsFrame frames
   pub requests : requests_of turns ≡ map request_of frames
   pub conduct : Conduct founder [] turns history
-  pub readings : AreReadings before 0 (readings_of turns)
-  pub later : LaterBy (length (readings_of turns)) before after
+  pub years : AllByRecursion IsInstantNs (readings_of turns)
+  pub clock : Gives before after (readings_of turns)
   pub texts_are : texts ≡ written turns
 
 -- The frames before one frame were answered whole. The turn of that frame was taken, and of its reply the sink took a
 -- front and not all of it.
-pub record CutShort (founder : Key) (before after : Readings) (bytes texts : List ℕ) (history : List Entry) : Type 0 where
-  pub between : Readings
+pub record CutShort (founder : Key) (before after : ClockState) (bytes texts : List ℕ) (history : List Entry) : Type 0 where
+  pub between : ClockState
   pub past : List Entry
   pub frame : Frame
   pub rest : List ℕ

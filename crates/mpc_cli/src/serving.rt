@@ -1,18 +1,21 @@
 //! Reading frames and answering them, one after the other.
 
-ghost use Rattle.std.specs.Prelude.{◌≡◌, ◌≤◌, ◌<◌, ◌^◌, ℕ, List, Option, Some, [], length, IfOk, OnErr};
+ghost use Rattle.std.specs.Prelude.{◌≡◌, ◌≤◌, ◌<◌, ◌^◌, ℕ, List, [], length, IfOk, OnOk, OnErr};
 ghost use Rattle.std.specs.Io.KnownBytes.{Appends};
 ghost use Rattle.desk_io.specs.Outside.{Rises};
 ghost use Rattle.frame_reader.specs.Frames.{IsFrameRead};
-ghost use Rattle.mpc_cli.specs.Steps.{request_read, AnswersFrame, TakesStep, OnAnswered};
+ghost use Rattle.mpc_cli.specs.Steps.{request_read, AnswersFrame, TakesStep, OnAnswered, SourceFaults, SinkFaults};
+ghost use Rattle.mpc_cli.specs.Serving.{clock_of};
 ghost use Rattle.frame_reader.specs.Reading.{work};
-ghost use Rattle.mpc_cli.specs.Runs.{Ends, IsServed};
+ghost use Rattle.mpc_cli.specs.Runs.{Run, Supplies, Ends, IsServed};
 
 use crate::spoken::{speak, write_spoken};
 use crate::status::Status;
 use crate::turns::take_turn;
+use act_model::laws as office_laws;
 use act_model::{Body, Key, Request, read_verb};
 use desk_core::Core;
+use desk_frames::laws as frame_laws;
 use desk_io::{Clock, Failed, Sink, Source};
 use frame_reader::{FrameBody, FrameReader, NextFrame, ReadFrame};
 use std::alloc::Global;
@@ -56,12 +59,15 @@ fn answer_frame<K: Sink, C: Clock>(
     clock: &mut C,
 ) -> Result<u64, Failed>
     ensures answers { (front rest : List ℕ) (r : IsFrameRead front read rest) → AnswersFrame core.old.founder core.old.history core.new.history
-        (C.reading clock.old) (C.reading clock.new) (K.taken sink.old) (K.taken sink.new) r.frame result }
+        (clock_of C.reading C.last clock.old) (clock_of C.reading C.last clock.new) (K.taken sink.old) (K.taken sink.new) r.frame result }
     ensures size { IfOk result (λ size. size ≡ read.size) }
     ensures founder { core.new.founder ≡ core.old.founder }
     ensures counts { K.faults sink.old ≤ K.faults sink.new }
+    ensures faultless { OnOk result (K.faults sink.new ≡ K.faults sink.old) }
     ensures cause { OnErr result (Rises (K.faults sink.old) (K.faults sink.new)) }
+    ensures stays { K.is_open sink.new ≡ K.is_open sink.old }
 {
+    office_laws::a_refusal_changes_nothing();
     let size = read.size;
     let request = request_of(read);
     let reply = take_turn(core, &request, clock);
@@ -81,15 +87,19 @@ fn serve_next<S: Source, K: Sink, C: Clock>(
     sink: &mut K,
     clock: &mut C,
 ) -> Turned
-    ensures step { TakesStep core.old.founder core.old.history core.new.history (C.reading clock.old) (C.reading clock.new)
-        (K.taken sink.old) (K.taken sink.new) (S.left source.old) (S.left source.new) reader.old reader.new result }
+    ensures step { TakesStep S.left S.gives core.old.founder core.old.history core.new.history
+        (clock_of C.reading C.last clock.old) (clock_of C.reading C.last clock.new)
+        (K.taken sink.old) (K.taken sink.new) source.old source.new reader.old reader.new result }
     ensures founder { core.new.founder ≡ core.old.founder }
     ensures source_counts { S.faults source.old ≤ S.faults source.new }
     ensures sink_counts { K.faults sink.old ≤ K.faults sink.new }
-    ensures read_cause { result ≡ Turned.ReadFailed → Rises (S.faults source.old) (S.faults source.new) }
-    ensures write_cause { result ≡ Turned.WriteFailed → Rises (K.faults sink.old) (K.faults sink.new) }
+    ensures source_faults { SourceFaults result (S.faults source.old) (S.faults source.new) }
+    ensures sink_faults { SinkFaults result (K.faults sink.old) (K.faults sink.new) }
+    ensures source_stays { S.is_open source.new ≡ S.is_open source.old }
+    ensures sink_stays { K.is_open sink.new ≡ K.is_open sink.old }
     ensures nearer { OnAnswered result (work (S.reads source.new) reader.new < work (S.reads source.old) reader.old) }
 {
+    frame_laws::never_a_frame();
     match reader.next_frame(source) {
         NextFrame::Frame(read) => match answer_frame(alloc, core, read, sink, clock) {
             Ok(size) => Turned::Answered(size),
@@ -112,13 +122,21 @@ pub fn serve<S: Source, K: Sink, C: Clock>(
 ) -> Status
     requires empty { core.old.history ≡ [] }
     requires unread { reader.old ≡ [] }
-    ensures ends { (bytes : List ℕ) → S.left source.old ≡ Some bytes → (texts : List ℕ) × Appends (K.taken sink.old) (K.taken sink.new) texts
-        × Ends core.old.founder (C.reading clock.old) (C.reading clock.new) bytes (S.left source.new) texts (length core.new.history) result }
+    ensures ends { (run : Run) × Supplies S.left S.gives source.old source.new run × Appends (K.taken sink.old) (K.taken sink.new) run.texts
+        × Ends core.old.founder (clock_of C.reading C.last clock.old) (clock_of C.reading C.last clock.new) run (length core.new.history) result }
     ensures read_cause { result ≡ Status.ReadFault → Rises (S.faults source.old) (S.faults source.new) }
+    ensures read_faultless { (result ≡ Status.ReadFault → ⊥) → S.faults source.new ≡ S.faults source.old }
     ensures write_cause { result ≡ Status.WriteFault → Rises (K.faults sink.old) (K.faults sink.new) }
+    ensures write_faultless { (result ≡ Status.WriteFault → ⊥) → K.faults sink.new ≡ K.faults sink.old }
     ensures counts { (S.faults source.old ≤ S.faults source.new) × (K.faults sink.old ≤ K.faults sink.new) }
+    ensures stays { (S.is_open source.new ≡ S.is_open source.old) × (K.is_open sink.new ≡ K.is_open sink.old) }
     ensures served { IsServed result }
 {
+    frame_laws::goes_on();
+    frame_laws::session_behind();
+    frame_laws::no_frame_yet();
+    office_laws::each_once();
+    office_laws::no_faults();
     let mut offset = 0u64;
     'frames: loop {
         match serve_next(alloc, core, reader, source, sink, clock) {

@@ -96,7 +96,9 @@ pub fn write_spoken<K: Sink>(sink: &mut K, spoken: &Spoken) -> Result<(), Failed
     ensures whole { OnOk result (Appends (K.taken sink.old) (K.taken sink.new) (reply_frame spoken.now.status (text_bytes spoken.now.text))) }
     ensures part { OnErr result (AppendsPart (K.taken sink.old) (K.taken sink.new) (reply_frame spoken.now.status (text_bytes spoken.now.text))) }
     ensures counts { K.faults sink.old ≤ K.faults sink.new }
+    ensures faultless { OnOk result (K.faults sink.new ≡ K.faults sink.old) }
     ensures cause { OnErr result (Rises (K.faults sink.old) (K.faults sink.new)) }
+    ensures stays { K.is_open sink.new ≡ K.is_open sink.old }
 {
     write_reply_frame(sink, spoken.status, spoken.text.as_slice())
 }

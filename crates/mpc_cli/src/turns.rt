@@ -3,7 +3,7 @@
 ghost use Rattle.std.specs.Prelude.{◌≡◌, false, true};
 ghost use Rattle.act_model.specs.Requests.{is_unknown};
 ghost use Rattle.act_model.specs.Turns.{Answers};
-ghost use Rattle.mpc_cli.specs.Serving.{TakesTurn};
+ghost use Rattle.mpc_cli.specs.Serving.{clock_of, TakesTurn};
 
 use act_model::{Body, Refusal, Reply, Request};
 use desk_core::{Core, Prep};
@@ -32,7 +32,8 @@ fn had_no_room(request: &Request) -> bool
 
 /// Takes one turn. A request whose verb is an act takes one reading of the clock, whatever its answer.
 pub fn take_turn<C: Clock>(core: &mut Core, request: &Request, clock: &mut C) -> Reply
-    ensures turn { TakesTurn core.old.founder core.old.history request.now result core.new.history (C.reading clock.old) (C.reading clock.new) }
+    ensures turn { TakesTurn core.old.founder core.old.history request.now result core.new.history
+        (clock_of C.reading C.last clock.old) (clock_of C.reading C.last clock.new) }
     ensures no_room { request.now.body ≡ Body.NoRoom → result ≡ Reply.Refused Refusal.NoMemory }
     ensures founder { core.new.founder ≡ core.old.founder }
 {

@@ -1,16 +1,19 @@
-use Rattle.std.proofs.Common.{◌≡◌, ◌≤◌}
+use Rattle.std.proofs.Common.{◌≡◌}
 use Rattle.frame_reader.specs.Reading.{work}
+use Rattle.mpc_cli.specs.Serving.{clock_of}
 use Rattle.mpc_cli.specs.Steps.{Progress}
 use Rattle.mpc_cli.proofs.serving.serve.Given as goal
 
--- the run has come so far, its founder is the same, and no count has fallen
+-- the run has come so far, its founder is the same, no fault was counted, and what was open is open
 abbrev pub invariant-frames : goal.invariant-frames
 invariant-frames g l = record {
-  progress : Progress l.initial.core.founder (g.C.Clock.reading l.initial.clock) (g.C.Clock.reading l.clock) (g.K.Sink.taken l.initial.sink) (g.K.Sink.taken l.sink)
-      (g.S.Source.left l.initial.source) (g.S.Source.left l.source) l.reader l.core.history l.offset;
+  progress : Progress g.S.Source.left g.S.Source.gives l.initial.core.founder (clock_of g.C.Clock.reading g.C.Clock.last l.initial.clock) (clock_of g.C.Clock.reading g.C.Clock.last l.clock)
+      (g.K.Sink.taken l.initial.sink) (g.K.Sink.taken l.sink) l.initial.source l.source l.reader l.core.history l.offset;
   founder : l.core.founder ≡ l.initial.core.founder;
-  source_counts : g.S.Source.faults l.initial.source ≤ g.S.Source.faults l.source;
-  sink_counts : g.K.Sink.faults l.initial.sink ≤ g.K.Sink.faults l.sink;
+  source_faultless : g.S.Source.faults l.source ≡ g.S.Source.faults l.initial.source;
+  sink_faultless : g.K.Sink.faults l.sink ≡ g.K.Sink.faults l.initial.sink;
+  source_stays : g.S.Source.is_open l.source ≡ g.S.Source.is_open l.initial.source;
+  sink_stays : g.K.Sink.is_open l.sink ≡ g.K.Sink.is_open l.initial.sink;
 }
 
 abbrev pub decreases-frames : goal.decreases-frames

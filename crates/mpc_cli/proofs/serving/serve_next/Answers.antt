@@ -3,12 +3,12 @@ use Rattle.mpc_cli.proofs.serving.serve_next.Goals as goal
 
 pub returns-in-Ok-clause-step : goal.returns-in-Ok-clause-step
 returns-in-Ok-clause-step g c =
-    step_answered c.args.core.now.founder c.args.core.now.history c.answer_frame.new.core.history _ _ _ _ _ _ c.args.reader.now c.next_frame.new.self c.in-Frame.read c.in-Ok.size c.in-Frame.ensures.came c.in-Ok.ensures.answers c.in-Ok.ensures.size
+    step_answered _ _ c.args.core.now.founder c.args.core.now.history c.answer_frame.new.core.history _ _ _ _ _ _ c.args.reader.now c.next_frame.new.self c.in-Frame.read c.in-Ok.size c.in-Frame.ensures.came c.in-Ok.ensures.answers c.in-Ok.ensures.size
 
 pub returns-in-Err-clause-step : goal.returns-in-Err-clause-step
 returns-in-Err-clause-step g c =
-    step_cut c.args.core.now.founder c.args.core.now.history c.answer_frame.new.core.history _ _ _ _ _ _ c.args.reader.now c.next_frame.new.self c.in-Frame.read _ c.in-Frame.ensures.came c.in-Err.ensures.answers
+    step_cut _ _ c.args.core.now.founder c.args.core.now.history c.answer_frame.new.core.history _ _ _ _ _ _ c.args.reader.now c.next_frame.new.self c.in-Frame.read _ c.in-Frame.ensures.came c.in-Err.ensures.answers
 
 pub returns-in-Bad-clause-step : goal.returns-in-Bad-clause-step
 returns-in-Bad-clause-step g c =
-    step_no_more c.args.core.now.founder c.args.core.now.history _ _ _ _ c.args.reader.now c.next_frame.new.self c.in-Bad.ensures.came
+    step_no_more _ _ c.args.core.now.founder c.args.core.now.history _ _ _ _ c.args.reader.now c.next_frame.new.self c.never_a_frame.ensures.some c.in-Bad.ensures.came

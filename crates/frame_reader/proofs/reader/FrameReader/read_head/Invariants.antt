@@ -1,11 +1,13 @@
-use Rattle.std.proofs.Common.{◌≤◌}
-use Rattle.frame_reader.specs.Reading.{Grows, work}
+use Rattle.std.proofs.Common.{◌≡◌, ◌≤◌}
+use Rattle.frame_reader.specs.Reading.{work}
+use Rattle.frame_reader.proofs.Pieces.{Grows}
 use Rattle.frame_reader.proofs.reader.FrameReader.read_head.Given as goal
 
 abbrev pub invariant-loop-head : goal.invariant-loop-head
 invariant-loop-head g l = record {
-  came : Grows (g.S.Source.left l.fn.source) (g.S.Source.left l.source) l.fn.self l.self;
-  counts : g.S.Source.faults l.fn.source ≤ g.S.Source.faults l.source;
+  came : Grows g.S.Source.left g.S.Source.gives l.fn.source l.source l.fn.self l.self;
+  faultless : g.S.Source.faults l.source ≡ g.S.Source.faults l.fn.source;
+  stays : g.S.Source.is_open l.source ≡ g.S.Source.is_open l.fn.source;
   work : work (g.S.Source.reads l.source) l.self ≤ work (g.S.Source.reads l.fn.source) l.fn.self;
 }
 

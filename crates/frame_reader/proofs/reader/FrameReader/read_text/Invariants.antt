@@ -1,12 +1,13 @@
-use Rattle.std.proofs.Common.{◌≤◌}
+use Rattle.std.proofs.Common.{◌≡◌, ◌≤◌}
 use Rattle.frame_reader.specs.Reading.{work}
 use Rattle.frame_reader.proofs.Pieces.{IsTaken}
 use Rattle.frame_reader.proofs.reader.FrameReader.read_text.Given as goal
 
 abbrev pub invariant-loop-missing : goal.invariant-loop-missing
 invariant-loop-missing g l = record {
-  taken : IsTaken (g.S.Source.left l.fn.source) (g.S.Source.left l.source) l.fn.self l.self l.fn.size l.missing l.kept;
-  counts : g.S.Source.faults l.fn.source ≤ g.S.Source.faults l.source;
+  taken : IsTaken g.S.Source.left g.S.Source.gives l.fn.source l.source l.fn.self l.self l.fn.size l.missing l.kept;
+  faultless : g.S.Source.faults l.source ≡ g.S.Source.faults l.fn.source;
+  stays : g.S.Source.is_open l.source ≡ g.S.Source.is_open l.fn.source;
   work : work (g.S.Source.reads l.source) l.self ≤ work (g.S.Source.reads l.fn.source) l.fn.self;
 }
 
