@@ -43,6 +43,7 @@ struct Case {
 }
 
 const OLD: &[u8] = b"abcdefghijkl";
+
 const NEW: &[u8] = b"ABCDEFGHIJKLMNOP";
 
 // What a crash leaves of 16 bytes written over the old file, from its fifth byte on: the old bytes, the new ones, a
