@@ -16,6 +16,7 @@ use Rattle.obs_time.proofs.Verdicts.{judge_date_gives, judge_date_only}
 use Rattle.obs_time.proofs.DateLaws.{date_again, date_takes, guard_some}
 use Rattle.obs_time.proofs.DayLemmas.{part_exact, part_is}
 use Rattle.ascii_text.specs.Laws.{TextLaws}
+
 -- a verdict on a day with few decimals comes from the judge's word on its date
 timed_only : (day : WrittenDay) (word : Result ℤ TimeFault) → day.count ≤ 6 → word ≡ judge_date day.date → (other : Result (ℤ × ℕ) TimeFault) → other ≡ timed day word → other ≡ judge_day day
 unfolding judge_day

@@ -17,6 +17,7 @@ use Rattle.obs_time.proofs.Verdicts.{cases_of_test, judge_date_gives, judge_date
 use Rattle.obs_time.proofs.DateLaws.{date_again, date_takes, guard_some}
 use Rattle.obs_time.proofs.IsoLemmas.{decimals_exact, decimals_are, time_of_day}
 use Rattle.ascii_text.specs.Laws.{TextLaws}
+
 record TakesClock (clock : WrittenClock) (text rest : List ℕ) : Type 0 where
   pub spelling : text ≡ clock_text clock rest
   pub digits : ClockHasDigits clock

@@ -17,6 +17,7 @@ use Rattle.obs_time.proofs.WritingLaws.{digits_of_date}
 use Rattle.obs_time.proofs.IsoLemmas.{decimals_are, seconds_below, seconds_of_clock, clock_in_day, clock_of_seconds}
 use Rattle.obs_time.proofs.IsoLaws.{iso_answered, iso_answer_only}
 use Rattle.ascii_text.specs.Laws.{TextLaws}
+
 same_numbers : (a b : WrittenIso) → a.date ≡ b.date → a.clock ≡ b.clock → a.count ≡ b.count → a.decimals ≡ b.decimals → a ≡ b
 same_numbers a b date clock count decimals =
     ap (λ (d : WrittenDate). record { date = d; clock = a.clock; count = a.count; decimals = a.decimals }) date

@@ -19,6 +19,7 @@ use Rattle.obs_time.proofs.DayLemmas.{unit_whole, unit_positive, part_below, par
 use Rattle.obs_time.proofs.DayLaws.{day_answered, day_answer_only, ok_is_no_err}
 use Rattle.obs_time.proofs.RoundingLemmas.{days_in_units, between_multiples}
 use Rattle.ascii_text.specs.Laws.{TextLaws}
+
 -- the nanoseconds that decimals stand for are fewer than a day's
 ns_below : (day : WrittenDay) (t : ℤ) (is : IsMomentOf day t) → day.count ≤ 6 → day.decimals < 10 ^ day.count → is.ns < nanos_of_a_day
 ns_below day t is few below =

@@ -18,6 +18,7 @@ use Rattle.packed_names.proofs.PackedNumberLaws.{number_again, number_takes, len
 use Rattle.packed_names.proofs.PackedProvisionalLaws.{provisional_again, provisional_takes, length-provisional_text}
 use Rattle.packed_names.proofs.PackedSurveyLaws.{survey_again, survey_takes, length-survey_text, no_provisional}
 use Rattle.ascii_text.specs.Laws.{TextLaws}
+
 -- what a designation was read from
 TakesDesignation : List ℕ → Designation → Type 0
 TakesDesignation text designation = (text ≡ packed_text (names.Designation designation)) × FitsPacked (names.Designation designation)

@@ -12,6 +12,7 @@ use Rattle.packed_names.specs.PackedReading.{small_number_in, large_number_in, n
 use Rattle.packed_names.proofs.Chains.{whole_some, first_of_some}
 use Rattle.packed_names.proofs.DigitLaws.{digits_again_whole, digit_again, digit_takes}
 use Rattle.ascii_text.specs.Laws.{TextLaws}
+
 -- below 620,000 a number is one digit of base 62, for the ten thousands, and four digits
 number_text-small : (number : ℕ) → number < 620000 → number_text number ≡ digit_byte SixtyTwo (number / 10000) ∷ digits_text Ten 4 (number % 10000)
 unfolding number_text digits_text

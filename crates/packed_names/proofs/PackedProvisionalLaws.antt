@@ -19,6 +19,7 @@ use Rattle.packed_names.proofs.DigitLaws.{digits_again_whole, digit_again, digit
 use Rattle.packed_names.proofs.LetterLaws.{letter_at-letter_of, letter_at_takes}
 use Rattle.packed_names.proofs.OrderLaws.{letter_index-order_of, cycle_of-order_of, letter_index-lt}
 use Rattle.ascii_text.specs.Laws.{TextLaws}
+
 -- ---- the form with a century letter
 
 century_at_again : (century : ℕ) (rest : List ℕ) → 18 ≤ century → century ≤ 20 → century_at ((55 + century) ∷ rest) ≡ Some (century, rest)

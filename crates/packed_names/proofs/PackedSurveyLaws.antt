@@ -13,6 +13,7 @@ use Rattle.packed_names.specs.PackedReading.{century_at, century_half_at, centur
 use Rattle.packed_names.proofs.Chains.{whole_some, Some_injective}
 use Rattle.packed_names.proofs.DigitLaws.{digits_again_whole}
 use Rattle.ascii_text.specs.Laws.{TextLaws}
+
 survey_at-prefix : (survey : Survey) (rest : List ℕ) → survey_at (prefix survey ++ rest) ≡ Some (survey, rest)
 unfolding survey_at survey_of prefix
 survey_at-prefix PalomarLeiden rest = refl

@@ -17,6 +17,7 @@ use Rattle.packed_names.proofs.Chains.{first_of_some, option_map_some}
 use Rattle.packed_names.proofs.PrintedNumberLaws.{decimal_in, number_in_takes, survey_again, survey_takes}
 use Rattle.packed_names.proofs.PrintedProvisionalLaws.{provisional_again, provisional_takes, provisional_no_number, survey_no_number, survey_no_provisional}
 use Rattle.ascii_text.specs.Laws.{TextLaws}
+
 pub FitsPrintedHalf-IsHalfMonth : (half : HalfMonth) → IsHalfMonth half → FitsPrintedHalf half
 FitsPrintedHalf-IsHalfMonth half h = (omega (arith, h.year_to), h.index)
 

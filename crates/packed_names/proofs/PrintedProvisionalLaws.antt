@@ -23,6 +23,7 @@ use Rattle.packed_names.proofs.LetterLaws.{letter_at-letter_of, letter_at_takes}
 use Rattle.packed_names.proofs.OrderLaws.{letter_index-order_of, cycle_of-order_of, order_of-cycle_of, letter_index-lt}
 use Rattle.packed_names.proofs.PrintedNumberLaws.{cycle_again, cycle_takes, behind_blank, digit_run-decimal, digit_run-year, no_number}
 use Rattle.ascii_text.specs.Laws.{TextLaws}
+
 -- ---- half-months
 
 -- a half-month before a text
