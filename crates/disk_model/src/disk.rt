@@ -3,7 +3,7 @@
 //! Until a sync, a crash may leave any bytes where a write was, also one that failed. Of a disk whose content isn't
 //! known, as a real file, no read is told and no image; its count of faults is always known.
 
-ghost use Rattle.std.specs.Prelude.{◌≡◌, ℕ, ◌≤◌, List, length, IfOk, OnOk, OnErr, IfSome, Option, Some};
+ghost use Rattle.std.specs.Prelude.{◌≡◌, ℕ, ◌≤◌, List, length, IfOk, OnOk, OnErr, IfSome, IsSome, Option, Some};
 ghost use Rattle.disk_model.specs.Counts.{Rises};
 ghost use Rattle.disk_model.specs.Files.{Gives, written, cut_to};
 ghost use Rattle.disk_model.specs.Crashes.{Torn, CutTo, After, Passes, EachSince};
@@ -117,6 +117,9 @@ pub trait Disk: Drop {
 
     /// The file as reads give it is one of the images.
     ghost as_read: { (disk : Self) (file : List ℕ) → reads disk ≡ Some file → leaves disk file };
+
+    /// Of a disk with an image the reads are known: one of which nothing is known has no image.
+    ghost known: { (disk : Self) (image : List ℕ) → leaves disk image → IsSome (reads disk) };
 
     /// An image now is one since each earlier moment.
     ghost counts_now: { (disk : Self) (t : ℕ) (image : List ℕ) →

@@ -1,6 +1,6 @@
 //! A disk in memory. It fails at the calls that it is told to, and else does what it can.
 
-ghost use Rattle.std.specs.Prelude.{◌≡◌, ℕ, ◌+◌, ◌-◌, ◌*◌, ◌^◌, ◌<◌, ◌≤◌, ◌↔◌, ◌⊎◌, ◌++◌, [], ◌∷◌, List, Bool, true, false, length, take, drop, min, max, vec_capacity, IsTrue, IsErr, IfOk, IfSome, OnOk, OnErr, Some};
+ghost use Rattle.std.specs.Prelude.{◌≡◌, ℕ, ◌+◌, ◌-◌, ◌*◌, ◌^◌, ◌<◌, ◌≤◌, ◌↔◌, ◌⊎◌, ◌++◌, [], ◌∷◌, List, Bool, true, false, length, take, drop, min, max, vec_capacity, IsTrue, IsErr, IfOk, IfSome, OnOk, OnErr, Some, refl};
 ghost use Rattle.disk_model.specs.Counts.{Rises, FailsNext};
 ghost use Rattle.disk_model.specs.Files.{Gives, written, cut_to};
 ghost use Rattle.disk_model.specs.Crashes.{Torn, CutTo, After, Passes, EachSince};
@@ -335,6 +335,8 @@ impl Disk for MemDisk {
     }
 
     ghost as_read = { λ disk file is. as_read disk file is };
+
+    ghost known = { λ disk image left. refl };
 
     ghost counts_now = { λ disk t image le now. is_image_since disk.first disk.deeds t image le now };
 

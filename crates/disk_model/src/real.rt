@@ -268,6 +268,8 @@ impl<R: Files<File = File> + Copy> Disk for FileDisk<R> {
 
     ghost as_read = { λ disk file is. untold file is };
 
+    ghost known = { λ disk image left. absurd left };
+
     ghost counts_now = { λ disk t image le now. now };
 
     ghost only_now = { λ disk image since. since };
