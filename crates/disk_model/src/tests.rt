@@ -166,8 +166,8 @@ fn disk_in_memory(rt: HostRuntime) -> Result<(), Fail> {
 
 const REAL: [(Call, bool); 4] = [
     (Call::Write(0, b"abcdef"), true),
-    (Call::Cut(9), true),
     (Call::Cut(4), true),
+    (Call::Cut(9), true),
     (Call::Sync, true),
 ];
 
