@@ -1,5 +1,5 @@
 -- What stands at a gate, as it was read.
-use Rattle.std.specs.Prelude.{◌≡◌, ◌≢◌, ℕ, ℤ, ◌+◌, ◌-◌, ◌≤◌, ◌<◌, List, [], ◌∷◌, ◌++◌}
+use Rattle.std.specs.Prelude.{◌≡◌, ◌≢◌, ℕ, ◌+◌, ◌≤◌, ◌<◌, List, [], ◌∷◌, ◌++◌}
 use Rattle.std.specs.Int.{w32, w64, to_be_bytes, cast_unsigned}
 use Rattle.obs_journal.specs.Parcels.{RawParcel, IsParcel, parcel_bytes, room}
 use Rattle.obs_journal.specs.Files.{NoParcel}

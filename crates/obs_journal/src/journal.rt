@@ -182,7 +182,8 @@ impl<D: Disk> Journal<D> {
         ensures dropped_where_closed { result ≡ Ok Settled.Dropped →
             IfSome (D.reads self.old.disk) (λ file. slice_index file (self.old.position - 1) ≢ 1) }
         ensures added { result ≡ Ok Settled.Added → (parcels : List RawParcel) (doubt : RawParcel) →
-            StandsFor D.leaves self.old parcels (Some doubt) → StandsFor D.leaves self.new (parcels ++ doubt ∷ []) None }
+            StandsFor D.leaves self.old parcels (Some doubt) →
+            StandsFor D.leaves self.new (parcels ++ doubt ∷ []) None }
         ensures dropped { result ≡ Ok Settled.Dropped → (parcels : List RawParcel) (doubt : RawParcel) →
             StandsFor D.leaves self.old parcels (Some doubt) → StandsFor D.leaves self.new parcels None }
         ensures still_in_doubt { OnErr result ((parcels : List RawParcel) (doubt : RawParcel) →

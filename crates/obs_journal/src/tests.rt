@@ -7,8 +7,8 @@ use std::test::Fail;
 
 // The first act of an office: an open gate, 72 bytes counted, caller 0, number 1, 2024-04-01T00:00:00Z, verb 1, a body
 // of 51 bytes, and a closed gate.
-const FILE: [u8; 78] =
-    *b"\x01\0\0\0\x48\0\0\0\0\0\0\0\0\0\0\0\x01\x17\xc1\xfe\xe6\xa8\x7a\0\0\x01{\"key\":\"observer-1\",\"name\":\"Ann\",\"role\":\"observer\"}\0";
+const FILE: [u8; 78] = *b"\x01\0\0\0\x48\0\0\0\0\0\0\0\0\0\0\0\x01\x17\xc1\xfe\xe6\xa8\x7a\0\0\x01\
+        {\"key\":\"observer-1\",\"name\":\"Ann\",\"role\":\"observer\"}\0";
 
 const BODY: &[u8] = b"{\"key\":\"observer-1\",\"name\":\"Ann\",\"role\":\"observer\"}";
 

@@ -1,4 +1,4 @@
-use Rattle.std.proofs.Common.{[], ◌∷◌, ◌++◌, ◌∙◌, ap, arith}
+use Rattle.std.proofs.Common.{[], ◌∷◌, arith}
 use Rattle.obs_journal.proofs.Rows.{row_length-append}
 use Rattle.obs_journal.proofs.laws.one_more.Goals as goal
 
