@@ -1,12 +1,11 @@
 -- What was read at a gate, put together.
-use Rattle.std.proofs.Common.{◌≡◌, ◌≢◌, ℕ, ◌+◌, ◌-◌, ◌<◌, ◌≤◌, List, [], ◌∷◌, ◌++◌, length, get_or, take, drop, refl, sym, ◌∙◌, ap, subst, arith, length-append, length-drop, append_assoc, take-append-drop}
+use Rattle.std.proofs.Common.{◌≡◌, ◌≢◌, ℕ, ◌+◌, ◌-◌, ◌<◌, ◌≤◌, List, [], ◌∷◌, ◌++◌, length, get_or, take, drop, refl, sym, ◌∙◌, ap, subst, arith, length-drop, append_assoc, take-append-drop}
 use Rattle.std.proofs.lemmas.List.{drop-drop, drop_more, get_or_default, take_all}
 use Rattle.obs_journal.proofs.Quiet.{if_both}
 use Rattle.std.specs.Prelude.{Result, Ok, Err, IfOk, IfSome}
 use Rattle.std.specs.declared.option.Option.{Option}
-use Rattle.std.specs.declared.option.Option.TheVariants.{None, Some}
 use Rattle.std.specs.Int.{w32, w64, to_be_bytes, cast_unsigned}
-use Rattle.obs_journal.specs.Parcels.{RawParcel, IsParcel, counted, head_bytes, parcel_bytes}
+use Rattle.obs_journal.specs.Parcels.{RawParcel, IsParcel, parcel_bytes}
 use Rattle.obs_journal.specs.Fronts.{head_spelled, with_body, HasRoom, StandsAtFront}
 use Rattle.obs_journal.specs.declared.gates.Head.{Head}
 use Rattle.obs_journal.specs.declared.gates.Front.{Front}

@@ -1,9 +1,9 @@
 -- Parcels and their places, while a row is read.
-use Rattle.std.proofs.Common.{◌≡◌, ◌≢◌, ℕ, ◌+◌, ◌-◌, ◌<◌, ◌≤◌, List, [], ◌∷◌, ◌++◌, length, drop, refl, sym, ◌∙◌, ap, subst, arith, length-append}
+use Rattle.std.proofs.Common.{◌≡◌, ℕ, ◌+◌, List, [], ◌∷◌, ◌++◌, length, drop, sym, ◌∙◌, ap, subst, arith}
 use Rattle.std.proofs.lemmas.List.{map-append, drop-drop, drop_at}
 use Rattle.std.specs.List.{AllByRecursion}
 use Rattle.obs_journal.specs.Parcels.{RawParcel, IsParcel, parcel_bytes, room}
-use Rattle.obs_journal.specs.Files.{opened, row_length, IsRow, NoParcel, IsDamagedAt}
+use Rattle.obs_journal.specs.Files.{opened, row_length}
 use Rattle.obs_journal.specs.Fronts.{StandsAtFront}
 use Rattle.obs_journal.specs.Opening.{parcels_of, placed_from}
 use Rattle.obs_journal.specs.declared.opening.Placed.{Placed}
@@ -11,9 +11,9 @@ use Rattle.std.specs.Prelude.{IfSome}
 use Rattle.std.specs.declared.option.Option.{Option}
 use Rattle.obs_journal.proofs.Quiet.{if_both}
 use Rattle.obs_journal.specs.declared.gates.Front.{Front}
-use Rattle.obs_journal.specs.declared.gates.Front.TheVariants.{Closed, Damaged, Open}
+use Rattle.obs_journal.specs.declared.gates.Front.TheVariants.{Open}
 use Rattle.obs_journal.proofs.Bytes.{length-parcel_bytes}
-use Rattle.obs_journal.proofs.Rows.{length-opened, opened-append, row_length-append}
+use Rattle.obs_journal.proofs.Rows.{opened-append, row_length-append}
 use Rattle.obs_journal.proofs.Appends.{each_more}
 
 -- these parcels stand before the gate at this offset

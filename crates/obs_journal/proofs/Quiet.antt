@@ -1,12 +1,12 @@
 -- Calls that write nothing.
-use Rattle.std.proofs.Common.{◌≡◌, ◌↔◌, ◌⊎◌, inl, inr, ⊎_elim, ℕ, ◌+◌, ◌-◌, ◌<◌, ◌≤◌, List, [], ◌++◌, length, take, drop, refl, sym, ◌∙◌, ap, subst, arith, append_assoc, length-append, length-take, length-drop, take-append-drop}
-use Rattle.std.proofs.lemmas.List.{take_at, drop-drop, drop-take, take-take, take_all, length-take-le}
+use Rattle.std.proofs.Common.{◌≡◌, inl, ⊎_elim, ℕ, ◌+◌, ◌-◌, ◌≤◌, List, ◌++◌, length, take, drop, sym, ◌∙◌, ap, arith, append_assoc, length-drop, take-append-drop}
+use Rattle.std.proofs.lemmas.List.{take_at, drop-drop, drop-take, take-take, length-take-le}
 use Rattle.std.specs.Prelude.{IfSome}
 use Rattle.std.specs.declared.option.Option.{Option}
 use Rattle.std.specs.declared.option.Option.TheVariants.{None, Some}
 use Rattle.disk_model.specs.Files.{Gives}
-use Rattle.disk_model.specs.Crashes.{Passes, EachSince, During}
-use Rattle.disk_model.specs.Moments.{during_joined, during_nothing}
+use Rattle.disk_model.specs.Crashes.{Passes, EachSince}
+use Rattle.disk_model.specs.Moments.{during_joined}
 use Rattle.obs_journal.specs.Journals.{IsUnwritten}
 
 module _ {D : Type 0} (reads : D → Option (List ℕ)) (leaves : D → List ℕ → Type 0) (moment : D → ℕ) (since : D → ℕ → List ℕ → Type 0)

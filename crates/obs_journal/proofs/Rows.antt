@@ -1,7 +1,7 @@
 -- Rows of gates and parcels.
-use Rattle.std.proofs.Common.{◌≡◌, ◌≢◌, ◌⊎◌, inl, inr, ℕ, ◌+◌, List, [], ◌∷◌, ◌++◌, length, take, drop, refl, sym, ◌∙◌, ap, subst, arith, append_assoc, length-append}
+use Rattle.std.proofs.Common.{◌≡◌, ◌≢◌, inl, inr, ℕ, ◌+◌, List, [], ◌∷◌, ◌++◌, length, drop, refl, sym, ◌∙◌, ap, arith, append_assoc, length-append}
 use Rattle.std.specs.List.{AllByRecursion}
-use Rattle.obs_journal.specs.Parcels.{RawParcel, IsParcel, parcel_bytes, room}
+use Rattle.obs_journal.specs.Parcels.{RawParcel, IsParcel, parcel_bytes}
 use Rattle.obs_journal.specs.Files.{opened, row_length, IsFresh, IsRow, Spells, NoParcel, IsDamagedAt}
 use Rattle.obs_journal.proofs.Bytes.{length-parcel_bytes, one_parcel}
 

@@ -32,7 +32,8 @@ Spells file parcels = (IsFresh file × (parcels ≡ [])) ⊎ IsRow file parcels
 
 -- no parcel with a gate after it stands at the front of these bytes
 abbrev pub NoParcel : List ℕ → Type 0
-NoParcel bytes = (parcel : RawParcel) (gate : ℕ) (rest : List ℕ) → IsParcel parcel → bytes ≢ parcel_bytes parcel ++ gate ∷ rest
+NoParcel bytes = (parcel : RawParcel) (gate : ℕ) (rest : List ℕ) → IsParcel parcel →
+    bytes ≢ parcel_bytes parcel ++ gate ∷ rest
 
 -- The file is damaged at this offset: an open gate stands there after open gates with their parcels, and no parcel
 -- with a gate after it follows.

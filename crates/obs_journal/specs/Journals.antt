@@ -1,5 +1,5 @@
 -- What an open journal stands for.
-use Rattle.std.specs.Prelude.{◌≡◌, ◌≢◌, ℕ, ◌+◌, List, [], ◌∷◌, ◌++◌}
+use Rattle.std.specs.Prelude.{◌≡◌, ◌≢◌, ℕ, ◌+◌, List, ◌∷◌, ◌++◌}
 use Rattle.std.specs.declared.option.Option.{Option}
 use Rattle.std.specs.declared.option.Option.TheVariants.{None, Some}
 use Rattle.std.specs.Option.{option_map}
@@ -8,14 +8,15 @@ use Rattle.disk_model.specs.Crashes.{During}
 use Rattle.obs_journal.specs.Parcels.{RawParcel, IsParcel, parcel_bytes, room}
 use Rattle.obs_journal.specs.Files.{opened, row_length, IsRow}
 
--- a journal: its disk, the bytes of the file up to and with the closed gate, and, while a parcel is in doubt, what they are once it is added
+-- A journal: its disk, the bytes of the file up to and with the closed gate, and, while a parcel is in doubt, what they
+-- are once it is added.
 pub record JournalState (D : Type 0) : Type 0 where
   pub disk : D
   pub position : ℕ
   pub in_doubt : Option ℕ
 
--- An image while one more parcel is in doubt: behind the others any byte stands as its gate, and behind that it stands whole, with a
--- closed gate after it.
+-- An image while one more parcel is in doubt: behind the others any byte stands as its gate, and behind that it stands
+-- whole, with a closed gate after it.
 pub record IsDoubtful (image : List ℕ) (parcels : List RawParcel) (doubt : RawParcel) : Type 0 where
   pub gate : ℕ
   pub next : ℕ
@@ -30,13 +31,16 @@ abbrev pub Holds : List RawParcel → Option RawParcel → List ℕ → Type 0
 Holds parcels None image = IsRow image parcels
 Holds parcels (Some doubt) image = IsDoubtful image parcels doubt
 
--- the journal stands for these parcels, with this one in doubt: each image holds them, and the position is behind their closed gate
-pub record StandsFor {D : Type 0} (leaves : D → List ℕ → Type 0) (journal : JournalState D) (parcels : List RawParcel) (doubt : Option RawParcel) : Type 0 where
+-- the journal stands for these parcels, with this one in doubt: each image holds them, and the position is behind their
+-- closed gate
+pub record StandsFor {D : Type 0} (leaves : D → List ℕ → Type 0) (journal : JournalState D) (parcels : List RawParcel)
+    (doubt : Option RawParcel) : Type 0 where
   pub images : (image : List ℕ) → leaves journal.disk image → Holds parcels doubt image
   pub position : journal.position ≡ row_length parcels + 1
   pub in_doubt : journal.in_doubt ≡ option_map (λ parcel. journal.position + room parcel) doubt
 
 -- the disk was not written: what reads give stays the same, and no image came
-pub record IsUnwritten {D : Type 0} (reads : D → Option (List ℕ)) (moment : D → ℕ) (since : D → ℕ → List ℕ → Type 0) (old new : D) : Type 0 where
+pub record IsUnwritten {D : Type 0} (reads : D → Option (List ℕ)) (moment : D → ℕ) (since : D → ℕ → List ℕ → Type 0)
+    (old new : D) : Type 0 where
   pub same : reads new ≡ reads old
   pub no_image : During moment since old new (λ _. ⊥)

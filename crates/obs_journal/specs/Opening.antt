@@ -15,7 +15,8 @@ parcels_of places = map (λ (placed : Placed). placed.parcel) places
 -- the parcels with the offsets of their gates, of which the first is this
 abbrev pub placed_from : ℕ → List RawParcel → List Placed
 placed_from offset [] = []
-placed_from offset (parcel ∷ parcels) = record { offset = offset; parcel = parcel } ∷ placed_from (offset + room parcel) parcels
+placed_from offset (parcel ∷ parcels) =
+    record { offset = offset; parcel = parcel } ∷ placed_from (offset + room parcel) parcels
 
 -- the image spells the parcels that the file spelled as it was read
 pub record SpellsAlike (reads : Option (List ℕ)) (image : List ℕ) : Type 0 where

@@ -3,7 +3,7 @@ use Rattle.std.specs.Prelude.{ℕ, ℤ, ◌+◌, ◌^◌, ◌<◌, ◌≤◌, Li
 use Rattle.std.specs.Int.{w32, w64, to_be_bytes, cast_unsigned}
 use Rattle.std.specs.Int.RustNames.{FitsSigned}
 
--- who asked, under which number, at which moment (nanoseconds since 1970), for what (the code of a verb), with which body
+-- who asked, under which number, at which moment (nanoseconds since 1970), for what (the code of a verb), and the body
 pub record RawParcel : Type 0 where
   pub caller : ℕ
   pub number : ℕ
@@ -25,7 +25,8 @@ counted parcel = 21 + length parcel.body
 -- the fields before the body, big-endian: the length, the caller, the number, the moment in two's complement, the verb
 abbrev pub head_bytes : RawParcel → List ℕ
 head_bytes parcel =
-    to_be_bytes w32 (counted parcel) ++ (to_be_bytes w32 parcel.caller ++ (to_be_bytes w64 parcel.number ++ (to_be_bytes w64 (cast_unsigned w64 parcel.moment) ++ parcel.verb ∷ [])))
+    to_be_bytes w32 (counted parcel) ++ (to_be_bytes w32 parcel.caller ++ (to_be_bytes w64 parcel.number
+    ++ (to_be_bytes w64 (cast_unsigned w64 parcel.moment) ++ parcel.verb ∷ [])))
 
 -- the head, and the body behind it
 unfoldable pub parcel_bytes : RawParcel → List ℕ

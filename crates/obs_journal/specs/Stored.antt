@@ -8,7 +8,13 @@ body_of bytes = take (length (drop 25 bytes) - 1) (drop 25 bytes)
 
 -- the parcel of these fields, and of the body among these bytes
 abbrev pub stored : ℕ → ℕ → ℤ → ℕ → List ℕ → RawParcel
-stored caller number moment verb bytes = record { caller = caller; number = number; moment = moment; verb = verb; body = body_of bytes }
+stored caller number moment verb bytes = record {
+  caller = caller;
+  number = number;
+  moment = moment;
+  verb = verb;
+  body = body_of bytes;
+}
 
 -- the bytes are those of the parcel and the gate
 pub record IsStored (parcel : RawParcel) (bytes : List ℕ) : Type 0 where

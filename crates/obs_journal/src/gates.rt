@@ -95,7 +95,8 @@ fn whole_head(bytes: &[u8], left: u64) -> Option<Head>
     requires { length bytes.now + 1 ≡ min 26 left }
     ensures head { IfSome result (λ head. bytes.now ≡ head_spelled head) }
     ensures inside { IfSome result (λ head. HasRoom head.counted left) }
-    ensures none { IsNone result → (behind : List ℕ) → length behind + 1 ≡ left → bytes.now ≡ take (length bytes.now) behind → NoParcel behind }
+    ensures none { IsNone result → (behind : List ℕ) → length behind + 1 ≡ left →
+        bytes.now ≡ take (length bytes.now) behind → NoParcel behind }
 {
     if left <= GATE_AND_HEAD_BYTES {
         return None;
@@ -121,9 +122,11 @@ fn read_parcel<D: Disk>(
     requires place { at + (head.counted - 21) < 2 ^ 64 }
     ensures open { (parcel : RawParcel) → result ≡ Ok (Front.Open parcel) →
         IfSome (D.reads disk.old) (λ file. parcel ≡ with_body head (take (head.counted - 21) (drop at file))) }
-    ensures long { (parcel : RawParcel) → result ≡ Ok (Front.Open parcel) → length parcel.body + 21 ≡ head.counted }
+    ensures long { (parcel : RawParcel) → result ≡ Ok (Front.Open parcel) →
+        length parcel.body + 21 ≡ head.counted }
     ensures fits { (parcel : RawParcel) → result ≡ Ok (Front.Open parcel) → IsParcel parcel }
-    ensures ends { result ≡ Ok Front.Damaged → IfSome (D.reads disk.old) (λ file. length file < at + (head.counted - 21)) }
+    ensures ends { result ≡ Ok Front.Damaged →
+        IfSome (D.reads disk.old) (λ file. length file < at + (head.counted - 21)) }
     ensures not_closed { result ≢ Ok Front.Closed }
 
     ensures unwritten { IsUnwritten D.reads D.moment D.since disk.old disk.new }
@@ -155,7 +158,8 @@ pub(crate) fn read_front<D: Disk>(
     bytes: &mut Vec<u8>,
 ) -> Result<Front, OpenFault>
     requires { gate < end }
-    ensures front { IfOk result (λ front. IfSome (D.reads disk.old) (λ file. length file ≡ end → StandsAtFront (drop gate file) front)) }
+    ensures front { IfOk result (λ front. IfSome (D.reads disk.old) (λ file. length file ≡ end →
+        StandsAtFront (drop gate file) front)) }
     ensures inside { IfOk result (λ front. IsInside front (end - gate)) }
 
     ensures unwritten { IsUnwritten D.reads D.moment D.since disk.old disk.new }

@@ -87,7 +87,8 @@ impl<D: Disk> Journal<D> {
         ensures damaged { IfErr result (λ failed. (offset : ℕ) → failed.0 ≡ OpenFault.Damaged offset →
             IfSome (D.reads disk) (λ file. IsDamagedAt file offset)) }
         // Where each image of a disk with known reads spells a list, nothing is damaged.
-        ensures sound { IfErr result (λ failed. (offset : ℕ) → failed.0 ≡ OpenFault.Damaged offset → IsSome (D.reads disk) →
+        ensures sound { IfErr result (λ failed. (offset : ℕ) → failed.0 ≡ OpenFault.Damaged offset →
+            IsSome (D.reads disk) →
             ((image : List ℕ) → D.leaves disk image → (parcels : List RawParcel) × Spells image parcels) → ⊥) }
 
         // A crash at any moment of the call leaves what it could leave before, or the same parcels.
@@ -95,7 +96,8 @@ impl<D: Disk> Journal<D> {
         ensures unwritten { IfErr result (λ failed. failed.0 ≢ OpenFault.DiskFault →
             IsUnwritten D.reads D.moment D.since disk failed.1) }
         ensures counts { D.faults disk ≤ D.faults (disk_after result) }
-        ensures cause { IfErr result (λ failed. failed.0 ≡ OpenFault.DiskFault → Rises (D.faults disk) (D.faults failed.1)) }
+        ensures cause { IfErr result (λ failed. failed.0 ≡ OpenFault.DiskFault →
+            Rises (D.faults disk) (D.faults failed.1)) }
     {
         match recover(alloc, &mut disk) {
             Ok((parcels, position)) => {
@@ -142,10 +144,13 @@ impl<D: Disk> Journal<D> {
 
         // A crash at any moment of the call leaves the parcels from before it, with the new one or without.
         ensures any_moment { (parcels : List RawParcel) → StandsFor D.leaves self.old parcels None →
-            During D.moment D.since self.old.disk self.new.disk (λ image. IsRow image parcels ⊎ IsRow image (parcels ++ parcel ∷ [])) }
+            During D.moment D.since self.old.disk self.new.disk
+            (λ image. IsRow image parcels ⊎ IsRow image (parcels ++ parcel ∷ [])) }
 
-        ensures position { self.new.position ≡ (if is_ok result then self.old.position + room parcel else self.old.position) }
-        ensures doubt { IsErrOf result AppendFault.InDoubt → self.new.in_doubt ≡ Some (self.old.position + room parcel) }
+        ensures position { self.new.position ≡
+            (if is_ok result then self.old.position + room parcel else self.old.position) }
+        ensures doubt { IsErrOf result AppendFault.InDoubt →
+            self.new.in_doubt ≡ Some (self.old.position + room parcel) }
         ensures no_doubt { (IsErrOf result AppendFault.InDoubt → ⊥) → self.new.in_doubt ≡ None }
         ensures counts { D.faults self.old.disk ≤ D.faults self.new.disk }
         ensures cause { OnErr result (Rises (D.faults self.old.disk) (D.faults self.new.disk)) }
@@ -162,6 +167,7 @@ impl<D: Disk> Journal<D> {
         self.position = after;
         Ok(())
     }
+
     /// Settles the parcel in doubt: waits until the file is safe, and reads the parcel's gate. With nothing in doubt
     /// no device is called. Nothing is written.
     ///
@@ -176,7 +182,8 @@ impl<D: Disk> Journal<D> {
         ensures dropped_where_closed { result ≡ Ok Settled.Dropped →
             IfSome (D.reads self.old.disk) (λ file. slice_index file (self.old.position - 1) ≢ 1) }
         ensures added { result ≡ Ok Settled.Added → (parcels : List RawParcel) (doubt : RawParcel) →
-            StandsFor D.leaves self.old parcels (Some doubt) → StandsFor D.leaves self.new (parcels ++ doubt ∷ []) None }
+            StandsFor D.leaves self.old parcels (Some doubt) →
+            StandsFor D.leaves self.new (parcels ++ doubt ∷ []) None }
         ensures dropped { result ≡ Ok Settled.Dropped → (parcels : List RawParcel) (doubt : RawParcel) →
             StandsFor D.leaves self.old parcels (Some doubt) → StandsFor D.leaves self.new parcels None }
         ensures still_in_doubt { OnErr result ((parcels : List RawParcel) (doubt : RawParcel) →
@@ -185,7 +192,8 @@ impl<D: Disk> Journal<D> {
         ensures after { IfOk result (λ settled. (self.new.in_doubt ≡ None)
             × (settled ≡ Settled.Added → self.old.in_doubt ≡ Some self.new.position)
             × (settled ≡ Settled.Dropped → self.new.position ≡ self.old.position)) }
-        ensures as_before { OnErr result ((self.new.in_doubt ≡ self.old.in_doubt) × (self.new.position ≡ self.old.position)) }
+        ensures as_before { OnErr result ((self.new.in_doubt ≡ self.old.in_doubt)
+            × (self.new.position ≡ self.old.position)) }
         ensures unwritten { IsUnwritten D.reads D.moment D.since self.old.disk self.new.disk }
         ensures counts { D.faults self.old.disk ≤ D.faults self.new.disk }
         ensures cause { OnErr result (Rises (D.faults self.old.disk) (D.faults self.new.disk)) }

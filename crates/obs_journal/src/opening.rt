@@ -30,7 +30,8 @@ pub type Parcels = ItemList<Placed>;
 // Reads the row of gates of a file that ends at `end`: its parcels, and the bytes up to and with the closed gate.
 fn read_row<D: Disk>(alloc: Global, disk: &mut D, end: u64) -> Result<(Parcels, u64), OpenFault>
     requires { 0 < end }
-    ensures row { IfOk result (λ row. IfSome (D.reads disk.old) (λ file. length file ≡ end → IsRow file (parcels_of row.0))) }
+    ensures row { IfOk result (λ row. IfSome (D.reads disk.old) (λ file. length file ≡ end →
+        IsRow file (parcels_of row.0))) }
     ensures offsets { IfOk result (λ row. row.0 ≡ placed_from 0 (parcels_of row.0)) }
     ensures position { IfOk result (λ row. row.1 ≡ row_length (parcels_of row.0) + 1) }
     ensures damaged { (offset : ℕ) → result ≡ Err (OpenFault.Damaged offset) →
@@ -61,7 +62,8 @@ fn read_row<D: Disk>(alloc: Global, disk: &mut D, end: u64) -> Result<(Parcels, 
 
 // Whether nothing was added to the file yet, which ends at `end`.
 fn is_fresh<D: Disk>(disk: &mut D, end: u64) -> Result<bool, Failed>
-    ensures fresh { IfOk result (λ is_fresh. IfSome (D.reads disk.old) (λ file. length file ≡ end → (IsTrue is_fresh ↔ IsFresh file))) }
+    ensures fresh { IfOk result (λ is_fresh. IfSome (D.reads disk.old) (λ file. length file ≡ end →
+        (IsTrue is_fresh ↔ IsFresh file))) }
     ensures some { result ≡ Ok false → 0 < end }
 
     ensures unwritten { IsUnwritten D.reads D.moment D.since disk.old disk.new }
@@ -92,11 +94,14 @@ pub(crate) fn recover<D: Disk>(alloc: Global, disk: &mut D) -> Result<(Parcels, 
     ensures spelled { IfOk result (λ row. IfSome (D.reads disk.old) (λ file. Spells file (parcels_of row.0))) }
     ensures offsets { IfOk result (λ row. row.0 ≡ placed_from 0 (parcels_of row.0)) }
     ensures position { IfOk result (λ row. row.1 ≡ row_length (parcels_of row.0) + 1) }
-    ensures rows { IfOk result (λ row. (image : List ℕ) → D.leaves disk.new image → IsRow image (parcels_of row.0)) }
-    ensures damaged { (offset : ℕ) → result ≡ Err (OpenFault.Damaged offset) → IfSome (D.reads disk.old) (λ file. IsDamagedAt file offset) }
+    ensures rows { IfOk result (λ row. (image : List ℕ) → D.leaves disk.new image →
+        IsRow image (parcels_of row.0)) }
+    ensures damaged { (offset : ℕ) → result ≡ Err (OpenFault.Damaged offset) →
+        IfSome (D.reads disk.old) (λ file. IsDamagedAt file offset) }
 
     ensures any_moment { During D.moment D.since disk.old disk.new (SpellsAlike (D.reads disk.old)) }
-    ensures unwritten { IsErr result → result ≢ Err OpenFault.DiskFault → IsUnwritten D.reads D.moment D.since disk.old disk.new }
+    ensures unwritten { IsErr result → result ≢ Err OpenFault.DiskFault →
+        IsUnwritten D.reads D.moment D.since disk.old disk.new }
     ensures counts { D.faults disk.old ≤ D.faults disk.new }
     ensures cause { result ≡ Err OpenFault.DiskFault → Rises (D.faults disk.old) (D.faults disk.new) }
 {

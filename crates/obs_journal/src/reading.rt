@@ -9,7 +9,8 @@ use disk_model::{Disk, Failed};
 
 /// Reads whether the gate at this offset is open.
 pub(crate) fn reads_open<D: Disk>(disk: &mut D, gate: u64) -> Result<bool, Failed>
-    ensures given { IfOk result (λ is_open. IfSome (D.reads disk.old) (λ file. IsTrue is_open ↔ (slice_index file gate ≡ 1))) }
+    ensures given { IfOk result (λ is_open. IfSome (D.reads disk.old)
+        (λ file. IsTrue is_open ↔ (slice_index file gate ≡ 1))) }
 
     ensures unwritten { IsUnwritten D.reads D.moment D.since disk.old disk.new }
     ensures counts { D.faults disk.old ≤ D.faults disk.new }
@@ -22,7 +23,8 @@ pub(crate) fn reads_open<D: Disk>(disk: &mut D, gate: u64) -> Result<bool, Faile
 
 /// Waits until the file is safe, and reads whether the gate at this offset is open.
 pub(crate) fn is_open_for_good<D: Disk>(disk: &mut D, gate: u64) -> Result<bool, Failed>
-    ensures given { IfOk result (λ is_open. IfSome (D.reads disk.old) (λ file. IsTrue is_open ↔ (slice_index file gate ≡ 1))) }
+    ensures given { IfOk result (λ is_open. IfSome (D.reads disk.old)
+        (λ file. IsTrue is_open ↔ (slice_index file gate ≡ 1))) }
     ensures safe { OnOk result ((image : List ℕ) → D.leaves disk.new image → D.reads disk.old ≡ Some image) }
 
     ensures unwritten { IsUnwritten D.reads D.moment D.since disk.old disk.new }
@@ -42,7 +44,8 @@ pub(crate) fn read_bytes<D: Disk>(
     bytes: &mut Vec<u8>,
 ) -> Result<bool, OpenFault>
     requires { at + count < 2 ^ 64 }
-    ensures whole { result ≡ Ok true → IfSome (D.reads disk.old) (λ file. bytes.new.items ≡ bytes.old.items ++ take count (drop at file)) }
+    ensures whole { result ≡ Ok true → IfSome (D.reads disk.old)
+        (λ file. bytes.new.items ≡ bytes.old.items ++ take count (drop at file)) }
     ensures length { result ≡ Ok true → length bytes.new.items ≡ length bytes.old.items + count }
     ensures ends { result ≡ Ok false → IfSome (D.reads disk.old) (λ file. length file < at + count) }
 

@@ -7,8 +7,8 @@ use std::test::Fail;
 
 // The first act of an office: an open gate, 72 bytes counted, caller 0, number 1, 2024-04-01T00:00:00Z, verb 1, a body
 // of 51 bytes, and a closed gate.
-const FILE: [u8; 78] =
-    *b"\x01\0\0\0\x48\0\0\0\0\0\0\0\0\0\0\0\x01\x17\xc1\xfe\xe6\xa8\x7a\0\0\x01{\"key\":\"observer-1\",\"name\":\"Ann\",\"role\":\"observer\"}\0";
+const FILE: [u8; 78] = *b"\x01\0\0\0\x48\0\0\0\0\0\0\0\0\0\0\0\x01\x17\xc1\xfe\xe6\xa8\x7a\0\0\x01\
+        {\"key\":\"observer-1\",\"name\":\"Ann\",\"role\":\"observer\"}\0";
 
 const BODY: &[u8] = b"{\"key\":\"observer-1\",\"name\":\"Ann\",\"role\":\"observer\"}";
 
@@ -45,10 +45,10 @@ fn opening(rt: &impl AllocGlobal, file: &[u8], fails: &[u64]) -> Result<Opening,
     requires { length file.now ≤ 4096 }
 {
     let disk = MemDisk::new(rt.alloc(), file, CAPACITY, fails)?;
-    Ok(match Journal::open(rt.alloc(), disk) {
-        Ok((journal, parcels)) => Ok((parcels.len(), journal.position())),
-        Err((fault, _)) => Err(fault),
-    })
+    match Journal::open(rt.alloc(), disk) {
+        Ok((journal, parcels)) => Ok(Ok((parcels.len(), journal.position()))),
+        Err((fault, _disk)) => Ok(Err(fault)),
+    }
 }
 
 #[test]
@@ -197,6 +197,7 @@ fn appended(
     let Ok((mut journal, _)) = Journal::open(rt.alloc(), disk) else {
         panic!(rt; "it doesn't open");
     };
+    assert!(rt; journal.position() <= 4_096);
     let answer = journal.append(second(rt)?);
     Ok((journal, answer))
 }
@@ -207,12 +208,14 @@ fn written_bytes(rt: HostRuntime) -> Result<(), Fail> {
     let Ok((mut journal, _)) = Journal::open(rt.alloc(), disk) else {
         panic!(rt; "it doesn't open");
     };
+    assert_eq!(rt; journal.position(), 1);
     assert_eq!(rt; journal.append(first(&rt)?), Ok(()));
     assert_eq!(rt; journal.position(), 78);
     let mut disk = journal.close();
     let mut file = [0u8; 80];
     assert_eq!(rt; disk.read_at(0, &mut file), Ok(78));
-    assert_eq!(rt; &file[..78], &FILE[..]);
+    let (front, _) = file.split_at(78);
+    assert_eq!(rt; front, &FILE[..]);
     Ok(())
 }
 

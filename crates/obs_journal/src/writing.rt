@@ -13,7 +13,8 @@ pub(crate) fn write_and_sync<D: Disk>(disk: &mut D, at: u64, bytes: &[u8]) -> Re
     ensures safe { OnOk result (IsSafe D.reads D.leaves at bytes.now disk.old disk.new) }
 
     ensures time { Passes D.moment D.since disk.old disk.new }
-    ensures images { EachSince D.moment D.since disk.old disk.new (After (Torn at (length bytes.now)) (D.leaves disk.old)) }
+    ensures images { EachSince D.moment D.since disk.old disk.new
+        (After (Torn at (length bytes.now)) (D.leaves disk.old)) }
     ensures counts { D.faults disk.old ≤ D.faults disk.new }
     ensures cause { OnErr result (Rises (D.faults disk.old) (D.faults disk.new)) }
 {
@@ -26,7 +27,8 @@ pub(crate) fn stage<D: Disk>(disk: &mut D, position: u64, bytes: &[u8]) -> Resul
     ensures safe { OnOk result (IsSafe D.reads D.leaves position bytes.now disk.old disk.new) }
 
     ensures time { Passes D.moment D.since disk.old disk.new }
-    ensures images { EachSince D.moment D.since disk.old disk.new (After (Torn position (length bytes.now)) (D.leaves disk.old)) }
+    ensures images { EachSince D.moment D.since disk.old disk.new
+        (After (Torn position (length bytes.now)) (D.leaves disk.old)) }
     ensures counts { D.faults disk.old ≤ D.faults disk.new }
     ensures cause { OnErr result (Rises (D.faults disk.old) (D.faults disk.new)) }
 {

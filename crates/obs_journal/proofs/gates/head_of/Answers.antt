@@ -1,5 +1,5 @@
-use Rattle.std.proofs.Common.{rules, ◌<◌, ◌^◌, ◌≡◌, ◌++◌, List, ℕ, length, refl, sym, ◌∙◌, ap}
-use Rattle.std.specs.Int.{w64, cast_unsigned}
+use Rattle.std.proofs.Common.{rules, ◌<◌, ◌^◌, refl}
+use Rattle.std.specs.Int.{w64}
 use Rattle.std.specs.Int.RustNames.{FitsSigned}
 use Rattle.obs_journal.proofs.Heads.{spelled_by, kept_bits}
 use Rattle.obs_journal.proofs.gates.head_of.Goals as goal

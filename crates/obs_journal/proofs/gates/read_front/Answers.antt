@@ -1,6 +1,6 @@
-use Rattle.std.proofs.Common.{rules, ◌≡◌, ◌+◌, ◌-◌, ◌<◌, ◌≤◌, ◌^◌, ◌∷◌, ◌++◌, ℕ, List, length, take, drop, min, arith, sym, ◌∙◌, ap, subst}
+use Rattle.std.proofs.Common.{◌≡◌, ◌+◌, ◌-◌, ◌<◌, ◌++◌, length, take, drop, arith, ◌∙◌, ap, subst}
 use Rattle.std.specs.Prelude.{IfSome, Ok}
-use Rattle.obs_journal.specs.Fronts.{with_body, head_spelled, StandsAtFront}
+use Rattle.obs_journal.specs.Fronts.{with_body}
 use Rattle.obs_journal.proofs.Fronts.{front_read, gate_and_head, each_ok}
 use Rattle.obs_journal.proofs.gates.read_front.Goals as goal
 

@@ -1,5 +1,4 @@
-use Rattle.std.proofs.Common.{rules, ◌≡◌, ◌+◌, ◌-◌, ◌<◌, ◌≤◌, ◌^◌, ◌∷◌, ◌++◌, ℕ, List, length, take, min, arith, sym, ◌∙◌}
-use Rattle.obs_journal.specs.Fronts.{HasRoom}
+use Rattle.std.proofs.Common.{rules, ◌≡◌, ◌<◌, ◌^◌, length, arith}
 use Rattle.obs_journal.proofs.Bytes.{too_few}
 use Rattle.obs_journal.proofs.Heads.{says, has_its_room}
 use Rattle.obs_journal.proofs.gates.whole_head.Goals as goal

@@ -1,7 +1,5 @@
-use Rattle.std.proofs.Common.{◌≡◌, ◌+◌, ◌-◌, ◌<◌, ◌≤◌, ℕ, List, length, drop}
+use Rattle.std.proofs.Common.{◌≡◌, ◌-◌, ◌<◌, ◌≤◌, length}
 use Rattle.std.specs.Prelude.{IfSome}
-use Rattle.std.specs.List.{AllByRecursion}
-use Rattle.obs_journal.specs.Parcels.{IsParcel}
 use Rattle.obs_journal.specs.Files.{row_length}
 use Rattle.obs_journal.specs.Journals.{IsUnwritten}
 use Rattle.obs_journal.specs.Opening.{parcels_of, placed_from}

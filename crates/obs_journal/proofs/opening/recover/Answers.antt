@@ -1,5 +1,5 @@
-use Rattle.std.proofs.Common.{◌≡◌, ◌≢◌, ◌↔◌, ◌∷◌, [], ℕ, List, length, sym, ◌∙◌, subst}
-use Rattle.std.specs.Prelude.{IfSome, IsTrue, Ok}
+use Rattle.std.proofs.Common.{◌≡◌, ◌≢◌, ◌↔◌, ◌∷◌, [], length, subst}
+use Rattle.std.specs.Prelude.{IfSome, IsTrue}
 use Rattle.obs_journal.specs.Files.{IsFresh, IsRow, IsDamagedAt}
 use Rattle.obs_journal.specs.Opening.{parcels_of}
 use Rattle.obs_journal.proofs.Quiet.{unwritten_joined}

@@ -1,7 +1,6 @@
-use Rattle.std.proofs.Common.{◌≡◌, ◌≢◌, ◌↔◌, ◌+◌, ◌-◌, ◌<◌, ◌≤◌, ◌++◌, ℕ, List, length, take, drop, sym, ◌∙◌, ap, subst, arith, length-append, length-take}
+use Rattle.std.proofs.Common.{◌≡◌, ◌≤◌, ◌++◌, length, take, drop, ap, subst, arith, length-append, length-take}
 use Rattle.disk_model.specs.Files.{Gives}
 use Rattle.std.specs.Prelude.{IfSome}
-use Rattle.obs_journal.specs.Journals.{IsUnwritten}
 use Rattle.obs_journal.proofs.Quiet.{unwritten_call, unwritten_joined, if_both, piece_more}
 use Rattle.obs_journal.proofs.reading.read_bytes.Goals as goal
 

@@ -1,4 +1,4 @@
-use Rattle.std.proofs.Common.{◌≡◌, ◌+◌, ◌≤◌, ◌++◌, List, length, take, drop}
+use Rattle.std.proofs.Common.{◌≡◌, ◌+◌, ◌≤◌, ◌++◌, length, take, drop}
 use Rattle.std.specs.Prelude.{IfSome}
 use Rattle.obs_journal.specs.Journals.{IsUnwritten}
 use Rattle.obs_journal.proofs.reading.read_bytes.Given as goal

@@ -1,7 +1,6 @@
-use Rattle.std.proofs.Common.{◌≡◌, ◌+◌, ◌-◌, ◌≤◌, ℕ, List, [], ◌∷◌, ◌++◌, length, Some, None, refl, sym, ◌∙◌, ap, arith}
-use Rattle.obs_journal.specs.Parcels.{RawParcel, room}
+use Rattle.std.proofs.Common.{◌≡◌, ◌+◌, ◌-◌, length, Some, ap, arith}
 use Rattle.obs_journal.specs.Files.{row_length, IsRow}
-use Rattle.obs_journal.specs.Journals.{StandsFor, IsDoubtful}
+use Rattle.obs_journal.specs.Journals.{IsDoubtful}
 use Rattle.obs_journal.proofs.Steps.{each_now, rows_stay, are_staged, are_doubtful, are_more, during_stage, during_gate, position_more}
 use Rattle.obs_journal.proofs.journal.Journal.append.Goals as goal
 

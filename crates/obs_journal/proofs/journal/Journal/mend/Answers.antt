@@ -1,7 +1,6 @@
-use Rattle.std.proofs.Common.{◌≡◌, ◌+◌, ◌-◌, ◌≤◌, ◌↔◌, ℕ, List, [], ◌∷◌, ◌++◌, length, get_or, Some, None, refl, sym, ◌∙◌, ap, arith}
+use Rattle.std.proofs.Common.{◌≡◌, ◌+◌, ◌-◌, ◌↔◌, ℕ, get_or, Some, refl, sym, ◌∙◌}
 use Rattle.std.specs.Prelude.{IsTrue, Bool, true, false}
-use Rattle.obs_journal.specs.Parcels.{RawParcel, room}
-use Rattle.obs_journal.specs.Journals.{StandsFor, IsDoubtful}
+use Rattle.obs_journal.specs.Parcels.{room}
 use Rattle.obs_journal.proofs.Appends.{gate_is, left_out_where_closed, added_where_open}
 use Rattle.obs_journal.proofs.Steps.{at_known, position_more}
 use Rattle.obs_journal.proofs.journal.Journal.mend.Goals as goal

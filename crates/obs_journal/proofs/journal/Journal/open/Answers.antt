@@ -1,4 +1,4 @@
-use Rattle.std.proofs.Common.{◌≡◌, ℕ, List, ◌∙◌, ap}
+use Rattle.std.proofs.Common.{◌∙◌, ap}
 use Rattle.std.specs.Prelude.{Err}
 use Rattle.obs_journal.proofs.Recovery.{never_damaged}
 use Rattle.obs_journal.proofs.journal.Journal.open.Goals as goal

@@ -1,6 +1,5 @@
-use Rattle.std.proofs.Common.{◌≡◌, ◌+◌, ◌-◌, ◌≤◌, [], ◌∷◌, ◌++◌, List, ℕ, length, take, drop, ap, sym, ◌∙◌, subst, arith, length-append}
+use Rattle.std.proofs.Common.{◌≡◌, ◌≤◌, [], ◌∷◌, ◌++◌, List, ℕ, length, ap, arith, length-append}
 use Rattle.obs_journal.specs.Parcels.{parcel_bytes, RawParcel}
-use Rattle.obs_journal.specs.Stored.{stored}
 use Rattle.obs_journal.proofs.Bytes.{length-parcel_bytes}
 use Rattle.obs_journal.proofs.parcel.Parcel.body.Goals as goal
 

@@ -1,9 +1,9 @@
-use Rattle.std.proofs.Common.{◌≡◌, ℕ, List, [], ◌∷◌, ◌++◌, length, refl, sym, ◌∙◌, ap, subst, arith}
+use Rattle.std.proofs.Common.{◌≡◌, ℕ, List, [], ◌∷◌, ◌++◌, sym, ◌∙◌, ap, subst}
 use Rattle.std.proofs.lemmas.Int.{to_z-of_z}
 use Rattle.std.specs.Int.{w64, cast_signed, cast_unsigned}
 use Rattle.std.specs.Int.RustNames.{FitsSigned}
 use Rattle.obs_journal.specs.Parcels.{RawParcel, IsParcel, parcel_bytes}
-use Rattle.obs_journal.specs.Stored.{IsStored, stored, body_of}
+use Rattle.obs_journal.specs.Stored.{IsStored, body_of}
 use Rattle.obs_journal.proofs.Bytes.{laid, body_of_bytes}
 use Rattle.obs_journal.proofs.parcel.Parcel.make.Goals as goal
 
