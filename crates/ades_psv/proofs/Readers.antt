@@ -21,7 +21,7 @@ use Rattle.ades_psv.specs.Fields.{Fields, fields_of}
 use Rattle.ades_psv.specs.Rules.{IsReading}
 use Rattle.ades_psv.specs.Reading.{reading_of}
 use Rattle.ades_psv.specs.Walking.{said_behind, HasRead, Fails}
-use Rattle.ades_psv.specs.Feeding.{Progress, Fed, unfed, reached, read_on, fed, fed_all, read_end, finished, Feeds}
+use Rattle.ades_psv.specs.Feeding.{Progress, Fed, unfed, reached, read_on, fed, fed_all, HasRoom, read_end, finished, Feeds}
 use Rattle.ades_psv.specs.Readers.{what_is_fed}
 use Rattle.ades_psv.proofs.SaidLaws.{behind, said_join}
 use Rattle.ades_psv.proofs.Walks.{map_join}
@@ -57,9 +57,12 @@ pub feeds_fault : (before : Reached) (rest piece : List ℕ) (fault : HeaderFaul
 unfolding read_on
 feeds_fault before rest piece fault fails = rw fails refl
 
-pub has_room : (before : Reached) (rest piece : List ℕ) (told : Option (HeaderFault × ℕ)) (old : Fed) → what_is_fed before rest told ≡ old → told ≡ None
-    → IfOk old (λ progress. progress.count + length progress.rest + length piece < 4294967295) → before.count + length rest + length piece < 4294967295
-has_room before rest piece told old view none room = rw (← view, none) at room
+pub has_room : (before : Reached) (rest : List ℕ) (more : ℕ) (told : Option (HeaderFault × ℕ)) (old : Fed) → what_is_fed before rest told ≡ old → told ≡ None
+    → HasRoom old more → before.count + length rest + more < 4294967295
+has_room before rest more told old view none room = rw (← view, none) at room
+
+pub room_left : (after : Reached) (left : List ℕ) (more : ℕ) (told : Option (HeaderFault × ℕ)) → told ≡ None → after.count + length left + more < 4294967295 → HasRoom (what_is_fed after left told) more
+room_left after left more told none room = rw none room
 
 -- so the reader has come on, or it has met a fault
 pub fed_on : (before after : Reached) (rest piece left : List ℕ) (told : Option (HeaderFault × ℕ)) (old : Fed) → what_is_fed before rest told ≡ old → told ≡ None
@@ -128,6 +131,18 @@ finished_by laws text (Err fault) is = rw (said_whole laws text (Err fault) is, 
 -- a reader that was fed a text says in the end what the text says
 pub finished_text : (laws : LineLaws) (text : List ℕ) → finished (fed unfed text) ≡ psv_lines_of text
 finished_text laws text = finished_by laws text (said_from Opening (enumerate_from 1 (complete_lines text))) refl
+
+-- ---- room
+
+room_by : (text : List ℕ) (more : ℕ) (r : Said) → length (complete_lines text) + length (unfinished text) + more < 4294967295
+    → HasRoom (r >>= reached (record { place = Opening; count = 0; found = []; rest = [] }) (complete_lines text) (unfinished text)) more
+room_by text more (Ok end) room = omega arith
+room_by text more (Err fault) room = tt
+
+pub text_room : (laws : LineLaws) (text : List ℕ) (more : ℕ) → length text + more < 4294967295 → HasRoom (fed unfed text) more
+unfolding read_on
+text_room laws text more room =
+    room_by text more (said_from Opening (enumerate_from 1 (complete_lines text))) (let few = laws.few text in omega arith)
 
 -- ---- any pieces
 

@@ -1,6 +1,6 @@
 //! Laws of the format, for all batches and lines. Nothing runs here: what the functions promise is the law.
 
-ghost use Rattle.std.specs.Prelude.{◌≡◌, ◌↔◌, ℕ, true, ◌∷◌, ◌++◌, List, codes, Ok, Err, Result};
+ghost use Rattle.std.specs.Prelude.{◌≡◌, ◌↔◌, ℕ, ◌+◌, ◌<◌, length, true, ◌∷◌, ◌++◌, List, codes, Ok, Err, Result};
 ghost use Rattle.std.specs.List.{Contains};
 ghost use Rattle.ascii_text.specs.Blanks.{blanks};
 ghost use Rattle.obs_record.specs.declared.rule.HeaderFault.{HeaderFault};
@@ -13,7 +13,7 @@ ghost use Rattle.ades_psv.specs.Rules.{IsReading};
 ghost use Rattle.text_lines.specs.Lines.{numbered_lines};
 ghost use Rattle.ades_psv.specs.Batch.{DataLine, data_lines_of, psv_lines_of};
 ghost use Rattle.ades_psv.specs.Standing.{StandsBelow};
-ghost use Rattle.ades_psv.specs.Feeding.{unfed, fed, fed_all, finished};
+ghost use Rattle.ades_psv.specs.Feeding.{unfed, fed, fed_all, HasRoom, finished};
 
 use text_lines::laws;
 
@@ -27,6 +27,13 @@ pub fn any_pieces()
 /// What a reader has come to rests on the text that was fed, and not on its pieces.
 pub fn one_text()
     ensures { (pieces : List (List ℕ)) → fed_all unfed pieces ≡ fed unfed (joined pieces) }
+{
+    laws::lines();
+}
+
+/// A reader can take so many bytes more where they and those that were fed are together fewer than 4,294,967,295.
+pub fn room()
+    ensures { (text : List ℕ) (more : ℕ) → length text + more < 4294967295 → HasRoom (fed unfed text) more }
 {
     laws::lines();
 }

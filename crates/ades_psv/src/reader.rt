@@ -7,7 +7,7 @@ ghost use Rattle.ades_psv.specs.declared.fault.PsvFault.TheVariants as faults;
 ghost use Rattle.ades_psv.specs.Answers.{IsAnswer};
 ghost use Rattle.ades_psv.specs.Batch.{psv_lines_of, AreReadFrom, AreInRange};
 ghost use Rattle.ades_psv.specs.Walking.{Reads};
-ghost use Rattle.ades_psv.specs.Feeding.{unfed, fed, Feeds, finished};
+ghost use Rattle.ades_psv.specs.Feeding.{unfed, fed, HasRoom, Feeds, finished};
 
 use crate::fault::PsvFault;
 use crate::header::Place;
@@ -99,11 +99,12 @@ impl PsvReader {
     /// fault is the first of the batch. From then on the answer is the same, and the piece is let go. After NoMemory the
     /// reader is as it was, and the piece may be fed again. Where no fault was told, the complete lines so far, the bytes
     /// of the unfinished line and those of the piece are together fewer than 4,294,967,295, as they are where all pieces
-    /// together have fewer bytes. Takes memory for the lines that are read and for the unfinished line, and while a
-    /// column header is tested, for its names.
+    /// together have fewer bytes (`laws::room`). Takes memory for the lines that are read and for the unfinished line,
+    /// and while a column header is tested, for its names.
     pub fn feed(&mut self, piece: &[u8]) -> Result<(), PsvFault>
-        requires { IfOk self.old (λ progress. progress.count + length progress.rest + length piece.now < 4294967295) }
+        requires { HasRoom self.old (length piece.now) }
         ensures exact { Feeds self.old piece.now self.new result }
+        ensures room { OnOk result ((more : ℕ) → HasRoom self.old (length piece.now + more) → HasRoom self.new more) }
         // Once a fault was told, it is told again, and memory isn't wanting.
         ensures stays { IfErr self.old (λ fault. (result ≡ Err (faults.Header fault.0 fault.1)) × (self.new ≡ self.old)) }
         ensures no_memory { result ≡ Err faults.NoMemory → self.new ≡ self.old }

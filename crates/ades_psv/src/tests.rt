@@ -1,7 +1,5 @@
 use super::*;
-use obs_record::{
-    Coded, HeaderFault, Line, Lines, RuleCode, Shape, Short, Sighting, TrackName, track_name,
-};
+use obs_record::{Coded, HeaderFault, Line, Lines, RuleCode, Shape, Short, Sighting, TrackName};
 use packed_names::{Designation, HalfMonth, Number, Provisional, Survey};
 use std::alloc::Global;
 use std::test::*;
@@ -249,11 +247,21 @@ const NAME_COLUMNS: &[u8] = b"permID|provID|trkSub|mode|stn|obsTime|ra|dec|astCa
 
 const BEHIND_NAMES: &[u8] = b"|CCD|703|2024-03-15T23:59:59.999Z|150.0|-5.5|Gaia3";
 
+/// The name that an observation goes by.
+fn name_of(s: Sighting) -> Option<TrackName> {
+    match (s.perm, s.prov, s.sub) {
+        (Some(number), _, _) => Some(TrackName::Number(number)),
+        (None, Some(designation), _) => Some(TrackName::Designation(designation)),
+        (None, None, Some(sub)) => Some(TrackName::Sub(sub)),
+        (None, None, None) => None,
+    }
+}
+
 /// The name of the only line of a batch, or the rule that the line breaks.
 fn only_name(alloc: Global, parts: &[&[u8]]) -> Option<Result<TrackName, RuleCode>> {
     let line = only_line(&said(alloc, parts))?;
     match line.read {
-        Ok(sighting) => Some(Ok(track_name(&sighting))),
+        Ok(sighting) => Some(Ok(name_of(sighting)?)),
         Err(rule) => Some(Err(rule)),
     }
 }
