@@ -6,7 +6,11 @@ use std::test::*;
 #[test]
 fn cuts_at_the_first_byte(rt: HostRuntime) {
     for (text, front, after) in [
-        (b"a|b|c".as_slice(), b"a".as_slice(), Some(b"b|c".as_slice())),
+        (
+            b"a|b|c".as_slice(),
+            b"a".as_slice(),
+            Some(b"b|c".as_slice()),
+        ),
         (b"|".as_slice(), b"".as_slice(), Some(b"".as_slice())),
         (b"abc".as_slice(), b"abc".as_slice(), None),
     ] {
@@ -25,13 +29,37 @@ fn first_line(text: &[u8]) -> Option<(&[u8], &[u8])> {
 #[test]
 fn ends_lines_at_line_feeds(rt: HostRuntime) {
     for (text, whole, complete) in [
-        (b"a\nb".as_slice(), Some((b"a".as_slice(), b"b".as_slice())), true),
-        (b"a\r\nb".as_slice(), Some((b"a".as_slice(), b"b".as_slice())), true),
-        (b"\r\r\n".as_slice(), Some((b"\r".as_slice(), b"".as_slice())), true),
-        (b"\n\n".as_slice(), Some((b"".as_slice(), b"\n".as_slice())), true),
+        (
+            b"a\nb".as_slice(),
+            Some((b"a".as_slice(), b"b".as_slice())),
+            true,
+        ),
+        (
+            b"a\r\nb".as_slice(),
+            Some((b"a".as_slice(), b"b".as_slice())),
+            true,
+        ),
+        (
+            b"\r\r\n".as_slice(),
+            Some((b"\r".as_slice(), b"".as_slice())),
+            true,
+        ),
+        (
+            b"\n\n".as_slice(),
+            Some((b"".as_slice(), b"\n".as_slice())),
+            true,
+        ),
         // a carriage return at the end of the text is part of the line
-        (b"a\r".as_slice(), Some((b"a\r".as_slice(), b"".as_slice())), false),
-        (b"a\rb".as_slice(), Some((b"a\rb".as_slice(), b"".as_slice())), false),
+        (
+            b"a\r".as_slice(),
+            Some((b"a\r".as_slice(), b"".as_slice())),
+            false,
+        ),
+        (
+            b"a\rb".as_slice(),
+            Some((b"a\rb".as_slice(), b"".as_slice())),
+            false,
+        ),
         (b"".as_slice(), None, false),
     ] {
         assert_eq!(rt; first_line(text), whole, "{text:?}");
@@ -42,8 +70,14 @@ fn ends_lines_at_line_feeds(rt: HostRuntime) {
 #[test]
 fn finds_the_end_of_a_line(rt: HostRuntime) {
     for (piece, found) in [
-        (b"\nab".as_slice(), Some((b"\n".as_slice(), b"ab".as_slice()))),
-        (b"a\r\nb\n".as_slice(), Some((b"a\r\n".as_slice(), b"b\n".as_slice()))),
+        (
+            b"\nab".as_slice(),
+            Some((b"\n".as_slice(), b"ab".as_slice())),
+        ),
+        (
+            b"a\r\nb\n".as_slice(),
+            Some((b"a\r\n".as_slice(), b"b\n".as_slice())),
+        ),
         (b"ab\r".as_slice(), None),
         (b"".as_slice(), None),
     ] {
