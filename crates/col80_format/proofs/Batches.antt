@@ -13,8 +13,8 @@ use Rattle.obs_record.specs.declared.line.Line.{Line}
 use Rattle.obs_record.specs.Sighting.{IsSighting}
 use Rattle.obs_record.specs.Lines.{AreInRange}
 use Rattle.col80_format.specs.declared.batch.Seen.{Seen}
-use Rattle.col80_format.specs.Batch.{drop_while, is_front_line, behind_front, observation_lines, IsReadFrom, read_of, lines_of}
-use Rattle.col80_format.specs.Feeding.{none_seen, read_on, seen_on, seen_all, Progress, progress_of, IsUnderWay}
+use Rattle.col80_format.specs.Batch.{drop_while, is_front_line, behind_front, IsReadFrom, read_of, lines_of}
+use Rattle.col80_format.specs.Feeding.{none_seen, read_on, seen_on, seen_all, Progress, progress_of}
 use Rattle.col80_format.proofs.LawsBelow.{Laws}
 use Rattle.col80_format.proofs.LineLaws.{reading_is}
 
@@ -118,10 +118,10 @@ module _ (texts : LineLaws) where
       let first : complete_lines (text ++ end) ≡ complete_lines text ++ complete_lines (rest ++ end) = complete_on text end ∙ ap (λ (t : List ℕ). complete_lines text ++ complete_lines (t ++ end)) (sym rest_is) in
       let left : unfinished (text ++ piece) ≡ unfinished after = ap unfinished whole ∙ unfinished_on (text ++ end) after ∙ ap (λ (t : List ℕ). unfinished (t ++ after)) none in
       let all : complete_lines (text ++ piece) ≡ (complete_lines text ++ complete_lines (rest ++ end)) ++ complete_lines after =
-          ap complete_lines whole ∙ complete_on (text ++ end) after ∙ ap (λ (t : List ℕ). complete_lines (text ++ end) ++ complete_lines (t ++ after)) none ∙ ap (λ (ls : List (List ℕ)). ls ++ complete_lines after) first in
+      ap complete_lines whole ∙ complete_on (text ++ end) after ∙ ap (λ (t : List ℕ). complete_lines (text ++ end) ++ complete_lines (t ++ after)) none ∙ ap (λ (ls : List (List ℕ)). ls ++ complete_lines after) first in
       let seen_at : seen_all none_seen (complete_lines (text ++ piece)) ≡ seen_all (seen_all seen (complete_lines (rest ++ end))) (complete_lines after) =
-          ap (seen_all none_seen) all ∙ seen_all-append none_seen (complete_lines text ++ complete_lines (rest ++ end)) (complete_lines after)
-          ∙ ap (λ (s : Seen). seen_all s (complete_lines after)) (seen_all-append none_seen (complete_lines text) (complete_lines (rest ++ end)) ∙ ap (λ (s : Seen). seen_all s (complete_lines (rest ++ end))) (sym seen_is)) in
+      ap (seen_all none_seen) all ∙ seen_all-append none_seen (complete_lines text ++ complete_lines (rest ++ end)) (complete_lines after)
+      ∙ ap (λ (s : Seen). seen_all s (complete_lines after)) (seen_all-append none_seen (complete_lines text) (complete_lines (rest ++ end)) ∙ ap (λ (s : Seen). seen_all s (complete_lines (rest ++ end))) (sym seen_is)) in
       sym (ap (λ (t : List ℕ). let p : Progress = record { rest = t; seen = seen_all none_seen (complete_lines (text ++ piece)) } in p) left
       ∙ ap (λ (s : Seen). let p : Progress = record { rest = unfinished after; seen = s } in p) seen_at)
 

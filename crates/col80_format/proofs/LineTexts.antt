@@ -25,6 +25,7 @@ use Rattle.col80_format.proofs.NameLaws.{columns_long}
 use Rattle.col80_format.proofs.LineLaws.{day_found}
 use Rattle.col80_format.proofs.RangeLaws.{days_within}
 use Rattle.col80_format.proofs.LawsBelow.{Laws}
+
 -- ---- the magnitude
 
 -- the parts of a magnitude that is written with as many decimals as it has

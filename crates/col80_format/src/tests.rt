@@ -308,17 +308,18 @@ fn splits_a_batch_however_it_comes(rt: HostRuntime) -> Result<(), Fail> {
             (4, Some((11, Some(RuleCode::S4)))),
             (5, None),
         ] {
-            assert_eq!(rt; line_at(&lines, place), wanted, "line {place}, pieces of {size}");
+            assert_eq!(rt;
+                line_at(&lines, place),
+                wanted,
+                "line {place}, pieces of {size}"
+            );
         }
     }
     Ok(())
 }
 
 /// How many lines a batch has, and what is said of the first.
-fn first_of(
-    alloc: Global,
-    body: &[u8],
-) -> Result<(u64, Option<(u32, Option<RuleCode>)>), NoMemory>
+fn first_of(alloc: Global, body: &[u8]) -> Result<(u64, Option<(u32, Option<RuleCode>)>), NoMemory>
     requires { length body.now < 4294967295 }
 {
     let lines = split_batch(alloc, body)?;
@@ -471,9 +472,7 @@ fn line_with(mag: Option<u32>, places: u8) -> Option<[u8; 80]> {
 fn writes_a_line(rt: HostRuntime) {
     assert_eq!(rt;
         line_with(Some(20_250_000), 2),
-        Some(
-            *b"00433K24E00A* C2024 03 16.00000010 00 00.000-05 30 00.00         20.25VW     703"
-        )
+        Some(*b"00433K24E00A* C2024 03 16.00000010 00 00.000-05 30 00.00         20.25VW     703")
     );
 }
 

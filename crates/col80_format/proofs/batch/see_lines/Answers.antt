@@ -1,6 +1,5 @@
-use Rattle.std.proofs.Common.{◌≡◌, ◌+◌, ◌≤◌, List, ℕ, length, take, ap, sym, subst, ◌∙◌, arith}
+use Rattle.std.proofs.Common.{◌≡◌, length, take, ap, sym, ◌∙◌, arith}
 use Rattle.text_lines.specs.Pieces.{complete_lines}
-use Rattle.obs_record.specs.declared.line.Line.{Line}
 use Rattle.col80_format.specs.declared.batch.Seen.{Seen}
 use Rattle.col80_format.specs.Feeding.{seen_on, seen_all}
 use Rattle.col80_format.proofs.Batches.{next-seen_on, found_stays}

@@ -1,9 +1,9 @@
-use Rattle.std.proofs.Common.{◌≡◌, ◌+◌, ◌≤◌, ℕ, List, [], ◌++◌, length, ap, sym, ◌∙◌, arith}
+use Rattle.std.proofs.Common.{◌≡◌, ℕ, List, ◌++◌, length, ap, ◌∙◌, arith}
 use Rattle.std.proofs.lemmas.List.{length-append}
 use Rattle.text_lines.specs.Pieces.{complete_lines, unfinished}
 use Rattle.col80_format.specs.declared.batch.Seen.{Seen}
-use Rattle.col80_format.specs.Feeding.{seen_all, Progress, progress_of}
-use Rattle.col80_format.proofs.Batches.{piece_cut, piece_added, room_left}
+use Rattle.col80_format.specs.Feeding.{seen_all, Progress}
+use Rattle.col80_format.proofs.Batches.{piece_cut, room_left}
 use Rattle.col80_format.proofs.reader.read_on.Goals as goal
 
 pub see_lines-requires : goal.see_lines-requires

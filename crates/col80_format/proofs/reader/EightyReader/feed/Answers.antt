@@ -1,4 +1,4 @@
-use Rattle.std.proofs.Common.{◌≡◌, ◌∙◌}
+use Rattle.std.proofs.Common.{◌∙◌}
 use Rattle.col80_format.proofs.reader.EightyReader.feed.Goals as goal
 
 pub read_on-requires : goal.read_on-requires

@@ -1,10 +1,10 @@
-use Rattle.std.proofs.Common.{◌≡◌, ◌<◌, ℕ, Bool, true, false, List, [], ◌∷◌, length, map, refl, ap, sym, subst, ◌∙◌, arith}
+use Rattle.std.proofs.Common.{◌≡◌, ◌<◌, ℕ, Bool, true, false, List, [], ◌∷◌, length, refl, ap, sym, subst, ◌∙◌, arith}
 use Rattle.std.specs.Prelude.{IsTrue, ◌↔◌}
 use Rattle.std.specs.List.{AllZip}
 use Rattle.obs_record.specs.Lines.{AreInRange}
 use Rattle.col80_format.specs.declared.batch.Seen.{Seen}
-use Rattle.col80_format.specs.Batch.{observation_lines, IsReadFrom, read_of, lines_of}
-use Rattle.col80_format.specs.Feeding.{Progress, progress_of, seen_on}
+use Rattle.col80_format.specs.Batch.{observation_lines, IsReadFrom}
+use Rattle.col80_format.specs.Feeding.{progress_of, seen_on}
 use Rattle.col80_format.proofs.LawsBelow.{Laws}
 use Rattle.col80_format.proofs.Batches.{room_of, ends_complete, ends_unfinished, all_read}
 use Rattle.col80_format.proofs.reader.EightyReader.finish.Goals as goal
