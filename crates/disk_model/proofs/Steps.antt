@@ -1,8 +1,8 @@
 -- A call of a disk in memory as a span of time.
-use Rattle.std.proofs.Common.{◌≡◌, ◌⊎◌, ◌↔◌, inl, inr, ⊎_elim, ℕ, zero, suc, ◌+◌, ◌≤◌, Bool, true, false, List, [], ◌∷◌, length, drop, refl, sym, ◌∙◌, ap, subst, arith}
+use Rattle.std.proofs.Common.{◌≡◌, ◌⊎◌, ◌↔◌, inl, inr, ⊎_elim, ℕ, zero, suc, ◌+◌, ◌≤◌, Bool, true, false, List, ◌∷◌, length, sym, ap, subst, arith}
 use Rattle.disk_model.specs.Crashes.{Torn, CutTo, After, Passes, EachSince}
 use Rattle.disk_model.specs.FileLaws.{torn_same, cut_same}
-use Rattle.disk_model.specs.Memory.{Deed, Wrote, Cut, Synced, MemoryState, file_after, IsImage, IsImageSince, images_of, moment_of, images_since, Records}
+use Rattle.disk_model.specs.Memory.{Deed, Wrote, Cut, Synced, MemoryState, IsImage, IsImageSince, images_of, moment_of, images_since, Records}
 use Rattle.disk_model.specs.MemoryLaws.{is_file_image, only_image_now}
 
 since_earlier : (first : List ℕ) (deeds : List Deed) (t later : ℕ) (image : List ℕ) → t ≤ later → IsImageSince first deeds later image → IsImageSince first deeds t image
@@ -32,7 +32,7 @@ module _ (old new : MemoryState) where
   passes_same is_first is_deeds = record {
     later = let same : length new.deeds ≡ length old.deeds = ap length is_deeds in omega (arith, same);
     gathered = λ t image le.
-      moved (λ f ds. IsImageSince f ds t image ↔ (IsImageSince old.first old.deeds t image ⊎ IsImageSince f ds (length old.deeds) image)) _ _ _ _ is_first is_deeds
+        moved (λ f ds. IsImageSince f ds t image ↔ (IsImageSince old.first old.deeds t image ⊎ IsImageSince f ds (length old.deeds) image)) _ _ _ _ is_first is_deeds
         (λ was. inl was, λ either. ⊎_elim (λ was. was) (λ inside. since_earlier old.first old.deeds t (length old.deeds) image le inside) either);
   }
 
@@ -44,7 +44,7 @@ module _ (old new : MemoryState) where
   passes_deed deed is_first is_deeds = record {
     later = let more : length new.deeds ≡ length (deed ∷ old.deeds) = ap length is_deeds in omega (arith, more);
     gathered = λ t image le.
-      moved (λ f ds. IsImageSince f ds t image ↔ (IsImageSince old.first old.deeds t image ⊎ IsImageSince f ds (length old.deeds) image)) _ _ _ _ is_first is_deeds
+        moved (λ f ds. IsImageSince f ds t image ↔ (IsImageSince old.first old.deeds t image ⊎ IsImageSince f ds (length old.deeds) image)) _ _ _ _ is_first is_deeds
         (λ was. since_more old.first deed old.deeds t image le was, λ either. ⊎_elim (λ was. since_pushed old.first deed old.deeds t image was) (λ inside. since_earlier old.first (deed ∷ old.deeds) t (length old.deeds) image le inside) either);
   }
 

@@ -1,6 +1,6 @@
 -- What the steps of a write make of a file.
-use Rattle.std.proofs.Common.{◌≡◌, ℕ, ◌+◌, ◌-◌, ◌<◌, ◌≤◌, ◌⊎◌, inl, inr, max, List, [], ◌∷◌, ◌++◌, length, take, drop, replicate, refl, sym, ◌∙◌, ap, arith, append_assoc, append-nil, length-append, length-drop, length-take}
-use Rattle.std.proofs.lemmas.List.{take-append-le, drop-append-le, take_all, drop_all, replicate-append-replicate}
+use Rattle.std.proofs.Common.{◌≡◌, ℕ, ◌+◌, ◌-◌, ◌<◌, ◌≤◌, ◌⊎◌, inl, inr, max, List, [], ◌∷◌, ◌++◌, length, take, drop, replicate, sym, ◌∙◌, ap, arith, append_assoc, append-nil, length-append, length-drop, length-take}
+use Rattle.std.proofs.lemmas.List.{take-append-le, take_all, drop_all, replicate-append-replicate}
 use Rattle.std.proofs.lemmas.Bool.{cases_lt}
 use Rattle.disk_model.specs.Files.{lengthened, written}
 use Rattle.disk_model.specs.FileLaws.{length-lengthened}
@@ -11,9 +11,11 @@ take_lengthened at len file le =
     let few : ℕ = at - length file in
     let more : ℕ = len - length file - few in
     let sum : len - length file ≡ few + more = omega arith in
-    ap (λ (k : ℕ). take at (file ++ replicate k 0)) sum
-    ∙ ap (λ (l : List ℕ). take at (file ++ l)) (sym (replicate-append-replicate few more 0))
-    ∙ ap (λ (l : List ℕ). take at l) (sym (append_assoc file (replicate few 0) (replicate more 0)))
+    let zeros : replicate (len - length file) 0 ≡ replicate few 0 ++ replicate more 0 =
+    ap (λ (k : ℕ). replicate k 0) sum ∙ sym (replicate-append-replicate few more 0) in
+    let parts : lengthened len file ≡ lengthened at file ++ replicate more 0 =
+    ap (λ (l : List ℕ). file ++ l) zeros ∙ sym (append_assoc file (replicate few 0) (replicate more 0)) in
+    ap (λ (l : List ℕ). take at l) parts
     ∙ take-append-le at (lengthened at file) (replicate more 0) (omega (arith, length-lengthened at file))
 
 -- and nothing behind them

@@ -1,8 +1,9 @@
 -- What a crash may leave of a file: its images.
 use Rattle.std.specs.Prelude.{◌≡◌, ◌⊎◌, ◌↔◌, ℕ, ◌+◌, ◌≤◌, min, max, List, length, take, drop}
 
--- What a write of n bytes at this offset may leave of a file until a sync. The range may hold any bytes, and so may the part past
--- the old end. The length lies between the two ends. All else stays, and a write of no bytes changes nothing.
+-- What a write of n bytes at this offset may leave of a file until a sync. The range may hold any bytes, and so may
+-- the part past the old end. The length lies between the two ends. All else stays, and a write of no bytes changes
+-- nothing.
 pub record Torn (at n : ℕ) (old new : List ℕ) : Type 0 where
   pub before : take (min at (length old)) new ≡ take at old
   pub after : drop (at + n) new ≡ drop (at + n) old
@@ -22,13 +23,16 @@ After step images image = (before : List ℕ) × images before × step before im
 -- Time goes on from old to new: the images since an earlier moment are those that there were, and those since old.
 pub record Passes {D : Type 0} (moment : D → ℕ) (since : D → ℕ → List ℕ → Type 0) (old new : D) : Type 0 where
   pub later : moment old ≤ moment new
-  pub gathered : (t : ℕ) (image : List ℕ) → t ≤ moment old → since new t image ↔ (since old t image ⊎ since new (moment old) image)
+  pub gathered : (t : ℕ) (image : List ℕ) → t ≤ moment old
+      → since new t image ↔ (since old t image ⊎ since new (moment old) image)
 
 -- each image at some moment since old has P
-abbrev pub EachSince : {D : Type 0} (moment : D → ℕ) (since : D → ℕ → List ℕ → Type 0) (old new : D) (P : List ℕ → Type 0) → Type 0
+abbrev pub EachSince : {D : Type 0} (moment : D → ℕ) (since : D → ℕ → List ℕ → Type 0) (old new : D)
+    (P : List ℕ → Type 0) → Type 0
 EachSince moment since old new P = (image : List ℕ) → since new (moment old) image → P image
 
 -- A crash at any moment from old to new: each image since an earlier moment was one before, or has P.
-pub record During {D : Type 0} (moment : D → ℕ) (since : D → ℕ → List ℕ → Type 0) (old new : D) (P : List ℕ → Type 0) : Type 0 where
+pub record During {D : Type 0} (moment : D → ℕ) (since : D → ℕ → List ℕ → Type 0) (old new : D)
+    (P : List ℕ → Type 0) : Type 0 where
   pub later : moment old ≤ moment new
   pub either : (t : ℕ) (image : List ℕ) → t ≤ moment old → since new t image → since old t image ⊎ P image

@@ -17,7 +17,8 @@ deeds_of pool entries = reverse (map (deed_of pool) entries)
 
 -- an entry's bytes stand in a pool of this length, and have room in a file of this capacity
 abbrev pub IsWithin : ℕ → ℕ → Entry → Type 0
-IsWithin pool_length capacity (Wrote at start count done) = (start + count ≤ pool_length) × (0 < count → at + count ≤ capacity)
+IsWithin pool_length capacity (Wrote at start count done) =
+    (start + count ≤ pool_length) × (0 < count → at + count ≤ capacity)
 IsWithin pool_length capacity _ = ⊤
 
 -- a record has the size that it counts, and no more than its capacity

@@ -1,60 +1,82 @@
 -- Laws on what writes and cuts make of a file, and on what a crash may leave of it.
 use Rattle.std.specs.Prelude.{◌≡◌, ℕ, ◌+◌, ◌-◌, ◌≤◌, min, max, List, [], ◌∷◌, ◌++◌, length, take, drop, replicate, refl}
-use Rattle.std.proofs.Common.{sym, ◌∙◌, ap, subst, arith}
-use Rattle.std.proofs.lemmas.List.{take-append-le, take-take, take_min, take_all, drop-drop, drop_at, drop_all, length-append, length-take, length-drop, length-replicate, take-append-drop, append-nil}
-use Rattle.disk_model.specs.Files.{lengthened, written, cut_to}
+use Rattle.std.proofs.Common.{sym, ◌∙◌, ap, arith}
+use Rattle.std.proofs.lemmas.List.{take-append-le, take-take, take_min, take_all, drop-drop, drop_at, length-append, length-take, length-drop, length-replicate, take-append-drop, append-nil}
+use Rattle.disk_model.specs.Files.{lengthened, written}
 use Rattle.disk_model.specs.Crashes.{Torn, CutTo}
 
 -- zeros fill a file up to a length
 pub length-lengthened : (len : ℕ) (file : List ℕ) → length (lengthened len file) ≡ max (length file) len
-length-lengthened len file = omega (arith, length-append file (replicate (len - length file) 0), length-replicate {A = ℕ} (len - length file) 0)
+length-lengthened len file =
+    omega (arith, length-append file (replicate (len - length file) 0), length-replicate {A = ℕ} (len - length file) 0)
 
 -- the length after a write
-pub length-written : (at : ℕ) (byte : ℕ) (bytes file : List ℕ) → length (written at (byte ∷ bytes) file) ≡ max (length file) (at + length (byte ∷ bytes))
+pub length-written : (at : ℕ) (byte : ℕ) (bytes file : List ℕ)
+    → length (written at (byte ∷ bytes) file) ≡ max (length file) (at + length (byte ∷ bytes))
 length-written at byte bytes file =
     let front : List ℕ = take at (lengthened at file) in
     let tail : List ℕ = drop (at + length (byte ∷ bytes)) file in
-    omega (arith, length-append (front ++ (byte ∷ bytes)) tail, length-append front (byte ∷ bytes), length-take at (lengthened at file), length-lengthened at file, length-drop (at + length (byte ∷ bytes)) file)
+    let joined = length-append (front ++ (byte ∷ bytes)) tail in
+    let fronts = length-append front (byte ∷ bytes) in
+    let taken = length-take at (lengthened at file) in
+    let whole = length-lengthened at file in
+    let dropped = length-drop (at + length (byte ∷ bytes)) file in
+    omega (arith, joined, fronts, taken, whole, dropped)
 
 -- a write that begins inside the file, or at its end
-pub written_inside : (at : ℕ) (bytes file : List ℕ) → at ≤ length file → written at bytes file ≡ take at file ++ bytes ++ drop (at + length bytes) file
-written_inside at [] file inside = sym (take-append-drop at file) ∙ ap (λ (front : List ℕ). front ++ drop at file) (sym (append-nil (take at file))) ∙ ap (λ (k : ℕ). take at file ++ [] ++ drop k file) (let none : at ≡ at + 0 = omega arith in none)
-written_inside at (byte ∷ bytes) file inside = ap (λ (front : List ℕ). front ++ (byte ∷ bytes) ++ drop (at + length (byte ∷ bytes)) file) (take-append-le at file (replicate (at - length file) 0) inside)
+pub written_inside : (at : ℕ) (bytes file : List ℕ) → at ≤ length file
+    → written at bytes file ≡ take at file ++ bytes ++ drop (at + length bytes) file
+written_inside at [] file inside =
+    sym (take-append-drop at file)
+    ∙ ap (λ (front : List ℕ). front ++ drop at file) (sym (append-nil (take at file)))
+    ∙ ap (λ (k : ℕ). take at file ++ [] ++ drop k file) (let none : at ≡ at + 0 = omega arith in none)
+written_inside at (byte ∷ bytes) file inside =
+    ap (λ (front : List ℕ). front ++ (byte ∷ bytes) ++ drop (at + length (byte ∷ bytes)) file)
+    (take-append-le at file (replicate (at - length file) 0) inside)
 
 -- of a write that begins inside the file, or at its end, all before it stays
 pub torn_inside : {at n : ℕ} {old new : List ℕ} → at ≤ length old → Torn at n old new → take at new ≡ take at old
-torn_inside {at} {n} {old} {new} inside torn = let same : min at (length old) ≡ at = omega arith in ap (λ (m : ℕ). take m new) (sym same) ∙ torn.before
+torn_inside {at} {n} {old} {new} inside torn =
+    let same : min at (length old) ≡ at = omega arith in ap (λ (m : ℕ). take m new) (sym same) ∙ torn.before
 
 -- a write may leave the file as it was
 pub torn_same : (at n : ℕ) (file : List ℕ) → Torn at n file file
-torn_same at n file = record { before = take_min at file; after = refl; no_shorter = omega arith; no_longer = omega arith; nothing = λ none. refl }
+torn_same at n file = record {
+  before = take_min at file;
+  after = refl;
+  no_shorter = omega arith;
+  no_longer = omega arith;
+  nothing = λ none. refl;
+}
 
 -- a write may leave any part of its bytes
-pub torn_part : (at n from : ℕ) (bytes file : List ℕ) → at ≤ from → from + length bytes ≤ at + n → Torn at n file (written from bytes file)
+pub torn_part : (at n from : ℕ) (bytes file : List ℕ) → at ≤ from
+    → from + length bytes ≤ at + n → Torn at n file (written from bytes file)
 torn_part at n from [] file low high = torn_same at n file
 torn_part at n from (byte ∷ bytes) file low high =
     let all : List ℕ = byte ∷ bytes in
     let front : List ℕ = take from (lengthened from file) in
     let tail : List ℕ = drop (from + length all) file in
-    let long : length front ≡ from = omega (arith, length-take from (lengthened from file), length-lengthened from file) in
+    let long : length front ≡ from =
+    omega (arith, length-take from (lengthened from file), length-lengthened from file) in
     let longer : length (front ++ all) ≡ from + length all = omega (arith, length-append front all, long) in
     let m : ℕ = min at (length file) in
     let len = length-written from byte bytes file in
     record {
       before =
-        take-append-le m (front ++ all) tail (omega (arith, longer))
-        ∙ take-append-le m front all (omega (arith, long))
-        ∙ take-take m from (lengthened from file) (omega arith)
-        ∙ take-append-le m file (replicate (from - length file) 0) (omega arith)
-        ∙ take_min at file;
+          take-append-le m (front ++ all) tail (omega (arith, longer))
+          ∙ take-append-le m front all (omega (arith, long))
+          ∙ take-take m from (lengthened from file) (omega arith)
+          ∙ take-append-le m file (replicate (from - length file) 0) (omega arith)
+          ∙ take_min at file;
       after =
-        let more : at + n ≡ from + length all + (at + n - (from + length all)) = omega (arith, high) in
-        let rest : ℕ = at + n - (from + length all) in
-        ap (λ (k : ℕ). drop k (front ++ all ++ tail)) more
-        ∙ sym (drop-drop rest (from + length all) (front ++ all ++ tail))
-        ∙ ap (λ (l : List ℕ). drop rest l) (drop_at (front ++ all) tail (from + length all) longer)
-        ∙ drop-drop rest (from + length all) file
-        ∙ ap (λ (k : ℕ). drop k file) (sym more);
+          let more : at + n ≡ from + length all + (at + n - (from + length all)) = omega (arith, high) in
+          let rest : ℕ = at + n - (from + length all) in
+          ap (λ (k : ℕ). drop k (front ++ all ++ tail)) more
+          ∙ sym (drop-drop rest (from + length all) (front ++ all ++ tail))
+          ∙ ap (λ (l : List ℕ). drop rest l) (drop_at (front ++ all) tail (from + length all) longer)
+          ∙ drop-drop rest (from + length all) file
+          ∙ ap (λ (k : ℕ). drop k file) (sym more);
       no_shorter = omega (arith, len);
       no_longer = omega (arith, len, high);
       nothing = λ none. absurd (omega (arith, high, low, none));

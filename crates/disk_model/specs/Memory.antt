@@ -1,6 +1,6 @@
 -- A disk in memory: its record of writes, cuts and syncs, the file after them, and what a crash may leave.
 use Rattle.std.specs.Prelude.{◌≡◌, ◌⊎◌, ℕ, ◌+◌, ◌≤◌, max, Bool, true, false, List, [], ◌∷◌, length, drop}
-use Rattle.disk_model.specs.Counts.{Calls, passed, failed}
+use Rattle.disk_model.specs.Counts.{Calls, no_calls, FailsNext, passed, failed}
 use Rattle.disk_model.specs.Files.{written, cut_to}
 use Rattle.disk_model.specs.Crashes.{Torn, CutTo, After}
 
@@ -58,19 +58,36 @@ pub record MemoryState : Type 0 where
   pub capacity : ℕ
   pub calls : Calls
 
+-- a disk with this file, all of it safe, before its first call
+abbrev pub new_disk : List ℕ → ℕ → List ℕ → MemoryState
+new_disk file capacity fails = record { first = file; deeds = []; capacity = capacity; calls = no_calls fails }
+
 -- the file as reads give it
 abbrev pub file_of : MemoryState → List ℕ
 file_of disk = file_after disk.first disk.deeds
 
 -- the capacity holds the record with one more deed, and the file before and after it
 abbrev pub HasRoom : MemoryState → Deed → Type 0
-HasRoom disk deed = max (length (file_of disk)) (length (file_after disk.first (deed ∷ disk.deeds))) + record_size (deed ∷ disk.deeds) ≤ disk.capacity
+HasRoom disk deed =
+    max (length (file_of disk)) (length (file_after disk.first (deed ∷ disk.deeds))) + record_size (deed ∷ disk.deeds)
+    ≤ disk.capacity
 
 -- what a disk in memory keeps: the file is the one after the deeds, and the capacity holds it with the record
 pub record IsHeld (first file : List ℕ) (deeds : List Deed) (capacity : ℕ) : Type 0 where
   pub same : file ≡ file_after first deeds
   pub fits : length file + record_size deeds ≤ capacity
   pub start : length first ≤ capacity
+
+-- a call that makes this deed fails: it is one of those that are to fail, or the capacity has no room
+abbrev pub Fails : MemoryState → Deed → Type 0
+Fails disk deed = FailsNext disk.calls ⊎ (¬ HasRoom disk deed)
+
+-- after a call that made no deed, and did what it could or failed
+abbrev pub after_passed : MemoryState → MemoryState
+after_passed disk = record disk { calls = passed disk.calls }
+
+abbrev pub after_fault : MemoryState → MemoryState
+after_fault disk = record disk { calls = failed disk.calls }
 
 -- after a deed that was done
 abbrev pub after_done : MemoryState → Deed → MemoryState
@@ -92,4 +109,5 @@ images_since disk = IsImageSince disk.first disk.deeds
 
 -- the record has this deed more, done or not, or it is as it was
 abbrev pub Records : MemoryState → MemoryState → (Bool → Deed) → Type 0
-Records old new deed = (new.first ≡ old.first) × ((new.deeds ≡ old.deeds) ⊎ ((done : Bool) × (new.deeds ≡ deed done ∷ old.deeds)))
+Records old new deed =
+    (new.first ≡ old.first) × ((new.deeds ≡ old.deeds) ⊎ ((done : Bool) × (new.deeds ≡ deed done ∷ old.deeds)))

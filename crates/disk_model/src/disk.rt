@@ -79,10 +79,12 @@ pub trait Disk: Drop {
     ///
     /// `Failed` where the disk failed. Then too a crash may leave any bytes in the range.
     fn write_at(&mut self, at: u64, bytes: &[u8]) -> Result<(), Failed>
-        ensures wrote { OnOk result (IfSome (reads self.old) (λ file. reads self.new ≡ Some (written at bytes.now file))) }
+        ensures wrote { OnOk result
+            (IfSome (reads self.old) (λ file. reads self.new ≡ Some (written at bytes.now file))) }
 
         ensures time { Passes moment since self.old self.new }
-        ensures images { EachSince moment since self.old self.new (After (Torn at (length bytes.now)) (leaves self.old)) }
+        ensures images { EachSince moment since self.old self.new
+            (After (Torn at (length bytes.now)) (leaves self.old)) }
         ensures counts { faults self.old ≤ faults self.new }
         ensures cause { OnErr result (Rises (faults self.old) (faults self.new)) };
 
@@ -120,7 +122,8 @@ pub trait Disk: Drop {
     ghost known: { (disk : Self) (image : List ℕ) → leaves disk image → IsSome (reads disk) };
 
     /// An image now is one since each earlier moment.
-    ghost counts_now: { (disk : Self) (t : ℕ) (image : List ℕ) → t ≤ moment disk → leaves disk image → since disk t image };
+    ghost counts_now: { (disk : Self) (t : ℕ) (image : List ℕ) →
+        t ≤ moment disk → leaves disk image → since disk t image };
 
     /// Since this moment there is no other.
     ghost only_now: { (disk : Self) (image : List ℕ) → since disk (moment disk) image → leaves disk image };

@@ -1,10 +1,10 @@
 //! A disk in memory. It fails at the calls that it is told to, and else does what it can.
 
 ghost use Rattle.std.specs.Prelude.{◌≡◌, ℕ, ◌+◌, ◌-◌, ◌*◌, ◌^◌, ◌<◌, ◌≤◌, ◌↔◌, ◌⊎◌, ◌++◌, [], ◌∷◌, List, Bool, true, false, length, take, drop, min, max, vec_capacity, IsTrue, IsErr, IfOk, IfSome, OnOk, OnErr, Some, refl};
-ghost use Rattle.disk_model.specs.Counts.{Rises, no_calls, FailsNext, passed, failed};
+ghost use Rattle.disk_model.specs.Counts.{Rises, FailsNext};
 ghost use Rattle.disk_model.specs.Files.{Gives, written, cut_to};
 ghost use Rattle.disk_model.specs.Crashes.{Torn, CutTo, After, Passes, EachSince};
-ghost use Rattle.disk_model.specs.Memory.{Wrote, Cut, Synced, file_of, HasRoom, after_done, after_failed, images_of, moment_of, images_since, Records, record_size, last_synced};
+ghost use Rattle.disk_model.specs.Memory.{Wrote, Cut, Synced, new_disk, file_of, HasRoom, Fails, after_passed, after_fault, after_done, after_failed, images_of, moment_of, images_since, Records, record_size, last_synced};
 ghost use Rattle.disk_model.specs.MemoryLaws.{as_read, is_image_since, only_image_now};
 
 use crate::calls::CallLog;
@@ -30,7 +30,8 @@ impl Model for MemDisk {
 
     ghost Value = { MemoryState };
 
-    ghost view = { λ d. record { first = d.first.items; deeds = d.deeds.deeds; capacity = d.deeds.capacity; calls = d.log } };
+    ghost view = { λ d.
+        record { first = d.first.items; deeds = d.deeds.deeds; capacity = d.deeds.capacity; calls = d.log } };
 
     ghost invariant = { λ d.
         IsHeld d.first.items d.file.items d.deeds.deeds d.deeds.capacity
@@ -39,9 +40,9 @@ impl Model for MemDisk {
 }
 
 impl MemDisk {
-    /// A disk with this file, all of it safe. Its capacity in bytes bounds the file and the record, in which each write,
-    /// cut and sync counts 32 bytes and the bytes that it writes. Its calls are counted from 1, and those that `fails`
-    /// lists fail.
+    /// A disk with this file, all of it safe. Its capacity in bytes bounds the file and the record together, in which
+    /// each write, cut and sync counts 32 bytes and the bytes that it writes. A call past the capacity fails. All calls
+    /// are counted, from 1, and those that `fails` lists fail.
     ///
     /// # Errors
     ///
@@ -53,8 +54,7 @@ impl MemDisk {
         fails: &[u64],
     ) -> Result<MemDisk, NoMemory>
         requires { length bytes.now ≤ capacity }
-        ensures { IfOk result (λ disk.
-            disk ≡ record { first = bytes.now; deeds = []; capacity = capacity; calls = no_calls fails.now }) }
+        ensures { IfOk result (λ disk. disk ≡ new_disk bytes.now capacity fails.now) }
     {
         let mut first = Vec::with_capacity(alloc, capacity)?;
         first.extend_from_slice(bytes).unwrap();
@@ -93,8 +93,8 @@ impl MemDisk {
     fn try_len(&mut self) -> Result<u64, Failed>
         ensures fails { IsErr result ↔ FailsNext self.old.calls }
         ensures given { IfOk result (λ n. n ≡ length (file_of self.old)) }
-        ensures passed { OnOk result (self.new ≡ record self.old { calls = passed self.old.calls }) }
-        ensures failed { OnErr result (self.new ≡ record self.old { calls = failed self.old.calls }) }
+        ensures passed { OnOk result (self.new ≡ after_passed self.old) }
+        ensures failed { OnErr result (self.new ≡ after_fault self.old) }
         ensures counts { self.old.calls.faults ≤ self.new.calls.faults }
         ensures same { (self.new.first ≡ self.old.first) × (self.new.deeds ≡ self.old.deeds) }
     {
@@ -110,8 +110,8 @@ impl MemDisk {
         ensures fails { IsErr result ↔ FailsNext self.old.calls }
         ensures amount { IfOk result (λ n. n ≡ min (length piece.old) (length (file_of self.old) - at)) }
         ensures piece { IfOk result (λ n. piece.new ≡ take n (drop at (file_of self.old)) ++ drop n piece.old) }
-        ensures passed { OnOk result (self.new ≡ record self.old { calls = passed self.old.calls }) }
-        ensures failed { OnErr result (self.new ≡ record self.old { calls = failed self.old.calls }) }
+        ensures passed { OnOk result (self.new ≡ after_passed self.old) }
+        ensures failed { OnErr result (self.new ≡ after_fault self.old) }
         ensures untouched { OnErr result (piece.new ≡ piece.old) }
         ensures counts { self.old.calls.faults ≤ self.new.calls.faults }
         ensures same { (self.new.first ≡ self.old.first) × (self.new.deeds ≡ self.old.deeds) }
@@ -132,10 +132,11 @@ impl MemDisk {
 
 impl MemDisk {
     fn try_write(&mut self, at: u64, bytes: &[u8]) -> Result<(), Failed>
-        ensures fails { IsErr result ↔ (FailsNext self.old.calls ⊎ (¬ HasRoom self.old (Wrote at bytes.now true))) }
+        ensures fails { IsErr result ↔ Fails self.old (Wrote at bytes.now true) }
         ensures done { OnOk result (self.new ≡ after_done self.old (Wrote at bytes.now true)) }
-        ensures no_room { (¬ HasRoom self.old (Wrote at bytes.now true)) → self.new ≡ record self.old { calls = failed self.old.calls } }
-        ensures failed { OnErr result (HasRoom self.old (Wrote at bytes.now true) → self.new ≡ after_failed self.old (Wrote at bytes.now false)) }
+        ensures no_room { (¬ HasRoom self.old (Wrote at bytes.now true)) → self.new ≡ after_fault self.old }
+        ensures failed { OnErr result
+            (HasRoom self.old (Wrote at bytes.now true) → self.new ≡ after_failed self.old (Wrote at bytes.now false)) }
         ensures counts { self.old.calls.faults ≤ self.new.calls.faults }
         ensures records { Records self.old self.new (Wrote at bytes.now) }
     {
@@ -156,10 +157,11 @@ impl MemDisk {
     }
 
     fn try_cut(&mut self, len: u64) -> Result<(), Failed>
-        ensures fails { IsErr result ↔ (FailsNext self.old.calls ⊎ (¬ HasRoom self.old (Cut len true))) }
+        ensures fails { IsErr result ↔ Fails self.old (Cut len true) }
         ensures done { OnOk result (self.new ≡ after_done self.old (Cut len true)) }
-        ensures no_room { (¬ HasRoom self.old (Cut len true)) → self.new ≡ record self.old { calls = failed self.old.calls } }
-        ensures failed { OnErr result (HasRoom self.old (Cut len true) → self.new ≡ after_failed self.old (Cut len false)) }
+        ensures no_room { (¬ HasRoom self.old (Cut len true)) → self.new ≡ after_fault self.old }
+        ensures failed { OnErr result
+            (HasRoom self.old (Cut len true) → self.new ≡ after_failed self.old (Cut len false)) }
         ensures counts { self.old.calls.faults ≤ self.new.calls.faults }
         ensures records { Records self.old self.new (Cut len) }
     {
@@ -179,10 +181,11 @@ impl MemDisk {
     }
 
     fn try_sync(&mut self) -> Result<(), Failed>
-        ensures fails { IsErr result ↔ (FailsNext self.old.calls ⊎ (¬ HasRoom self.old (Synced true))) }
+        ensures fails { IsErr result ↔ Fails self.old (Synced true) }
         ensures done { OnOk result (self.new ≡ after_done self.old (Synced true)) }
-        ensures no_room { (¬ HasRoom self.old (Synced true)) → self.new ≡ record self.old { calls = failed self.old.calls } }
-        ensures failed { OnErr result (HasRoom self.old (Synced true) → self.new ≡ after_failed self.old (Synced false)) }
+        ensures no_room { (¬ HasRoom self.old (Synced true)) → self.new ≡ after_fault self.old }
+        ensures failed { OnErr result
+            (HasRoom self.old (Synced true) → self.new ≡ after_failed self.old (Synced false)) }
         ensures counts { self.old.calls.faults ≤ self.new.calls.faults }
         ensures records { Records self.old self.new Synced }
     {
@@ -208,7 +211,7 @@ impl MemDisk {
     pub fn crash(self, pick: u64) -> MemDisk
         ensures image { images_of self result.first }
         ensures all_lost { pick ≡ 0 → result.first ≡ last_synced self.first self.deeds }
-        ensures fresh { result ≡ record { first = result.first; deeds = []; capacity = self.capacity; calls = no_calls [] } }
+        ensures fresh { result ≡ new_disk result.first self.capacity [] }
     {
         let MemDisk {
             first: mut image,
@@ -246,8 +249,8 @@ impl Disk for MemDisk {
     fn len(&mut self) -> Result<u64, Failed>
         ensures fails { IsErr result ↔ FailsNext self.old.calls }
         ensures exact { IfOk result (λ n. n ≡ length (file_of self.old)) }
-        ensures passed { OnOk result (self.new ≡ record self.old { calls = passed self.old.calls }) }
-        ensures failed { OnErr result (self.new ≡ record self.old { calls = failed self.old.calls }) }
+        ensures passed { OnOk result (self.new ≡ after_passed self.old) }
+        ensures failed { OnErr result (self.new ≡ after_fault self.old) }
 
         ensures given { IfOk result (λ n. IfSome (Some (file_of self.old)) (λ file. n ≡ length file)) }
         ensures reads { Some (file_of self.new) ≡ Some (file_of self.old) }
@@ -262,11 +265,12 @@ impl Disk for MemDisk {
     fn read_at(&mut self, at: u64, piece: &mut [u8]) -> Result<usize, Failed>
         ensures fails { IsErr result ↔ FailsNext self.old.calls }
         ensures amount { IfOk result (λ n. n ≡ min (length piece.old) (length (file_of self.old) - at)) }
-        ensures passed { OnOk result (self.new ≡ record self.old { calls = passed self.old.calls }) }
-        ensures failed { OnErr result (self.new ≡ record self.old { calls = failed self.old.calls }) }
+        ensures passed { OnOk result (self.new ≡ after_passed self.old) }
+        ensures failed { OnErr result (self.new ≡ after_fault self.old) }
         ensures untouched { OnErr result (piece.new ≡ piece.old) }
 
-        ensures given { IfOk result (λ n. IfSome (Some (file_of self.old)) (λ file. Gives file at n piece.old piece.new)) }
+        ensures given { IfOk result
+            (λ n. IfSome (Some (file_of self.old)) (λ file. Gives file at n piece.old piece.new)) }
         ensures within { IfOk result (λ n. n ≤ length piece.old) }
         ensures reads { Some (file_of self.new) ≡ Some (file_of self.old) }
         ensures time { Passes moment_of images_since self.old self.new }
@@ -278,14 +282,17 @@ impl Disk for MemDisk {
     }
 
     fn write_at(&mut self, at: u64, bytes: &[u8]) -> Result<(), Failed>
-        ensures fails { IsErr result ↔ (FailsNext self.old.calls ⊎ (¬ HasRoom self.old (Wrote at bytes.now true))) }
+        ensures fails { IsErr result ↔ Fails self.old (Wrote at bytes.now true) }
         ensures done { OnOk result (self.new ≡ after_done self.old (Wrote at bytes.now true)) }
-        ensures no_room { (¬ HasRoom self.old (Wrote at bytes.now true)) → self.new ≡ record self.old { calls = failed self.old.calls } }
-        ensures failed { OnErr result (HasRoom self.old (Wrote at bytes.now true) → self.new ≡ after_failed self.old (Wrote at bytes.now false)) }
+        ensures no_room { (¬ HasRoom self.old (Wrote at bytes.now true)) → self.new ≡ after_fault self.old }
+        ensures failed { OnErr result
+            (HasRoom self.old (Wrote at bytes.now true) → self.new ≡ after_failed self.old (Wrote at bytes.now false)) }
 
-        ensures wrote { OnOk result (IfSome (Some (file_of self.old)) (λ file. Some (file_of self.new) ≡ Some (written at bytes.now file))) }
+        ensures wrote { OnOk result
+            (IfSome (Some (file_of self.old)) (λ file. Some (file_of self.new) ≡ Some (written at bytes.now file))) }
         ensures time { Passes moment_of images_since self.old self.new }
-        ensures images { EachSince moment_of images_since self.old self.new (After (Torn at (length bytes.now)) (images_of self.old)) }
+        ensures images { EachSince moment_of images_since self.old self.new
+            (After (Torn at (length bytes.now)) (images_of self.old)) }
         ensures counts { self.old.calls.faults ≤ self.new.calls.faults }
         ensures cause { OnErr result (Rises self.old.calls.faults self.new.calls.faults) }
     {
@@ -293,12 +300,14 @@ impl Disk for MemDisk {
     }
 
     fn cut(&mut self, len: u64) -> Result<(), Failed>
-        ensures fails { IsErr result ↔ (FailsNext self.old.calls ⊎ (¬ HasRoom self.old (Cut len true))) }
+        ensures fails { IsErr result ↔ Fails self.old (Cut len true) }
         ensures done { OnOk result (self.new ≡ after_done self.old (Cut len true)) }
-        ensures no_room { (¬ HasRoom self.old (Cut len true)) → self.new ≡ record self.old { calls = failed self.old.calls } }
-        ensures failed { OnErr result (HasRoom self.old (Cut len true) → self.new ≡ after_failed self.old (Cut len false)) }
+        ensures no_room { (¬ HasRoom self.old (Cut len true)) → self.new ≡ after_fault self.old }
+        ensures failed { OnErr result
+            (HasRoom self.old (Cut len true) → self.new ≡ after_failed self.old (Cut len false)) }
 
-        ensures cut { OnOk result (IfSome (Some (file_of self.old)) (λ file. Some (file_of self.new) ≡ Some (cut_to len file))) }
+        ensures cut { OnOk result
+            (IfSome (Some (file_of self.old)) (λ file. Some (file_of self.new) ≡ Some (cut_to len file))) }
         ensures time { Passes moment_of images_since self.old self.new }
         ensures images { EachSince moment_of images_since self.old self.new (After (CutTo len) (images_of self.old)) }
         ensures counts { self.old.calls.faults ≤ self.new.calls.faults }
@@ -308,12 +317,14 @@ impl Disk for MemDisk {
     }
 
     fn sync(&mut self) -> Result<(), Failed>
-        ensures fails { IsErr result ↔ (FailsNext self.old.calls ⊎ (¬ HasRoom self.old (Synced true))) }
+        ensures fails { IsErr result ↔ Fails self.old (Synced true) }
         ensures done { OnOk result (self.new ≡ after_done self.old (Synced true)) }
-        ensures no_room { (¬ HasRoom self.old (Synced true)) → self.new ≡ record self.old { calls = failed self.old.calls } }
-        ensures failed { OnErr result (HasRoom self.old (Synced true) → self.new ≡ after_failed self.old (Synced false)) }
+        ensures no_room { (¬ HasRoom self.old (Synced true)) → self.new ≡ after_fault self.old }
+        ensures failed { OnErr result
+            (HasRoom self.old (Synced true) → self.new ≡ after_failed self.old (Synced false)) }
 
-        ensures safe { OnOk result ((image : List ℕ) → images_of self.new image → Some (file_of self.new) ≡ Some image) }
+        ensures safe { OnOk result
+            ((image : List ℕ) → images_of self.new image → Some (file_of self.new) ≡ Some image) }
         ensures reads { Some (file_of self.new) ≡ Some (file_of self.old) }
         ensures time { Passes moment_of images_since self.old self.new }
         ensures images { EachSince moment_of images_since self.old self.new (images_of self.old) }

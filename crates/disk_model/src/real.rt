@@ -17,10 +17,11 @@ use std::rt::Files;
 /// The file's name in the current folder.
 const NAME: &str = "desk.journal";
 
-/// The file `desk.journal` of the current folder. It is opened at the first call, and made where it isn't there. As long
-/// as the disk lives it holds an exclusive lock of the file, so that a second one on the same file gets a fault.
+/// The file `desk.journal` of the current folder. It is opened at the first call, and made where it isn't there. As
+/// long as the disk lives it holds an exclusive lock of the file, so that a second one on the same file gets a fault.
 ///
-/// It tells nothing of its content, and counts each error as a fault. An offset past 2^63 - 1 is an error of the system.
+/// It tells nothing of its content, and counts each error as a fault. An offset past 2^63 - 1 is an error of the
+/// system.
 #[derive(Debug, Drop)]
 pub struct FileDisk<R: Files<File = File> + Copy> {
     system: R,
@@ -222,9 +223,11 @@ impl<R: Files<File = File> + Copy> Disk for FileDisk<R> {
         ensures failed { OnErr result (self.new.faults ≡ one_more self.old.faults) }
         ensures stays { self.old.is_open ≡ true → self.new.is_open ≡ true }
 
-        ensures wrote { OnOk result (IfSome (unread self.old) (λ file. unread self.new ≡ Some (written at bytes.now file))) }
+        ensures wrote { OnOk result
+            (IfSome (unread self.old) (λ file. unread self.new ≡ Some (written at bytes.now file))) }
         ensures time { Passes no_moment no_image_since self.old self.new }
-        ensures images { EachSince no_moment no_image_since self.old self.new (After (Torn at (length bytes.now)) (no_image self.old)) }
+        ensures images { EachSince no_moment no_image_since self.old self.new
+            (After (Torn at (length bytes.now)) (no_image self.old)) }
         ensures counts { self.old.faults ≤ self.new.faults }
         ensures cause { OnErr result (Rises self.old.faults self.new.faults) }
     {

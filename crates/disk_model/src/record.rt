@@ -152,9 +152,11 @@ fn play(
 
     ensures file { (first : List ℕ) (past : List Deed) → file.old.items ≡ file_after first past →
         file.new.items ≡ file_after first (deed_of pool.now entry.now ∷ past) }
-    ensures image { (first : List ℕ) (past : List Deed) → file.old.items ≡ file_after first past → IsImage first past image.old.items →
+    ensures image { (first : List ℕ) (past : List Deed) →
+        file.old.items ≡ file_after first past → IsImage first past image.old.items →
         IsImage first (deed_of pool.now entry.now ∷ past) image.new.items }
-    ensures lost { (first : List ℕ) (past : List Deed) → digits ≡ 0 → file.old.items ≡ file_after first past → image.old.items ≡ last_synced first past →
+    ensures lost { (first : List ℕ) (past : List Deed) →
+        digits ≡ 0 → file.old.items ≡ file_after first past → image.old.items ≡ last_synced first past →
         image.new.items ≡ last_synced first (deed_of pool.now entry.now ∷ past) }
     ensures file_fits { length file.new.items ≤ capacity }
     ensures image_fits { length image.new.items ≤ capacity }

@@ -3,25 +3,6 @@ use std::fs;
 use std::process::Abort;
 use std::test::Fail;
 
-// A file of 12 bytes, and 16 bytes that are written over it from the fifth on.
-const OLD: &[u8] = b"abcdefghijkl";
-const NEW: &[u8] = b"ABCDEFGHIJKLMNOP";
-const AT: u64 = 4;
-
-// What a crash leaves of that write, by its pick.
-const LEFT_OF_A_WRITE: [(u64, &[u8]); 5] = [
-    // The old bytes, and the new ones.
-    (0, b"abcdefghijkl"),
-    (1, b"abcdABCDEFGHIJKLMNOP"),
-    // A shorter file than the one that was written, a mixture, and a longer file than the old one.
-    (2, b"abcdABCDEFGH"),
-    (3, b"abcdefghijklIJKLMNOP"),
-    (4, b"abcdefghijkl\0\0\0\0\0\0\0P"),
-];
-
-// What a crash leaves of a cut of the old file to 2 bytes.
-const LEFT_OF_A_CUT: [(u64, &[u8]); 3] = [(0, b"abcdefghijkl"), (1, b"ab"), (2, b"abcdef")];
-
 #[derive(Clone, Copy)]
 enum Call {
     Write(u64, &'static [u8]),
@@ -50,81 +31,143 @@ fn expect_file<D: Disk>(rt: &impl Abort, disk: &mut D, want: &[u8]) {
     assert_eq!(rt; &piece[..want.len()], want);
 }
 
-// After the call, done or not, each pick leaves this.
-fn expect_crashes(
+// A file in memory, the calls that are made and whether they are done, what is read after them, and what a crash leaves
+// by its pick.
+struct Case {
+    file: &'static [u8],
+    capacity: usize,
+    fails: &'static [u64],
+    calls: &'static [(Call, bool)],
+    reads: &'static [u8],
+    left: &'static [(u64, &'static [u8])],
+}
+
+const OLD: &[u8] = b"abcdefghijkl";
+
+const NEW: &[u8] = b"ABCDEFGHIJKLMNOP";
+
+// What a crash leaves of 16 bytes written over the old file, from its fifth byte on: the old bytes, the new ones, a
+// shorter file, a mixture, a longer file.
+const TORN: [(u64, &[u8]); 5] = [
+    (0, b"abcdefghijkl"),
+    (1, b"abcdABCDEFGHIJKLMNOP"),
+    (2, b"abcdABCDEFGH"),
+    (3, b"abcdefghijklIJKLMNOP"),
+    (4, b"abcdefghijkl\0\0\0\0\0\0\0P"),
+];
+
+// What it leaves of a cut to 2 bytes.
+const CUT: [(u64, &[u8]); 3] = [(0, b"abcdefghijkl"), (1, b"ab"), (2, b"abcdef")];
+
+const CASES: [Case; 7] = [
+    Case {
+        file: OLD,
+        capacity: 100,
+        fails: &[],
+        calls: &[(Call::Write(4, NEW), true)],
+        reads: b"abcdABCDEFGHIJKLMNOP",
+        left: &TORN,
+    },
+    // A write that failed may have reached the disk too.
+    Case {
+        file: OLD,
+        capacity: 100,
+        fails: &[1],
+        calls: &[(Call::Write(4, NEW), false)],
+        reads: b"abcdefghijkl",
+        left: &TORN,
+    },
+    Case {
+        file: OLD,
+        capacity: 44,
+        fails: &[],
+        calls: &[(Call::Cut(2), true)],
+        reads: b"ab",
+        left: &CUT,
+    },
+    Case {
+        file: OLD,
+        capacity: 44,
+        fails: &[1],
+        calls: &[(Call::Cut(2), false)],
+        reads: b"abcdefghijkl",
+        left: &CUT,
+    },
+    // The second and the fifth call fail. After the sync all is safe.
+    Case {
+        file: b"abc",
+        capacity: 300,
+        fails: &[2, 5],
+        calls: &[
+            (Call::Write(3, b"de"), true),
+            (Call::Write(0, b"xyz"), false),
+            (Call::Cut(4), true),
+            (Call::Write(6, b"g"), true),
+            (Call::Sync, false),
+            (Call::Sync, true),
+            (Call::Write(100, b""), true),
+        ],
+        reads: b"abcd\0\0g",
+        left: &[(0, b"abcd\0\0g"), (1, b"abcd\0\0g")],
+    },
+    // In 100 bytes a file of 3: the write takes 1 more and 36 of the record, the sync 32, and 28 are left.
+    Case {
+        file: b"abc",
+        capacity: 100,
+        fails: &[],
+        calls: &[
+            (Call::Write(0, b"wxyz"), true),
+            (Call::Sync, true),
+            (Call::Sync, false),
+            (Call::Cut(0), false),
+            (Call::Write(0, b""), false),
+            (Call::Write(u64::MAX, b"a"), false),
+        ],
+        reads: b"wxyz",
+        left: &[(0, b"wxyz")],
+    },
+    // Just room for one call.
+    Case {
+        file: b"abcd",
+        capacity: 36,
+        fails: &[],
+        calls: &[(Call::Sync, true), (Call::Sync, false)],
+        reads: b"abcd",
+        left: &[(0, b"abcd")],
+    },
+];
+
+// After the crash no failure is planned, and the record is empty: a sync is done.
+fn expect_crash(
     rt: &(impl Abort + AllocGlobal),
-    call: (Call, bool),
-    left: &[(u64, &'static [u8])],
+    case: &Case,
+    pick: u64,
+    want: &[u8],
 ) -> Result<(), Fail> {
-    let fails = [u64::from(!call.1)];
-    for (pick, want) in left {
-        let mut disk = MemDisk::new(rt.alloc(), OLD, 100, &fails)?;
-        expect_calls(rt, &mut disk, &[call]);
-        let mut after = disk.crash(*pick);
-        expect_file(rt, &mut after, want);
+    assert!(rt; case.file.len() <= case.capacity);
+    let mut disk = MemDisk::new(rt.alloc(), case.file, case.capacity, case.fails)?;
+    expect_calls(rt, &mut disk, case.calls);
+    expect_file(rt, &mut disk, case.reads);
+    let mut left = disk.crash(pick);
+    expect_file(rt, &mut left, want);
+    expect_calls(rt, &mut left, &[(Call::Sync, true)]);
+    Ok(())
+}
+
+#[test]
+fn disk_in_memory(rt: HostRuntime) -> Result<(), Fail> {
+    for case in &CASES {
+        for (pick, want) in case.left {
+            expect_crash(&rt, case, *pick, want)?;
+        }
     }
-    Ok(())
-}
-
-#[test]
-fn crashes(rt: HostRuntime) -> Result<(), Fail> {
-    expect_crashes(&rt, (Call::Write(AT, NEW), true), &LEFT_OF_A_WRITE)?;
-    expect_crashes(&rt, (Call::Write(AT, NEW), false), &LEFT_OF_A_WRITE)?;
-    expect_crashes(&rt, (Call::Cut(2), true), &LEFT_OF_A_CUT)?;
-    expect_crashes(&rt, (Call::Cut(2), false), &LEFT_OF_A_CUT)
-}
-
-// The second and the fifth call fail.
-const CALLS: [(Call, bool); 7] = [
-    (Call::Write(3, b"de"), true),
-    (Call::Write(0, b"xyz"), false),
-    (Call::Cut(4), true),
-    (Call::Write(6, b"g"), true),
-    (Call::Sync, false),
-    (Call::Sync, true),
-    (Call::Write(100, b""), true),
-];
-
-#[test]
-fn planned_failures(rt: HostRuntime) -> Result<(), Fail> {
-    let mut disk = MemDisk::new(rt.alloc(), b"abc", 300, &[2, 5])?;
-    expect_calls(&rt, &mut disk, &CALLS);
-    expect_file(&rt, &mut disk, b"abcd\0\0g");
-    let mut after = disk.crash(0);
-    expect_file(&rt, &mut after, b"abcd\0\0g");
-    Ok(())
-}
-
-// In 100 bytes a file of 3: the write takes 1 more and 36 of the record, the sync 32, and 28 are left.
-const FULL: [(Call, bool); 6] = [
-    (Call::Write(0, b"wxyz"), true),
-    (Call::Sync, true),
-    (Call::Sync, false),
-    (Call::Cut(0), false),
-    (Call::Write(0, b""), false),
-    (Call::Write(u64::MAX, b"a"), false),
-];
-
-// In 36 bytes the old file of 4 and one call of 32.
-const JUST_FITS: [(Call, bool); 2] = [(Call::Sync, true), (Call::Sync, false)];
-
-#[test]
-fn past_the_capacity(rt: HostRuntime) -> Result<(), Fail> {
-    let mut disk = MemDisk::new(rt.alloc(), b"abc", 100, &[])?;
-    expect_calls(&rt, &mut disk, &FULL);
-    expect_file(&rt, &mut disk, b"wxyz");
-    // The record is empty after a crash.
-    let mut after = disk.crash(1);
-    expect_calls(&rt, &mut after, &FULL);
-    let mut narrow = MemDisk::new(rt.alloc(), b"abcd", 36, &[])?;
-    expect_calls(&rt, &mut narrow, &JUST_FITS);
     Ok(())
 }
 
 const REAL: [(Call, bool); 4] = [
     (Call::Write(0, b"abcdef"), true),
-    (Call::Cut(9), true),
     (Call::Cut(4), true),
+    (Call::Cut(9), true),
     (Call::Sync, true),
 ];
 

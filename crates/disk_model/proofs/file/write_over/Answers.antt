@@ -1,4 +1,4 @@
-use Rattle.std.proofs.Common.{◌≡◌, ◌+◌, ◌<◌, length, ◌∙◌, ap, sym, arith, rules}
+use Rattle.std.proofs.Common.{rules}
 use Rattle.disk_model.proofs.Writes.{over_lengthened}
 use Rattle.disk_model.proofs.file.write_over.Goals as goal
 

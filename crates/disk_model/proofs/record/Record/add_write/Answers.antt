@@ -1,4 +1,4 @@
-use Rattle.std.proofs.Common.{rules, ◌≡◌, ◌+◌, ◌≤◌, List, ◌∷◌, length, sym, ◌∙◌, ap, arith}
+use Rattle.std.proofs.Common.{rules, ◌≡◌, List, ◌∷◌, ◌∙◌, ap, arith}
 use Rattle.disk_model.specs.Memory.{Deed, Wrote, RecordState, record_size}
 use Rattle.disk_model.specs.Entries.{deeds_of}
 use Rattle.disk_model.proofs.Records.{kept_write, deeds_write}
@@ -8,8 +8,7 @@ pub invariant_of-self : goal.invariant_of-self
 invariant_of-self c =
     let deeds : deeds_of c.self.inside.pool.items c.self.inside.entries.items ≡ c.args.self.now.deeds = ap (λ (r : RecordState). r.deeds) c.self.view_is in
     let capacity : c.self.inside.capacity ≡ c.args.self.now.capacity = ap (λ (r : RecordState). r.capacity) c.self.view_is in
-    let size : record_size (deeds_of c.self.inside.pool.items c.self.inside.entries.items) ≡ record_size c.args.self.now.deeds = ap record_size deeds in
-    (
+    let size : record_size (deeds_of c.self.inside.pool.items c.self.inside.entries.items) ≡ record_size c.args.self.now.deeds = ap record_size deeds in (
       kept_write _ _ _ _ _ _ _ _ _ c.self.invariant.0 (search rules) (search rules) c.push_reserved.ensures.items (λ some. let within = c.requires.within some in omega (arith, within, capacity)) (omega (arith, c.requires.room, size, capacity)),
       search rules,
       search rules,
