@@ -11,6 +11,7 @@ use Rattle.angle_fixed.specs.Answer.{IsOnClock, IsWithinQuarter, ReadsTime, Read
 use Rattle.angle_fixed.specs.Reading.{parts_at, signed_parts_at, past_sixty, time_answer, arc_answer}
 use Rattle.angle_fixed.proofs.Readers.{reads_parts, reads_signed_parts}
 use Rattle.ascii_text.specs.Laws.{TextLaws}
+
 -- ---- right ascensions
 
 on_clock : (p : Parts) → (ltb 23 p.whole || past_sixty p) ≡ false → IsOnClock p

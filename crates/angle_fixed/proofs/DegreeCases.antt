@@ -10,6 +10,7 @@ use Rattle.angle_fixed.specs.Degrees.{IsSpelledSignedDegrees, degree_units, sign
 use Rattle.ascii_text.specs.DecimalNumbers.{NumberParts, IsSpelledNumber, number_parts_at}
 use Rattle.angle_fixed.proofs.DegreeReaders.{reads_signed_degrees}
 use Rattle.ascii_text.specs.Laws.{TextLaws}
+
 -- ---- right ascensions
 
 ra_by_tests : (many off : Bool) (p : NumberParts) (text : List ℕ) → ltb 12 p.count ≡ many → leb circle (degree_units p) ≡ off → IsSpelledNumber 3 p text

@@ -1,6 +1,6 @@
 -- What the code finds of degrees, with the decimals passed over where they are too many, gives the answer of the whole
 -- reader.
-use Rattle.std.proofs.Common.{◌≡◌, ℕ, zero, ◌<◌, Bool, true, false, cond, eqb, ltb, ◌^◌, ◌≤◌, List, Option, Some, None, Result, Err, length, refl, arith}
+use Rattle.std.proofs.Common.{◌≡◌, ℕ, zero, ◌<◌, Bool, true, false, cond, ltb, ◌^◌, ◌≤◌, List, Option, Some, None, Result, Err, refl, arith}
 use Rattle.std.specs.Option.{option_map}
 use Rattle.ascii_text.specs.Judged.{answer_of}
 use Rattle.ascii_text.specs.Reading.{◌>>=◌}

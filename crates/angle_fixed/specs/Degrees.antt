@@ -1,6 +1,6 @@
 -- Right ascension and declination in degrees with decimals: what a text spells, what it is worth, and which answer of a
 -- reader is right.
-use Rattle.std.specs.Prelude.{◌≡◌, ℕ, ◌+◌, ◌-◌, ◌*◌, ◌/◌, ◌%◌, ◌^◌, ◌<◌, ◌≤◌, Bool, true, false, nat_lt, nat_le, ◌==◌, if◌then◌else◌, ◌⊎◌, ℤ, nat_abs, List, [], ◌∷◌, ◌++◌, length, Option, Some, None, Result, Ok, Err}
+use Rattle.std.specs.Prelude.{◌≡◌, ℕ, ◌+◌, ◌-◌, ◌*◌, ◌/◌, ◌%◌, ◌^◌, ◌<◌, ◌≤◌, Bool, true, false, nat_lt, nat_le, ◌==◌, if◌then◌else◌, ◌⊎◌, ℤ, nat_abs, List, [], ◌∷◌, ◌++◌, Option, Some, Result, Ok, Err}
 use Rattle.ascii_text.specs.Blanks.{blanks}
 use Rattle.ascii_text.specs.Judged.{answer_of}
 use Rattle.ascii_text.specs.Reading.{◌>>=◌}

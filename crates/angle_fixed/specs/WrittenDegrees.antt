@@ -1,5 +1,5 @@
 -- What the code keeps of degrees with decimals: it works out the value of at most twelve decimals.
-use Rattle.std.specs.Prelude.{◌≡◌, ℕ, ◌^◌, ◌<◌, ◌≤◌, Option, Some, None, Result, Err}
+use Rattle.std.specs.Prelude.{◌≡◌, ◌^◌, ◌<◌, ◌≤◌, Option, Some, None, Result, Err}
 use Rattle.ascii_text.specs.declared.numbers.DecimalNumber.{DecimalNumber}
 use Rattle.ascii_text.specs.DecimalNumbers.{NumberParts}
 use Rattle.angle_fixed.specs.declared.fault.AngleFault.{AngleFault}

@@ -1,5 +1,5 @@
 -- Numbers with a fixed number of digits: what is written is read, and what is read is written.
-use Rattle.std.proofs.Common.{◌≡◌, ℕ, zero, suc, ◌+◌, ◌*◌, ◌/◌, ◌%◌, ◌^◌, ◌<◌, List, [], ◌∷◌, ◌++◌, length, Option, Some, None, refl, sym, ap, ◌∙◌, arith}
+use Rattle.std.proofs.Common.{◌≡◌, ℕ, zero, suc, ◌+◌, ◌*◌, ◌/◌, ◌%◌, ◌^◌, ◌<◌, List, [], ◌∷◌, ◌++◌, length, Some, refl, sym, ap, ◌∙◌, arith}
 use Rattle.std.proofs.Math.Nat.{pow-zero, pow-suc, mul_comm, div-lt_iff_lt-mul}
 use Rattle.std.proofs.lemmas.Bool.Decides.{nat_tests}
 use Rattle.std.proofs.lemmas.Option.{same_Some}
@@ -7,7 +7,7 @@ use Rattle.std.proofs.lemmas.Nat.{mul-add-lt, div-mul-add, mod-mul-add, mod_belo
 use Rattle.ascii_text.specs.declared.digits.Radix.{Radix}
 use Rattle.ascii_text.specs.declared.digits.Radix.TheVariants.{Ten, SixtyTwo}
 use Rattle.ascii_text.specs.Digits.{base, digit_byte, digits_text, decimals_text, decimals_width}
-use Rattle.ascii_text.specs.Reading.{◌>>=◌, bind_some, digit_value, sixty_two_value, digit_at, more_digits, digits_at}
+use Rattle.ascii_text.specs.Reading.{bind_some, digit_value, sixty_two_value, digit_at, more_digits, digits_at}
 use Rattle.ascii_text.proofs.Steps.{power_positive}
 
 pub some_first : {A B : Type 0} (a : A) (b : B) (x : A × B) → Some (a, b) ≡ Some x → a ≡ x.0

@@ -1,5 +1,6 @@
 use crate::blanks::{are_blanks, trimmed};
 use crate::digits::Radix;
+use crate::numbers::decimal_number;
 use crate::reading::{Decimals, decimals_at, decimals_within, digits_at, number_at};
 use crate::writing::{put_blanks, put_decimal, put_decimals, put_digits};
 use arrayvec::ArrayVec;
@@ -41,6 +42,30 @@ fn reads(rt: HostRuntime) {
         (b"".as_slice(), None),
     ] {
         assert_eq!(rt; number_at(3, text).map(|x| x.0), value);
+    }
+}
+
+// A right ascension of ADES in degrees has at most three digits before its point, and this office takes twelve decimals.
+#[test]
+fn reads_decimal_numbers(rt: HostRuntime) {
+    for (text, found) in [
+        (b"007".as_slice(), Some(Some((3, 7, 0, 0)))),
+        (b"7.050".as_slice(), Some(Some((1, 7, 3, 50)))),
+        (b"7.0505".as_slice(), Some(None)),
+        (b"1000".as_slice(), None),
+        (b"7.".as_slice(), None),
+        (b".5".as_slice(), None),
+        (b"7.5 ".as_slice(), None),
+        (b"".as_slice(), None),
+    ] {
+        let read = decimal_number(3, 3, text);
+        let parts = read.map(|x| x.map(|n| (
+            n.digits,
+            n.whole,
+            n.decimals.count,
+            n.decimals.value,
+        )));
+        assert_eq!(rt; parts, found, "{text:?}");
     }
 }
 

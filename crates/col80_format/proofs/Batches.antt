@@ -1,16 +1,20 @@
 -- A batch that is read line by line says what the batch says.
-use Rattle.std.proofs.Common.{◌≡◌, ℕ, ◌+◌, ◌<◌, ◌≤◌, Bool, true, false, not, cond, ◌||◌, List, [], ◌∷◌, ◌++◌, append_assoc, length, map, take, refl, sym, ap, subst, ◌∙◌, arith}
+use Rattle.std.proofs.Common.{◌≡◌, ℕ, ◌+◌, ◌<◌, ◌≤◌, Bool, true, false, not, cond, eqb, ◌||◌, List, [], ◌∷◌, ◌++◌, append_assoc, length, map, take, refl, sym, ap, subst, ◌∙◌, arith}
 use Rattle.std.specs.List.{enumerate_from, AllZip}
 use Rattle.std.specs.Str.Lines.{lines}
-use Rattle.std.proofs.lemmas.List.{append-nil, take-append-le, take_at, length-append}
+use Rattle.std.proofs.lemmas.List.{append-nil, take-append-le, length-append, length-take}
+use Rattle.std.proofs.lemmas.List.Elements.{All-nil, All-push}
 use Rattle.ascii_text.specs.Blanks.{are_blanks}
 use Rattle.text_lines.specs.Lines.{filled_lines, IsNumberable}
 use Rattle.text_lines.specs.Pieces.{complete_lines, unfinished}
 use Rattle.text_lines.specs.Laws.{LineLaws}
+use Rattle.std.specs.Prelude.{IfOk}
 use Rattle.obs_record.specs.declared.line.Line.{Line}
+use Rattle.obs_record.specs.Sighting.{IsSighting}
+use Rattle.obs_record.specs.Lines.{AreInRange}
 use Rattle.col80_format.specs.declared.batch.Seen.{Seen}
-use Rattle.col80_format.specs.Batch.{drop_while, is_front_line, behind_front, observation_lines, IsReadFrom, read_of, lines_of}
-use Rattle.col80_format.specs.Feeding.{none_seen, read_on, seen_on, seen_all, Progress, progress_of, IsUnderWay}
+use Rattle.col80_format.specs.Batch.{drop_while, is_front_line, behind_front, IsReadFrom, read_of, lines_of}
+use Rattle.col80_format.specs.Feeding.{none_seen, read_on, seen_on, seen_all, Progress, progress_of}
 use Rattle.col80_format.proofs.LawsBelow.{Laws}
 use Rattle.col80_format.proofs.LineLaws.{reading_is}
 
@@ -77,19 +81,30 @@ pub seen_all-append : (seen : Seen) (xs ys : List (List ℕ)) → seen_all seen 
 seen_all-append seen [] ys = refl
 seen_all-append seen (x ∷ xs) ys = seen_all-append (seen_on seen x) xs ys
 
--- what was found before stays at the front
-pub found_stays : (seen : Seen) (line : List ℕ) → take (length seen.found) (seen_on seen line).found ≡ seen.found
-found_stays seen line =
-    let on : (seen_all seen (line ∷ [])).found ≡ found_on seen.found seen.observed seen.next (line ∷ []) = found-seen_all seen (line ∷ []) in
-    ap (take (length seen.found)) on ∙ take_at seen.found (map read_of (observations seen.observed (enumerate_from seen.next (line ∷ [])))) (length seen.found) refl
+-- what was found before a line stays at the front
+pub found_stays : (old : List Line) (seen : Seen) (line : List ℕ) → take (length old) seen.found ≡ old → take (length old) (seen_on seen line).found ≡ old
+found_stays old seen line kept =
+    let within : length old ≤ length seen.found = omega (arith, ap length kept, length-take (length old) seen.found) in
+    let more : List Line = map read_of (observations seen.observed (enumerate_from seen.next (line ∷ []))) in
+    ap (take (length old)) (found-seen_all seen (line ∷ [])) ∙ take-append-le (length old) seen.found more within ∙ kept
 
 -- the lines of a whole batch, one after the other
 pub batch_read : (body : List ℕ) → (seen_all none_seen (lines body)).found ≡ lines_of body
 batch_read body = found-seen_all none_seen (lines body)
 
+-- a line that is read in range is found among others
+pub found_in_range : (found new : List Line) (line : Line) → new ≡ found ++ line ∷ [] → IfOk line.read IsSighting → AreInRange found → AreInRange new
+found_in_range found new line is read before = subst AreInRange (sym is) (All-push (λ (l : Line). IfOk l.read IsSighting) found line before read)
+
 -- ---- pieces
 
 module _ (texts : LineLaws) where
+  -- nothing was fed yet
+  pub unfed : progress_of [] ≡ record { rest = []; seen = none_seen }
+  unfed =
+      ap (λ (t : List ℕ). let p : Progress = record { rest = t; seen = seen_all none_seen (complete_lines []) } in p) (texts.all_unfinished [] (All-nil (λ b. eqb b 10 ≡ false)))
+      ∙ ap (λ (ls : List (List ℕ)). let p : Progress = record { rest = []; seen = seen_all none_seen ls } in p) (texts.none_complete [] (All-nil (λ b. eqb b 10 ≡ false)))
+
   open texts use {complete_on, unfinished_on, last_line, no_last_line, few}
 
   -- a piece that ends a line, and a piece after it
@@ -103,10 +118,10 @@ module _ (texts : LineLaws) where
       let first : complete_lines (text ++ end) ≡ complete_lines text ++ complete_lines (rest ++ end) = complete_on text end ∙ ap (λ (t : List ℕ). complete_lines text ++ complete_lines (t ++ end)) (sym rest_is) in
       let left : unfinished (text ++ piece) ≡ unfinished after = ap unfinished whole ∙ unfinished_on (text ++ end) after ∙ ap (λ (t : List ℕ). unfinished (t ++ after)) none in
       let all : complete_lines (text ++ piece) ≡ (complete_lines text ++ complete_lines (rest ++ end)) ++ complete_lines after =
-          ap complete_lines whole ∙ complete_on (text ++ end) after ∙ ap (λ (t : List ℕ). complete_lines (text ++ end) ++ complete_lines (t ++ after)) none ∙ ap (λ (ls : List (List ℕ)). ls ++ complete_lines after) first in
+      ap complete_lines whole ∙ complete_on (text ++ end) after ∙ ap (λ (t : List ℕ). complete_lines (text ++ end) ++ complete_lines (t ++ after)) none ∙ ap (λ (ls : List (List ℕ)). ls ++ complete_lines after) first in
       let seen_at : seen_all none_seen (complete_lines (text ++ piece)) ≡ seen_all (seen_all seen (complete_lines (rest ++ end))) (complete_lines after) =
-          ap (seen_all none_seen) all ∙ seen_all-append none_seen (complete_lines text ++ complete_lines (rest ++ end)) (complete_lines after)
-          ∙ ap (λ (s : Seen). seen_all s (complete_lines after)) (seen_all-append none_seen (complete_lines text) (complete_lines (rest ++ end)) ∙ ap (λ (s : Seen). seen_all s (complete_lines (rest ++ end))) (sym seen_is)) in
+      ap (seen_all none_seen) all ∙ seen_all-append none_seen (complete_lines text ++ complete_lines (rest ++ end)) (complete_lines after)
+      ∙ ap (λ (s : Seen). seen_all s (complete_lines after)) (seen_all-append none_seen (complete_lines text) (complete_lines (rest ++ end)) ∙ ap (λ (s : Seen). seen_all s (complete_lines (rest ++ end))) (sym seen_is)) in
       sym (ap (λ (t : List ℕ). let p : Progress = record { rest = t; seen = seen_all none_seen (complete_lines (text ++ piece)) } in p) left
       ∙ ap (λ (s : Seen). let p : Progress = record { rest = unfinished after; seen = s } in p) seen_at)
 
@@ -119,7 +134,14 @@ module _ (texts : LineLaws) where
       let seen_is : seen ≡ seen_all none_seen (complete_lines text) = ap (λ (p : Progress). p.seen) is in
       rw (rest_is, seen_is, left, same) refl
 
-  -- there is room for the numbers of the lines
+  -- there is room for the number of the last line
+  pub room_of : (text rest : List ℕ) (seen : Seen) → record { rest = rest; seen = seen } ≡ progress_of text → IsNumberable text → length rest + seen.next ≤ 4294967295
+  room_of text rest seen is short =
+      let rest_is : rest ≡ unfinished text = ap (λ (p : Progress). p.rest) is in
+      let seen_is : seen ≡ seen_all none_seen (complete_lines text) = ap (λ (p : Progress). p.seen) is in
+      omega (arith, ap length rest_is, ap (λ (s : Seen). s.next) seen_is, next-seen_all none_seen (complete_lines text), few text)
+
+  -- there is room for the numbers of the lines that a piece ends
   pub room_left : (text piece rest : List ℕ) (seen : Seen) → record { rest = rest; seen = seen } ≡ progress_of text → IsNumberable (text ++ piece)
       → length rest + length piece + seen.next ≤ 4294967295
   room_left text piece rest seen is short =

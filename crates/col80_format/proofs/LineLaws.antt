@@ -1,5 +1,5 @@
 -- What is read from a line is what its columns say, and nothing else is.
-use Rattle.std.proofs.Common.{◌≡◌, ℕ, Bool, true, false, cond, eqb, not, List, [], ◌∷◌, length, get_or, All, Option, Result, Ok, Err, refl, sym, ap, subst, ◌∙◌, inl, inr, arith, lit≤}
+use Rattle.std.proofs.Common.{◌≡◌, ℕ, Bool, true, false, cond, eqb, not, List, [], ◌∷◌, length, get_or, All, Option, Result, Ok, Err, refl, sym, ap, subst, ◌∙◌, inl, arith, lit≤}
 use Rattle.std.specs.Prelude.{Contains, ℤ}
 use Rattle.std.specs.List.{list_all, list_any}
 use Rattle.std.proofs.lemmas.Bool.{eqb-true, eqb-false}
@@ -7,9 +7,7 @@ use Rattle.std.proofs.lemmas.Bool.Decides.{nat_tests}
 use Rattle.std.proofs.lemmas.List.Sums.{AllPass-from_list_all, list_all-from_AllPass}
 use Rattle.std.proofs.lemmas.List.Folds.{list_any_at, Any-from_list_any}
 use Rattle.ascii_text.specs.Blanks.{blanks, are_blanks}
-use Rattle.angle_fixed.specs.declared.fault.AngleFault.{AngleFault}
 use Rattle.angle_fixed.specs.Answer.{ReadsTime, ReadsArc}
-use Rattle.obs_time.specs.declared.fault.TimeFault.{TimeFault}
 use Rattle.obs_time.specs.DayText.{IsDayAnswer, day_fraction_of}
 use Rattle.obs_record.specs.declared.rule.RuleCode.{RuleCode}
 use Rattle.obs_record.specs.declared.rule.RuleCode.TheVariants.{S1, S2, S3, S4, S5, S6, S7, S8, S9}
@@ -28,7 +26,7 @@ use Rattle.obs_record.specs.Modes.{refused_modes}
 use Rattle.text_lines.specs.Steps.{◌>>=◌, or_breaks}
 use Rattle.col80_format.specs.Names.{AreNamesOf, names_in}
 use Rattle.col80_format.specs.Magnitudes.{IsMagnitudeText, magnitude_in}
-use Rattle.text_lines.specs.Rules.{KeepsEach, Judges}
+use Rattle.text_lines.specs.Rules.{Judges}
 use Rattle.text_lines.specs.Judging.{judged_on, judged_test, judged_part, judged_breaks, one_judgement}
 use Rattle.col80_format.specs.Rules.{Keeps, line_rules, IsSightingOf, IsReading}
 use Rattle.col80_format.specs.Reading.{head_of, right_ascension_of, declination_of, position_of, tail_of, observed, reading_of}
@@ -36,6 +34,7 @@ use Rattle.col80_format.proofs.Chains.{same_Ok}
 use Rattle.col80_format.proofs.MagnitudeLaws.{magnitude_given, magnitude_found, magnitude_fault}
 use Rattle.col80_format.proofs.NameLaws.{columns_long, names_given, names_found, names_fault}
 use Rattle.col80_format.proofs.LawsBelow.{Laws}
+
 -- ---- single rules
 
 not_true : (b : Bool) → (b ≡ true → ⊥) → b ≡ false

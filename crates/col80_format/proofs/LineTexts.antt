@@ -1,5 +1,5 @@
 -- The columns of a line that is written, and of a line that is written again.
-use Rattle.std.proofs.Common.{◌≡◌, ℕ, zero, suc, ◌+◌, ◌-◌, ◌*◌, ◌/◌, ◌%◌, ◌^◌, ◌<◌, ◌≤◌, List, [], ◌∷◌, ◌++◌, length, take, drop, Option, Some, None, sym, ap, subst, ◌∙◌, append_assoc, inl, inr, arith, lit≤}
+use Rattle.std.proofs.Common.{◌≡◌, ℕ, zero, suc, ◌+◌, ◌-◌, ◌*◌, ◌/◌, ◌%◌, ◌^◌, ◌<◌, ◌≤◌, min, List, [], ◌∷◌, ◌++◌, length, take, drop, Option, Some, None, sym, ap, subst, ◌∙◌, append_assoc, inl, inr, arith, lit≤}
 use Rattle.std.proofs.lemmas.List.{take-append-drop, take-take, drop-take, drop-drop, drop_more, take_at, drop_at, length-append, append-nil}
 use Rattle.std.proofs.lemmas.Bool.{cases_lt, lt-ltb, le-ltb}
 use Rattle.ascii_text.specs.declared.digits.Radix.TheVariants.{Ten}
@@ -9,13 +9,15 @@ use Rattle.angle_fixed.specs.Writing.{time_text, arc_text}
 use Rattle.obs_time.specs.WrittenText.{IsTextOf}
 use Rattle.obs_record.specs.declared.short.Short.{Short}
 use Rattle.obs_record.specs.declared.sighting.Shape.{Shape}
-use Rattle.obs_record.specs.declared.sighting.Shape.TheVariants.{Eighty}
+use Rattle.std.specs.Prelude.{IfSome}
+use Rattle.obs_record.specs.declared.sighting.Shape.TheVariants.{Eighty, Psv}
+use Rattle.obs_record.specs.Sighting.{IsShape, places_of}
 use Rattle.obs_record.specs.declared.sighting.Sighting.{Sighting}
 use Rattle.col80_format.specs.declared.writing.Front.{Front}
 use Rattle.col80_format.specs.declared.writing.Letters.{Letters}
 use Rattle.col80_format.specs.declared.form.Form.{Form}
 use Rattle.col80_format.specs.Columns.{columns, column}
-use Rattle.obs_record.specs.Magnitudes.{magnitude_of}
+use Rattle.obs_record.specs.Magnitudes.{magnitude_of, HasDecimals}
 use Rattle.col80_format.specs.Magnitudes.{WrittenMagnitude, SpellsMagnitude, whole_text, IsMagnitudeText}
 use Rattle.col80_format.specs.Rules.{IsSightingOf}
 use Rattle.col80_format.specs.LineText.{form_of, note_of, number_text, star_byte, steps_of, magnitude_text, front_text, angles_text, back_text, IsLineText, IsSameLine}
@@ -23,6 +25,7 @@ use Rattle.col80_format.proofs.NameLaws.{columns_long}
 use Rattle.col80_format.proofs.LineLaws.{day_found}
 use Rattle.col80_format.proofs.RangeLaws.{days_within}
 use Rattle.col80_format.proofs.LawsBelow.{Laws}
+
 -- ---- the magnitude
 
 -- the parts of a magnitude that is written with as many decimals as it has
@@ -35,6 +38,27 @@ steps_again zero whole decimals mag few low below is = record { whole_is = omega
 steps_again (suc zero) whole decimals mag few low below is = record { whole_is = omega (arith, below, is); decimals_are = omega (arith, below, is) }
 steps_again (suc (suc zero)) whole decimals mag few low below is = record { whole_is = omega (arith, below, is); decimals_are = omega (arith, below, is) }
 steps_again (suc (suc (suc count))) whole decimals mag few low below is = absurd (omega arith)
+
+-- ---- no magnitude is too great for its columns
+
+fits_by : (places mag : ℕ) → places ≤ 2 → mag ≤ 99990000 → mag % 10 ^ (6 - places) ≡ 0 → steps_of places mag < 100 * 10 ^ places
+fits_by zero mag few within whole = omega (arith, whole)
+fits_by (suc zero) mag few within whole = omega (arith, whole)
+fits_by (suc (suc zero)) mag few within whole = omega (arith, whole)
+fits_by (suc (suc (suc places))) mag few within whole = absurd (omega arith)
+
+fits_shape : (shape : Shape) (mag : ℕ) → IsShape shape → mag ≤ 99990000 → HasDecimals (Some mag) (places_of shape) → steps_of (form_of shape).places mag < 100 * 10 ^ (form_of shape).places
+fits_shape (Eighty date ra dec minus places) mag is within whole = fits_by places mag is.4 within whole
+fits_shape (Psv zero) mag is within whole = fits_by 0 mag (omega arith) within whole
+fits_shape (Psv (suc zero)) mag is within whole = fits_by 1 mag (omega arith) within whole
+fits_shape (Psv (suc (suc places))) mag is within whole =
+    let two : min (suc (suc places)) 2 ≡ 2 = omega arith in
+    subst (λ (p : ℕ). steps_of p mag < 100 * 10 ^ p) (sym two) (omega (arith, within))
+
+pub fits_columns : (shape : Shape) (mag : Option ℕ) → IsShape shape → IfSome mag (λ m. m ≤ 99990000) → HasDecimals mag (places_of shape)
+    → IfSome mag (λ m. steps_of (form_of shape).places m < 100 * 10 ^ (form_of shape).places)
+fits_columns shape None is within whole = tt
+fits_columns shape (Some mag) is within whole = fits_shape shape mag is within whole
 
 -- ---- columns of a list
 

@@ -15,10 +15,8 @@ use Rattle.packed_names.specs.declared.name.Name.{Name}
 use Rattle.packed_names.specs.declared.name.Name.TheVariants as names
 use Rattle.packed_names.specs.declared.name.NameFault.{NameFault}
 use Rattle.packed_names.specs.declared.name.NameFault.TheVariants.{Spelling}
-use Rattle.packed_names.specs.Ranges.{IsName}
-use Rattle.packed_names.specs.Packed.{IsPackedAs, packed_text, FitsPacked}
+use Rattle.packed_names.specs.Packed.{IsPackedAs}
 use Rattle.packed_names.specs.PackedReading.{packed_in, number_in as packed_number_in, small_number_in, large_number_in, designation_in, provisional_in, century_form_in, century_half_at, century_at, extended_form_in, survey_in, survey_at, survey_of}
-use Rattle.packed_names.specs.Judging.{is_in_range, answered}
 use Rattle.obs_record.specs.declared.short.Short.{Short}
 use Rattle.obs_record.specs.declared.rule.RuleCode.{RuleCode}
 use Rattle.obs_record.specs.declared.rule.RuleCode.TheVariants.{S3}

@@ -15,7 +15,7 @@ use Rattle.obs_record.specs.declared.sighting.Coded.TheVariants.{Nothing, Letter
 use Rattle.obs_record.specs.declared.sighting.Sighting.{Sighting}
 use Rattle.obs_record.specs.Short.{IsShort}
 use Rattle.obs_record.specs.declared.sighting.Shape.{Shape}
-use Rattle.obs_record.specs.Magnitudes.{magnitude_of, HasDecimals}
+use Rattle.obs_record.specs.Magnitudes.{HasDecimals}
 use Rattle.obs_record.specs.Sighting.{IsPrintable, IsCoded, IsShape, places_of, IsSighting}
 use Rattle.text_lines.specs.Rules.{KeepsEach}
 use Rattle.col80_format.specs.Columns.{columns, column, coded}

@@ -1,5 +1,5 @@
 -- The lines of a batch.
-use Rattle.std.specs.Prelude.{◌≡◌, ℕ, Bool, ◌&&◌, ◌||◌, not, ◌==◌, nat_eq, if◌then◌else◌, List, [], ◌∷◌, length, map, filter, slice_index, codes, All, IfOk}
+use Rattle.std.specs.Prelude.{◌≡◌, ℕ, Bool, ◌&&◌, ◌||◌, ◌==◌, nat_eq, if◌then◌else◌, List, [], ◌∷◌, length, map, slice_index, codes}
 use Rattle.std.specs.List.{list_any, starts_with}
 use Rattle.ascii_text.specs.Bytes.{blank}
 use Rattle.ascii_text.specs.Blanks.{are_blanks}

@@ -1,5 +1,5 @@
 -- A batch that is read line by line, and fed in pieces.
-use Rattle.std.specs.Prelude.{◌≡◌, ℕ, ◌+◌, Bool, true, false, not, ◌||◌, if◌then◌else◌, List, [], ◌∷◌, ◌++◌}
+use Rattle.std.specs.Prelude.{◌≡◌, ℕ, ◌+◌, true, false, not, ◌||◌, if◌then◌else◌, List, [], ◌∷◌, ◌++◌}
 use Rattle.ascii_text.specs.Blanks.{are_blanks}
 use Rattle.text_lines.specs.Lines.{IsNumberable}
 use Rattle.text_lines.specs.Pieces.{complete_lines, unfinished}

@@ -1,5 +1,5 @@
 -- The text of an observation as a line of 80 columns.
-use Rattle.std.specs.Prelude.{◌≡◌, ℕ, ◌-◌, ◌*◌, ◌/◌, ◌%◌, ◌^◌, min, Bool, true, false, List, [], ◌∷◌, ◌++◌, length, take, Option, Some, None, Contains}
+use Rattle.std.specs.Prelude.{◌≡◌, ℕ, ◌-◌, ◌/◌, ◌%◌, ◌^◌, min, Bool, true, false, List, [], ◌∷◌, ◌++◌, length, take, Option, Some, None, Contains}
 use Rattle.ascii_text.specs.Digits.{decimals_text, decimals_width}
 use Rattle.ascii_text.specs.Bytes.{blank, asterisk}
 use Rattle.ascii_text.specs.Blanks.{blanks}

@@ -1,5 +1,5 @@
 -- What an 80-column line says, column by column: an observation, or the first rule that the line breaks.
-use Rattle.std.specs.Prelude.{◌≡◌, ℕ, Bool, List, [], ◌∷◌, length, All, Contains, Option, Result, Ok, Err, ℤ}
+use Rattle.std.specs.Prelude.{◌≡◌, ℕ, Bool, List, [], ◌∷◌, length, All, Contains, Option, Result, Ok, ℤ}
 use Rattle.ascii_text.specs.Blanks.{blanks}
 use Rattle.angle_fixed.specs.Answer.{ReadsTime, ReadsArc}
 use Rattle.obs_time.specs.DayText.{IsDayAnswer}

@@ -101,6 +101,11 @@ impl EightyReader {
         ensures range { IfOk result AreInRange }
     {
         text_lines::laws::lines();
+        ascii_text::laws::texts();
+        angle_fixed::laws::angles();
+        obs_time::laws::times();
+        packed_names::laws::names();
+        obs_record::laws::records();
         let mut seen = self.seen;
         if !self.rest.is_empty() {
             see_line(&mut seen, self.rest.as_slice())?;
@@ -111,12 +116,7 @@ impl EightyReader {
 
 /// Reads the lines that the piece ends, and keeps the rest of it. Where memory is refused, more may stand after what was
 /// kept.
-fn read_on(
-    alloc: Global,
-    rest: &mut Bytes,
-    seen: &mut Seen,
-    piece: &[u8],
-) -> Result<(), NoMemory>
+fn read_on(alloc: Global, rest: &mut Bytes, seen: &mut Seen, piece: &[u8]) -> Result<(), NoMemory>
     requires { (text : List ℕ) × (record { rest = rest.old; seen = seen.old } ≡ progress_of text) × IsNumberable (text ++ piece.now) }
     ensures progress { (text : List ℕ) → record { rest = rest.old; seen = seen.old } ≡ progress_of text
         → OnOk result (record { rest = rest.new; seen = seen.new } ≡ progress_of (text ++ piece.now)) }

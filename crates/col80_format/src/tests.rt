@@ -1,5 +1,6 @@
-ghost use Rattle.std.specs.Prelude.{IsTrue};
-ghost use Rattle.obs_record.specs.Sighting.{IsShape};
+ghost use Rattle.std.specs.Prelude.{◌≡◌, ◌-◌, ◌^◌, IsTrue, IfSome, ◌<◌, ◌≤◌, length};
+ghost use Rattle.obs_record.specs.Magnitudes.{greatest_magnitude, HasDecimals};
+ghost use Rattle.obs_record.specs.Sighting.{IsShape, places_of};
 
 use super::*;
 use angle_fixed::{Dec, Ra};
@@ -134,18 +135,32 @@ fn spellings() -> [(usize, &'static [u8], Option<RuleCode>); 95] {
     ]
 }
 
+/// The rule that the line with these bytes from a column on breaks.
+fn broken(column: usize, text: &[u8]) -> Option<RuleCode> {
+    read_line(&with(column, text)).err()
+}
+
 #[test]
 fn breaks_the_first_rule(rt: HostRuntime) {
     for (column, text, rule) in spellings() {
-        assert_eq!(rt;
-            read_line(&with(column, text)).err(),
-            rule,
-            "{text:?} in column {column}"
-        );
+        assert_eq!(rt; broken(column, text), rule, "{text:?} in column {column}");
     }
+}
+
+#[test]
+fn lines_have_80_bytes(rt: HostRuntime) {
     let long = [b' '; 81];
-    for line in [&LINE[..79], &LINE[..0], &long[..]] {
+    for count in [0, 79, 81] {
+        let (line, _) = long.split_at(count);
         assert_eq!(rt; read_line(line).err(), Some(RuleCode::S1));
+    }
+}
+
+/// The name of the line with this text in columns 1 to 12.
+fn name_in(text: &[u8]) -> Option<TrackName> {
+    match read_line(&with(1, text)) {
+        Ok(s) => Some(track_name(&s)),
+        Err(_) => None,
     }
 }
 
@@ -154,14 +169,14 @@ fn temporary(text: &[u8]) -> TrackName {
     TrackName::Sub(Short::new(text))
 }
 
-#[test]
-fn reads_names_and_magnitudes(rt: HostRuntime) {
+/// Columns 1 to 12, and the name that the observation goes by.
+fn names() -> [(&'static [u8], TrackName); 10] {
     let half = HalfMonth {
         year: 2024,
         index: 4,
     };
     let first = Designation::Provisional(Provisional { half, order: 1 });
-    let names: [(&[u8], TrackName); 10] = [
+    [
         (b"     P10abcd", temporary(b"P10abcd")),
         (b"     A      ", temporary(b"A")),
         (b"        A   ", temporary(b"A")),
@@ -172,110 +187,179 @@ fn reads_names_and_magnitudes(rt: HostRuntime) {
         (b"00433       ", TrackName::Number(Number(433))),
         (b"00433P10abcd", TrackName::Number(Number(433))),
         (b"~zzzzK24E00A", TrackName::Number(Number(15_396_335))),
-    ];
-    for (text, name) in names {
-        let read = read_line(&with(1, text)).map(|s| track_name(&s));
-        assert_eq!(rt; read, Ok(name), "{text:?}");
+    ]
+}
+
+#[test]
+fn reads_names(rt: HostRuntime) {
+    for (text, name) in names() {
+        assert_eq!(rt; name_in(text), Some(name), "{text:?}");
     }
-    let magnitudes: [(&[u8], Option<u32>, u8); 5] = [
+}
+
+/// The magnitude of the line with this text in columns 66 to 70, and its decimals.
+fn magnitude_in(text: &[u8]) -> Option<(Option<u32>, u8)> {
+    let s = read_line(&with(66, text)).ok()?;
+    match s.shape {
+        Shape::Eighty { mag, .. } => Some((s.mag, mag)),
+        Shape::Psv { .. } => None,
+    }
+}
+
+#[test]
+fn reads_magnitudes(rt: HostRuntime) {
+    for (text, mag, places) in [
         (b"     ", None, 0),
         (b"19.5 ", Some(19_500_000), 1),
         (b"99.99", Some(99_990_000), 2),
         (b" 0   ", Some(0), 0),
         (b" 7.05", Some(7_050_000), 2),
-    ];
-    for (text, mag, places) in magnitudes {
-        let shape = Shape::Eighty {
-            date: 5,
-            ra: 2,
-            dec: 1,
-            minus: false,
-            mag: places,
-        };
-        let read = read_line(&with(66, text)).map(|s| (s.mag, s.shape));
-        assert_eq!(rt; read, Ok((mag, shape)), "{text:?}");
-    }
-}
-
-#[test]
-fn reads_the_columns(rt: HostRuntime) -> Result<(), Fail> {
-    let s = read_line(&with(13, b"*K"))
-        .ok()
-        .ok_or("the line breaks no rule")?;
-    assert_eq!(rt;
-        (s.perm, s.prov, s.sub),
-        (None, None, Some(Short::new(b"P10abcd")))
-    );
-    // 2024-03-15T02:57:46.08Z
-    assert_eq!(rt; s.time.ns(), 1_710_471_466_080_000_000);
-    // 93.144 degrees, and 23 + 45 / 60 + 1.2 / 3600 degrees
-    assert_eq!(rt;
-        (s.ra.units(), s.dec.units()),
-        (838_296_000_000_000, 213_753_000_000_000)
-    );
-    assert_eq!(rt;
-        (s.mode, s.band, s.catalogue),
-        (Coded::Letter(b'C'), Coded::Letter(b'V'), Coded::Nothing)
-    );
-    assert_eq!(rt; (s.note1, s.station), (b'K', Short::new(b"703")));
-    let south = read_line(&with(45, b"-00 00 00.00"))
-        .ok()
-        .ok_or("the line breaks no rule")?;
-    assert_eq!(rt; south.dec.units(), 0);
-    assert!(rt; matches!(south.shape, Shape::Eighty { minus: true, .. }));
-    Ok(())
-}
-
-/// The lines of a batch that isn't long.
-fn lines_of(alloc: Global, body: &[u8]) -> Result<Lines, NoMemory> {
-    if body.len() > 9999 {
-        return Ok(Lines::new(alloc));
-    }
-    split_batch(alloc, body)
-}
-
-#[test]
-fn splits_batches(rt: HostRuntime) -> Result<(), Fail> {
-    let mut body: Vec<u8> = Vec::new(rt.alloc());
-    let texts: [&[u8]; 13] = [
-        b"COD 703\n",
-        b"\n",
-        b"COM\r\n",
-        b"   \r\n",
-        b"AC2 a@b.c\n",
-        &LINE,
-        b"\r\n",
-        b"   \n",
-        b"COD 703\n",
-        &LINE,
-        b" \n",
-        b"\r\r\n",
-        &LINE,
-    ];
-    for text in texts {
-        body.extend_from_slice(text)?;
-    }
-    let wanted = [
-        (6, None),
-        (8, Some(RuleCode::S1)),
-        (9, Some(RuleCode::S1)),
-        (10, Some(RuleCode::S1)),
-        (11, None),
-    ];
-    let lines = lines_of(rt.alloc(), &body)?;
-    assert_eq!(rt; lines.len(), wanted.len() as u64);
-    for (line, want) in lines.iter().zip(wanted) {
-        assert_eq!(rt; (line.number, line.read.err()), want);
-    }
-    for (body, count) in [
-        (b"".as_slice(), 0),
-        (b"CODE 703", 1),
-        (b"OBS\nNUM 4\n", 0),
-        (b"x\nCOD 703\n", 2),
     ] {
-        assert_eq!(rt; lines_of(rt.alloc(), body)?.len(), count, "{body:?}");
+        assert_eq!(rt; magnitude_in(text), Some((mag, places)), "{text:?}");
+    }
+}
+
+/// The observation of the line with these bytes from a column on: the moment, both angles, and the other columns.
+fn columns_of(
+    column: usize,
+    text: &[u8],
+) -> Option<((i64, i64, i64), (Coded, Coded, Coded, u8), Shape)> {
+    let s = read_line(&with(column, text)).ok()?;
+    let at = (s.time.ns(), s.ra.units(), s.dec.units());
+    Some((at, (s.mode, s.band, s.catalogue, s.note1), s.shape))
+}
+
+#[test]
+fn reads_the_columns(rt: HostRuntime) {
+    // 2024-03-15T02:57:46.08Z, 93.144 degrees, and 23 + 45 / 60 + 1.2 / 3600 degrees
+    let at = (
+        1_710_471_466_080_000_000,
+        838_296_000_000_000,
+        213_753_000_000_000,
+    );
+    let letters = (
+        Coded::Letter(b'C'),
+        Coded::Letter(b'V'),
+        Coded::Nothing,
+        b'K',
+    );
+    let shape = Shape::Eighty {
+        date: 5,
+        ra: 2,
+        dec: 1,
+        minus: false,
+        mag: 1,
+    };
+    assert_eq!(rt; columns_of(13, b"*K"), Some((at, letters, shape)));
+}
+
+#[test]
+fn keeps_the_minus_of_zero(rt: HostRuntime) {
+    let read = columns_of(45, b"-00 00 00.00").map(|x| (x.0.2, x.2));
+    let shape = Shape::Eighty {
+        date: 5,
+        ra: 2,
+        dec: 2,
+        minus: true,
+        mag: 1,
+    };
+    assert_eq!(rt; read, Some((0, shape)));
+}
+
+/// A batch with header lines, blank lines, line ends of both kinds, and a last line that no line feed ends.
+const BATCH: &[u8] = b"COD 703\n\
+\n\
+COM\r\n   \r\nAC2 a@b.c\n\
+\x20    P10abcd  C2024 03 15.12345 06 12 34.56 +23 45 01.2          19.5 V      703\r\n   \n\
+COD 703\n\
+\x20    P10abcd  C2024 03 15.13345 06 12 35.10 +23 45 05.0          19.4 V      703 \n\
+\r\r\n\
+\x20    P10abcd  V2024 03 15.14345 06 12 35.64 +23 45 08.8          19.6 V      703";
+
+/// The lines of a batch that is fed in pieces of so many bytes.
+fn fed(alloc: Global, body: &[u8], size: usize) -> Result<Lines, NoMemory>
+    requires room { length body.now < 4294967295 }
+    requires size { 0 < size }
+{
+    let mut reader = EightyReader::new(alloc)?;
+    let mut rest = body;
+    'pieces: while !rest.is_empty() {
+        let (piece, after) = rest.split_at(rest.len().min(size));
+        reader.feed(piece)?;
+        rest = after;
+    }
+    reader.finish()
+}
+
+/// The number of the line at this place, and the rule that it breaks.
+fn line_at(lines: &Lines, place: u64) -> Option<(u32, Option<RuleCode>)> {
+    lines.get(place).map(|line| (line.number, line.read.err()))
+}
+
+#[test]
+fn splits_a_batch_however_it_comes(rt: HostRuntime) -> Result<(), Fail> {
+    for size in [1, 7, 80, 81, 82, 9999] {
+        let lines = fed(rt.alloc(), BATCH, size)?;
+        for (place, wanted) in [
+            (0, Some((6, None))),
+            (1, Some((8, Some(RuleCode::S1)))),
+            (2, Some((9, Some(RuleCode::S1)))),
+            (3, Some((10, Some(RuleCode::S1)))),
+            (4, Some((11, Some(RuleCode::S4)))),
+            (5, None),
+        ] {
+            assert_eq!(rt;
+                line_at(&lines, place),
+                wanted,
+                "line {place}, pieces of {size}"
+            );
+        }
     }
     Ok(())
+}
+
+/// How many lines a batch has, and what is said of the first.
+fn first_of(alloc: Global, body: &[u8]) -> Result<(u64, Option<(u32, Option<RuleCode>)>), NoMemory>
+    requires { length body.now < 4294967295 }
+{
+    let lines = split_batch(alloc, body)?;
+    Ok((lines.len(), line_at(&lines, 0)))
+}
+
+/// Batches, how many observation lines they have, and what is said of the first.
+const FIRSTS: [(&[u8], u64, Option<(u32, Option<RuleCode>)>); 6] = [
+    (b"", 0, None),
+    (b"CODE 703", 1, Some((1, Some(RuleCode::S1)))),
+    (b"OBS\nNUM 4\n", 0, None),
+    (b"x\nCOD 703\n", 2, Some((1, Some(RuleCode::S1)))),
+    (
+        b"     P10abcd  C2024 03 15.12345 06 12 34.56 +23 45 01.2          19.5 V      703\r\n",
+        1,
+        Some((1, None)),
+    ),
+    // without a line feed the carriage return belongs to the line
+    (
+        b"     P10abcd  C2024 03 15.12345 06 12 34.56 +23 45 01.2          19.5 V      703\r",
+        1,
+        Some((1, Some(RuleCode::S1))),
+    ),
+];
+
+#[test]
+fn splits_short_batches(rt: HostRuntime) -> Result<(), Fail> {
+    for (body, count, first) in FIRSTS {
+        let found = first_of(rt.alloc(), short(body))?;
+        assert_eq!(rt; found, (count, first), "{body:?}");
+    }
+    Ok(())
+}
+
+/// The first bytes of a text.
+fn short(text: &[u8]) -> &[u8]
+    ensures { length result.now ≤ 999 }
+{
+    let (front, _) = text.split_at(text.len().min(999));
+    front
 }
 
 /// An observation that came in fields: 2024-03-15T23:59:59.999Z, 150 and -5.5 degrees.
@@ -313,94 +397,127 @@ fn is_shape(shape: Shape) -> bool
     }
 }
 
-/// The line of an observation under the letters C and V. The object that is known has a number and a designation.
+/// How many decimals of the magnitude a shape has.
+fn places_of(shape: Shape) -> u8
+    ensures { result ≡ places_of shape }
+{
+    match shape {
+        Shape::Eighty { mag, .. } => mag,
+        Shape::Psv { mag } => mag,
+    }
+}
+
+/// Whether an observation may have this magnitude, with so many decimals.
+fn is_magnitude(mag: Option<u32>, places: u8) -> bool
+    requires { places ≤ 6 }
+    ensures within { IsTrue result → IfSome mag (λ m. m ≤ greatest_magnitude) }
+    ensures decimals { IsTrue result → HasDecimals mag places }
+{
+    match mag {
+        None => places == 0,
+        Some(mag) => mag <= 99_990_000 && mag % unit_of(places) == 0,
+    }
+}
+
+/// One in the last of so many decimals, in units of 0.000001.
+fn unit_of(places: u8) -> u32
+    requires { places ≤ 6 }
+    ensures value { result ≡ 10 ^ (6 - places) }
+    ensures some { 1 ≤ result }
+{
+    match places {
+        0 => 1_000_000,
+        1 => 100_000,
+        2 => 10_000,
+        3 => 1_000,
+        4 => 100,
+        5 => 10,
+        _ => 1,
+    }
+}
+
+/// The line of an observation under the letters C and V, where it can be written. The object that is known has a number
+/// and a designation.
 fn line_of(s: &Sighting, is_known: bool) -> Option<[u8; 80]> {
     if s.station.len != 3 || !is_shape(s.shape) {
         return None;
     }
-    if is_known {
-        let front = Front {
-            number: Some(Number(433)),
-            name: *b"K24E00A",
-            star: true,
-        };
-        let letters = Letters {
-            mode: b'C',
-            band: b'V',
-            catalogue: b'W',
-        };
-        return Some(write_line(s, front, letters));
+    if !is_magnitude(s.mag, places_of(s.shape)) {
+        return None;
     }
+    let (number, name) = if is_known {
+        (Some(Number(433)), *b"K24E00A")
+    } else {
+        (None, *b"P10abcd")
+    };
     let front = Front {
-        number: None,
-        name: *b"P10abcd",
-        star: false,
+        number,
+        name,
+        star: is_known,
     };
     let letters = Letters {
         mode: b'C',
         band: b'V',
-        catalogue: b' ',
+        catalogue: if is_known { b'W' } else { b' ' },
     };
     Some(write_line(s, front, letters))
 }
 
+/// The line of an observation in fields with this magnitude.
+fn line_with(mag: Option<u32>, places: u8) -> Option<[u8; 80]> {
+    line_of(&sighting_in_fields(mag, places)?, true)
+}
+
 #[test]
-fn writes_lines(rt: HostRuntime) {
-    let magnitudes: [(Option<u32>, u8, [u8; 80]); 7] = [
-        (
-            Some(20_250_000),
-            2,
-            *b"00433K24E00A* C2024 03 16.00000010 00 00.000-05 30 00.00         20.25VW     703",
-        ),
-        (
-            None,
-            0,
-            *b"00433K24E00A* C2024 03 16.00000010 00 00.000-05 30 00.00              VW     703",
-        ),
-        (
-            Some(20_255_000),
-            3,
-            *b"00433K24E00A* C2024 03 16.00000010 00 00.000-05 30 00.00         20.26VW     703",
-        ),
-        (
-            Some(20_254_999),
-            6,
-            *b"00433K24E00A* C2024 03 16.00000010 00 00.000-05 30 00.00         20.25VW     703",
-        ),
-        (
-            Some(9_950_000),
-            1,
-            *b"00433K24E00A* C2024 03 16.00000010 00 00.000-05 30 00.00         10.0 VW     703",
-        ),
-        (
-            Some(9_949_999),
-            1,
-            *b"00433K24E00A* C2024 03 16.00000010 00 00.000-05 30 00.00          9.9 VW     703",
-        ),
-        (
-            Some(500_000),
-            0,
-            *b"00433K24E00A* C2024 03 16.00000010 00 00.000-05 30 00.00          1   VW     703",
-        ),
-    ];
-    for (mag, places, wanted) in magnitudes {
-        let line = sighting_in_fields(mag, places).and_then(|s| line_of(&s, true));
-        assert_eq!(rt; line, Some(wanted));
+fn writes_a_line(rt: HostRuntime) {
+    assert_eq!(rt;
+        line_with(Some(20_250_000), 2),
+        Some(*b"00433K24E00A* C2024 03 16.00000010 00 00.000-05 30 00.00         20.25VW     703")
+    );
+}
+
+/// Columns 66 to 70 of the line of an observation in fields with this magnitude.
+fn magnitude_of(mag: Option<u32>, places: u8) -> Option<[u8; 5]> {
+    let line = line_with(mag, places)?;
+    Some([line[65], line[66], line[67], line[68], line[69]])
+}
+
+#[test]
+fn writes_magnitudes(rt: HostRuntime) {
+    for (mag, places, wanted) in [
+        (None, 0, Some(*b"     ")),
+        (Some(20_255_000), 3, Some(*b"20.26")),
+        (Some(20_254_999), 6, Some(*b"20.25")),
+        (Some(9_995_000), 3, Some(*b"10.00")),
+        (Some(9_994_999), 6, Some(*b" 9.99")),
+        (Some(9_900_000), 1, Some(*b" 9.9 ")),
+        (Some(1_000_000), 0, Some(*b" 1   ")),
+        (Some(99_990_000), 2, Some(*b"99.99")),
+        // more decimals than were said, or decimals of no magnitude
+        (Some(9_950_000), 1, None),
+        (Some(9_949_999), 1, None),
+        (Some(500_000), 0, None),
+        (None, 1, None),
+    ] {
+        assert_eq!(rt; magnitude_of(mag, places), wanted, "{places} decimals");
     }
+}
+
+/// What the line with these bytes from a column on is, read and written again.
+fn again(column: usize, text: &[u8]) -> Option<[u8; 80]> {
+    let s = read_line(&with(column, text)).ok()?;
+    line_of(&s, false)
 }
 
 #[test]
 fn writes_again_what_was_read(rt: HostRuntime) {
-    let rows: [(usize, &[u8]); 5] = [
-        (1, b""),
-        (45, b"-00 00 00.00"),
-        (14, b"K"),
-        (32, b"6"),
-        (66, b"     "),
-    ];
-    for (column, text) in rows {
-        let line = with(column, text);
-        let again = read_line(&line).ok().and_then(|s| line_of(&s, false));
-        assert_eq!(rt; again, Some(line));
+    for (column, text) in [
+        (1, b"".as_slice()),
+        (45, b"-00 00 00.00".as_slice()),
+        (14, b"K".as_slice()),
+        (32, b"6".as_slice()),
+        (66, b"     ".as_slice()),
+    ] {
+        assert_eq!(rt; again(column, text), Some(with(column, text)));
     }
 }

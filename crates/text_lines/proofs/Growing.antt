@@ -1,5 +1,5 @@
 -- A text that grows at its end.
-use Rattle.std.proofs.Common.{◌≡◌, ℕ, ◌+◌, ◌-◌, ◌<◌, ◌≤◌, Bool, true, false, not, eqb, List, [], ◌∷◌, ◌++◌, append_assoc, length, map, drop, All, refl, sym, ap, ◌∙◌, arith}
+use Rattle.std.proofs.Common.{◌≡◌, ℕ, ◌+◌, ◌<◌, ◌≤◌, Bool, true, false, eqb, List, [], ◌∷◌, ◌++◌, append_assoc, length, map, All, refl, sym, ap, ◌∙◌, arith}
 use Rattle.std.specs.List.{onto_first}
 use Rattle.std.specs.Str.Lines.{lines, lines_of_parts, strip_carriage_return}
 use Rattle.std.proofs.lemmas.List.{append-nil, nil_from_length, length-map}
@@ -149,7 +149,7 @@ all_cut text (piece ∷ pieces) =
 pub any_cut : (pieces : List (List ℕ)) → all_lines (cut_all uncut pieces) ≡ lines (joined pieces)
 any_cut pieces =
     let none : cut_of [] ≡ uncut = ap (λ (ls : List (List ℕ)). let cut : Cut = record { lines = ls; rest = unfinished [] } in cut) (complete_none [] (All-nil (λ b. is_feed b ≡ false)))
-        ∙ ap (λ (rest : List ℕ). let cut : Cut = record { lines = []; rest = rest } in cut) (unfinished_whole [] (All-nil (λ b. is_feed b ≡ false))) in
+    ∙ ap (λ (rest : List ℕ). let cut : Cut = record { lines = []; rest = rest } in cut) (unfinished_whole [] (All-nil (λ b. is_feed b ≡ false))) in
     ap (λ (cut : Cut). all_lines (cut_all cut pieces)) (sym none) ∙ all_cut [] pieces
 
 last_line : (text : List ℕ) → 0 < length (unfinished text) → lines text ≡ complete_lines text ++ unfinished text ∷ []

@@ -9,6 +9,5 @@ pub mod cutting;
 pub mod laws;
 pub mod lines;
 pub mod pieces;
-
 #[cfg(test)]
 mod tests;

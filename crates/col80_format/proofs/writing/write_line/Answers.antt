@@ -1,8 +1,9 @@
-use Rattle.std.proofs.Common.{◌≡◌, ◌≤◌, ℕ, List, ◌++◌, length, ap, subst, ◌∙◌, rules, arith}
+use Rattle.std.proofs.Common.{◌≡◌, ◌≤◌, ◌<◌, ◌*◌, ◌^◌, ℕ, List, sym, ◌++◌, length, ap, subst, ◌∙◌, rules, arith}
+use Rattle.std.specs.Prelude.{IfSome}
 use Rattle.col80_format.specs.declared.form.Form.{Form}
-use Rattle.col80_format.specs.LineText.{form_of, front_text, angles_text, back_text}
+use Rattle.col80_format.specs.LineText.{form_of, steps_of, front_text, angles_text, back_text}
 use Rattle.col80_format.proofs.LawsBelow.{Laws}
-use Rattle.col80_format.proofs.LineTexts.{written_again, one_line_text, line_text_from}
+use Rattle.col80_format.proofs.LineTexts.{fits_columns, written_again, one_line_text, line_text_from}
 use Rattle.col80_format.proofs.writing.write_line.Goals as goal
 
 pub returns-clause-text : goal.returns-clause-text
@@ -29,3 +30,8 @@ returns-clause-only c =
     let few : (form_of c.args.s.now.shape).days ≤ 6 = subst (λ (form : Form). form.days ≤ 6) c.form_of-form.ensures.form c.form_of-form.ensures.days.1 in
     let laws : Laws = record { texts = c.texts.ensures; angles = c.angles.ensures; times = c.times.ensures; names = c.names.ensures; records = c.records.ensures } in
     λ other is. one_line_text laws c.args.s.now c.args.front c.args.letters other c.unwrap.result few is (returns-clause-text c)
+
+pub put_back-requires-clause-fits : goal.put_back-requires-clause-fits
+put_back-requires-clause-fits c =
+    let form : c.form_of-form.result ≡ form_of c.args.s.now.shape = c.form_of-form.ensures.form in
+    subst (λ (f : Form). IfSome c.args.s.now.mag (λ mag. steps_of f.places mag < 100 * 10 ^ f.places)) (sym form) (fits_columns c.args.s.now.shape c.args.s.now.mag c.requires.shape c.requires.magnitude c.requires.decimals)

@@ -1,6 +1,6 @@
-use Rattle.std.proofs.Common.{◌≡◌, ℕ, List, [], ◌∷◌, ◌++◌, All, eqb, false, sym, ap, subst, ◌∙◌, length, take, ◌+◌, refl, arith}
+use Rattle.std.proofs.Common.{◌≡◌, ℕ, List, [], ◌∷◌, ◌++◌, All, eqb, false, ap, subst, ◌∙◌, length, take, ◌+◌}
 use Rattle.std.proofs.Math.Seq.{take-append-add}
-use Rattle.text_lines.specs.Pieces.{complete_lines, unfinished}
+use Rattle.text_lines.specs.Pieces.{unfinished}
 use Rattle.text_lines.proofs.Growing.{complete_stays, unfinished_stays, unfinished-feed}
 use Rattle.text_lines.proofs.pieces.line_end.Goals as goal
 
