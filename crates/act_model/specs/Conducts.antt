@@ -12,7 +12,7 @@ use Rattle.act_model.specs.Turns.{Turn}
 abbrev pub Extends : List Entry → List Entry → Type 0
 Extends earlier later = (newer : List Entry) × (later ≡ newer ++ earlier)
 
--- no turn was refused for want of memory
+-- no turn ran out of memory
 abbrev pub HadMemory : List Turn → Type 0
 HadMemory turns = AllByRecursion (λ turn. turn.reply ≢ Refused NoMemory) turns
 

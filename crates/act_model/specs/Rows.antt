@@ -19,12 +19,7 @@ abbrev pub ◌>>=◌ : {A B : Type 0} → Result A Refusal → (A → Result B R
 (Ok found) >>= next = next found
 (Err refusal) >>= next = Err refusal
 
--- the answer is the one that is due, or want of memory in its place
+-- the answer is the one that is due, or 'out of memory' in its place
 abbrev pub IsDue : {A : Type 0} → Result A Refusal → Result A Refusal → Type 0
 IsDue due (Ok found) = due ≡ Ok found
 IsDue due (Err refusal) = (due ≡ Err refusal) ⊎ (refusal ≡ NoMemory)
-
--- the refusal is the one that is due, or want of memory in its place
-abbrev pub IsFirst : Option Refusal → Option Refusal → Type 0
-IsFirst due None = due ≡ None
-IsFirst due (Some refusal) = (due ≡ Some refusal) ⊎ (refusal ≡ NoMemory)

@@ -1,5 +1,5 @@
 -- The rulings on the lines of a batch: each line is judged once, and all else about the batch is read from its rulings.
-use Rattle.std.specs.Prelude.{ℕ, ◌-◌, ℤ, Bool, true, false, not, List, [], ◌∷◌, length, map, count_by, filter_map, Option, Some, None, is_some, is_none, option_map, ◌||◌, Ok, Err, Result}
+use Rattle.std.specs.Prelude.{ℕ, ◌+◌, ◌-◌, max, ℤ, Bool, true, false, not, if◌then◌else◌, List, [], ◌∷◌, length, map, count_by, filter_map, Option, Some, None, is_some, is_none, option_map, ◌||◌, Ok, Err, Result}
 use Rattle.obs_time.specs.Dates.{day_of}
 use Rattle.obs_record.specs.declared.line.Line.{Line}
 use Rattle.obs_record.specs.declared.sighting.Coded.{Coded}
@@ -86,6 +86,16 @@ accepted_in rulings = count_by is_accepted rulings
 
 abbrev pub refused_in : List Ruling → ℕ
 refused_in rulings = length rulings - accepted_in rulings
+
+-- how many groups there are up to that of an accepted line; a refused line is in none
+abbrev pub groups_to : Ruling → ℕ
+groups_to ruling = if is_accepted ruling then ruling.group + 1 else 0
+
+-- How many groups have an accepted line. Groups count from 0 in the order of their first accepted lines, so that it is one
+-- more than the greatest.
+abbrev pub groups : List Ruling → ℕ
+groups [] = 0
+groups (ruling ∷ rulings) = max (groups_to ruling) (groups rulings)
 
 -- the number of a line, with the rule that it breaks
 abbrev pub ruling_fault : Ruling → Option Fault

@@ -31,7 +31,7 @@ abbrev pub TakesReading : Verb → Option ℤ → Type 0
 TakesReading verb (Some reading) = (is_act verb ≡ true) × IsInstantNs reading
 TakesReading verb None = is_act verb ≡ false
 
--- the reply is that of the step; or it is want of memory, which changes nothing
+-- the reply is that of the step; or it is that memory was refused, which changes nothing
 abbrev pub Answers : Key → List Entry → Request → ℤ → Reply → List Entry → Type 0
 Answers founder past request reading reply after =
     (step founder past request reading ≡ (reply, after)) ⊎ ((reply ≡ Refused NoMemory) × (after ≡ past))

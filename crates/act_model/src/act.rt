@@ -62,7 +62,7 @@ pub enum ActFault {
         /// The line's number, counted from 1.
         line: u32,
     },
-    /// Want of memory.
+    /// Memory was refused.
     NoMemory,
 }
 

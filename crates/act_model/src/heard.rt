@@ -43,7 +43,7 @@ pub struct Heard {
 ///
 /// # Errors
 ///
-/// `Unread` exactly where `read_act` says so, and want of memory.
+/// `Unread` for the body, where it isn't as the verb wants it, and `NoMemory` where memory was refused.
 pub fn read_asked(alloc: Global, verb: Verb, body: &[u8]) -> Result<Asked, Refusal>
     requires { length body.now < 4_294_967_295 }
     ensures due { IsDue (asked_in (act_of verb body.now)) result }

@@ -30,7 +30,7 @@ pub fn a_refusal_changes_nothing()
         step founder past request reading ≡ (Refused refusal, after) → after ≡ past }
 {}
 
-/// A request for whose body there was no room is answered want of memory and nothing else, and changes nothing.
+/// A request for whose body there was no room is answered `NoMemory` and nothing else, and changes nothing.
 pub fn no_room_no_step()
     ensures step { (founder : Key) (past : List Entry) (request : Request) (reading : ℤ) →
         request.body ≡ NoRoom → step founder past request reading ≡ (Refused NoMemory, past) }
@@ -44,8 +44,8 @@ pub fn deeds_are_worked_out_once()
         asked_in (act_of heard.verb bytes) ≡ Ok heard.asked → work_out past moment heard ≡ Ok deed → deed_of past (new_entry heard bytes moment) ≡ deed }
 {}
 
-/// Want of memory may stand in the place of a refusal, and changes nothing.
-pub fn want_of_memory_changes_nothing()
+/// `NoMemory` may stand in the place of a refusal, and changes nothing.
+pub fn out_of_memory_changes_nothing()
     ensures instead { (founder : Key) (past after : List Entry) (request : Request) (reading : ℤ) (refusal : Refusal) →
         Answers founder past request reading (Refused refusal) after → Answers founder past request reading (Refused NoMemory) after }
     ensures stays { (founder : Key) (past after : List Entry) (request : Request) (reading : ℤ) →
@@ -70,7 +70,7 @@ pub fn each_once()
         Conduct founder past turns after → EachNumberOnce past → EachNumberOnce after }
 {}
 
-/// Where no turn was refused for want of memory, a conduct is the step, one after another.
+/// Where no turn ran out of memory, a conduct is the step, one after another.
 pub fn no_faults()
     ensures { (founder : Key) (past after : List Entry) (turns : List Turn) →
         Conduct founder past turns after → HadMemory turns → IsStepped founder past turns after }

@@ -75,7 +75,7 @@ pub enum Refusal {
     AlreadyThere,
     /// The roster has all the callers that it may have.
     RosterFull,
-    /// Want of memory. The same request may be done when it is sent again.
+    /// Memory was refused. The same request may be done when it is sent again.
     NoMemory,
 }
 
@@ -88,7 +88,7 @@ pub enum Reply {
     Refused(Refusal),
 }
 
-/// The status of a refusal, as HTTP numbers them (RFC 9110, and RFC 4918 for want of memory).
+/// The status of a refusal, as HTTP numbers them (RFC 9110, and RFC 4918 where memory was refused).
 pub fn refusal_status(refusal: &Refusal) -> u16
     ensures { result ≡ refusal_status refusal.now }
 {
@@ -103,11 +103,11 @@ pub fn refusal_status(refusal: &Refusal) -> u16
     }
 }
 
-/// The status of a reply, as HTTP numbers them (RFC 9110, and RFC 4918 for want of memory): 200 for
+/// The status of a reply, as HTTP numbers them (RFC 9110, and RFC 4918 where memory was refused): 200 for
 /// a request that was done, 400 for one that can't be read, 401 for a key that nobody has, 403 for an
 /// observer who asks what officers may, 409 for a number that was used and for what is there already,
 /// 413 for a body that is too large, 422 for a batch with a fault of its headers or without a line that
-/// is accepted, and 507 for want of memory.
+/// is accepted, and 507 where memory was refused.
 pub fn status(reply: &Reply) -> u16
     ensures { result ≡ status_of reply.now }
 {
@@ -127,7 +127,7 @@ fn line_in_place(words: &[u8]) -> ArrayVec<u8, REFUSAL_BYTES>
     line
 }
 
-// The words, a number behind them, and the line feed.
+// The words, a number after them, and the line feed.
 fn numbered_line(words: &[u8], number: u64) -> ArrayVec<u8, REFUSAL_BYTES>
     requires { length words.now ≤ 40 }
     ensures { result.items ≡ line_of (words.now ++ decimal number) }
@@ -242,7 +242,7 @@ impl Text {
 }
 
 /// The text of a reply: what was answered, or the lines of the refusal. It takes memory for a `NoLine`
-/// alone, so that want of memory can be told without any.
+/// alone, so that `NoMemory` can be told without any.
 ///
 /// # Errors
 ///
@@ -264,7 +264,7 @@ fn refusal_as_text(alloc: Global, refusal: &Refusal) -> Result<Text, NoMemory>
     match refusal {
         Refusal::NoLine(faults) => match no_line_text(alloc, faults) {
             Ok(text) => Ok(Text::Lines(text)),
-            Err(wanting) => Err(wanting),
+            Err(refused) => Err(refused),
         },
         other => match refusal_line(other) {
             Some(line) => Ok(Text::Line(line)),

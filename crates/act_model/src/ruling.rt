@@ -1,7 +1,7 @@
 //! Rulings on the lines of a batch.
 
 ghost use Rattle.std.specs.Prelude.{◌≡◌, ◌++◌, map, length, IfOk, OnOk, option_to_list};
-ghost use Rattle.act_model.specs.Ruling.{ruling_of, rulings_of, is_accepted, accepted_in, ruling_fault, faults_in};
+ghost use Rattle.act_model.specs.Ruling.{ruling_of, rulings_of, groups_to, groups, is_accepted, accepted_in, ruling_fault, faults_in};
 
 use crate::reply::{Fault, Faults};
 use crate::rules::fault_of;
@@ -44,6 +44,13 @@ impl Rulings {
         ensures { result.now ≡ self.now }
     {
         self.list.as_slice()
+    }
+
+    /// How many groups have an accepted line. It takes no memory.
+    pub fn groups(&self) -> u64
+        ensures { result ≡ groups self.now }
+    {
+        groups_of(self.list.as_slice())
     }
 
     /// How many rulings there are, which is how many lines the batch has.
@@ -94,6 +101,27 @@ pub fn judge(
 {
     let list = rulings_on(alloc, tables, lines.as_slice())?;
     Ok(Rulings { list })
+}
+
+// How many groups there are up to that of an accepted line; a refused line is in none.
+fn groups_to(ruling: &Ruling) -> u64
+    ensures { result ≡ groups_to ruling.now }
+{
+    if is_accepted(ruling) {
+        u64::from(ruling.group) + 1
+    } else {
+        0
+    }
+}
+
+fn groups_of(rulings: &[Ruling]) -> u64
+    ensures { result ≡ groups rulings.now }
+{
+    let mut groups = 0;
+    for ruling in rulings {
+        groups = groups_to(ruling).max(groups);
+    }
+    groups
 }
 
 fn is_accepted(ruling: &Ruling) -> bool

@@ -8,7 +8,7 @@ use Rattle.desk_core.specs.declared.prepared.Prep.{Prep}
 use Rattle.desk_core.specs.declared.prepared.Prep.TheVariants as prep
 use Rattle.desk_core.specs.Office.{IsReadyAt}
 
--- the request is refused so; or want of memory stands in the place of what becomes of it
+-- the request is refused so; or memory was refused, whatever would become of it
 abbrev pub IsRefused : Outcome → Refusal → Type 0
 IsRefused due refusal = (due ≡ Refuses refusal) ⊎ (refusal ≡ NoMemory)
 

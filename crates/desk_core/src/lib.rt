@@ -1,5 +1,5 @@
 //! The core of the office: its history in memory, and the step on it in two parts, the one that may
-//! be refused for want of memory and the one that can't be.
+//! run out of memory and the one that can't be.
 #![tactic(auto)]
 
 mod filed;
@@ -12,3 +12,6 @@ mod roster;
 
 pub use office::Core;
 pub use prepared::{Prep, Prepared};
+
+#[cfg(test)]
+mod tests;

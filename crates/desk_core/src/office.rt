@@ -86,10 +86,10 @@ impl Core {
     /// Works out what becomes of an act at this moment, and takes the memory for it. The history stays.
     ///
     /// The request has the verb of an act. The reading is the clock's, and may be before the last
-    /// entry's moment. Answers `Kept` exactly where the caller has used the number, with the reply that is kept
-    /// for it; `Refused` with the first refusal of the office's table, and with `NoMemory` where memory for
-    /// reading, for a reply or for an entry was wanting; else `Ready` with the entry and its answer. A request
-    /// for whose body there was no room is refused with `NoMemory`, whatever else it says.
+    /// entry's moment. Answers `Kept` only where the caller has used the number, with the reply that is kept
+    /// for it; `Refused` with the first refusal that the request meets in the office's table, or with `NoMemory`
+    /// where memory was refused for reading, for a reply or for an entry; else `Ready` with the entry and its
+    /// answer. A request for whose body there was no room is refused with `NoMemory`, whatever else it says.
     pub fn prepare(&mut self, request: &Request, reading: Instant) -> Prep
         requires act { is_act request.now.verb ≡ true }
         ensures answer { Prepares self.old.history (outcome self.old.founder self.old.history request.now reading) self.new.spare result }

@@ -78,7 +78,7 @@ pub enum Prep {
     /// The caller has used the number. This is the reply that is kept for it: the answer of that
     /// time to the same request, and the refusal `OtherRequest` to another one.
     Kept(Reply),
-    /// The request is refused, and changes nothing; for want of memory too.
+    /// The request is refused, and changes nothing; also where memory was refused.
     Refused(Refusal),
     /// The act is ready to be added, at the history at which it was worked out.
     Ready(Prepared),
