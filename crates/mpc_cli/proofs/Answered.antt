@@ -42,7 +42,7 @@ body_kept (kept.TooLong size) text (is, long) =
 body_kept kept.NoRoom text small = inr refl
 
 module _ (wants : WantLaws) (founder : Key) (past next : List Entry) (before after : ClockState) where
-  -- want of memory may stand in the place of a refusal
+  -- out of memory may stand in the place of a refusal
   turn_wanting : (q : Request) (refusal : Refusal) → TakesTurn founder past q (Refused refusal) next before after → TakesTurn founder past q (Refused NoMemory) next before after
   turn_wanting q refusal t =
       record { reading = t.reading; reads = t.reads; answers = wants.instead founder past next q (unwrap_or t.reading (pos 0)) refusal t.answers; clock = t.clock }
@@ -85,7 +85,7 @@ writes_of : (old new : Option (List ℕ)) (reply : Reply) (spoken : Spoken) (res
 writes_of old new reply spoken (Ok size) is wrote = subst (λ (b : List ℕ). Appends old new b) (frame_is reply spoken is) wrote
 writes_of old new reply spoken (Err failed) is wrote = subst (λ (b : List ℕ). AppendsPart old new b) (frame_is reply spoken is) wrote
 
--- a frame that was read is answered by the turn of its request, or by want of memory in the place of a refusal
+-- a frame that was read is answered by the turn of its request, or by out of memory in the place of a refusal
 module _ (wants : WantLaws) (founder : Key) (past next : List Entry) (before after : ClockState) (old new : Option (List ℕ)) (read : ReadFrame) (spoken : Spoken) (result : Result ℕ Failed) where
   answered : (reply : Reply) → TakesTurn founder past (request_read read) reply next before after → Speaks reply spoken → Wrote old new spoken result
       → (front rest : List ℕ) (r : IsFrameRead front read rest) → AnswersFrame founder past next before after old new r.frame result

@@ -34,7 +34,7 @@ gives_more a b c xs ys first second =
     record {
       known = AreReadings-append a.to_come 0 xs ys first.known (AreReadings-later a.to_come b.to_come (length xs) first.later 0 ys second.known);
       later = λ k.
-      let sum : (k + length ys) + length xs ≡ k + length (xs ++ ys) = omega (arith, length-append xs ys) in
-      second.later k ∙ first.later (k + length ys) ∙ ap a.to_come sum;
+          let sum : (k + length ys) + length xs ≡ k + length (xs ++ ys) = omega (arith, length-append xs ys) in
+          second.later k ∙ first.later (k + length ys) ∙ ap a.to_come sum;
       last = second.last ∙ ap (λ (t : ℤ). last_of t ys) first.last ∙ sym (last_of-append a.last xs ys);
     }

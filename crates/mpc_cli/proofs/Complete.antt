@@ -6,7 +6,7 @@ use Rattle.act_bodies.specs.declared.key.Key.{Key}
 use Rattle.mpc_cli.specs.declared.status.Status.{Status}
 use Rattle.mpc_cli.specs.declared.status.Status.TheVariants.{Done, Usage, BadFrame, ReadFault, WriteFault, NoMemory}
 use Rattle.mpc_cli.specs.Serving.{ClockState}
-use Rattle.mpc_cli.specs.Runs.{Run, RunsOver, StopsAt, IsWhole, Ends, IsDoneOrWants, IsServed, IsNotBegun}
+use Rattle.mpc_cli.specs.Runs.{Run, RunsOver, StopsAt, IsWhole, Ends, IsDoneOrNoMemory, IsServed, IsNotBegun}
 
 -- known bytes are those of the run
 pub known_bytes : (left : Option (List ℕ)) (bytes all : List ℕ) → left ≡ Some bytes → IfSome left (λ known. known ≡ all) → bytes ≡ all
@@ -25,7 +25,7 @@ module _ (one_session : (bytes : List ℕ) (fs gs : List Frame) (x y : List ℕ)
       absurd (omega (arith, ap length rest_is))
 
   pub complete : (status : Status) → Ends founder before after run count status → IsWhole bytes
-      → (status ≡ Usage → ⊥) → (status ≡ ReadFault → ⊥) → (status ≡ WriteFault → ⊥) → IsDoneOrWants status
+      → (status ≡ Usage → ⊥) → (status ≡ ReadFault → ⊥) → (status ≡ WriteFault → ⊥) → IsDoneOrNoMemory status
   complete Done ends whole usage reads writes = tt
   complete NoMemory ends whole usage reads writes = tt
   complete Usage ends whole usage reads writes = usage refl

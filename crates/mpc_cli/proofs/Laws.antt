@@ -25,7 +25,7 @@ pub record RunLaws : Type 0 where
   pub once : (founder : Key) (past after : List Entry) (turns : List Turn) → Conduct founder past turns after → EachNumberOnce past → EachNumberOnce after
   pub steps : (founder : Key) (past after : List Entry) (turns : List Turn) → Conduct founder past turns after → HadMemory turns → IsStepped founder past turns after
 
--- what is known of want of memory
+-- what is known of out of memory
 pub record WantLaws : Type 0 where
   -- it may stand in the place of a refusal
   pub instead : (founder : Key) (past after : List Entry) (request : Request) (reading : ℤ) (refusal : Refusal) → Answers founder past request reading (Refused refusal) after → Answers founder past request reading (Refused NoMemory) after

@@ -86,14 +86,16 @@ module _ (founder : Key) (before : ClockState) where
     served_more between after bytes rest texts past next frame reply s good t =
         let turn : Turn = record { request = request_of frame; reading = t.reading; reply = reply } in
         let readings : readings_of (s.turns ++ turn ∷ []) ≡ readings_of s.turns ++ option_to_list t.reading =
-        filter_map-append (λ (x : Turn). x.reading) s.turns (turn ∷ []) ∙ ap (λ (rs : List ℤ). readings_of s.turns ++ rs) (readings_of_one t.reading turn refl) in
-        (record {
-          frames = s.frames ++ frame ∷ [];
-          turns = s.turns ++ turn ∷ [];
-          stream = s.stream ∙ sym (laws.stream_joins s.frames (frame ∷ []) rest);
-          whole = AllByRecursion-push IsFrame s.frames frame s.whole good;
-          requests = map-append (λ (x : Turn). x.request) s.turns (turn ∷ []) ∙ ap (λ (qs : List Request). qs ++ request_of frame ∷ []) s.requests ∙ sym (map-append request_of s.frames (frame ∷ []));
-          conduct = laws.goes_on founder [] past next s.turns turn s.conduct (record { reads = t.reads; answers = t.answers });
-          clock = subst (Gives before after) (sym readings) (gives_more before between after (readings_of s.turns) (option_to_list t.reading) s.clock t.clock);
-          texts_are = ap (λ (x : List ℕ). x ++ written_reply reply) s.texts_are ∙ ap (λ (x : List ℕ). written s.turns ++ x) (sym (append-nil (written_reply reply))) ∙ sym (flat_map-append (λ (x : Turn). written_reply x.reply) s.turns (turn ∷ []));
-        }, refl)
+        filter_map-append (λ (x : Turn). x.reading) s.turns (turn ∷ []) ∙ ap (λ (rs : List ℤ). readings_of s.turns ++ rs) (readings_of_one t.reading turn refl) in (
+          record {
+            frames = s.frames ++ frame ∷ [];
+            turns = s.turns ++ turn ∷ [];
+            stream = s.stream ∙ sym (laws.stream_joins s.frames (frame ∷ []) rest);
+            whole = AllByRecursion-push IsFrame s.frames frame s.whole good;
+            requests = map-append (λ (x : Turn). x.request) s.turns (turn ∷ []) ∙ ap (λ (qs : List Request). qs ++ request_of frame ∷ []) s.requests ∙ sym (map-append request_of s.frames (frame ∷ []));
+            conduct = laws.goes_on founder [] past next s.turns turn s.conduct (record { reads = t.reads; answers = t.answers });
+            clock = subst (Gives before after) (sym readings) (gives_more before between after (readings_of s.turns) (option_to_list t.reading) s.clock t.clock);
+            texts_are = ap (λ (x : List ℕ). x ++ written_reply reply) s.texts_are ∙ ap (λ (x : List ℕ). written s.turns ++ x) (sym (append-nil (written_reply reply))) ∙ sym (flat_map-append (λ (x : Turn). written_reply x.reply) s.turns (turn ∷ []));
+          },
+          refl,
+        )

@@ -11,7 +11,7 @@ use Rattle.mpc_cli.specs.declared.spoken.Spoken.{Spoken}
 abbrev pub IsSpoken : Reply → Spoken → Type 0
 IsSpoken reply spoken = (spoken.status ≡ status_of reply) × (text_bytes spoken.text ≡ text_of reply)
 
--- they are those of the reply, or of want of memory in the place of a refusal
+-- they are those of the reply, or of NoMemory in the place of a refusal
 abbrev pub Speaks : Reply → Spoken → Type 0
 Speaks reply spoken =
     IsSpoken reply spoken ⊎ ((refusal : Refusal) × (reply ≡ Refused refusal) × IsSpoken (Refused NoMemory) spoken)

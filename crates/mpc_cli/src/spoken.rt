@@ -19,8 +19,8 @@ pub struct Spoken {
     text: Text,
 }
 
-/// The refusal for want of memory, whose text takes none.
-fn wanting(alloc: Global) -> Spoken
+/// `NoMemory`, whose text takes no memory.
+fn out_of_memory(alloc: Global) -> Spoken
     ensures { IsSpoken (Reply.Refused Refusal.NoMemory) result }
 {
     match reply_text(alloc, Reply::Refused(Refusal::NoMemory)) {
@@ -29,15 +29,15 @@ fn wanting(alloc: Global) -> Spoken
     }
 }
 
-/// A reply with its text. Where there is no memory for the lines of a refusal, the refusal for want of
-/// memory stands in its place, since a refusal changes nothing.
+/// A reply with its text. Where there is no memory for the lines of a refusal, `NoMemory`
+/// stands in its place, since a refusal changes nothing.
 pub fn speak(alloc: Global, reply: Reply) -> Spoken
     ensures { Speaks reply result }
 {
     let status = status(&reply);
     match reply_text(alloc, reply) {
         Ok(text) => Spoken { status, text },
-        Err(_) => wanting(alloc),
+        Err(_) => out_of_memory(alloc),
     }
 }
 

@@ -380,7 +380,9 @@ fn exchange_at(place: usize) -> Option<Exchange> {
 }
 
 fn put<R: Abort>(rt: &R, bytes: &mut Vec<u8>, text: &str) {
-    bytes.extend_from_slice(text.as_bytes()).expect(rt, "memory");
+    bytes
+        .extend_from_slice(text.as_bytes())
+        .expect(rt, "memory");
 }
 
 /// The bytes of all frames, one at once after the other.
@@ -470,8 +472,9 @@ fn call<R: Abort>(
     faults: Faults,
     sink: &mut MemSink,
 ) -> Ended {
-    let mut source =
-        MemSource::new(alloc, bytes, greatest.max(1), &[faults.read]).expect(rt, "memory");
+    let mut source = MemSource::new(alloc, bytes, greatest.max(1), &[faults.read]).expect(
+        rt, "memory",
+    );
     let first = Instant::new(1_711_929_600_000_000_000).expect(rt, "in range");
     let mut clock = TickClock::new(first, 1_000_000_000);
     top(alloc, words, &mut source, sink, &mut clock)
@@ -551,7 +554,15 @@ fn ends_of_a_run(rt: HostRuntime) {
             added,
         };
         let faults = Faults { read, write };
-        expect_run(&rt, rt.alloc(), bytes.as_bytes(), 4096, faults, want, taken.as_bytes());
+        expect_run(
+            &rt,
+            rt.alloc(),
+            bytes.as_bytes(),
+            4096,
+            faults,
+            want,
+            taken.as_bytes(),
+        );
     }
 }
 
@@ -594,7 +605,15 @@ fn session_in_pieces(rt: HostRuntime) {
     let bytes = session(&rt, rt.alloc());
     let taken = answers(&rt, rt.alloc(), FRAMES);
     for greatest in [1usize, 2, 3, 7, 64, 4096] {
-        expect_run(&rt, rt.alloc(), &bytes, greatest, NONE, done(entries(FRAMES)), &taken);
+        expect_run(
+            &rt,
+            rt.alloc(),
+            &bytes,
+            greatest,
+            NONE,
+            done(entries(FRAMES)),
+            &taken,
+        );
     }
 }
 
@@ -690,7 +709,15 @@ fn large<R: Abort>(rt: &R, alloc: Global, head: &str, count: usize, byte: u8) ->
 fn large_bodies(rt: HostRuntime) {
     for (head, count, byte, taken) in LARGE {
         let bytes = large(&rt, rt.alloc(), head, count, byte);
-        expect_run(&rt, rt.alloc(), &bytes, 65_536, NONE, done(1), taken.as_bytes());
+        expect_run(
+            &rt,
+            rt.alloc(),
+            &bytes,
+            65_536,
+            NONE,
+            done(1),
+            taken.as_bytes(),
+        );
     }
 }
 
@@ -699,7 +726,15 @@ fn office_without_rows(rt: HostRuntime) {
     let mut bytes = Vec::new(rt.alloc());
     put(&rt, &mut bytes, "+founder-1 1 submit80 411\n");
     put(&rt, &mut bytes, BATCH);
-    expect_run(&rt, rt.alloc(), &bytes, 4096, NONE, done(0), STRANGERS.as_bytes());
+    expect_run(
+        &rt,
+        rt.alloc(),
+        &bytes,
+        4096,
+        NONE,
+        done(0),
+        STRANGERS.as_bytes(),
+    );
 }
 
 fn put_number<R: Abort>(rt: &R, alloc: Global, bytes: &mut Vec<u8>, number: u64) {
@@ -715,7 +750,11 @@ fn batch_of<R: Abort>(rt: &R, alloc: Global, bytes: &mut Vec<u8>, lines: u64) {
     for line in 0..lines {
         put(rt, bytes, "     P10abcd  C2024 03 15.");
         put_number(rt, alloc, bytes, line.saturating_add(10_000));
-        put(rt, bytes, " 06 12 34.56 +23 45 01.2          19.5 V      703\n");
+        put(
+            rt,
+            bytes,
+            " 06 12 34.56 +23 45 01.2          19.5 V      703\n",
+        );
     }
 }
 

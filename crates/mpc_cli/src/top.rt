@@ -7,7 +7,7 @@ ghost use Rattle.act_bodies.specs.Keys.{key_of};
 ghost use Rattle.act_model.specs.Roster.{IsFounder};
 ghost use Rattle.mpc_cli.specs.Words.{run_key};
 ghost use Rattle.mpc_cli.specs.Serving.{clock_of};
-ghost use Rattle.mpc_cli.specs.Runs.{Run, Supplies, Ends, IsWhole, IsDoneOrWants, IsNotBegun};
+ghost use Rattle.mpc_cli.specs.Runs.{Run, Supplies, Ends, IsWhole, IsDoneOrNoMemory, IsNotBegun};
 
 use crate::serving::serve;
 use crate::status::{Ended, Status};
@@ -79,9 +79,9 @@ pub fn top<S: Source, K: Sink, C: Clock>(
         (run : Run) × Supplies S.left S.gives source.old source.new run × Appends (K.taken sink.old) (K.taken sink.new) run.texts
         × Ends (key_of key) (clock_of C.reading C.last clock.old) (clock_of C.reading C.last clock.new) run result.added result.status }
 
-    // Good words, a whole session and no fault give the end of the job, or want of memory.
+    // Good words, a whole session and no fault give `Done`, or `NoMemory`.
     ensures complete { (key bytes : List ℕ) → run_key words.now ≡ Some key → S.left source.old ≡ Some bytes → IsWhole bytes →
-        ¬ Rises (S.faults source.old) (S.faults source.new) → ¬ Rises (K.faults sink.old) (K.faults sink.new) → IsDoneOrWants result.status }
+        ¬ Rises (S.faults source.old) (S.faults source.new) → ¬ Rises (K.faults sink.old) (K.faults sink.new) → IsDoneOrNoMemory result.status }
 
     // The words decide alone whether it is `Usage`.
     ensures usage { (result.status ≡ Status.Usage) ↔ (run_key words.now ≡ None) }
