@@ -1,9 +1,7 @@
 -- Readings of a clock, one after the other.
 use Rattle.std.proofs.Common.{◌≡◌, ℕ, ◌+◌, ℤ, List, [], ◌∷◌, ◌++◌, length, Option, Some, None, refl, sym, ap, subst, ◌∙◌, add-zero, arith}
 use Rattle.std.specs.Prelude.{IfSome, option_to_list}
-use Rattle.std.specs.List.{AllByRecursion}
 use Rattle.std.proofs.lemmas.List.{append-nil, length-append}
-use Rattle.obs_time.specs.Instants.{IsInstantNs}
 use Rattle.act_model.specs.Turns.{AreReadings}
 use Rattle.mpc_cli.specs.Serving.{ClockState, last_of, Gives}
 
@@ -36,19 +34,7 @@ gives_more a b c xs ys first second =
     record {
       known = AreReadings-append a.to_come 0 xs ys first.known (AreReadings-later a.to_come b.to_come (length xs) first.later 0 ys second.known);
       later = λ k.
-      let sum : (k + length ys) + length xs ≡ k + length (xs ++ ys) = omega (arith, length-append xs ys) in
-      second.later k ∙ first.later (k + length ys) ∙ ap a.to_come sum;
+          let sum : (k + length ys) + length xs ≡ k + length (xs ++ ys) = omega (arith, length-append xs ys) in
+          second.later k ∙ first.later (k + length ys) ∙ ap a.to_come sum;
       last = second.last ∙ ap (λ (t : ℤ). last_of t ys) first.last ∙ sym (last_of-append a.last xs ys);
     }
-
-AllByRecursion-both : (xs ys : List ℤ) → AllByRecursion IsInstantNs xs → AllByRecursion IsInstantNs ys → AllByRecursion IsInstantNs (xs ++ ys)
-AllByRecursion-both [] ys first then = then
-AllByRecursion-both (x ∷ xs) ys first then = (first.0, AllByRecursion-both xs ys first.1 then)
-
-each_of : (reading : Option ℤ) → IfSome reading IsInstantNs → AllByRecursion IsInstantNs (option_to_list reading)
-each_of None years = tt
-each_of (Some reading) years = (years, tt)
-
--- all readings are moments, and the next one too
-pub each_year : (readings : List ℤ) (reading : Option ℤ) → AllByRecursion IsInstantNs readings → IfSome reading IsInstantNs → AllByRecursion IsInstantNs (readings ++ option_to_list reading)
-each_year readings reading all next = AllByRecursion-both readings (option_to_list reading) all (each_of reading next)

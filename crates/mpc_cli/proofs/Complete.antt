@@ -6,7 +6,7 @@ use Rattle.act_bodies.specs.declared.key.Key.{Key}
 use Rattle.mpc_cli.specs.declared.status.Status.{Status}
 use Rattle.mpc_cli.specs.declared.status.Status.TheVariants.{Done, Usage, BadFrame, ReadFault, WriteFault, NoMemory}
 use Rattle.mpc_cli.specs.Serving.{ClockState}
-use Rattle.mpc_cli.specs.Runs.{Run, RunsOver, StopsAt, IsWhole, Ends, IsDoneOrWants}
+use Rattle.mpc_cli.specs.Runs.{Run, RunsOver, StopsAt, IsWhole, Ends, IsDoneOrNoMemory, IsServed, IsNotBegun}
 
 -- known bytes are those of the run
 pub known_bytes : (left : Option (List ℕ)) (bytes all : List ℕ) → left ≡ Some bytes → IfSome left (λ known. known ≡ all) → bytes ≡ all
@@ -25,10 +25,19 @@ module _ (one_session : (bytes : List ℕ) (fs gs : List Frame) (x y : List ℕ)
       absurd (omega (arith, ap length rest_is))
 
   pub complete : (status : Status) → Ends founder before after run count status → IsWhole bytes
-      → (status ≡ Usage → ⊥) → (status ≡ ReadFault → ⊥) → (status ≡ WriteFault → ⊥) → IsDoneOrWants status
+      → (status ≡ Usage → ⊥) → (status ≡ ReadFault → ⊥) → (status ≡ WriteFault → ⊥) → IsDoneOrNoMemory status
   complete Done ends whole usage reads writes = tt
   complete NoMemory ends whole usage reads writes = tt
   complete Usage ends whole usage reads writes = usage refl
   complete (BadFrame offset) ends whole usage reads writes = no_stop offset ends whole
   complete ReadFault ends whole usage reads writes = reads refl
   complete WriteFault ends whole usage reads writes = writes refl
+
+-- no status is both of an end before the first frame and of a run that began
+pub begun : (status : Status) → IsServed status → IsNotBegun status → ⊥
+begun Done served none = none
+begun NoMemory served none = served
+begun Usage served none = served
+begun (BadFrame offset) served none = none
+begun ReadFault served none = none
+begun WriteFault served none = none

@@ -15,74 +15,28 @@ use Rattle.act_model.specs.declared.reply.Refusal.TheVariants.{NoMemory}
 use Rattle.act_model.specs.declared.reply.Reply.{Reply}
 use Rattle.act_model.specs.declared.reply.Reply.TheVariants.{Refused}
 use Rattle.act_model.specs.Turns.{Turn, TakesReading, Answers, IsTurn, Conduct, request_of, readings_of, written_reply, written}
-use Rattle.act_model.specs.Requests.{is_unknown}
-use Rattle.act_model.specs.Step.{step}
+use Rattle.act_model.specs.Requests.{is_act}
 use Rattle.obs_time.specs.Instants.{IsInstantNs}
 use Rattle.mpc_cli.specs.Serving.{ClockState, Gives, TakesTurn, Served}
-use Rattle.mpc_cli.proofs.Clocks.{gives_none, gives_more, each_year}
+use Rattle.mpc_cli.proofs.Clocks.{gives_none, gives_more}
 use Rattle.mpc_cli.proofs.Laws.{RunLaws}
-
--- a turn more
-conduct_more : (founder : Key) (past : List Entry) (turns : List Turn) (between : List Entry) (turn : Turn) (after : List Entry) → Conduct founder past turns between → IsTurn founder between turn after → Conduct founder past (turns ++ turn ∷ []) after
-conduct_more founder past [] between turn after is last = (after, subst (λ (h : List Entry). IsTurn founder h turn after) is last, refl)
-conduct_more founder past (t ∷ turns) between turn after (middle, first, others) last = (middle, first, conduct_more founder middle turns between turn after others last)
 
 module _ (founder : Key) (past : List Entry) where
   -- the turn of an act, with the clock's next reading
-  pub act_turn : (q : Request) (reading : ℤ) (reply : Reply) (next : List Entry) (before after : ClockState) → is_unknown q.verb ≡ false → IsInstantNs reading
+  pub act_turn : (q : Request) (reading : ℤ) (reply : Reply) (next : List Entry) (before after : ClockState) → is_act q.verb ≡ true → IsInstantNs reading
       → IfSome (before.to_come 0) (λ t. reading ≡ t) → ((k : ℕ) → after.to_come k ≡ before.to_come (k + 1)) → after.last ≡ reading → Answers founder past q reading reply next
       → TakesTurn founder past q reply next before after
   act_turn q reading reply next before after act years told later last answers =
       record {
         reading = Some reading;
-        reads = act;
-        years = years;
+        reads = (act, years);
         answers = answers;
         clock = record { known = (told, tt); later = later; last = last };
       }
 
-  -- the turn of a request that is no act
-  pub query_turn : (q : Request) (reply : Reply) (next : List Entry) (clock : ClockState) → is_unknown q.verb ≡ true → Answers founder past q (pos 0) reply next → TakesTurn founder past q reply next clock clock
-  query_turn q reply next clock unknown answers =
-      record {
-        reading = None;
-        reads = unknown;
-        years = tt;
-        answers = answers;
-        clock = gives_none clock;
-      }
-
-  module _ (refusals : (founder : Key) (past after : List Entry) (request : Request) (reading : ℤ) (refusal : Refusal) → step founder past request reading ≡ (Refused refusal, after) → after ≡ past) where
-    -- want of memory may stand in the place of a refusal
-    answer_wanting : (q : Request) (t : ℤ) (refusal : Refusal) (after : List Entry) → Answers founder past q t (Refused refusal) after → Answers founder past q t (Refused NoMemory) after
-    answer_wanting q t refusal after (inl is) = inr (refl, refusals founder past after q t refusal is)
-    answer_wanting q t refusal after (inr (wants, same)) = inr (refl, same)
-
-    pub turn_wanting : (q : Request) (refusal : Refusal) (next : List Entry) (before after : ClockState) → TakesTurn founder past q (Refused refusal) next before after → TakesTurn founder past q (Refused NoMemory) next before after
-    turn_wanting q refusal next before after t =
-        record {
-          reading = t.reading;
-          reads = t.reads;
-          years = t.years;
-          answers = answer_wanting q (unwrap_or t.reading (pos 0)) refusal next t.answers;
-          clock = t.clock;
-        }
-
-    -- want of memory leaves the history
-    turn_leaves : (q : Request) (next : List Entry) (reading : ℤ) → Answers founder past q reading (Refused NoMemory) next → next ≡ past
-    turn_leaves q next reading (inl is) = refusals founder past next q reading NoMemory is
-    turn_leaves q next reading (inr (wants, same)) = same
-
-    -- a request that had no room stands for the one that came
-    pub turn_for : (q came : Request) (next : List Entry) (before after : ClockState) → q.verb ≡ came.verb → TakesTurn founder past q (Refused NoMemory) next before after → TakesTurn founder past came (Refused NoMemory) next before after
-    turn_for q came next before after verb t =
-        record {
-          reading = t.reading;
-          reads = subst (λ (v : Verb). TakesReading v t.reading) verb t.reads;
-          years = t.years;
-          answers = inr (refl, turn_leaves q next (unwrap_or t.reading (pos 0)) t.answers);
-          clock = t.clock;
-        }
+  -- the turn of a query
+  pub query_turn : (q : Request) (reply : Reply) (next : List Entry) (clock : ClockState) → is_act q.verb ≡ false → Answers founder past q (pos 0) reply next → TakesTurn founder past q reply next clock clock
+  query_turn q reply next clock query answers = record { reading = None; reads = query; answers = answers; clock = gives_none clock }
 
 AllByRecursion-push : {X : Type 0} (P : X → Type 0) (xs : List X) (x : X) → AllByRecursion P xs → P x → AllByRecursion P (xs ++ x ∷ [])
 AllByRecursion-push P [] x all here = (here, tt)
@@ -103,7 +57,6 @@ module _ (founder : Key) (before : ClockState) where
         whole = tt;
         requests = refl;
         conduct = refl;
-        years = tt;
         clock = gives_none before;
         texts_are = refl;
       }
@@ -120,7 +73,6 @@ module _ (founder : Key) (before : ClockState) where
         whole = s.whole;
         requests = s.requests;
         conduct = s.conduct;
-        years = s.years;
         clock = s.clock;
         texts_are = s.texts_are;
       },
@@ -134,15 +86,16 @@ module _ (founder : Key) (before : ClockState) where
     served_more between after bytes rest texts past next frame reply s good t =
         let turn : Turn = record { request = request_of frame; reading = t.reading; reply = reply } in
         let readings : readings_of (s.turns ++ turn ∷ []) ≡ readings_of s.turns ++ option_to_list t.reading =
-        filter_map-append (λ (x : Turn). x.reading) s.turns (turn ∷ []) ∙ ap (λ (rs : List ℤ). readings_of s.turns ++ rs) (readings_of_one t.reading turn refl) in
-        (record {
-          frames = s.frames ++ frame ∷ [];
-          turns = s.turns ++ turn ∷ [];
-          stream = s.stream ∙ sym (laws.stream_joins s.frames (frame ∷ []) rest);
-          whole = AllByRecursion-push IsFrame s.frames frame s.whole good;
-          requests = map-append (λ (x : Turn). x.request) s.turns (turn ∷ []) ∙ ap (λ (qs : List Request). qs ++ request_of frame ∷ []) s.requests ∙ sym (map-append request_of s.frames (frame ∷ []));
-          conduct = conduct_more founder [] s.turns past turn next s.conduct (record { reads = t.reads; answers = t.answers });
-          years = subst (λ (rs : List ℤ). AllByRecursion IsInstantNs rs) (sym readings) (each_year (readings_of s.turns) t.reading s.years t.years);
-          clock = subst (Gives before after) (sym readings) (gives_more before between after (readings_of s.turns) (option_to_list t.reading) s.clock t.clock);
-          texts_are = ap (λ (x : List ℕ). x ++ written_reply reply) s.texts_are ∙ ap (λ (x : List ℕ). written s.turns ++ x) (sym (append-nil (written_reply reply))) ∙ sym (flat_map-append (λ (x : Turn). written_reply x.reply) s.turns (turn ∷ []));
-        }, refl)
+        filter_map-append (λ (x : Turn). x.reading) s.turns (turn ∷ []) ∙ ap (λ (rs : List ℤ). readings_of s.turns ++ rs) (readings_of_one t.reading turn refl) in (
+          record {
+            frames = s.frames ++ frame ∷ [];
+            turns = s.turns ++ turn ∷ [];
+            stream = s.stream ∙ sym (laws.stream_joins s.frames (frame ∷ []) rest);
+            whole = AllByRecursion-push IsFrame s.frames frame s.whole good;
+            requests = map-append (λ (x : Turn). x.request) s.turns (turn ∷ []) ∙ ap (λ (qs : List Request). qs ++ request_of frame ∷ []) s.requests ∙ sym (map-append request_of s.frames (frame ∷ []));
+            conduct = laws.goes_on founder [] past next s.turns turn s.conduct (record { reads = t.reads; answers = t.answers });
+            clock = subst (Gives before after) (sym readings) (gives_more before between after (readings_of s.turns) (option_to_list t.reading) s.clock t.clock);
+            texts_are = ap (λ (x : List ℕ). x ++ written_reply reply) s.texts_are ∙ ap (λ (x : List ℕ). written s.turns ++ x) (sym (append-nil (written_reply reply))) ∙ sym (flat_map-append (λ (x : Turn). written_reply x.reply) s.turns (turn ∷ []));
+          },
+          refl,
+        )

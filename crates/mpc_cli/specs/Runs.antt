@@ -44,8 +44,8 @@ pub record IsLeft (history : List Entry) (count : ℕ) : Type 0 where
   pub entries : count ≡ length history
   pub once : EachNumberOnce history
 
--- All frames of the bytes' session were answered, up to a rest at which no frame stands. Where no reply was refused for
--- want of memory, the conduct is the step, one after another.
+-- All frames of the bytes' session were answered, up to a rest at which no frame stands. Where no turn ran out of memory, the
+-- conduct is the step, one after another.
 pub record RunsOver (founder : Key) (before after : ClockState) (bytes rest : List ℕ) (run : Run) (count : ℕ) : Type 0 where
   pub history : List Entry
   pub served : Served founder before after bytes rest run.texts history
@@ -97,14 +97,14 @@ Ends founder before after run count WriteFault = StopsWriting founder before aft
 Ends founder before after run count NoMemory = DoesNothing run count
 Ends founder before after run count Usage = DoesNothing run count
 
--- the run came to its end, or wanted for memory
-abbrev pub IsDoneOrWants : Status → Type 0
-IsDoneOrWants Done = Unit {0}
-IsDoneOrWants NoMemory = Unit {0}
-IsDoneOrWants Usage = ⊥
-IsDoneOrWants (BadFrame offset) = ⊥
-IsDoneOrWants ReadFault = ⊥
-IsDoneOrWants WriteFault = ⊥
+-- the run came to its end, or memory was refused before it began
+abbrev pub IsDoneOrNoMemory : Status → Type 0
+IsDoneOrNoMemory Done = Unit {0}
+IsDoneOrNoMemory NoMemory = Unit {0}
+IsDoneOrNoMemory Usage = ⊥
+IsDoneOrNoMemory (BadFrame offset) = ⊥
+IsDoneOrNoMemory ReadFault = ⊥
+IsDoneOrNoMemory WriteFault = ⊥
 
 -- a status with which serving ends, once it has begun
 abbrev pub IsServed : Status → Type 0

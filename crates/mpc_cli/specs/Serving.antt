@@ -1,6 +1,5 @@
 -- How far a run of the office came over the bytes of its source.
-use Rattle.std.specs.Prelude.{◌≡◌, ℕ, ◌+◌, ◌<◌, ℤ, pos, List, [], ◌∷◌, ◌++◌, length, map, take, Option, IfSome, unwrap_or, option_to_list}
-use Rattle.obs_time.specs.Instants.{IsInstantNs}
+use Rattle.std.specs.Prelude.{◌≡◌, ℕ, ◌+◌, ◌<◌, ℤ, pos, List, [], ◌∷◌, ◌++◌, length, map, take, Option, unwrap_or, option_to_list}
 use Rattle.std.specs.List.{AllByRecursion}
 use Rattle.desk_frames.specs.Frames.{Frame, IsFrame, framed, streamed}
 use Rattle.act_bodies.specs.declared.key.Key.{Key}
@@ -30,11 +29,10 @@ pub record Gives (before after : ClockState) (readings : List ℤ) : Type 0 wher
   pub last : after.last ≡ last_of before.last readings
 
 -- one turn of the office: the request was answered at this history, with a reading of the clock where it took one; that is
--- the clock's last reading then, a moment of the years 1800 to 2199
+-- the clock's last reading then
 pub record TakesTurn (founder : Key) (past : List Entry) (request : Request) (reply : Reply) (next : List Entry) (before after : ClockState) : Type 0 where
   pub reading : Option ℤ
   pub reads : TakesReading request.verb reading
-  pub years : IfSome reading IsInstantNs
   pub answers : Answers founder past request (unwrap_or reading (pos 0)) reply next
   pub clock : Gives before after (option_to_list reading)
 
@@ -47,7 +45,6 @@ pub record Served (founder : Key) (before after : ClockState) (bytes rest texts 
   pub whole : AllByRecursion IsFrame frames
   pub requests : requests_of turns ≡ map request_of frames
   pub conduct : Conduct founder [] turns history
-  pub years : AllByRecursion IsInstantNs (readings_of turns)
   pub clock : Gives before after (readings_of turns)
   pub texts_are : texts ≡ written turns
 

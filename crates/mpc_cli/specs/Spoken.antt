@@ -1,26 +1,17 @@
 -- A reply with its text, as it goes to the sink.
-use Rattle.std.specs.Prelude.{◌≡◌, ◌⊎◌, ℕ, List}
+use Rattle.std.specs.Prelude.{◌≡◌, ◌⊎◌}
 use Rattle.act_model.specs.declared.reply.Refusal.{Refusal}
 use Rattle.act_model.specs.declared.reply.Refusal.TheVariants.{NoMemory}
 use Rattle.act_model.specs.declared.reply.Reply.{Reply}
-use Rattle.act_model.specs.declared.reply.Reply.TheVariants.{Done, Refused}
-use Rattle.act_model.specs.Replies.{status_of, text_of}
-use Rattle.mpc_cli.specs.declared.spoken.Text.{Text}
-use Rattle.mpc_cli.specs.declared.spoken.Text.TheVariants.{Lines, Line}
+use Rattle.act_model.specs.declared.reply.Reply.TheVariants.{Refused}
+use Rattle.act_model.specs.Replies.{status_of, text_of, text_bytes}
 use Rattle.mpc_cli.specs.declared.spoken.Spoken.{Spoken}
-
-abbrev pub text_bytes : Text → List ℕ
-text_bytes (Lines text) = text
-text_bytes (Line line) = line.items
 
 -- the status and the text are those of the reply
 abbrev pub IsSpoken : Reply → Spoken → Type 0
 IsSpoken reply spoken = (spoken.status ≡ status_of reply) × (text_bytes spoken.text ≡ text_of reply)
 
--- they are those of the refusal, or of the one for want of memory
-abbrev pub SpeaksRefusal : Refusal → Spoken → Type 0
-SpeaksRefusal refusal spoken = IsSpoken (Refused refusal) spoken ⊎ IsSpoken (Refused NoMemory) spoken
-
+-- they are those of the reply, or of NoMemory in the place of a refusal
 abbrev pub Speaks : Reply → Spoken → Type 0
-Speaks (Done text) spoken = IsSpoken (Done text) spoken
-Speaks (Refused refusal) spoken = SpeaksRefusal refusal spoken
+Speaks reply spoken =
+    IsSpoken reply spoken ⊎ ((refusal : Refusal) × (reply ≡ Refused refusal) × IsSpoken (Refused NoMemory) spoken)

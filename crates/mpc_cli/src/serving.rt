@@ -12,8 +12,7 @@ ghost use Rattle.mpc_cli.specs.Runs.{Run, Supplies, Ends, IsServed};
 use crate::spoken::{speak, write_spoken};
 use crate::status::Status;
 use crate::turns::take_turn;
-use act_model::laws as office_laws;
-use act_model::{Body, Key, Request, read_verb};
+use act_model::{Body, Key, Request, laws as office_laws, read_verb};
 use desk_core::Core;
 use desk_frames::laws as frame_laws;
 use desk_io::{Clock, Failed, Sink, Source};
@@ -67,7 +66,8 @@ fn answer_frame<K: Sink, C: Clock>(
     ensures cause { OnErr result (Rises (K.faults sink.old) (K.faults sink.new)) }
     ensures stays { K.is_open sink.new ≡ K.is_open sink.old }
 {
-    office_laws::a_refusal_changes_nothing();
+    office_laws::out_of_memory_changes_nothing();
+    office_laws::no_room_no_step();
     let size = read.size;
     let request = request_of(read);
     let reply = take_turn(core, &request, clock);
@@ -135,6 +135,7 @@ pub fn serve<S: Source, K: Sink, C: Clock>(
     frame_laws::goes_on();
     frame_laws::session_behind();
     frame_laws::no_frame_yet();
+    office_laws::conducts_go_on();
     office_laws::each_once();
     office_laws::no_faults();
     let mut offset = 0u64;

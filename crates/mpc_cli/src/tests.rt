@@ -1,12 +1,11 @@
 //! Whole calls of the program, over a source, a sink and a clock in memory.
 
 use crate::{Ended, Words, top};
-use desk_io::{MemSink, MemSource, NoMemory, TickClock};
+use desk_io::{MemSink, MemSource, TickClock};
 use item_list::Bytes;
 use obs_time::Instant;
 use std::alloc::Global;
 use std::process::Abort;
-use std::test::Fail;
 
 /// A frame, the answer to it, and how many entries the history has behind it.
 #[derive(Clone, Copy)]
@@ -134,6 +133,28 @@ const PSV_FAULTY: &str = concat!(
 );
 
 const PSV_HEADLESS: &str = concat!("# version=2017\n", "stn|obsTime|deltaRA\n", "AAA1|CCD\n",);
+
+/// A batch of ADES whose columns have a name twice.
+const PSV_TWICE: &str = concat!(
+    "# version=2017\n",
+    "trkSub|mode|stn|obsTime|ra|dec|astCat|stn\n",
+    "AAA1|CCD|703|2024-03-15T23:59:59Z|150.0|-5.5|Gaia3|703\n",
+);
+
+/// Observers with a name of 100 characters, the most that there may be, and with one more.
+const LONG_NAME: &str = concat!(
+    "{\"key\":\"observer-2\",\"name\":\"",
+    "AAAAAAAAAAAAAAAAAAAAAAAAAAAAAAAAAAAAAAAAAAAAAAAAAA",
+    "AAAAAAAAAAAAAAAAAAAAAAAAAAAAAAAAAAAAAAAAAAAAAAAAAA",
+    "\",\"role\":\"observer\"}",
+);
+
+const TOO_LONG_NAME: &str = concat!(
+    "{\"key\":\"observer-2\",\"name\":\"",
+    "AAAAAAAAAAAAAAAAAAAAAAAAAAAAAAAAAAAAAAAAAAAAAAAAAA",
+    "AAAAAAAAAAAAAAAAAAAAAAAAAAAAAAAAAAAAAAAAAAAAAAAAAAA",
+    "\",\"role\":\"observer\"}",
+);
 
 const ROLE: &str = "403 15\nrefused 4 Role\n";
 
@@ -295,8 +316,8 @@ const REFUSALS: [Exchange; 14] = [
     },
 ];
 
-/// Batches of ADES, and what is refused of them.
-const ADES: [Exchange; 4] = [
+/// Batches of ADES and what is refused of them, and names of observers.
+const ADES: [Exchange; 7] = [
     Exchange {
         head: "observer-1 3 submitpsv 482\n",
         body: PSV,
@@ -321,10 +342,28 @@ const ADES: [Exchange; 4] = [
         answer: "422 27\nrefused 6 Header H3 line 2\n",
         entries: 8,
     },
+    Exchange {
+        head: "observer-1 4 submitpsv 112\n",
+        body: PSV_TWICE,
+        answer: "422 27\nrefused 6 Header H5 line 2\n",
+        entries: 8,
+    },
+    Exchange {
+        head: "+founder-1 6 enrol 149\n",
+        body: TOO_LONG_NAME,
+        answer: "400 22\nrefused 1 Unread body\n",
+        entries: 8,
+    },
+    Exchange {
+        head: "+founder-1 6 enrol 148\n",
+        body: LONG_NAME,
+        answer: "200 19\nreceipt 9\ncaller 2\n",
+        entries: 9,
+    },
 ];
 
 /// How many frames the session has: the office is set up, batches come, and refusals.
-const FRAMES: usize = 28;
+const FRAMES: usize = 31;
 
 /// The frame at a place of the session, and its answer.
 fn exchange_at(place: usize) -> Option<Exchange> {
@@ -340,16 +379,22 @@ fn exchange_at(place: usize) -> Option<Exchange> {
     ADES.get(place.saturating_sub(24)).copied()
 }
 
+fn put<R: Abort>(rt: &R, bytes: &mut Vec<u8>, text: &str) {
+    bytes
+        .extend_from_slice(text.as_bytes())
+        .expect(rt, "memory");
+}
+
 /// The bytes of all frames, one at once after the other.
-fn session(alloc: Global) -> Result<Vec<u8>, NoMemory> {
+fn session<R: Abort>(rt: &R, alloc: Global) -> Vec<u8> {
     let mut bytes = Vec::new(alloc);
     for place in 0..FRAMES {
         if let Some(next) = exchange_at(place) {
-            bytes.extend_from_slice(next.head.as_bytes())?;
-            bytes.extend_from_slice(next.body.as_bytes())?;
+            put(rt, &mut bytes, next.head);
+            put(rt, &mut bytes, next.body);
         }
     }
-    Ok(bytes)
+    bytes
 }
 
 /// How many bytes the frame at a place has.
@@ -373,71 +418,103 @@ fn whole_in(count: usize) -> usize {
     whole
 }
 
-/// The answers to the first so many frames, and the entries behind them.
-fn answers(alloc: Global, count: usize) -> Result<(Vec<u8>, u64), NoMemory> {
+/// The answers to the first so many frames.
+fn answers<R: Abort>(rt: &R, alloc: Global, count: usize) -> Vec<u8> {
     let mut bytes = Vec::new(alloc);
-    let mut entries = 0;
     for place in 0..count {
         if let Some(next) = exchange_at(place) {
-            bytes.extend_from_slice(next.answer.as_bytes())?;
-            entries = next.entries;
+            put(rt, &mut bytes, next.answer);
         }
     }
-    Ok((bytes, entries))
+    bytes
 }
 
-fn words_of(alloc: Global, texts: &[&str]) -> Result<Words, NoMemory> {
+/// How many entries the history has after the first so many frames.
+fn entries(count: usize) -> u64 {
+    match exchange_at(count.saturating_sub(1)) {
+        Some(last) if count > 0 => last.entries,
+        _ => 0,
+    }
+}
+
+fn words_of<R: Abort>(rt: &R, alloc: Global, texts: &[&str]) -> Words {
     let mut words = Words::new(alloc);
     for text in texts {
-        words.push(Bytes::from_slice(alloc, text.as_bytes())?)?;
+        let word = Bytes::from_slice(alloc, text.as_bytes()).expect(rt, "memory");
+        words.push(word).expect(rt, "memory");
     }
-    Ok(words)
+    words
 }
 
-/// How a call ended, and the sink that took its answers.
-#[derive(Drop)]
-struct Ran {
-    ended: Ended,
-    sink: MemSink,
-}
-
-/// A call over these bytes, of which a read gives at most `greatest`. The read and the write that fail
-/// are counted from 1, and for 0 none fails.
-fn call(
-    alloc: Global,
-    texts: &[&str],
-    bytes: &[u8],
-    greatest: usize,
+/// The read and the write that fail, counted from 1; for 0 none fails.
+#[derive(Clone, Copy)]
+struct Faults {
     read: u64,
     write: u64,
-) -> Result<Ran, Fail> {
-    let words = words_of(alloc, texts)?;
-    let mut source = MemSource::new(alloc, bytes, greatest.max(1), &[read])?;
-    let mut sink = MemSink::new(alloc, 4096, &[write])?;
-    let first = Instant::new(1_711_929_600_000_000_000).ok_or("out of range")?;
-    let mut clock = TickClock::new(first, 1_000_000_000);
-    let ended = top(alloc, &words, &mut source, &mut sink, &mut clock);
-    Ok(Ran { ended, sink })
 }
 
-fn expect(
-    rt: &impl Abort,
+const NONE: Faults = Faults { read: 0, write: 0 };
+
+fn expect_end<R: Abort>(rt: &R, alloc: Global, ended: &Ended, want: Want) {
+    let text = format!(in alloc; "{}", ended.status).expect(rt, "memory");
+    assert_eq!(rt; text.as_str(), want.status);
+    assert_eq!(rt; ended.status.number(), want.number);
+    assert_eq!(rt; ended.added, want.added);
+}
+
+/// A call over these bytes, of which a read gives at most `greatest`.
+fn call<R: Abort>(
+    rt: &R,
     alloc: Global,
-    ran: &Ran,
-    status: &str,
-    added: u64,
-    taken: &[u8],
-    case: usize,
-) -> Result<(), Fail> {
-    let ended = format!(in alloc; "{}", ran.ended.status)?;
-    assert_eq!(rt; ended.as_str(), status, "case {case}");
-    assert_eq!(rt; ran.ended.added, added, "case {case}");
-    assert_eq!(rt; ran.sink.bytes(), taken, "case {case}");
-    Ok(())
+    words: &Words,
+    bytes: &[u8],
+    greatest: usize,
+    faults: Faults,
+    sink: &mut MemSink,
+) -> Ended {
+    let mut source = MemSource::new(alloc, bytes, greatest.max(1), &[faults.read]).expect(
+        rt, "memory",
+    );
+    let first = Instant::new(1_711_929_600_000_000_000).expect(rt, "in range");
+    let mut clock = TickClock::new(first, 1_000_000_000);
+    top(alloc, words, &mut source, sink, &mut clock)
 }
 
 /// The words of `run` with the founder's key.
 const RUN: [&str; 3] = ["run", "--key", "+founder-1"];
+
+/// The end that is wanted: the status as it is printed, its number, and the entries.
+#[derive(Clone, Copy)]
+struct Want {
+    status: &'static str,
+    number: u8,
+    added: u64,
+}
+
+const fn done(added: u64) -> Want {
+    Want {
+        status: "Done",
+        number: 0,
+        added,
+    }
+}
+
+/// Runs the program over these bytes, of which a read gives at most `greatest`, and looks at its end and at what it wrote.
+fn expect_run<R: Abort>(
+    rt: &R,
+    alloc: Global,
+    bytes: &[u8],
+    greatest: usize,
+    faults: Faults,
+    want: Want,
+    taken: &[u8],
+) {
+    let words = words_of(rt, alloc, &RUN);
+    let mut sink = MemSink::new(alloc, 65_536, &[faults.write]).expect(rt, "memory");
+    let ended = call(rt, alloc, &words, bytes, greatest, faults, &mut sink);
+    expect_end(rt, alloc, &ended, want);
+    assert_eq!(rt; sink.bytes(), taken, "{greatest}");
+}
 
 /// The founder's first request, and its answer.
 const FIRST: &str = concat!(
@@ -454,34 +531,55 @@ const SECOND_IS_BAD: &str = concat!(
     "+founder-1 2 submit80 00\n",
 );
 
+/// A frame that the source's end cuts off.
+const CUT: &str = "+founder-1 1 station 70\n{\"code\"";
+
+/// The source's bytes, the read and the write that fail, the status and its number, the entries, the sink's bytes.
+const ENDS: [(&str, u64, u64, &str, u8, u64, &str); 7] = [
+    ("", 0, 0, "Done", 0, 0, ""),
+    (FIRST, 0, 0, "Done", 0, 1, FIRST_ANSWER),
+    (CUT, 0, 0, "BadFrame at 0", 3, 0, ""),
+    (SECOND_IS_BAD, 0, 0, "BadFrame at 94", 3, 1, FIRST_ANSWER),
+    (FIRST, 2, 0, "ReadFault", 6, 1, FIRST_ANSWER),
+    (FIRST, 1, 0, "ReadFault", 6, 0, ""),
+    (FIRST, 0, 1, "WriteFault", 7, 1, ""),
+];
+
 #[test]
-fn ends_of_a_run(rt: HostRuntime) -> Result<(), Fail> {
-    let alloc = rt.alloc();
-    let cut = "+founder-1 1 station 70\n{\"code\"";
-    // The source's bytes, the read and the write that fail, the status, the entries, the sink's bytes.
-    let cases = [
-        ("", 0, 0, "Done", 0, ""),
-        (FIRST, 0, 0, "Done", 1, FIRST_ANSWER),
-        (cut, 0, 0, "BadFrame at 0", 0, ""),
-        (SECOND_IS_BAD, 0, 0, "BadFrame at 94", 1, FIRST_ANSWER),
-        (FIRST, 2, 0, "ReadFault", 1, FIRST_ANSWER),
-        (FIRST, 1, 0, "ReadFault", 0, ""),
-        (FIRST, 0, 1, "WriteFault", 1, ""),
-    ];
-    for (case, (bytes, read, write, status, added, taken)) in cases.iter().enumerate() {
-        let ran = call(alloc, &RUN, bytes.as_bytes(), 4096, *read, *write)?;
-        expect(&rt, alloc, &ran, status, *added, taken.as_bytes(), case)?;
+fn ends_of_a_run(rt: HostRuntime) {
+    for (bytes, read, write, status, number, added, taken) in ENDS {
+        let want = Want {
+            status,
+            number,
+            added,
+        };
+        let faults = Faults { read, write };
+        expect_run(
+            &rt,
+            rt.alloc(),
+            bytes.as_bytes(),
+            4096,
+            faults,
+            want,
+            taken.as_bytes(),
+        );
     }
-    Ok(())
+}
+
+/// Runs the program with these words over the founder's first request.
+fn expect_words<R: Abort>(rt: &R, alloc: Global, texts: &[&str], want: Want, taken: &str) {
+    let words = words_of(rt, alloc, texts);
+    let mut sink = MemSink::new(alloc, 64, &[]).expect(rt, "memory");
+    let ended = call(rt, alloc, &words, FIRST.as_bytes(), 4096, NONE, &mut sink);
+    expect_end(rt, alloc, &ended, want);
+    assert_eq!(rt; sink.bytes(), taken.as_bytes());
 }
 
 #[test]
-fn words_of_run(rt: HostRuntime) -> Result<(), Fail> {
-    let alloc = rt.alloc();
+fn words_of_run(rt: HostRuntime) {
     let good: [&[&str]; 2] = [&RUN, &["run", "--key=+founder-1"]];
-    for (case, texts) in good.iter().enumerate() {
-        let ran = call(alloc, texts, FIRST.as_bytes(), 4096, 0, 0)?;
-        expect(&rt, alloc, &ran, "Done", 1, FIRST_ANSWER.as_bytes(), case)?;
+    for texts in good {
+        expect_words(&rt, rt.alloc(), texts, done(1), FIRST_ANSWER);
     }
     let bad: [&[&str]; 7] = [
         &["run"],
@@ -492,73 +590,81 @@ fn words_of_run(rt: HostRuntime) -> Result<(), Fail> {
         &["run", "--key=", "+founder-1"],
         &["run", "--key", "+founder-1", "--key"],
     ];
-    for (case, texts) in bad.iter().enumerate() {
-        let ran = call(alloc, texts, FIRST.as_bytes(), 4096, 0, 0)?;
-        expect(&rt, alloc, &ran, "Usage", 0, b"", case)?;
+    let usage = Want {
+        status: "Usage",
+        number: 2,
+        added: 0,
+    };
+    for texts in bad {
+        expect_words(&rt, rt.alloc(), texts, usage, "");
     }
-    Ok(())
 }
 
 #[test]
-fn session_in_pieces(rt: HostRuntime) -> Result<(), Fail> {
-    let alloc = rt.alloc();
-    let bytes = session(alloc)?;
-    let (taken, added) = answers(alloc, FRAMES)?;
+fn session_in_pieces(rt: HostRuntime) {
+    let bytes = session(&rt, rt.alloc());
+    let taken = answers(&rt, rt.alloc(), FRAMES);
     for greatest in [1usize, 2, 3, 7, 64, 4096] {
-        let ran = call(alloc, &RUN, &bytes, greatest, 0, 0)?;
-        expect(&rt, alloc, &ran, "Done", added, &taken, greatest)?;
+        expect_run(
+            &rt,
+            rt.alloc(),
+            &bytes,
+            greatest,
+            NONE,
+            done(entries(FRAMES)),
+            &taken,
+        );
     }
-    Ok(())
 }
 
 // Each read gives 7 bytes, or what is left of the session.
 #[test]
-fn each_read_fails_in_turn(rt: HostRuntime) -> Result<(), Fail> {
-    let alloc = rt.alloc();
-    let bytes = session(alloc)?;
+fn each_read_fails_in_turn(rt: HostRuntime) {
+    let bytes = session(&rt, rt.alloc());
     for reads in 0..=bytes.len().div_ceil(7) {
-        let came = reads.saturating_mul(7).min(bytes.len());
-        let (taken, added) = answers(alloc, whole_in(came))?;
-        let failing = (reads as u64).saturating_add(1);
-        let ran = call(alloc, &RUN, &bytes, 7, failing, 0)?;
-        expect(&rt, alloc, &ran, "ReadFault", added, &taken, came)?;
+        let whole = whole_in(reads.saturating_mul(7).min(bytes.len()));
+        let want = Want {
+            status: "ReadFault",
+            number: 6,
+            added: entries(whole),
+        };
+        let faults = Faults {
+            read: (reads as u64).saturating_add(1),
+            write: 0,
+        };
+        let taken = answers(&rt, rt.alloc(), whole);
+        expect_run(&rt, rt.alloc(), &bytes, 7, faults, want, &taken);
     }
-    Ok(())
 }
 
-// A reply is written in two pieces, its head and its text, so the write that fails tells the frame.
+/// Runs the session where the write after so many fails. A reply is written in two pieces, its head and its text, so
+/// the write tells the frame.
+fn expect_cut<R: Abort>(rt: &R, alloc: Global, bytes: &[u8], before: usize) {
+    let frame = before / 2;
+    let failing = (before as u64).saturating_add(1);
+    let words = words_of(rt, alloc, &RUN);
+    let mut sink = MemSink::new(alloc, 65_536, &[failing]).expect(rt, "memory");
+    let ended = call(rt, alloc, &words, bytes, 4096, NONE, &mut sink);
+    let want = Want {
+        status: "WriteFault",
+        number: 7,
+        added: entries(frame.saturating_add(1)),
+    };
+    expect_end(rt, alloc, &ended, want);
+    let whole = answers(rt, alloc, frame);
+    let more = answers(rt, alloc, frame.saturating_add(1));
+    let count = sink.bytes().len();
+    assert!(rt; whole.len() <= count && count < more.len(), "{before}");
+    let (front, _) = more.split_at(count);
+    assert_eq!(rt; sink.bytes(), front, "{before}");
+}
+
 #[test]
-fn each_write_fails_in_turn(rt: HostRuntime) -> Result<(), Fail> {
-    let alloc = rt.alloc();
-    let bytes = session(alloc)?;
+fn each_write_fails_in_turn(rt: HostRuntime) {
+    let bytes = session(&rt, rt.alloc());
     for before in 0..2 * FRAMES {
-        let (whole, _) = answers(alloc, before / 2)?;
-        let (more, added) = answers(alloc, (before / 2).saturating_add(1))?;
-        let failing = (before as u64).saturating_add(1);
-        let ran = call(alloc, &RUN, &bytes, 4096, 0, failing)?;
-        let count = ran.sink.bytes().len();
-        assert!(rt; whole.len() <= count && count < more.len(), "{before}");
-        expect(
-            &rt,
-            alloc,
-            &ran,
-            "WriteFault",
-            added,
-            &more[..count],
-            before,
-        )?;
+        expect_cut(&rt, rt.alloc(), &bytes, before);
     }
-    Ok(())
-}
-
-/// A call over one frame with a body of so many bytes of one kind, and the founder's first request.
-fn call_with_body(alloc: Global, head: &str, count: usize, byte: u8) -> Result<Ran, Fail> {
-    let mut bytes = Vec::new(alloc);
-    bytes.extend_from_slice(head.as_bytes())?;
-    let end = bytes.len().saturating_add(count);
-    bytes.resize(end, byte)?;
-    bytes.extend_from_slice(FIRST.as_bytes())?;
-    call(alloc, &RUN, &bytes, 65_536, 0, 0)
 }
 
 /// Heads, the number of bytes of the body, the byte, and the answers to both frames.
@@ -589,22 +695,125 @@ const LARGE: [(&str, usize, u8, &str); 4] = [
     ),
 ];
 
-#[test]
-fn large_bodies(rt: HostRuntime) -> Result<(), Fail> {
-    let alloc = rt.alloc();
-    for (case, (head, count, byte, taken)) in LARGE.iter().enumerate() {
-        let ran = call_with_body(alloc, head, *count, *byte)?;
-        expect(&rt, alloc, &ran, "Done", 1, taken.as_bytes(), case)?;
-    }
-    Ok(())
+/// A head with a body of so many bytes of one kind, and the founder's first request.
+fn large<R: Abort>(rt: &R, alloc: Global, head: &str, count: usize, byte: u8) -> Vec<u8> {
+    let mut bytes = Vec::new(alloc);
+    put(rt, &mut bytes, head);
+    let end = bytes.len().saturating_add(count);
+    bytes.resize(end, byte).expect(rt, "memory");
+    put(rt, &mut bytes, FIRST);
+    bytes
 }
 
 #[test]
-fn office_without_rows(rt: HostRuntime) -> Result<(), Fail> {
-    let alloc = rt.alloc();
-    let mut bytes = Vec::new(alloc);
-    bytes.extend_from_slice(b"+founder-1 1 submit80 411\n")?;
-    bytes.extend_from_slice(BATCH.as_bytes())?;
-    let ran = call(alloc, &RUN, &bytes, 4096, 0, 0)?;
-    expect(&rt, alloc, &ran, "Done", 0, STRANGERS.as_bytes(), 0)
+fn large_bodies(rt: HostRuntime) {
+    for (head, count, byte, taken) in LARGE {
+        let bytes = large(&rt, rt.alloc(), head, count, byte);
+        expect_run(
+            &rt,
+            rt.alloc(),
+            &bytes,
+            65_536,
+            NONE,
+            done(1),
+            taken.as_bytes(),
+        );
+    }
+}
+
+#[test]
+fn office_without_rows(rt: HostRuntime) {
+    let mut bytes = Vec::new(rt.alloc());
+    put(&rt, &mut bytes, "+founder-1 1 submit80 411\n");
+    put(&rt, &mut bytes, BATCH);
+    expect_run(
+        &rt,
+        rt.alloc(),
+        &bytes,
+        4096,
+        NONE,
+        done(0),
+        STRANGERS.as_bytes(),
+    );
+}
+
+fn put_number<R: Abort>(rt: &R, alloc: Global, bytes: &mut Vec<u8>, number: u64) {
+    let text = format!(in alloc; "{number}").expect(rt, "memory");
+    put(rt, bytes, text.as_str());
+}
+
+/// A frame of the founder's sixth request, a batch of so many lines of station 703, each a little later than the one before.
+fn batch_of<R: Abort>(rt: &R, alloc: Global, bytes: &mut Vec<u8>, lines: u64) {
+    put(rt, bytes, "+founder-1 6 submit80 ");
+    put_number(rt, alloc, bytes, lines.saturating_mul(81));
+    put(rt, bytes, "\n");
+    for line in 0..lines {
+        put(rt, bytes, "     P10abcd  C2024 03 15.");
+        put_number(rt, alloc, bytes, line.saturating_add(10_000));
+        put(
+            rt,
+            bytes,
+            " 06 12 34.56 +23 45 01.2          19.5 V      703\n",
+        );
+    }
+}
+
+/// The answer to that batch, where each line is accepted.
+fn batch_text<R: Abort>(rt: &R, alloc: Global, lines: u64) -> Vec<u8> {
+    let mut text = Vec::new(alloc);
+    put(rt, &mut text, "receipt 6\naccepted ");
+    put_number(rt, alloc, &mut text, lines);
+    put(rt, &mut text, " refused 0\n");
+    for line in 0..lines {
+        put(rt, &mut text, "line ");
+        put_number(rt, alloc, &mut text, line.saturating_add(1));
+        put(rt, &mut text, " obs ");
+        put_number(rt, alloc, &mut text, line.saturating_add(1));
+        put(rt, &mut text, "\n");
+    }
+    text
+}
+
+/// The text of a batch of so many lines, of which each is of an unknown station.
+fn strangers_text<R: Abort>(rt: &R, alloc: Global, lines: u64) -> Vec<u8> {
+    let mut text = Vec::new(alloc);
+    put(rt, &mut text, "refused 7 NoLine\n");
+    for line in 0..lines {
+        put(rt, &mut text, "line ");
+        put_number(rt, alloc, &mut text, line.saturating_add(1));
+        put(rt, &mut text, " refused T1\n");
+    }
+    text
+}
+
+/// A reply with this status and text behind other replies.
+fn put_reply<R: Abort>(rt: &R, alloc: Global, bytes: &mut Vec<u8>, status: &str, text: &[u8]) {
+    put(rt, bytes, status);
+    put_number(rt, alloc, bytes, text.len() as u64);
+    put(rt, bytes, "\n");
+    bytes.extend_from_slice(text).expect(rt, "memory");
+}
+
+#[test]
+fn batch_of_1200_lines(rt: HostRuntime) {
+    let mut bytes = Vec::new(rt.alloc());
+    for next in SETUP {
+        put(&rt, &mut bytes, next.head);
+        put(&rt, &mut bytes, next.body);
+    }
+    batch_of(&rt, rt.alloc(), &mut bytes, 1_200);
+    let mut taken = answers(&rt, rt.alloc(), 5);
+    let text = batch_text(&rt, rt.alloc(), 1_200);
+    put_reply(&rt, rt.alloc(), &mut taken, "200 ", &text);
+    expect_run(&rt, rt.alloc(), &bytes, 65_536, NONE, done(6), &taken);
+}
+
+#[test]
+fn refusal_with_12_faults(rt: HostRuntime) {
+    let mut bytes = Vec::new(rt.alloc());
+    batch_of(&rt, rt.alloc(), &mut bytes, 12);
+    let mut taken = Vec::new(rt.alloc());
+    let text = strangers_text(&rt, rt.alloc(), 12);
+    put_reply(&rt, rt.alloc(), &mut taken, "422 ", &text);
+    expect_run(&rt, rt.alloc(), &bytes, 65_536, NONE, done(0), &taken);
 }

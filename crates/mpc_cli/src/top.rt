@@ -4,13 +4,14 @@ ghost use Rattle.std.specs.Prelude.{◌≡◌, ◌≤◌, ◌↔◌, ℕ, List, 
 ghost use Rattle.std.specs.Io.KnownBytes.{Appends};
 ghost use Rattle.desk_io.specs.Outside.{Rises};
 ghost use Rattle.act_bodies.specs.Keys.{key_of};
+ghost use Rattle.act_model.specs.Roster.{IsFounder};
 ghost use Rattle.mpc_cli.specs.Words.{run_key};
 ghost use Rattle.mpc_cli.specs.Serving.{clock_of};
-ghost use Rattle.mpc_cli.specs.Runs.{Run, Supplies, Ends, IsWhole, IsDoneOrWants, IsNotBegun};
+ghost use Rattle.mpc_cli.specs.Runs.{Run, Supplies, Ends, IsWhole, IsDoneOrNoMemory, IsNotBegun};
 
 use crate::serving::serve;
 use crate::status::{Ended, Status};
-use crate::words::{Words, run_key};
+use crate::words::{Words, founder_of, run_key};
 use act_model::Key;
 use desk_core::Core;
 use desk_frames::laws;
@@ -34,6 +35,7 @@ fn run<S: Source, K: Sink, C: Clock>(
     sink: &mut K,
     clock: &mut C,
 ) -> Ended
+    requires { IsFounder founder }
     ensures ends { (run : Run) × Supplies S.left S.gives source.old source.new run × Appends (K.taken sink.old) (K.taken sink.new) run.texts
         × Ends founder (clock_of C.reading C.last clock.old) (clock_of C.reading C.last clock.new) run result.added result.status }
     ensures not_begun { IsNotBegun result.status →
@@ -77,9 +79,9 @@ pub fn top<S: Source, K: Sink, C: Clock>(
         (run : Run) × Supplies S.left S.gives source.old source.new run × Appends (K.taken sink.old) (K.taken sink.new) run.texts
         × Ends (key_of key) (clock_of C.reading C.last clock.old) (clock_of C.reading C.last clock.new) run result.added result.status }
 
-    // Good words, a whole session and no fault give the end of the job, or want of memory.
+    // Good words, a whole session and no fault give `Done`, or `NoMemory`.
     ensures complete { (key bytes : List ℕ) → run_key words.now ≡ Some key → S.left source.old ≡ Some bytes → IsWhole bytes →
-        ¬ Rises (S.faults source.old) (S.faults source.new) → ¬ Rises (K.faults sink.old) (K.faults sink.new) → IsDoneOrWants result.status }
+        ¬ Rises (S.faults source.old) (S.faults source.new) → ¬ Rises (K.faults sink.old) (K.faults sink.new) → IsDoneOrNoMemory result.status }
 
     // The words decide alone whether it is `Usage`.
     ensures usage { (result.status ≡ Status.Usage) ↔ (run_key words.now ≡ None) }
@@ -102,7 +104,7 @@ pub fn top<S: Source, K: Sink, C: Clock>(
 {
     laws::one_session();
     match run_key(words) {
-        Some(key) => run(alloc, Key::new(key), source, sink, clock),
+        Some(key) => run(alloc, founder_of(key), source, sink, clock),
         None => not_begun(Status::Usage),
     }
 }

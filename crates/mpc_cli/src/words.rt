@@ -1,9 +1,12 @@
 //! The words of the command line, after the program's name.
 
-ghost use Rattle.std.specs.Prelude.{◌≡◌, option_map};
+ghost use Rattle.std.specs.Prelude.{◌≡◌, true, option_map, IfSome};
+ghost use Rattle.act_bodies.specs.Keys.{key_of};
+ghost use Rattle.act_model.specs.Roster.{IsFounder};
 ghost use Rattle.std.specs.List.{list_all};
 ghost use Rattle.mpc_cli.specs.Words.{is_key_byte, has_key_length, is_key_rest, is_founder_key, founder_key, key_in_option, key_behind, key_in_options, key_of_run, run_key};
 
+use act_model::Key;
 use item_list::{Bytes, ItemList};
 
 /// The words of the command line, after the program's name.
@@ -43,7 +46,8 @@ fn is_founder_key(text: &[u8]) -> bool
 }
 
 fn founder_key(text: &[u8]) -> Option<&[u8]>
-    ensures { option_map (λ key. key.now) result ≡ founder_key text.now }
+    ensures key { option_map (λ key. key.now) result ≡ founder_key text.now }
+    ensures founder { IfSome result (λ key. is_founder_key key.now ≡ true) }
 {
     if is_founder_key(text) {
         Some(text)
@@ -53,7 +57,8 @@ fn founder_key(text: &[u8]) -> Option<&[u8]>
 }
 
 fn key_in_option(word: &[u8]) -> Option<&[u8]>
-    ensures { option_map (λ key. key.now) result ≡ key_in_option word.now }
+    ensures key { option_map (λ key. key.now) result ≡ key_in_option word.now }
+    ensures founder { IfSome result (λ key. is_founder_key key.now ≡ true) }
 {
     if word.len() < 6 {
         return None;
@@ -66,7 +71,8 @@ fn key_in_option(word: &[u8]) -> Option<&[u8]>
 }
 
 fn key_behind<'a>(word: &[u8], key: &'a [u8]) -> Option<&'a [u8]>
-    ensures { option_map (λ key. key.now) result ≡ key_behind word.now key.now }
+    ensures key { option_map (λ key. key.now) result ≡ key_behind word.now key.now }
+    ensures founder { IfSome result (λ key. is_founder_key key.now ≡ true) }
 {
     if word == b"--key".as_slice() {
         founder_key(key)
@@ -76,7 +82,8 @@ fn key_behind<'a>(word: &[u8], key: &'a [u8]) -> Option<&'a [u8]>
 }
 
 fn key_in_options(options: &[Bytes]) -> Option<&[u8]>
-    ensures { option_map (λ key. key.now) result ≡ key_in_options options.now }
+    ensures key { option_map (λ key. key.now) result ≡ key_in_options options.now }
+    ensures founder { IfSome result (λ key. is_founder_key key.now ≡ true) }
 {
     match options {
         [] => None,
@@ -87,7 +94,8 @@ fn key_in_options(options: &[Bytes]) -> Option<&[u8]>
 }
 
 fn key_of_run<'a>(command: &[u8], options: &'a [Bytes]) -> Option<&'a [u8]>
-    ensures { option_map (λ key. key.now) result ≡ key_of_run command.now options.now }
+    ensures key { option_map (λ key. key.now) result ≡ key_of_run command.now options.now }
+    ensures founder { IfSome result (λ key. is_founder_key key.now ≡ true) }
 {
     if command == b"run".as_slice() {
         key_in_options(options)
@@ -99,10 +107,20 @@ fn key_of_run<'a>(command: &[u8], options: &'a [Bytes]) -> Option<&'a [u8]>
 /// The founding officer's key that the words name, where they are `run --key K` or `run --key=K`,
 /// and None for all other words. A key is a plus sign and 8 to 32 letters, digits and hyphens.
 pub fn run_key(words: &Words) -> Option<&[u8]>
-    ensures { option_map (λ key. key.now) result ≡ run_key words.now }
+    ensures key { option_map (λ key. key.now) result ≡ run_key words.now }
+    ensures founder { IfSome result (λ key. is_founder_key key.now ≡ true) }
 {
     match words.as_slice() {
         [] => None,
         [command, options @ ..] => key_of_run(command.as_slice(), options),
     }
+}
+
+/// The key of a text that names the founding officer.
+pub fn founder_of(text: &[u8]) -> Key
+    requires { is_founder_key text.now ≡ true }
+    ensures key { result ≡ key_of text.now }
+    ensures founder { IsFounder result }
+{
+    Key::new(text)
 }

@@ -20,6 +20,7 @@ frames-preserved g c =
       stream_goes_on = c.goes_on.ensures.streams;
       stream_joins = c.session_behind.ensures.streams;
       nothing = c.no_frame_yet.ensures.nothing;
+      goes_on = c.conducts_go_on.ensures;
       once = c.each_once.ensures;
       steps = c.no_faults.ensures;
     } in
@@ -39,6 +40,7 @@ returns-in-Over-clause-ends g c =
       stream_goes_on = c.goes_on.ensures.streams;
       stream_joins = c.session_behind.ensures.streams;
       nothing = c.no_frame_yet.ensures.nothing;
+      goes_on = c.conducts_go_on.ensures;
       once = c.each_once.ensures;
       steps = c.no_faults.ensures;
     } in
@@ -51,6 +53,7 @@ returns-in-NoMore-clause-ends g c =
       stream_goes_on = c.goes_on.ensures.streams;
       stream_joins = c.session_behind.ensures.streams;
       nothing = c.no_frame_yet.ensures.nothing;
+      goes_on = c.conducts_go_on.ensures;
       once = c.each_once.ensures;
       steps = c.no_faults.ensures;
     } in
@@ -63,6 +66,7 @@ returns-in-ReadFailed-clause-ends g c =
       stream_goes_on = c.goes_on.ensures.streams;
       stream_joins = c.session_behind.ensures.streams;
       nothing = c.no_frame_yet.ensures.nothing;
+      goes_on = c.conducts_go_on.ensures;
       once = c.each_once.ensures;
       steps = c.no_faults.ensures;
     } in
@@ -75,6 +79,7 @@ returns-in-WriteFailed-clause-ends g c =
       stream_goes_on = c.goes_on.ensures.streams;
       stream_joins = c.session_behind.ensures.streams;
       nothing = c.no_frame_yet.ensures.nothing;
+      goes_on = c.conducts_go_on.ensures;
       once = c.each_once.ensures;
       steps = c.no_faults.ensures;
     } in
