@@ -36,8 +36,8 @@ abbrev pub psv_act : Result (List Line) (HeaderFault × ℕ) → Result Act ActF
 psv_act (Ok lines) = Ok (act.SubmitPsv lines)
 psv_act (Err fault) = Err (Header fault.0 fault.1)
 
--- The act of a verb and a body. Every body is one of a batch of 80 columns; one in PSV form may have a fault of its headers; an officer's act has the body that its verb wants; and a
--- verb that names nothing is no act.
+-- The act of a verb and a body. Every body is one of a batch of 80 columns; one in PSV form may have a fault of its headers; an
+-- officer's act has the body that its verb wants; and a verb that names nothing is no act.
 unfoldable pub act_of : Verb → List ℕ → Result Act ActFault
 act_of Enrol body = read_as enrol_act (enrol_of body)
 act_of Station body = read_as station_act (station_of body)

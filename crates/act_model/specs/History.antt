@@ -24,7 +24,8 @@ pub record Kept : Type 0 where
 abbrev pub kept : List Entry → ℕ → ℕ → Option Kept
 kept [] caller number = None
 kept (entry ∷ before) caller number =
-    if is_numbered caller number entry then Some (record { entry = entry; before = before }) else kept before caller number
+    if is_numbered caller number entry then Some (record { entry = entry; before = before })
+    else kept before caller number
 
 -- no entry before has the caller and number of this one
 abbrev pub IsUnused : List Entry → Entry → Type 0

@@ -9,13 +9,19 @@ use Rattle.act_model.specs.Deeds.{deeds}
 use Rattle.act_model.specs.Roster.{members, key_at}
 use Rattle.act_model.specs.Step.{step}
 
--- the request of an entry that came at this history: the caller's key on the roster, the number, the verb and the whole body
+-- the request of an entry that came at this history: the caller's key on the roster, the number, the verb and the whole
+-- body
 abbrev pub entry_request : Key → List Entry → Entry → Request
 entry_request founder past entry =
-    record { key = key_at founder (members (deeds past)) entry.caller; number = Some entry.number; verb = entry.verb; body = Whole entry.body }
+    record {
+      key = key_at founder (members (deeds past)) entry.caller;
+      number = Some entry.number;
+      verb = entry.verb;
+      body = Whole entry.body;
+    }
 
--- the entry's moment is one that a clock gives, and the entry is what the step adds to the history for the entry's request,
--- with that moment as the reading
+-- The entry's moment is one that a clock gives, in the years 1800 to 2199. The entry is what the step adds to the history
+-- for the entry's request, with that moment as the reading.
 abbrev pub IsAdded : Key → List Entry → Entry → Type 0
 IsAdded founder past entry =
     IsInstantNs entry.moment × ((step founder past (entry_request founder past entry) entry.moment).1 ≡ entry ∷ past)

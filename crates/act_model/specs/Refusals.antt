@@ -1,5 +1,5 @@
--- The office's table of refusals, in groups over the values that they ask. A question is answered by what it finds, or by the
--- first refusal that holds; the next one takes what was found.
+-- The office's table of refusals, in groups over the values that they ask. A question is answered by what it finds, or by
+-- the first refusal that holds; the next one takes what was found.
 use Rattle.std.specs.Prelude.{ℕ, ◌^◌, ℤ, Bool, not, nat_lt, nat_le, ◌==◌, ◌&&◌, if◌then◌else◌, List, [], ◌∷◌, length, Option, Some, None, is_some, Result, Ok, Err}
 use Rattle.act_bodies.specs.declared.enrol.Rank.{Rank}
 use Rattle.act_bodies.specs.declared.key.Key.{Key}
@@ -44,8 +44,8 @@ size_rows bytes =
     ∷ (nat_lt BODY_LINES (line_feeds bytes), TooLarge (excess.Lines (line_feeds bytes)))
     ∷ []
 
--- The bytes of a body that is small enough. One that was too long was thrown away, and one for which there was no memory is
--- answered so, whatever else the request says.
+-- The bytes of a body that is small enough. One that was too long was thrown away, and one for which there was no memory
+-- is answered so, whatever else the request says.
 abbrev pub bytes_in : Body → Result (List ℕ) Refusal
 bytes_in (Whole bytes) = unless (first_row (size_rows bytes)) (Ok bytes)
 bytes_in (TooLong size) = Err (TooLarge (excess.Length size))
@@ -76,7 +76,8 @@ abbrev pub caller_in : Option Caller → Result Caller Refusal
 caller_in (Some caller) = Ok caller
 caller_in None = Err UnknownKey
 
--- what is heard of a request with these bytes, where these are enrolled: its verb, its number, what it asks, and who asks
+-- what is heard of a request with these bytes, where these are enrolled: its verb, its number, what it asks, and who
+-- asks
 unfoldable pub hear : Key → List Member → Request → List ℕ → Result Heard Refusal
 hear founder enrolled request bytes =
     unless (first_row (verb_rows request.verb)) do
@@ -117,9 +118,13 @@ deed_rows enrolled tables (Coded kind letter word) = row_rows (has_code tables.c
 deed_rows enrolled tables (Submitted lines rulings) = batch_rows rulings
 deed_rows enrolled tables Nothing = []
 
+-- the first refusal that a deed meets after these
+abbrev pub deed_refusal : List Deed → Deed → Option Refusal
+deed_refusal past deed = first_row (deed_rows (members past) (tables_of past) deed)
+
 -- a deed after these, where nothing refuses it
 abbrev pub allowed : List Deed → Deed → Result Deed Refusal
-allowed past deed = unless (first_row (deed_rows (members past) (tables_of past) deed)) (Ok deed)
+allowed past deed = unless (deed_refusal past deed) (Ok deed)
 
 -- what a request that was heard does after these deeds, at this moment
 unfoldable pub work_out : List Deed → ℤ → Heard → Result Deed Refusal

@@ -37,7 +37,8 @@ line_answers [] before = []
 line_answers (ruling ∷ rulings) before =
     line_answer before ruling.line ruling.fault ++ line_answers rulings (observations_with before ruling.fault)
 
--- the answer to a batch with these rulings that became the entry with this receipt, where so many observations came before it
+-- the answer to a batch with these rulings that became the entry with this receipt, where so many observations came before
+-- it
 unfoldable pub batch_answer : ℕ → ℕ → List Ruling → List ℕ
 batch_answer receipt before rulings =
     receipt_line receipt ++ (counts_line (accepted_in rulings) (refused_in rulings) ++ line_answers rulings before)
@@ -66,7 +67,8 @@ refusal_text (Unread part.Body) = line_of (codes "refused 1 Unread body")
 refusal_text UnknownKey = line_of (codes "refused 2 UnknownKey")
 refusal_text (OtherRequest receipt) = line_of (codes "refused 3 OtherRequest receipt " ++ decimal receipt)
 refusal_text Role = line_of (codes "refused 4 Role")
-refusal_text (Header fault line) = line_of (codes "refused 6 Header " ++ header_name fault ++ codes " line " ++ decimal line)
+refusal_text (Header fault line) =
+    line_of (codes "refused 6 Header " ++ header_name fault ++ codes " line " ++ decimal line)
 refusal_text (NoLine faults) = line_of (codes "refused 7 NoLine") ++ fault_lines faults
 refusal_text AlreadyThere = line_of (codes "refused 13 AlreadyThere")
 refusal_text RosterFull = line_of (codes "refused 13 RosterFull")

@@ -27,7 +27,8 @@ next_caller enrolled = length enrolled + 1
 abbrev pub enrolled_as : List Member → Key → Option Caller
 enrolled_as [] key = None
 enrolled_as (member ∷ older) key =
-    if same_key key member.key then Some (record { number = next_caller older; rank = member.rank }) else enrolled_as older key
+    if same_key key member.key then Some (record { number = next_caller older; rank = member.rank })
+    else enrolled_as older key
 
 -- the founding officer
 abbrev pub founding : Caller

@@ -91,8 +91,8 @@ refused_in rulings = length rulings - accepted_in rulings
 abbrev pub groups_to : Ruling → ℕ
 groups_to ruling = if is_accepted ruling then ruling.group + 1 else 0
 
--- How many groups have an accepted line. Groups count from 0 in the order of their first accepted lines, so that it is one
--- more than the greatest.
+-- How many groups have an accepted line. Groups count from 0 in the order of their first accepted lines, so that it is
+-- one more than the greatest.
 abbrev pub groups : List Ruling → ℕ
 groups [] = 0
 groups (ruling ∷ rulings) = max (groups_to ruling) (groups rulings)

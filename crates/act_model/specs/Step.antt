@@ -19,7 +19,8 @@ use Rattle.act_model.specs.History.{Kept, next_moment, next_receipt, kept}
 use Rattle.act_model.specs.Replies.{entry_answer}
 use Rattle.act_model.specs.Refusals.{bytes_in, hear, work_out}
 
--- what becomes of a request: it is refused; its number was used, and this is the reply that is kept for it; or it becomes an entry
+-- what becomes of a request: it is refused; its number was used, and this is the reply that is kept for it; or it becomes
+-- an entry
 pub data Outcome : Type 0 where
   Refuses : Refusal → Outcome
   Keeps : Reply → Outcome
@@ -31,10 +32,12 @@ pub data Outcome : Type 0 where
 abbrev pub is_resend : Verb → List ℕ → Entry → Bool
 is_resend verb bytes entry = same_verb verb entry.verb && bytes_eq bytes entry.body
 
--- the reply that is kept for the entry's number: the answer of the entry's own time to the same request, and else a refusal
+-- the reply that is kept for the entry's number: the answer of the entry's own time to the same request, and else a
+-- refusal
 abbrev pub kept_reply : Verb → List ℕ → Kept → Reply
 kept_reply verb bytes k =
-    if is_resend verb bytes k.entry then Done (entry_answer k.before k.entry) else Refused (OtherRequest (next_receipt k.before))
+    if is_resend verb bytes k.entry then Done (entry_answer k.before k.entry)
+    else Refused (OtherRequest (next_receipt k.before))
 
 abbrev pub unless_kept : Option Kept → Heard → List ℕ → Outcome → Outcome
 unless_kept (Some k) heard bytes goes_on = Keeps (kept_reply heard.verb bytes k)
@@ -72,7 +75,8 @@ abbrev pub unless_unheard : Result Outcome Refusal → Outcome
 unless_unheard (Ok outcome) = outcome
 unless_unheard (Err refusal) = Refuses refusal
 
--- what becomes of a request at a history, with this reading of the clock: its bytes are taken, it is heard, and it makes its step
+-- what becomes of a request at a history, with this reading of the clock: its bytes are taken, it is heard, and it makes
+-- its step
 unfoldable pub outcome : Key → List Entry → Request → ℤ → Outcome
 outcome founder past request reading = unless_unheard do
   bytes ← bytes_in request.body

@@ -26,7 +26,8 @@ pub record Turn : Type 0 where
   pub reading : Option ℤ
   pub reply : Reply
 
--- a request whose verb is that of an act takes one reading of the clock, a moment of the years 1800 to 2199; any other takes none
+-- a request whose verb is that of an act takes one reading of the clock, a moment of the years 1800 to 2199; any other
+-- takes none
 abbrev pub TakesReading : Verb → Option ℤ → Type 0
 TakesReading verb (Some reading) = (is_act verb ≡ true) × IsInstantNs reading
 TakesReading verb None = is_act verb ≡ false
@@ -56,7 +57,8 @@ readings_of turns = filter_map (λ turn. turn.reading) turns
 -- these readings are the clock's next ones, as far as it tells them
 abbrev pub AreReadings : (ℕ → Option ℤ) → ℕ → List ℤ → Type 0
 AreReadings told from [] = Unit {0}
-AreReadings told from (reading ∷ readings) = IfSome (told from) (λ t. reading ≡ t) × AreReadings told (from + 1) readings
+AreReadings told from (reading ∷ readings) =
+    IfSome (told from) (λ t. reading ≡ t) × AreReadings told (from + 1) readings
 
 -- the reply as it is written to the sink
 abbrev pub written_reply : Reply → List ℕ

@@ -136,7 +136,8 @@ fn read_psv_batch(alloc: Global, body: &[u8]) -> Result<Act, ActFault>
     requires { length body.now < 4_294_967_295 }
     ensures act { IfOk result (λ act. act_of Verb.SubmitPsv body.now ≡ Ok act) }
     ensures readable { result ≡ Err ActFault.Unread → act_of Verb.SubmitPsv body.now ≡ Err ActFault.Unread }
-    ensures header { (fault : HeaderFault) (line : ℕ) → result ≡ Err (ActFault.Header fault line) → act_of Verb.SubmitPsv body.now ≡ Err (ActFault.Header fault line) }
+    ensures header { (fault : HeaderFault) (line : ℕ) →
+        result ≡ Err (ActFault.Header fault line) → act_of Verb.SubmitPsv body.now ≡ Err (ActFault.Header fault line) }
     ensures forward { IfOk result IsForward }
 {
     match read_psv(alloc, body) {
@@ -158,7 +159,8 @@ pub fn read_act(alloc: Global, verb: Verb, body: &[u8]) -> Result<Act, ActFault>
     requires { length body.now < 4_294_967_295 }
     ensures act { IfOk result (λ act. act_of verb body.now ≡ Ok act) }
     ensures unread { result ≡ Err ActFault.Unread → act_of verb body.now ≡ Err ActFault.Unread }
-    ensures header { (fault : HeaderFault) (line : ℕ) → result ≡ Err (ActFault.Header fault line) → act_of verb body.now ≡ Err (ActFault.Header fault line) }
+    ensures header { (fault : HeaderFault) (line : ℕ) →
+        result ≡ Err (ActFault.Header fault line) → act_of verb body.now ≡ Err (ActFault.Header fault line) }
     ensures forward { IfOk result IsForward }
 {
     match verb {

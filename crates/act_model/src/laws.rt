@@ -35,19 +35,22 @@ pub fn no_room_no_step()
     ensures step { (founder : Key) (past : List Entry) (request : Request) (reading : ℤ) →
         request.body ≡ NoRoom → step founder past request reading ≡ (Refused NoMemory, past) }
     ensures turn { (founder : Key) (past after : List Entry) (request : Request) (reading : ℤ) (reply : Reply) →
-        request.body ≡ NoRoom → Answers founder past request reading reply after → (reply ≡ Refused NoMemory) × (after ≡ past) }
+        request.body ≡ NoRoom → Answers founder past request reading reply after →
+        (reply ≡ Refused NoMemory) × (after ≡ past) }
 {}
 
 /// What is worked out for a request that was heard is the deed of the entry that it becomes.
 pub fn deeds_are_worked_out_once()
     ensures { (bytes : List ℕ) (heard : Heard) (past : List Deed) (moment : ℤ) (deed : Deed) →
-        asked_in (act_of heard.verb bytes) ≡ Ok heard.asked → work_out past moment heard ≡ Ok deed → deed_of past (new_entry heard bytes moment) ≡ deed }
+        asked_in (act_of heard.verb bytes) ≡ Ok heard.asked → work_out past moment heard ≡ Ok deed →
+        deed_of past (new_entry heard bytes moment) ≡ deed }
 {}
 
 /// `NoMemory` may stand in the place of a refusal, and changes nothing.
 pub fn out_of_memory_changes_nothing()
     ensures instead { (founder : Key) (past after : List Entry) (request : Request) (reading : ℤ) (refusal : Refusal) →
-        Answers founder past request reading (Refused refusal) after → Answers founder past request reading (Refused NoMemory) after }
+        Answers founder past request reading (Refused refusal) after →
+        Answers founder past request reading (Refused NoMemory) after }
     ensures stays { (founder : Key) (past after : List Entry) (request : Request) (reading : ℤ) →
         Answers founder past request reading (Refused NoMemory) after → after ≡ past }
 {}
@@ -55,7 +58,8 @@ pub fn out_of_memory_changes_nothing()
 /// A conduct goes on with one turn more.
 pub fn conducts_go_on()
     ensures { (founder : Key) (past between after : List Entry) (turns : List Turn) (turn : Turn) →
-        Conduct founder past turns between → IsTurn founder between turn after → Conduct founder past (turns ++ turn ∷ []) after }
+        Conduct founder past turns between → IsTurn founder between turn after →
+        Conduct founder past (turns ++ turn ∷ []) after }
 {}
 
 /// A later history is an earlier one with newer entries before it: what was accepted stays.
@@ -80,7 +84,8 @@ pub fn no_faults()
 /// is each that it makes from nothing, since the history without entries is legal.
 pub fn histories_are_legal()
     ensures step { (founder : Key) (past after : List Entry) (request : Request) (reading : ℤ) (reply : Reply) →
-        IsLegal founder past → IsInstantNs reading → step founder past request reading ≡ (reply, after) → IsLegal founder after }
+        IsLegal founder past → IsInstantNs reading → step founder past request reading ≡ (reply, after) →
+        IsLegal founder after }
     ensures conduct { (founder : Key) (past after : List Entry) (turns : List Turn) →
         IsLegal founder past → Conduct founder past turns after → IsLegal founder after }
     ensures from_nothing { (founder : Key) (after : List Entry) (turns : List Turn) →
@@ -117,7 +122,9 @@ pub fn legal_numbers_once()
 /// that is on the roster isn't enrolled again.
 pub fn callers_stay()
     ensures { (founder key : Key) (earlier later : List Entry) (caller : Caller) →
-        IsLegal founder later → Extends earlier later → caller_of founder (members (deeds earlier)) key ≡ Some caller → caller_of founder (members (deeds later)) key ≡ Some caller }
+        IsLegal founder later → Extends earlier later →
+        caller_of founder (members (deeds earlier)) key ≡ Some caller →
+        caller_of founder (members (deeds later)) key ≡ Some caller }
 {}
 
 /// A kept reply doesn't change as a legal history grows. A number goes on to stand for the same
@@ -125,8 +132,10 @@ pub fn callers_stay()
 /// done is answered with the text of that time whenever it is sent again, and leaves the history.
 pub fn kept_replies_stay()
     ensures entry { (founder : Key) (earlier later : List Entry) (caller number : ℕ) (k : Kept) →
-        IsLegal founder later → Extends earlier later → kept earlier caller number ≡ Some k → kept later caller number ≡ Some k }
-    ensures resend { (founder : Key) (past later : List Entry) (request : Request) (first again : ℤ) (text : List ℕ) (entry : Entry) →
+        IsLegal founder later → Extends earlier later →
+        kept earlier caller number ≡ Some k → kept later caller number ≡ Some k }
+    ensures resend { (founder : Key) (past later : List Entry) (request : Request) (first again : ℤ)
+        (text : List ℕ) (entry : Entry) →
         step founder past request first ≡ (Done text, entry ∷ past) →
         IsLegal founder later → Extends (entry ∷ past) later → step founder later request again ≡ (Done text, later) }
 {}

@@ -25,8 +25,8 @@ pub record Ready : Type 0 where
   pub deed : Deed
   pub change : Change
 
--- The act was worked out at this history: its answer and its deed are those of the entry there, and so are the tables and
--- the observations with it. The roster with it has no more callers than it may have.
+-- The act was worked out at this history: its answer and its deed are those of the entry there, and so are the tables
+-- and the observations with it. The roster with it has no more callers than it may have.
 pub record IsReadyAt (past : List Entry) (ready : Ready) : Type 0 where
   pub answer : ready.answer ≡ entry_answer past ready.entry
   pub deed : ready.deed ≡ deed_of (deeds past) ready.entry

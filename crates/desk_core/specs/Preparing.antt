@@ -12,8 +12,8 @@ use Rattle.desk_core.specs.Office.{IsReadyAt}
 abbrev pub IsRefused : Outcome → Refusal → Type 0
 IsRefused due refusal = (due ≡ Refuses refusal) ⊎ (refusal ≡ NoMemory)
 
--- A reply is kept where the number was used. A refusal is the one that the request meets. An act is ready where it becomes an
--- entry, at the history at which it was worked out, and there is room for it.
+-- A reply is kept where the number was used. A refusal is the one that the request meets. An act is ready where it becomes
+-- an entry, at the history at which it was worked out, and there is room for it.
 abbrev pub Prepares : List Entry → Outcome → ℕ → Prep → Type 0
 Prepares past due spare (prep.Kept reply) = due ≡ Keeps reply
 Prepares past due spare (prep.Refused refusal) = IsRefused due refusal

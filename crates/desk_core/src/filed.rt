@@ -27,7 +27,8 @@ fn is_numbered(entry: &Entry, caller: u32, number: u64) -> bool
 /// caller has not used.
 pub fn find(filed: &[Filed], caller: u32, number: u64) -> Option<usize>
     ensures within { IfSome result (λ place. place < length filed.now) }
-    ensures found { IfSome result (λ place. (k : Kept) × (kept (history_of filed.now) caller number ≡ Some k) × IsFiledAt filed.now place k) }
+    ensures found { IfSome result (λ place. (k : Kept)
+        × (kept (history_of filed.now) caller number ≡ Some k) × IsFiledAt filed.now place k) }
     ensures none { IfNone result (kept (history_of filed.now) caller number ≡ None) }
 {
     for place in (0..filed.len()).rev() {

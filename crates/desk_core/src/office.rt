@@ -92,7 +92,8 @@ impl Core {
     /// answer. A request for whose body there was no room is refused with `NoMemory`, whatever else it says.
     pub fn prepare(&mut self, request: &Request, reading: Instant) -> Prep
         requires act { is_act request.now.verb ≡ true }
-        ensures answer { Prepares self.old.history (outcome self.old.founder self.old.history request.now reading) self.new.spare result }
+        ensures answer { Prepares self.old.history
+            (outcome self.old.founder self.old.history request.now reading) self.new.spare result }
         ensures no_room { request.now.body ≡ Body.NoRoom → result ≡ Prep.Refused Refusal.NoMemory }
         ensures history { self.new.history ≡ self.old.history }
         ensures founder { self.new.founder ≡ self.old.founder }
@@ -108,7 +109,8 @@ impl Core {
     /// for its body. The history stays.
     pub fn answer(&self, request: &Request) -> Reply
         requires query { is_act request.now.verb ≡ false }
-        ensures answer { (reading : ℤ) → step self.now.founder self.now.history request.now reading ≡ (result, self.now.history) }
+        ensures answer { (reading : ℤ) →
+            step self.now.founder self.now.history request.now reading ≡ (result, self.now.history) }
         ensures no_room { request.now.body ≡ Body.NoRoom → result ≡ Reply.Refused Refusal.NoMemory }
     {
         match bytes_in(&request.body) {

@@ -2,7 +2,7 @@
 
 ghost use Rattle.std.specs.Prelude.{◌≡◌, ◌<◌, ◌≤◌, length, unwrap_or, true, Ok, None, IfOk};
 ghost use Rattle.act_model.specs.declared.request.TheConstants.{BODY_BYTES};
-ghost use Rattle.act_model.specs.Rows.{first_row, IsDue};
+ghost use Rattle.act_model.specs.Rows.{IsDue};
 ghost use Rattle.act_model.specs.Requests.{is_act};
 ghost use Rattle.act_model.specs.Acts.{act_of, IsForward, IsForwardAsked};
 ghost use Rattle.act_model.specs.Roster.{members};
@@ -10,7 +10,7 @@ ghost use Rattle.act_model.specs.OfficeTables.{tables_of, with_row};
 ghost use Rattle.act_model.specs.Observations.{observations, with_accepted};
 ghost use Rattle.act_model.specs.Deeds.{done_by, deed_of, deeds};
 ghost use Rattle.act_model.specs.History.{next_receipt, next_moment};
-ghost use Rattle.act_model.specs.Refusals.{asked_in, hear, deed_rows, allowed, work_out};
+ghost use Rattle.act_model.specs.Refusals.{asked_in, hear, deed_refusal, allowed, work_out};
 ghost use Rattle.act_model.specs.Replies.{deed_answer};
 ghost use Rattle.act_model.specs.Step.{outcome, act_step, unless_refused, new_entry};
 ghost use Rattle.desk_core.specs.Office.{IsReadyAt, IsForwardDeed};
@@ -34,7 +34,8 @@ impl Core {
     /// What becomes of an act, where a refusal is an error.
     pub(crate) fn try_prepare(&mut self, request: &Request, reading: Instant) -> Result<Prep, Refusal>
         requires act { is_act request.now.verb ≡ true }
-        ensures answer { IsPrepared self.old.history (outcome self.old.founder self.old.history request.now reading) self.new.spare result }
+        ensures answer { IsPrepared self.old.history
+            (outcome self.old.founder self.old.history request.now reading) self.new.spare result }
         ensures history { self.new.history ≡ self.old.history }
         ensures founder { self.new.founder ≡ self.old.founder }
     {
@@ -71,7 +72,8 @@ impl Core {
     ) -> Result<Prep, Refusal>
         requires asked { asked_in (act_of heard.verb bytes.now) ≡ Ok heard.asked }
         requires forward { IsForwardAsked heard.asked }
-        ensures answer { IsPrepared self.old.history (act_step self.old.history heard bytes.now (next_moment self.old.history reading)) self.new.spare result }
+        ensures answer { IsPrepared self.old.history
+            (act_step self.old.history heard bytes.now (next_moment self.old.history reading)) self.new.spare result }
         ensures history { self.new.history ≡ self.old.history }
         ensures founder { self.new.founder ≡ self.old.founder }
     {
@@ -96,7 +98,9 @@ impl Core {
     ) -> Result<Prep, Refusal>
         requires asked { asked_in (act_of heard.verb bytes.now) ≡ Ok heard.asked }
         requires forward { IsForwardAsked heard.asked }
-        ensures answer { IsPrepared self.old.history (unless_refused (work_out (deeds self.old.history) moment heard) (new_entry heard bytes.now moment)) self.new.spare result }
+        ensures answer { IsPrepared self.old.history
+            (unless_refused (work_out (deeds self.old.history) moment heard) (new_entry heard bytes.now moment))
+            self.new.spare result }
         ensures history { self.new.history ≡ self.old.history }
         ensures founder { self.new.founder ≡ self.old.founder }
     {
@@ -128,7 +132,7 @@ impl Core {
     fn work_out(&self, alloc: Global, heard: Heard, moment: Instant) -> Result<Deed, Refusal>
         requires forward { IsForwardAsked heard.asked }
         ensures due { IsDue (work_out (deeds self.now.history) moment heard) result }
-        ensures free { IfOk result (λ deed. first_row (deed_rows (members (deeds self.now.history)) (tables_of (deeds self.now.history)) deed) ≡ None) }
+        ensures free { IfOk result (λ deed. deed_refusal (deeds self.now.history) deed ≡ None) }
         ensures forward { IfOk result IsForwardDeed }
     {
         if is_barred(heard.verb, heard.caller.rank) {
@@ -144,7 +148,7 @@ impl Core {
     fn allowed(&self, alloc: Global, moment: Instant, act: Act) -> Result<Deed, Refusal>
         requires forward { IsForward act }
         ensures due { IsDue (allowed (deeds self.now.history) (done_by (deeds self.now.history) moment act)) result }
-        ensures free { IfOk result (λ deed. first_row (deed_rows (members (deeds self.now.history)) (tables_of (deeds self.now.history)) deed) ≡ None) }
+        ensures free { IfOk result (λ deed. deed_refusal (deeds self.now.history) deed ≡ None) }
         ensures forward { IfOk result IsForwardDeed }
     {
         let Ok(deed) = self.done_by(alloc, moment, act) else {
@@ -159,7 +163,7 @@ impl Core {
 
     /// The first refusal that a deed meets.
     fn refusal_of(&self, alloc: Global, deed: &Deed) -> Result<Option<Refusal>, NoMemory>
-        ensures { IfOk result (λ refusal. refusal ≡ first_row (deed_rows (members (deeds self.now.history)) (tables_of (deeds self.now.history)) deed.now)) }
+        ensures { IfOk result (λ refusal. refusal ≡ deed_refusal (deeds self.now.history) deed.now) }
     {
         deed_refusal(alloc, self.members(), self.tables(), deed)
     }
@@ -185,7 +189,7 @@ impl Core {
     fn ready(&mut self, alloc: Global, entry: Entry, deed: Deed) -> Result<Prepared, NoMemory>
         requires deed { deed_of (deeds self.old.history) entry ≡ deed }
         requires forward { IsForwardDeed deed }
-        requires free { first_row (deed_rows (members (deeds self.old.history)) (tables_of (deeds self.old.history)) deed) ≡ None }
+        requires free { deed_refusal (deeds self.old.history) deed ≡ None }
         ensures entry { IfOk result (λ ready. ready.entry ≡ entry) }
         ensures at { IfOk result (λ ready. IsReadyAt self.old.history ready) }
         ensures room { IfOk result (λ ready. 0 < self.new.spare) }
@@ -205,7 +209,8 @@ impl Core {
 
     /// The answer to a deed that comes next.
     fn answer_to(&self, alloc: Global, deed: &Deed) -> Result<Bytes, NoMemory>
-        ensures { IfOk result (λ text. text ≡ deed_answer (next_receipt self.now.history) (deeds self.now.history) deed.now) }
+        ensures { IfOk result (λ text.
+            text ≡ deed_answer (next_receipt self.now.history) (deeds self.now.history) deed.now) }
     {
         let receipt = self.next_receipt();
         match deed {
@@ -225,9 +230,11 @@ impl Core {
     /// What stands beside the history with a deed, with the memory for it.
     fn change_by(&self, deed: &Deed) -> Result<Change, NoMemory>
         requires forward { IsForwardDeed deed.now }
-        requires free { first_row (deed_rows (members (deeds self.now.history)) (tables_of (deeds self.now.history)) deed.now) ≡ None }
-        ensures tables { IfOk result (λ change. unwrap_or change.tables (tables_of (deeds self.now.history)) ≡ with_row deed.now (tables_of (deeds self.now.history))) }
-        ensures observations { IfOk result (λ change. change.observations ≡ with_accepted deed.now (observations (deeds self.now.history))) }
+        requires free { deed_refusal (deeds self.now.history) deed.now ≡ None }
+        ensures tables { IfOk result (λ change. unwrap_or change.tables (tables_of (deeds self.now.history))
+            ≡ with_row deed.now (tables_of (deeds self.now.history))) }
+        ensures observations { IfOk result (λ change.
+            change.observations ≡ with_accepted deed.now (observations (deeds self.now.history))) }
     {
         let tables = self.tables_with(deed)?;
         let observations = self.observations_with(deed)?;
@@ -240,8 +247,9 @@ impl Core {
     /// The tables with a deed, or None where they stay.
     fn tables_with(&self, deed: &Deed) -> Result<Option<Tables>, NoMemory>
         requires forward { IsForwardDeed deed.now }
-        requires free { first_row (deed_rows (members (deeds self.now.history)) (tables_of (deeds self.now.history)) deed.now) ≡ None }
-        ensures { IfOk result (λ tables. unwrap_or tables (tables_of (deeds self.now.history)) ≡ with_row deed.now (tables_of (deeds self.now.history))) }
+        requires free { deed_refusal (deeds self.now.history) deed.now ≡ None }
+        ensures { IfOk result (λ tables. unwrap_or tables (tables_of (deeds self.now.history))
+            ≡ with_row deed.now (tables_of (deeds self.now.history))) }
     {
         match deed {
             Deed::Stationed { code, from, to } => {
