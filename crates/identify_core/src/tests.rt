@@ -17,11 +17,17 @@ fn given(order: u32) -> Designation {
     })
 }
 
+fn is_same(one: Designation, other: Designation) -> bool
+    ensures { IsTrue result ↔ (one ≡ other) }
+{
+    one == other
+}
+
 fn is_principal(links: &Links, d: Designation) -> bool
     ensures { IsTrue result ↔ IsPrincipal links.now.links d }
 {
     match links.principal(d) {
-        Some(p) => p == d,
+        Some(p) => is_same(p, d),
         None => false,
     }
 }
@@ -29,22 +35,26 @@ fn is_principal(links: &Links, d: Designation) -> bool
 // Each of these does what it is asked where it may be done, and tells whether it was.
 
 fn added(links: &mut Links, order: u32) -> Result<bool, NoMemory> {
+    let d = given(order);
     links.reserve()?;
-    if links.principal(given(order)).is_some() {
+    if links.principal(d).is_some() {
         return Ok(false);
     }
-    links.add(given(order));
+    links.add(d);
     Ok(true)
 }
 
 fn joined(links: &mut Links, principal: u32, secondary: u32) -> bool {
     let p = given(principal);
     let s = given(secondary);
-    if !is_principal(links, p) || !is_principal(links, s) || principal == secondary {
+    if is_same(p, s) {
         return false;
     }
-    links.join(p, s);
-    true
+    if is_principal(links, p) && is_principal(links, s) {
+        links.join(p, s);
+        return true;
+    }
+    false
 }
 
 fn parted(links: &mut Links, secondary: u32) -> bool {
