@@ -47,7 +47,7 @@ const DAYS: [(&[u8], i32, Serving); 10] = [
     (b"W84", BEFORE_2016, Serving::Outside),
     (b"W84", FROM_2016, Serving::Serving),
     (b"W85", FROM_2016, Serving::Unknown),
-    (b"W8", FROM_2016, Serving::Unknown),
+    (b"70", FROM_2016, Serving::Unknown),
     (b"W841", FROM_2016, Serving::Unknown),
 ];
 
