@@ -8,6 +8,7 @@ mod code;
 mod enrol;
 mod fault;
 mod key;
+pub mod laws;
 mod members;
 mod station;
 

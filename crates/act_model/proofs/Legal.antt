@@ -1,36 +1,51 @@
 -- What the step adds is legal, and what follows for legal histories.
 use Rattle.std.proofs.Common.{◌≡◌, ℕ, ℤ, pos, List, [], ◌∷◌, ◌++◌, length, Bool, true, false, cond, Option, Some, None, Result, Ok, Err, refl, sym, ap, subst, ◌∙◌, append_assoc, inl, inr, arith}
-use Rattle.std.specs.Prelude.{◌⊎◌, unwrap_or, not, is_none, int_lt, nat_lt, bytes_eq, ◌==◌, ◌&&◌}
+use Rattle.std.specs.Prelude.{◌⊎◌, unwrap_or, is_some, int_lt, bytes_eq, ◌==◌, ◌&&◌}
 use Rattle.std.specs.List.{AllByRecursion}
 use Rattle.std.proofs.lemmas.Int.{ints}
 use Rattle.std.proofs.lemmas.Bool.Decides.{nat_tests}
 use Rattle.std.proofs.lemmas.Slice.Eq.{bytes_eq-Decides}
+use Rattle.obs_time.specs.Instants.{IsInstantNs}
+use Rattle.obs_record.specs.declared.line.Line.{Line}
+use Rattle.obs_record.specs.declared.rule.HeaderFault.{HeaderFault}
+use Rattle.act_bodies.specs.declared.code.Code.{Code as CodeBody}
+use Rattle.act_bodies.specs.declared.enrol.Enrol.{Enrol as EnrolBody}
+use Rattle.act_bodies.specs.declared.station.Station.{Station as StationBody}
 use Rattle.act_bodies.specs.declared.key.Key.{Key}
-use Rattle.act_model.specs.declared.request.Body.{Body}
-use Rattle.act_model.specs.declared.request.Body.TheVariants.{Whole, TooLong, NoRoom}
-use Rattle.act_model.specs.declared.request.Request.{Request}
+use Rattle.act_bodies.specs.Bodies.{enrol_of, station_of, code_of}
+use Rattle.act_bodies.specs.Keys.{key_text, begins_with_plus}
+use Rattle.station_tables.specs.Rows.{TableRows}
+use Rattle.ades_psv.specs.Batch.{psv_lines_of}
+use Rattle.act_model.specs.declared.deed.Deed.{Deed}
+use Rattle.act_model.specs.declared.deed.Deed.TheVariants.{Enrolled, Stationed, Coded, Submitted, Nothing}
 use Rattle.act_model.specs.declared.entry.Entry.{Entry}
+use Rattle.act_model.specs.declared.heard.Heard.{Heard}
 use Rattle.act_model.specs.declared.reply.Refusal.{Refusal}
 use Rattle.act_model.specs.declared.reply.Refusal.TheVariants.{OtherRequest, NoMemory}
 use Rattle.act_model.specs.declared.reply.Reply.{Reply}
 use Rattle.act_model.specs.declared.reply.Reply.TheVariants.{Done, Refused}
-use Rattle.act_model.specs.declared.request.TheConstants.{BODY_BYTES}
-use Rattle.act_model.specs.Rows.{first_row}
-use Rattle.act_model.specs.Requests.{verb_code, is_unknown, body_bytes, announced}
-use Rattle.act_model.specs.declared.act.Act.{Act}
-use Rattle.act_model.specs.declared.act.Act.TheVariants as act
-use Rattle.act_model.specs.declared.act.ActFault.{ActFault}
-use Rattle.act_model.specs.Acts.{act_of}
-use Rattle.act_model.specs.Roster.{members, with_enrolled, caller_of}
+use Rattle.act_model.specs.declared.request.Request.{Request}
+use Rattle.act_model.specs.declared.request.Verb.{Verb}
+use Rattle.act_model.specs.declared.request.Verb.TheVariants.{Enrol, Station, Code, Submit80, SubmitPsv, Unknown}
+use Rattle.act_model.specs.declared.roster.Caller.{Caller}
+use Rattle.act_model.specs.declared.roster.Member.{Member}
+use Rattle.act_model.specs.Requests.{verb_code, is_act}
+use Rattle.act_model.specs.Acts.{read_as, enrol_act, station_act, code_act, psv_act, act_of}
+use Rattle.act_model.specs.Roster.{members, with_enrolled, caller_of, key_at}
+use Rattle.act_model.specs.Deeds.{done_if_read, deed_of, deeds}
 use Rattle.act_model.specs.History.{Kept, kept, next_moment, next_receipt, is_numbered, IsUnused, EachNumberOnce}
-use Rattle.act_model.specs.Refusals.{early_rows, early_refusal, act_rows, late_rows, late_refusal, is_act_number}
+use Rattle.act_model.specs.Refusals.{bytes_in, asked_in, hear, work_out, deed_rows}
+use Rattle.act_model.specs.Rows.{first_row}
 use Rattle.act_model.specs.Replies.{entry_answer}
-use Rattle.act_model.specs.Step.{step, asking, kept_reply, new_entry}
+use Rattle.act_model.specs.Step.{Outcome, Keeps, Adds, step, outcome, after, new_entry, kept_reply}
 use Rattle.act_model.specs.Turns.{Turn, TakesReading, Answers, IsTurn, Conduct}
 use Rattle.act_model.specs.Conducts.{Extends}
 use Rattle.act_model.specs.Legal.{entry_request, IsAdded, IsLegal}
-use Rattle.act_model.proofs.Callers.{caller_again, caller_stays, some_of}
-use Rattle.act_model.proofs.Conducts.{after_all, step_is, Leaves, leaves, conduct_more}
+use Rattle.act_model.proofs.Callers.{ArePlain, caller_again, caller_stays, caller_under}
+use Rattle.act_model.proofs.Conducts.{Added, adds, adds_again, keeps, step_is, Leaves, leaves, Makes, step_makes, conduct_more}
+use Rattle.act_model.proofs.Hearing.{Hears, hears, hear_again, whole_again, number_some, worked, deed_is}
+
+-- ---- moments
 
 -- no number is below itself
 not_below : (x : ℤ) → int_lt x x ≡ false
@@ -49,135 +64,135 @@ moment_again (last ∷ past) reading = by (int_lt reading last.moment) refl
     by true is = ap (λ (b : Bool). cond b last.moment last.moment) (not_below last.moment)
     by false is = ap (λ (b : Bool). cond b last.moment reading) is
 
--- ---- rows
+either_instant : (t : Bool) (a b : ℤ) → IsInstantNs a → IsInstantNs b → IsInstantNs (cond t a b)
+either_instant true a b first second = first
+either_instant false a b first second = second
 
--- no row of the table holds
-abbrev NoRow : {A : Type 0} → List (Bool × A) → Type 0
-NoRow rows = AllByRecursion (λ row. row.0 ≡ false) rows
+-- the next moment of a legal history is one that a clock gives
+next_instant : (founder : Key) (past : List Entry) (reading : ℤ) → IsLegal founder past → IsInstantNs reading → IsInstantNs (next_moment past reading)
+next_instant founder [] reading legal instant = instant
+next_instant founder (last ∷ past) reading legal instant = either_instant (int_lt reading last.moment) last.moment reading legal.0.0 instant
 
-no_row : {A : Type 0} (rows : List (Bool × A)) → first_row rows ≡ None → NoRow rows
-no_row [] none = tt
-no_row ((true, answer) ∷ rows) none = absurd cc
-no_row ((false, answer) ∷ rows) none = (refl, no_row rows none)
+-- 1970 is one of the years from 1800 to 2199
+start_instant : IsInstantNs (pos 0)
+start_instant = (omega (arith, ints), omega (arith, ints))
 
-no_row-again : {A : Type 0} (rows : List (Bool × A)) → NoRow rows → first_row rows ≡ None
-no_row-again [] none = refl
-no_row-again ((holds, answer) ∷ rows) (fails, none) = ap (λ (b : Bool). cond b (Some answer) (first_row rows)) fails ∙ no_row-again rows none
+-- the reading of a turn, or 0 where it took none
+taken_instant : (verb : Verb) (reading : Option ℤ) → TakesReading verb reading → IsInstantNs (unwrap_or reading (pos 0))
+taken_instant verb (Some reading) takes = takes.1
+taken_instant verb None takes = start_instant
 
--- ---- the request of an entry
-
--- a body that wasn't announced as too long isn't too long
-announced_again : (body : Body) → nat_lt BODY_BYTES (announced body) ≡ false → nat_lt BODY_BYTES (length (body_bytes body)) ≡ false
-announced_again (Whole bytes) short = short
-announced_again (TooLong size) short = refl
-announced_again NoRoom short = short
-
--- an act's number is one
-number_is : (number : Option ℕ) → not (is_act_number number) ≡ false → number ≡ Some (unwrap_or number 0)
-number_is None is = absurd cc
-number_is (Some n) is = refl
-
-module _ (founder : Key) (past : List Entry) (q : Request) (t : ℤ) (early : early_refusal founder past q ≡ None) where
-  early_rows_none : NoRow (early_rows founder past q)
-  unfolding early_refusal
-  early_rows_none = no_row (early_rows founder past q) early
-
-  -- the entry that the request becomes, and that entry's own request
-  abbrev made : Entry
-  made = new_entry (asking founder past q) past q t
-
-  abbrev again : Request
-  again = entry_request founder past made
-
-  known : is_none (caller_of founder (members past) q.key) ≡ false
-  known = early_rows_none.1.1.1.1.1.0
-
-  asked_again : caller_of founder (members past) again.key ≡ Some (asking founder past q)
-  asked_again = caller_again founder (members past) q.key known
-
-  -- it isn't refused early either
-  early_again : early_refusal founder past again ≡ None
-  unfolding early_refusal
-  early_again =
-      let rows = early_rows_none in
-      let numbered : not (is_act_number again.number) ≡ false = ap (λ (n : Option ℕ). not (is_act_number n)) (sym (number_is q.number rows.1.1.1.0)) ∙ rows.1.1.1.0 in
-      let found : is_none (caller_of founder (members past) again.key) ≡ false = ap (λ (o : Option ℕ). is_none o) asked_again in
-      no_row-again (early_rows founder past again) (announced_again q.body rows.0, (rows.1.0, (rows.1.1.0, (numbered, (rows.1.1.1.1.0, (found, tt))))))
-
-  late_again : (caller : ℕ) → late_refusal founder past caller again ≡ late_refusal founder past caller q
-  unfolding late_refusal
-  late_again caller = refl
-
-  -- what the step adds for a request, it would add for the request of the entry
-  added_again : kept past (asking founder past q) (unwrap_or q.number 0) ≡ None → late_refusal founder past (asking founder past q) q ≡ None → IsAdded founder past made
-  added_again unused late =
-      let caller : ℕ = asking founder past q in
-      let asks : asking founder past again ≡ caller = ap (λ (o : Option ℕ). unwrap_or o 0) asked_again in
-      ap (λ (p : Reply × List Entry). p.1) (step_is founder past again made.moment)
-      ∙ ap (λ (o : Option Refusal). (after_all o (kept past (asking founder past again) made.number) (late_refusal founder past (asking founder past again) again) past again (new_entry (asking founder past again) past again made.moment)).1) early_again
-      ∙ ap (λ (c : ℕ). (after_all None (kept past c made.number) (late_refusal founder past c again) past again (new_entry c past again made.moment)).1) asks
-      ∙ ap (λ (k : Option Kept). (after_all None k (late_refusal founder past caller again) past again (new_entry caller past again made.moment)).1) unused
-      ∙ ap (λ (o : Option Refusal). (after_all None None o past again (new_entry caller past again made.moment)).1) (late_again caller ∙ late)
-      ∙ ap (λ (m : ℤ). record { caller = caller; number = unwrap_or q.number 0; moment = m; verb = q.verb; body = body_bytes q.body } ∷ past) (moment_again past t)
-
--- ---- what the step adds
-
--- the history stays, or gets this entry where nothing was refused and the number was not used
-abbrev Adds : Option Refusal → Option Kept → Option Refusal → List Entry → Entry → Reply → List Entry → Type 0
-Adds early used late past e reply after =
-    (after ≡ past) ⊎ ((early ≡ None) × (used ≡ None) × (late ≡ None) × (reply ≡ Done (entry_answer past e)) × (after ≡ e ∷ past))
-
-adds : (early : Option Refusal) (used : Option Kept) (late : Option Refusal) (past : List Entry) (q : Request) (e : Entry) (reply : Reply) (after : List Entry)
-    → after_all early used late past q e ≡ (reply, after) → Adds early used late past e reply after
-adds (Some x) used late past q e reply after is = inl (sym (ap (λ (p : Reply × List Entry). p.1) is))
-adds None (Some k) late past q e reply after is = inl (sym (ap (λ (p : Reply × List Entry). p.1) is))
-adds None None (Some x) past q e reply after is = inl (sym (ap (λ (p : Reply × List Entry). p.1) is))
-adds None None None past q e reply after is = inr (refl, refl, refl, sym (ap (λ (p : Reply × List Entry). p.0) is), sym (ap (λ (p : Reply × List Entry). p.1) is))
+-- ---- entries that were added
 
 -- a history isn't longer than itself
 longer : (e : Entry) (past : List Entry) → e ∷ past ≡ past → ⊥
 longer e past is = let lengths = ap length is in omega arith
 
--- the first entries of two histories that are one
-head_is : (e e' : Entry) (past past' : List Entry) → e ∷ past ≡ e' ∷ past' → e ≡ e'
-head_is e e' past past' is = cc
+-- the newest entry, or another one where there is none
+head_or : Entry → List Entry → Entry
+head_or e [] = e
+head_or e (x ∷ xs) = x
 
--- what the step adds for this request
-abbrev AddsFor : Key → List Entry → Request → ℤ → Reply → List Entry → Type 0
-AddsFor founder past q t reply after =
-    Adds (early_refusal founder past q) (kept past (asking founder past q) (unwrap_or q.number 0)) (late_refusal founder past (asking founder past q) q) past (made_by founder past q t) reply after
-  where
-    made_by : Key → List Entry → Request → ℤ → Entry
-    made_by founder past q t = new_entry (asking founder past q) past q t
+head_is : (e f : Entry) (past : List Entry) → e ∷ past ≡ f ∷ past → e ≡ f
+unfolding head_or
+head_is e f past is = ap (head_or e) is
+
+-- an entry is added for whoever is heard to ask the same, at the same moment
+module _ (founder : Key) (past : List Entry) (q : Request) (t : ℤ) (e : Entry) (a : Added founder past q t e) where
+  added_for : (founder' : Key) (q' : Request) (t' : ℤ) → bytes_in q'.body ≡ Ok a.bytes → q'.verb ≡ a.heard.verb → q'.number ≡ Some a.heard.number → caller_of founder' (members (deeds past)) q'.key ≡ Some a.heard.caller
+      → next_moment past t' ≡ next_moment past t → outcome founder' past q' t' ≡ Adds e
+  added_for founder' q' t' body verb number caller moment =
+      let h = hears founder (members (deeds past)) q a.bytes a.heard a.hears in
+      let again : hear founder' (members (deeds past)) q' a.bytes ≡ Ok a.heard = hear_again founder (members (deeds past)) q a.bytes a.heard h founder' (members (deeds past)) q' verb number caller in
+      let works : work_out (deeds past) (next_moment past t') a.heard ≡ Ok a.deed = ap (λ (m : ℤ). work_out (deeds past) m a.heard) moment ∙ a.works in
+      adds_again founder' past q' t' a.bytes a.heard a.deed body again a.act a.unused works
+      ∙ ap (λ (m : ℤ). Adds (new_entry a.heard a.bytes m)) moment
+      ∙ ap (λ (x : Entry). Adds x) (sym a.entry)
+
+  -- the deed of the entry
+  deed_added : deed_of (deeds past) e ≡ a.deed
+  deed_added =
+      let h = hears founder (members (deeds past)) q a.bytes a.heard a.hears in
+      ap (deed_of (deeds past)) a.entry ∙ deed_is a.bytes a.heard (deeds past) (next_moment past t) a.deed (ap (λ (v : Verb). asked_in (act_of v a.bytes)) h.verb ∙ h.asked) a.works
+
+  caller_is : e.caller ≡ a.heard.caller.number
+  caller_is = ap (λ (x : Entry). x.caller) a.entry
+
+  number_is : e.number ≡ a.heard.number
+  number_is = ap (λ (x : Entry). x.number) a.entry
+
+  verb_is : e.verb ≡ a.heard.verb
+  verb_is = ap (λ (x : Entry). x.verb) a.entry
+
+  moment_is : e.moment ≡ next_moment past t
+  moment_is = ap (λ (x : Entry). x.moment) a.entry
+
+  -- the entry's own request is heard as the one that became it, under any founder who finds the caller again
+  added_own : (founder' : Key) → caller_of founder' (members (deeds past)) (key_at founder' (members (deeds past)) a.heard.caller.number) ≡ Some a.heard.caller → outcome founder' past (entry_request founder' past e) e.moment ≡ Adds e
+  added_own founder' found =
+      added_for founder' (entry_request founder' past e) e.moment
+      (ap (λ (x : Entry). bytes_in (entry_request founder' past x).body) a.entry ∙ whole_again q.body a.bytes a.body)
+      verb_is
+      (ap (λ (n : ℕ). Some n) number_is)
+      (ap (λ (n : ℕ). caller_of founder' (members (deeds past)) (key_at founder' (members (deeds past)) n)) caller_is ∙ found)
+      (ap (next_moment past) moment_is ∙ moment_again past t)
 
 module _ (founder : Key) where
-  step_adds : (past : List Entry) (q : Request) (t : ℤ) (reply : Reply) (after : List Entry) → step founder past q t ≡ (reply, after) → AddsFor founder past q t reply after
-  step_adds past q t reply after is =
-      let caller = asking founder past q in
-      adds (early_refusal founder past q) (kept past caller (unwrap_or q.number 0)) (late_refusal founder past caller q) past q (new_entry caller past q t) reply after (sym (step_is founder past q t) ∙ is)
+  -- an entry that is added is what becomes of its request
+  adds_entry : (past : List Entry) (e : Entry) → outcome founder past (entry_request founder past e) e.moment ≡ Adds e → (step founder past (entry_request founder past e) e.moment).1 ≡ e ∷ past
+  adds_entry past e is = ap (λ (p : Reply × List Entry). p.1) (step_is founder past (entry_request founder past e) e.moment) ∙ ap (λ (o : Outcome). (after past o).1) is
 
-  legal_after : (past : List Entry) (q : Request) (t : ℤ) (reply : Reply) (after : List Entry) → IsLegal founder past → AddsFor founder past q t reply after → IsLegal founder after
-  legal_after past q t reply after legal (inl same) = subst (IsLegal founder) (sym same) legal
-  legal_after past q t reply after legal (inr (early, unused, late, answer, more)) = subst (IsLegal founder) (sym more) (added_again founder past q t early unused late, legal)
+  made_entry : (past : List Entry) (e : Entry) (o : Outcome) (reply : Reply) → Makes past o reply (e ∷ past) → (o ≡ Adds e) × (reply ≡ Done (entry_answer past e))
+  made_entry past e o reply (inl same) = absurd (longer e past same)
+  made_entry past e o reply (inr (other, is, answer, more)) =
+      let same = sym (head_is e other past more) in (is ∙ ap (λ (x : Entry). Adds x) same, answer ∙ ap (λ (x : Entry). Done (entry_answer past x)) same)
 
-  pub legal_step : (past : List Entry) (q : Request) (t : ℤ) (reply : Reply) (after : List Entry) → IsLegal founder past → step founder past q t ≡ (reply, after) → IsLegal founder after
-  legal_step past q t reply after legal is = legal_after past q t reply after legal (step_adds past q t reply after is)
+  stepped_entry : (past : List Entry) (q : Request) (t : ℤ) (reply : Reply) (e : Entry) → step founder past q t ≡ (reply, e ∷ past) → (outcome founder past q t ≡ Adds e) × (reply ≡ Done (entry_answer past e))
+  stepped_entry past q t reply e is = made_entry past e (outcome founder past q t) reply (step_makes founder past q t reply (e ∷ past) is)
 
-  legal_answer : (past : List Entry) (q : Request) (t : ℤ) (reply : Reply) (after : List Entry) → IsLegal founder past → Answers founder past q t reply after → IsLegal founder after
-  legal_answer past q t reply after legal (inl is) = legal_step past q t reply after legal is
-  legal_answer past q t reply after legal (inr (wants, same)) = subst (IsLegal founder) (sym same) legal
+  added_outcome : (past : List Entry) (e : Entry) → IsAdded founder past e → outcome founder past (entry_request founder past e) e.moment ≡ Adds e
+  added_outcome past e (instant, is) =
+      let request : Request = entry_request founder past e in
+      let reply : Reply = (step founder past request e.moment).0 in
+      (stepped_entry past request e.moment reply e (ap (λ (h : List Entry). (reply, h)) is)).0
 
-  pub legal_conduct : (past : List Entry) (turns : List Turn) (after : List Entry) → IsLegal founder past → Conduct founder past turns after → IsLegal founder after
-  legal_conduct past [] after legal is = subst (IsLegal founder) (sym is) legal
-  legal_conduct past (turn ∷ turns) after legal (between, first, others) =
-      legal_conduct between turns after (legal_answer past turn.request (unwrap_or turn.reading (pos 0)) turn.reply between legal first.answers) others
+  added : (past : List Entry) (e : Entry) → IsAdded founder past e → Added founder past (entry_request founder past e) e.moment e
+  added past e is = adds founder past (entry_request founder past e) e.moment e (added_outcome past e is)
+
+  -- ---- legal histories
+
+  legal_more : (past : List Entry) (q : Request) (t : ℤ) (e : Entry) → IsLegal founder past → IsInstantNs t → Added founder past q t e → IsAdded founder past e
+  legal_more past q t e legal instant a =
+      let h = hears founder (members (deeds past)) q a.bytes a.heard a.hears in (
+        subst IsInstantNs (sym (moment_is founder past q t e a)) (next_instant founder past t legal instant),
+        adds_entry past e (added_own founder past q t e a founder (caller_again founder (members (deeds past)) q.key a.heard.caller h.caller)),
+      )
+
+  legal_made : (past : List Entry) (q : Request) (t : ℤ) (reply : Reply) (next : List Entry) → IsLegal founder past → IsInstantNs t → Makes past (outcome founder past q t) reply next → IsLegal founder next
+  legal_made past q t reply next legal instant (inl same) = subst (IsLegal founder) (sym same) legal
+  legal_made past q t reply next legal instant (inr (e, is, answer, more)) =
+      subst (IsLegal founder) (sym more) (legal_more past q t e legal instant (adds founder past q t e is), legal)
+
+  pub legal_step : (past : List Entry) (q : Request) (t : ℤ) (reply : Reply) (next : List Entry) → IsLegal founder past → IsInstantNs t → step founder past q t ≡ (reply, next) → IsLegal founder next
+  legal_step past q t reply next legal instant is = legal_made past q t reply next legal instant (step_makes founder past q t reply next is)
+
+  legal_answer : (past : List Entry) (q : Request) (t : ℤ) (reply : Reply) (next : List Entry) → IsLegal founder past → IsInstantNs t → Answers founder past q t reply next → IsLegal founder next
+  legal_answer past q t reply next legal instant (inl is) = legal_step past q t reply next legal instant is
+  legal_answer past q t reply next legal instant (inr (wants, same)) = subst (IsLegal founder) (sym same) legal
+
+  pub legal_conduct : (past : List Entry) (turns : List Turn) (next : List Entry) → IsLegal founder past → Conduct founder past turns next → IsLegal founder next
+  legal_conduct past [] next legal is = subst (IsLegal founder) (sym is) legal
+  legal_conduct past (turn ∷ turns) next legal (between, first, others) =
+      legal_conduct between turns next (legal_answer past turn.request (unwrap_or turn.reading (pos 0)) turn.reply between legal (taken_instant turn.request.verb turn.reading first.reads) first.answers) others
 
   legal_behind : (newer earlier : List Entry) → IsLegal founder (newer ++ earlier) → IsLegal founder earlier
   legal_behind [] earlier legal = legal
-  legal_behind (e ∷ newer) earlier (added, legal) = legal_behind newer earlier legal
+  legal_behind (e ∷ newer) earlier (is, legal) = legal_behind newer earlier legal
 
   pub legal_prefix : (earlier later : List Entry) → IsLegal founder later → Extends earlier later → IsLegal founder earlier
   legal_prefix earlier later legal (newer, is) = legal_behind newer earlier (subst (IsLegal founder) is legal)
+
+-- ---- kept replies
 
 -- the caller and the number of an entry
 numbered_is : (a c b n : ℕ) → (a == c) && (b == n) ≡ true → (a ≡ c) × (b ≡ n)
@@ -214,19 +229,14 @@ resent code bytes = by (code == code) refl
     by false is = absurd (grind (arith, nat_tests))
 
 module _ (founder : Key) where
-  unused_by : (past : List Entry) (e : Entry) → Leaves past (e ∷ past) → IsUnused past e
-  unused_by past e (inl same) = absurd (longer e past same)
-  unused_by past e (inr (other, more, unused)) = subst (IsUnused past) (sym (head_is e other past past more)) unused
-
   added_unused : (past : List Entry) (e : Entry) → IsAdded founder past e → IsUnused past e
-  added_unused past e added =
-      let request : Request = entry_request founder past e in
-      let reply : Reply = (step founder past request e.moment).0 in
-      unused_by past e (leaves founder past request e.moment reply (e ∷ past) (ap (λ (h : List Entry). (reply, h)) added))
+  added_unused past e is =
+      let a = added founder past e is in
+      ap (λ (x : Entry). kept past x.caller x.number) a.entry ∙ a.unused
 
   pub legal_once : (history : List Entry) → IsLegal founder history → EachNumberOnce history
   legal_once [] legal = tt
-  legal_once (e ∷ past) (added, legal) = (added_unused past e added, legal_once past legal)
+  legal_once (e ∷ past) (is, legal) = (added_unused past e is, legal_once past legal)
 
   pub kept_stays : (earlier later : List Entry) (caller number : ℕ) (k : Kept) → IsLegal founder later → Extends earlier later → kept earlier caller number ≡ Some k → kept later caller number ≡ Some k
   kept_stays earlier later caller number k legal (newer, is) found =
@@ -234,91 +244,67 @@ module _ (founder : Key) where
 
 -- ---- callers stay
 
--- what an act adds to the roster, where none of its rows holds, takes nobody's place
-act_keeps_callers : (founder : Key) (past : List Entry) (asked : Result Act ActFault) (key : Key) (caller : ℕ) → NoRow (act_rows founder past asked)
-    → caller_of founder (members past) key ≡ Some caller → caller_of founder (with_enrolled asked (members past)) key ≡ Some caller
-act_keeps_callers founder past (Ok (act.Enrol new name role)) key caller none found =
-    caller_stays founder (members past) (record { key = new; rank = role }) key caller none.0 found
-act_keeps_callers founder past (Ok (act.Station code name from to)) key caller none found = found
-act_keeps_callers founder past (Ok (act.Code kind letter word)) key caller none found = found
-act_keeps_callers founder past (Ok (act.Submit80 lines)) key caller none found = found
-act_keeps_callers founder past (Ok (act.SubmitPsv lines)) key caller none found = found
-act_keeps_callers founder past (Err fault) key caller none found = found
+first_false : (b : Bool) (x : Refusal) (rest : Option Refusal) → cond b (Some x) rest ≡ None → b ≡ false
+first_false true x rest none = absurd cc
+first_false false x rest none = refl
+
+-- a deed that nothing refuses takes nobody's place
+deed_keeps_callers : (founder : Key) (enrolled : List Member) (tables : TableRows) (deed : Deed) (key : Key) (caller : Caller) → first_row (deed_rows enrolled tables deed) ≡ None
+    → caller_of founder enrolled key ≡ Some caller → caller_of founder (with_enrolled deed enrolled) key ≡ Some caller
+deed_keeps_callers founder enrolled tables (Enrolled member) key caller none found = caller_stays founder enrolled member key caller (first_false _ _ _ none) found
+deed_keeps_callers founder enrolled tables (Stationed code from to) key caller none found = found
+deed_keeps_callers founder enrolled tables (Coded kind letter word) key caller none found = found
+deed_keeps_callers founder enrolled tables (Submitted lines rulings) key caller none found = found
+deed_keeps_callers founder enrolled tables Nothing key caller none found = found
 
 module _ (founder : Key) where
-  late_rows_none : (past : List Entry) (caller : ℕ) (q : Request) → late_refusal founder past caller q ≡ None → NoRow (late_rows founder past caller q)
-  unfolding late_refusal
-  late_rows_none past caller q late = no_row (late_rows founder past caller q) late
-
-  added_keeps : (past : List Entry) (e : Entry) (key : Key) (caller : ℕ) (reply : Reply) → AddsFor founder past (entry_request founder past e) e.moment reply (e ∷ past)
-      → caller_of founder (members past) key ≡ Some caller → caller_of founder (members (e ∷ past)) key ≡ Some caller
-  added_keeps past e key caller reply (inl same) found = absurd (longer e past same)
-  added_keeps past e key caller reply (inr (early, unused, late, answer, more)) found =
-      act_keeps_callers founder past (act_of e.verb e.body) key caller (late_rows_none past (asking founder past (entry_request founder past e)) (entry_request founder past e) late).1 found
-
-  added_callers : (past : List Entry) (e : Entry) (key : Key) (caller : ℕ) → IsAdded founder past e → caller_of founder (members past) key ≡ Some caller → caller_of founder (members (e ∷ past)) key ≡ Some caller
-  added_callers past e key caller added found =
+  added_callers : (past : List Entry) (e : Entry) (key : Key) (caller : Caller) → IsAdded founder past e → caller_of founder (members (deeds past)) key ≡ Some caller → caller_of founder (members (deeds (e ∷ past))) key ≡ Some caller
+  added_callers past e key caller is found =
       let request : Request = entry_request founder past e in
-      let reply : Reply = (step founder past request e.moment).0 in
-      added_keeps past e key caller reply (step_adds founder past request e.moment reply (e ∷ past) (ap (λ (h : List Entry). (reply, h)) added)) found
+      let a = added founder past e is in
+      let w = worked (deeds past) (next_moment past e.moment) a.heard a.deed a.works in
+      ap (λ (d : Deed). caller_of founder (with_enrolled d (members (deeds past))) key) (deed_added founder past request e.moment e a)
+      ∙ deed_keeps_callers founder (members (deeds past)) _ a.deed key caller w.free found
 
-  callers_behind : (newer earlier : List Entry) (key : Key) (caller : ℕ) → IsLegal founder (newer ++ earlier) → caller_of founder (members earlier) key ≡ Some caller → caller_of founder (members (newer ++ earlier)) key ≡ Some caller
+  callers_behind : (newer earlier : List Entry) (key : Key) (caller : Caller) → IsLegal founder (newer ++ earlier) → caller_of founder (members (deeds earlier)) key ≡ Some caller → caller_of founder (members (deeds (newer ++ earlier))) key ≡ Some caller
   callers_behind [] earlier key caller legal found = found
-  callers_behind (e ∷ newer) earlier key caller (added, legal) found = added_callers (newer ++ earlier) e key caller added (callers_behind newer earlier key caller legal found)
+  callers_behind (e ∷ newer) earlier key caller (is, legal) found = added_callers (newer ++ earlier) e key caller is (callers_behind newer earlier key caller legal found)
 
-  -- a caller has the same number in every later legal history
-  pub callers_stay : (earlier later : List Entry) (key : Key) (caller : ℕ) → IsLegal founder later → Extends earlier later → caller_of founder (members earlier) key ≡ Some caller → caller_of founder (members later) key ≡ Some caller
+  -- a caller has the same number and rank in every later legal history
+  pub callers_stay : (earlier later : List Entry) (key : Key) (caller : Caller) → IsLegal founder later → Extends earlier later → caller_of founder (members (deeds earlier)) key ≡ Some caller → caller_of founder (members (deeds later)) key ≡ Some caller
   callers_stay earlier later key caller legal (newer, is) found =
-      ap (λ (h : List Entry). caller_of founder (members h) key) is ∙ callers_behind newer earlier key caller (subst (IsLegal founder) is legal) found
+      ap (λ (h : List Entry). caller_of founder (members (deeds h)) key) is ∙ callers_behind newer earlier key caller (subst (IsLegal founder) is legal) found
 
 -- ---- resends
 
 module _ (founder : Key) where
-  -- the step at a number that stands for an entry
-  step_kept : (past : List Entry) (q : Request) (t : ℤ) (k : Kept) → early_refusal founder past q ≡ None → kept past (asking founder past q) (unwrap_or q.number 0) ≡ Some k → step founder past q t ≡ (kept_reply q k, past)
-  step_kept past q t k early found =
-      let caller : ℕ = asking founder past q in
-      let late : Option Refusal = late_refusal founder past caller q in
-      let e : Entry = new_entry caller past q t in
-      step_is founder past q t
-      ∙ ap (λ (o : Option Refusal). after_all o (kept past caller (unwrap_or q.number 0)) late past q e) early
-      ∙ ap (λ (o : Option Kept). after_all None o late past q e) found
-
-  -- what isn't refused early at one history isn't at another, where the key has a caller
-  early_later : (past later : List Entry) (q : Request) (caller : ℕ) → early_refusal founder past q ≡ None → caller_of founder (members later) q.key ≡ Some caller → early_refusal founder later q ≡ None
-  unfolding early_refusal
-  early_later past later q caller early found =
-      let rows = no_row (early_rows founder past q) early in
-      let known : is_none (caller_of founder (members later) q.key) ≡ false = ap (λ (o : Option ℕ). is_none o) found in
-      no_row-again (early_rows founder later q) (rows.0, (rows.1.0, (rows.1.1.0, (rows.1.1.1.0, (rows.1.1.1.1.0, (known, tt))))))
-
-  again_after : (past : List Entry) (q : Request) (t t' : ℤ) (text : List ℕ) (e : Entry) (later : List Entry)
-      → AddsFor founder past q t (Done text) (e ∷ past) → IsLegal founder later → Extends (e ∷ past) later → step founder later q t' ≡ (Done text, later)
-  again_after past q t t' text e later (inl same) legal extends = absurd (longer e past same)
-  again_after past q t t' text e later (inr (early, unused, late, answer, more)) legal extends =
-      let caller : ℕ = asking founder past q in
-      let new : Entry = new_entry caller past q t in
-      let k : Kept = record { entry = new; before = past } in
-      let grown : Extends (new ∷ past) later = subst (λ (h : List Entry). Extends h later) more extends in
-      let before : Extends past later = (grown.0 ++ new ∷ [], grown.1 ∙ sym (append_assoc grown.0 (new ∷ []) past)) in
-      let asks : caller_of founder (members later) q.key ≡ Some caller = callers_stay founder past later q.key caller legal before (some_of (caller_of founder (members past) q.key) (known founder past q t early)) in
-      let same : asking founder later q ≡ caller = ap (λ (o : Option ℕ). unwrap_or o 0) asks in
-      let found = kept_stays founder (new ∷ past) later caller (unwrap_or q.number 0) k legal grown (kept_newest new past) in
-      step_kept later q t' k (early_later past later q caller early asks) (ap (λ (c : ℕ). kept later c (unwrap_or q.number 0)) same ∙ found)
-      ∙ ap (λ (b : Bool). (cond b (Done (entry_answer past new)) (Refused (OtherRequest (next_receipt past))), later)) (resent (verb_code q.verb) (body_bytes q.body))
-      ∙ ap (λ (r : Reply). (r, later)) (sym answer)
+  again_after : (past : List Entry) (q : Request) (t t' : ℤ) (text : List ℕ) (e : Entry) (later : List Entry) → (reply : Done text ≡ Done (entry_answer past e))
+      → Added founder past q t e → IsLegal founder later → Extends (e ∷ past) later → step founder later q t' ≡ (Done text, later)
+  again_after past q t t' text e later reply a legal extends =
+      let k : Kept = record { entry = e; before = past } in
+      let h = hears founder (members (deeds past)) q a.bytes a.heard a.hears in
+      let before : Extends past later = (extends.0 ++ e ∷ [], extends.1 ∙ sym (append_assoc extends.0 (e ∷ []) past)) in
+      let caller : caller_of founder (members (deeds later)) q.key ≡ Some a.heard.caller = callers_stay founder past later q.key a.heard.caller legal before h.caller in
+      let again : hear founder (members (deeds later)) q a.bytes ≡ Ok a.heard =
+      hear_again founder (members (deeds past)) q a.bytes a.heard h founder (members (deeds later)) q (sym h.verb) (number_some q.verb q.number a.heard.number h.number) caller in
+      let found : kept later e.caller e.number ≡ Some k = kept_stays founder (e ∷ past) later e.caller e.number k legal extends (kept_newest e past) in
+      let used : kept later a.heard.caller.number a.heard.number ≡ Some k = ap (λ (x : Entry). kept later x.caller x.number) (sym a.entry) ∙ found in
+      let same : kept_reply a.heard.verb a.bytes k ≡ Done (entry_answer past e) =
+      ap (λ (x : Entry). cond ((verb_code a.heard.verb == verb_code x.verb) && bytes_eq a.bytes x.body) (Done (entry_answer past e)) (Refused (OtherRequest (next_receipt past)))) a.entry
+      ∙ ap (λ (b : Bool). cond b (Done (entry_answer past e)) (Refused (OtherRequest (next_receipt past)))) (resent (verb_code a.heard.verb) a.bytes) in
+      step_is founder later q t'
+      ∙ ap (after later) (keeps founder later q t' a.bytes a.heard k a.body again a.act used)
+      ∙ ap (λ (r : Reply). (r, later)) (same ∙ sym reply)
 
   pub answered_again : (past : List Entry) (q : Request) (t t' : ℤ) (text : List ℕ) (e : Entry) (later : List Entry) → step founder past q t ≡ (Done text, e ∷ past)
       → IsLegal founder later → Extends (e ∷ past) later → step founder later q t' ≡ (Done text, later)
-  answered_again past q t t' text e later is = again_after past q t t' text e later (step_adds founder past q t (Done text) (e ∷ past) is)
+  answered_again past q t t' text e later is =
+      let (adds_it, answer) = stepped_entry founder past q t (Done text) e is in
+      again_after past q t t' text e later answer (adds founder past q t e adds_it)
 
 -- ---- how legal histories come about
 
 module _ (founder : Key) where
-  known_by : (past : List Entry) (q : Request) (t : ℤ) (reply : Reply) (e : Entry) → AddsFor founder past q t reply (e ∷ past) → is_unknown q.verb ≡ false
-  known_by past q t reply e (inl same) = absurd (longer e past same)
-  known_by past q t reply e (inr (early, unused, late, answer, more)) = (early_rows_none founder past q t early).1.1.0
-
   -- the turn in which an entry was added
   entry_turn : (past : List Entry) (e : Entry) → Turn
   entry_turn past e =
@@ -327,18 +313,80 @@ module _ (founder : Key) where
 
   added_turn : (past : List Entry) (e : Entry) → IsAdded founder past e → IsTurn founder past (entry_turn past e) (e ∷ past)
   unfolding entry_turn
-  added_turn past e added =
+  added_turn past e is =
       let request : Request = entry_request founder past e in
       let reply : Reply = (step founder past request e.moment).0 in
-      let is : step founder past request e.moment ≡ (reply, e ∷ past) = ap (λ (h : List Entry). (reply, h)) added in
+      let a = added founder past e is in
       record {
-        reads = known_by past request e.moment reply e (step_adds founder past request e.moment reply (e ∷ past) is);
-        answers = inl is;
+        reads = (ap is_act (verb_is founder past request e.moment e a) ∙ a.act, is.0);
+        answers = inl (ap (λ (h : List Entry). (reply, h)) is.1);
       }
 
   -- the turns in which a legal history came about
   pub legal_reached : (history : List Entry) → IsLegal founder history → (turns : List Turn) × Conduct founder [] turns history
   legal_reached [] legal = ([], refl)
-  legal_reached (e ∷ past) (added, legal) =
+  legal_reached (e ∷ past) (is, legal) =
       let before = legal_reached past legal in
-      (before.0 ++ entry_turn past e ∷ [], conduct_more founder [] before.0 past (entry_turn past e) (e ∷ past) before.1 (added_turn past e added))
+      (before.0 ++ entry_turn past e ∷ [], conduct_more founder [] before.0 past (entry_turn past e) (e ∷ past) before.1 (added_turn past e is))
+
+-- ---- another founder
+
+-- the bodies of enrolments name keys without a plus
+abbrev pub Plain : Type 0
+Plain = (bytes : List ℕ) (enrol : EnrolBody) → enrol_of bytes ≡ Some enrol → begins_with_plus (key_text enrol.key) ≡ false
+
+-- an enrolment of a caller whose key begins with no plus, or another deed
+abbrev pub IsPlain : Deed → Type 0
+IsPlain (Enrolled member) = begins_with_plus (key_text member.key) ≡ false
+IsPlain _ = Unit {0}
+
+module _ (plain : Plain) (past : List Deed) (moment : ℤ) where
+  enrolment_plain : (body : List ℕ) (read : Option EnrolBody) → enrol_of body ≡ read → IsPlain (done_if_read past moment (read_as enrol_act read))
+  enrolment_plain body (Some enrol) is = plain body enrol is
+  enrolment_plain body None is = tt
+
+  station_plain : (read : Option StationBody) → IsPlain (done_if_read past moment (read_as station_act read))
+  station_plain (Some station) = tt
+  station_plain None = tt
+
+  code_plain : (read : Option CodeBody) → IsPlain (done_if_read past moment (read_as code_act read))
+  code_plain (Some code) = tt
+  code_plain None = tt
+
+  psv_plain : (read : Result (List Line) (HeaderFault × ℕ)) → IsPlain (done_if_read past moment (psv_act read))
+  psv_plain (Ok lines) = tt
+  psv_plain (Err fault) = tt
+
+  act_plain : (verb : Verb) (body : List ℕ) → IsPlain (done_if_read past moment (act_of verb body))
+  unfolding act_of
+  act_plain Enrol body = enrolment_plain body (enrol_of body) refl
+  act_plain Station body = station_plain (station_of body)
+  act_plain Code body = code_plain (code_of body)
+  act_plain Submit80 body = tt
+  act_plain SubmitPsv body = psv_plain (psv_lines_of body)
+  act_plain Unknown body = tt
+
+with_plain : (deed : Deed) (enrolled : List Member) → IsPlain deed → ArePlain enrolled → ArePlain (with_enrolled deed enrolled)
+with_plain (Enrolled member) enrolled plain others = (plain, others)
+with_plain (Stationed code from to) enrolled plain others = others
+with_plain (Coded kind letter word) enrolled plain others = others
+with_plain (Submitted lines rulings) enrolled plain others = others
+with_plain Nothing enrolled plain others = others
+
+module _ (plain : Plain) where
+  deed_plain : (past : List Deed) (e : Entry) → IsPlain (deed_of past e)
+  unfolding deed_of
+  deed_plain past e = act_plain plain past e.moment e.verb e.body
+
+  members_plain : (history : List Entry) → ArePlain (members (deeds history))
+  members_plain [] = tt
+  members_plain (e ∷ past) = with_plain (deed_of (deeds past) e) (members (deeds past)) (deed_plain (deeds past) e) (members_plain past)
+
+  pub legal_under : (founder other : Key) (history : List Entry) → begins_with_plus (key_text other) ≡ true → IsLegal founder history → IsLegal other history
+  legal_under founder other [] plus legal = tt
+  legal_under founder other (e ∷ past) plus (is, legal) =
+      let request : Request = entry_request founder past e in
+      let a = added founder past e is in
+      let h = hears founder (members (deeds past)) request a.bytes a.heard a.hears in
+      let found = caller_under founder other (members (deeds past)) request.key a.heard.caller (members_plain past) plus h.caller in
+      ((is.0, adds_entry other past e (added_own founder past request e.moment e a other found)), legal_under founder other past plus legal)

@@ -1,3 +1,4 @@
 pub mod Conducts
 pub mod Callers
+pub mod Hearing
 pub mod Legal

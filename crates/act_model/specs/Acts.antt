@@ -12,6 +12,8 @@ use Rattle.act_model.specs.declared.request.Verb.{Verb}
 use Rattle.act_model.specs.declared.request.Verb.TheVariants.{Enrol, Station, Code, Submit80, SubmitPsv, Unknown}
 use Rattle.act_model.specs.declared.act.Act.{Act}
 use Rattle.act_model.specs.declared.act.Act.TheVariants as act
+use Rattle.act_model.specs.declared.heard.Asked.{Asked}
+use Rattle.act_model.specs.declared.heard.Asked.TheVariants as asked
 use Rattle.act_model.specs.declared.act.ActFault.{ActFault}
 use Rattle.act_model.specs.declared.act.ActFault.TheVariants.{Unread, Header, NoMemory}
 
@@ -44,13 +46,6 @@ act_of Submit80 body = Ok (act.Submit80 (lines_of body))
 act_of SubmitPsv body = psv_act (psv_lines_of body)
 act_of Unknown body = Err Unread
 
--- the body isn't as the verb wants it
-abbrev pub is_unread : Result Act ActFault → Bool
-is_unread (Ok act) = false
-is_unread (Err Unread) = true
-is_unread (Err (Header fault line)) = false
-is_unread (Err NoMemory) = false
-
 -- a station's last day isn't before its first
 abbrev pub IsForward : Act → Type 0
 IsForward (act.Enrol key name role) = Unit {0}
@@ -58,3 +53,7 @@ IsForward (act.Station code name from to) = from ≤ℤ to
 IsForward (act.Code kind letter word) = Unit {0}
 IsForward (act.Submit80 lines) = Unit {0}
 IsForward (act.SubmitPsv lines) = Unit {0}
+
+abbrev pub IsForwardAsked : Asked → Type 0
+IsForwardAsked (asked.Act act) = IsForward act
+IsForwardAsked (asked.Header fault line) = Unit {0}

@@ -1,10 +1,12 @@
 pub mod Rows
 pub mod Requests
 pub mod Acts
+pub mod Ruling
 pub mod Roster
 pub mod OfficeTables
-pub mod History
 pub mod Observations
+pub mod Deeds
+pub mod History
 pub mod Texts
 pub mod Replies
 pub mod Refusals

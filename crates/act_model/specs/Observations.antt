@@ -1,105 +1,14 @@
--- Which lines of a batch the office accepts, and how many observations it has.
-use Rattle.std.specs.Prelude.{ℕ, ◌+◌, ◌-◌, Bool, true, false, not, List, [], ◌∷◌, length, count_by, filter_map, Option, Some, None, is_some, is_none, option_map, ◌||◌, Ok, Err, Result}
-use Rattle.obs_time.specs.Dates.{day_of}
-use Rattle.obs_record.specs.declared.line.Line.{Line}
-use Rattle.obs_record.specs.declared.sighting.Coded.{Coded}
-use Rattle.obs_record.specs.declared.sighting.Coded.TheVariants.{Nothing, Letter, Word}
-use Rattle.obs_record.specs.declared.sighting.Sighting.{Sighting}
-use Rattle.obs_record.specs.declared.rule.RuleCode.{RuleCode}
-use Rattle.obs_record.specs.declared.rule.RuleCode.TheVariants.{T1, T2, T3, T4, T5, B3}
-use Rattle.station_tables.specs.declared.kind.Kind.{Kind}
-use Rattle.station_tables.specs.declared.kind.Kind.TheVariants as kinds
-use Rattle.station_tables.specs.declared.serving.Serving.{Serving}
-use Rattle.station_tables.specs.declared.serving.Serving.TheVariants as serving
-use Rattle.station_tables.specs.Rows.{TableRows}
-use Rattle.station_tables.specs.Stations.{serving_of}
-use Rattle.station_tables.specs.Codes.{word_of, letter_of}
-use Rattle.act_model.specs.declared.act.Act.{Act}
-use Rattle.act_model.specs.declared.act.Act.TheVariants as act
-use Rattle.act_model.specs.declared.act.ActFault.{ActFault}
-use Rattle.act_model.specs.declared.entry.Entry.{Entry}
-use Rattle.act_model.specs.declared.reply.Fault.{Fault}
-use Rattle.act_model.specs.Acts.{act_of}
-use Rattle.act_model.specs.OfficeTables.{tables_of}
-use Rattle.act_model.specs.Rows.{first_row}
+-- How many observations the office has.
+use Rattle.std.specs.Prelude.{ℕ, ◌+◌, List, [], ◌∷◌}
+use Rattle.act_model.specs.declared.deed.Deed.{Deed}
+use Rattle.act_model.specs.declared.deed.Deed.TheVariants.{Submitted}
+use Rattle.act_model.specs.Ruling.{accepted_in}
 
--- ---- the rules of a line
+-- a batch adds its accepted lines, and no other deed adds any
+abbrev pub with_accepted : Deed → ℕ → ℕ
+with_accepted (Submitted lines rulings) before = before + accepted_in rulings
+with_accepted _ before = before
 
--- an observation under a number or a designation
-abbrev pub is_named : Sighting → Bool
-is_named sighting = is_some sighting.perm || is_some sighting.prov
-
--- no station row has the code
-abbrev pub is_unknown_station : Serving → Bool
-is_unknown_station serving.Unknown = true
-is_unknown_station serving.Outside = false
-is_unknown_station serving.Serving = false
-
--- rows have the code, and none of them holds the day
-abbrev pub is_outside : Serving → Bool
-is_outside serving.Unknown = false
-is_outside serving.Outside = true
-is_outside serving.Serving = false
-
--- the letter or the word that a line gives is in a row of the kind; a line that gives none asks for none
-abbrev pub is_in_row : TableRows → Kind → Coded → Bool
-is_in_row tables kind Nothing = true
-is_in_row tables kind (Letter letter) = is_some (word_of tables.codes kind letter)
-is_in_row tables kind (Word word) = is_some (letter_of tables.codes kind word)
-
--- how the observation's station stands on the observation's day of UTC
-abbrev pub station_serving : TableRows → Sighting → Serving
-station_serving tables s = serving_of tables.stations s.station (day_of s.time)
-
--- the rules that an observation may break, behind those of its spelling: those of the tables, and B3 under a number or a
--- designation, since this office has given none yet
-abbrev pub office_rules : TableRows → Sighting → List (Bool × RuleCode)
-office_rules tables s =
-    (is_unknown_station (station_serving tables s), T1)
-    ∷ (is_outside (station_serving tables s), T2)
-    ∷ (not (is_in_row tables kinds.Catalogue s.catalogue), T3)
-    ∷ (not (is_in_row tables kinds.Band s.band), T4)
-    ∷ (not (is_in_row tables kinds.Mode s.mode), T5)
-    ∷ (is_named s, B3)
-    ∷ []
-
-abbrev pub fault_of_reading : TableRows → Result Sighting RuleCode → Option RuleCode
-fault_of_reading tables (Ok s) = first_row (office_rules tables s)
-fault_of_reading tables (Err rule) = Some rule
-
--- the first rule that a line breaks, where these are the office's tables
-unfoldable pub fault_of : TableRows → Line → Option RuleCode
-fault_of tables line = fault_of_reading tables line.read
-
--- ---- the lines of a batch
-
--- a line that breaks no rule is accepted
-unfoldable pub is_accepted : TableRows → Line → Bool
-is_accepted tables line = is_none (fault_of tables line)
-
-abbrev pub accepted_in : TableRows → List Line → ℕ
-accepted_in tables lines = count_by (is_accepted tables) lines
-
-abbrev pub refused_in : TableRows → List Line → ℕ
-refused_in tables lines = length lines - accepted_in tables lines
-
--- the number of a line, with the rule that it breaks
-unfoldable pub line_fault : TableRows → Line → Option Fault
-line_fault tables line = option_map (λ rule. record { line = line.number; rule = rule }) (fault_of tables line)
-
--- the lines that aren't accepted, each with the rule that it breaks
-abbrev pub faults_in : TableRows → List Line → List Fault
-faults_in tables lines = filter_map (line_fault tables) lines
-
--- ---- observations
-
--- how many observations there are behind an act: a batch adds its accepted lines, judged by the tables of its time
-abbrev pub with_accepted : TableRows → Result Act ActFault → ℕ → ℕ
-with_accepted tables (Ok (act.Submit80 lines)) before = before + accepted_in tables lines
-with_accepted tables (Ok (act.SubmitPsv lines)) before = before + accepted_in tables lines
-with_accepted tables _ before = before
-
--- how many observations the history has
-abbrev pub observations : List Entry → ℕ
+abbrev pub observations : List Deed → ℕ
 observations [] = 0
-observations (entry ∷ past) = with_accepted (tables_of past) (act_of entry.verb entry.body) (observations past)
+observations (deed ∷ past) = with_accepted deed (observations past)

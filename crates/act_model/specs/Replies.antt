@@ -1,11 +1,8 @@
 -- What the office answers to an act that it accepted, and the text and status of every reply.
-use Rattle.std.specs.Prelude.{ℕ, ◌+◌, List, [], ◌∷◌, ◌++◌, flat_map, codes, decimal, Option, Some, None, Result, Ok, Err}
-use Rattle.obs_record.specs.declared.line.Line.{Line}
+use Rattle.std.specs.Prelude.{ℕ, ◌+◌, List, [], ◌∷◌, ◌++◌, flat_map, codes, decimal, Option, Some, None}
 use Rattle.obs_record.specs.declared.rule.RuleCode.{RuleCode}
-use Rattle.station_tables.specs.Rows.{TableRows}
-use Rattle.act_model.specs.declared.act.Act.{Act}
-use Rattle.act_model.specs.declared.act.Act.TheVariants as act
-use Rattle.act_model.specs.declared.act.ActFault.{ActFault}
+use Rattle.act_model.specs.declared.deed.Deed.{Deed}
+use Rattle.act_model.specs.declared.deed.Deed.TheVariants.{Enrolled, Submitted}
 use Rattle.act_model.specs.declared.entry.Entry.{Entry}
 use Rattle.act_model.specs.declared.reply.Excess.TheVariants as excess
 use Rattle.act_model.specs.declared.reply.Fault.{Fault}
@@ -14,11 +11,14 @@ use Rattle.act_model.specs.declared.reply.Refusal.{Refusal}
 use Rattle.act_model.specs.declared.reply.Refusal.TheVariants.{TooLarge, Unread, UnknownKey, OtherRequest, Role, Header, NoLine, AlreadyThere, RosterFull, NoMemory}
 use Rattle.act_model.specs.declared.reply.Reply.{Reply}
 use Rattle.act_model.specs.declared.reply.Reply.TheVariants.{Done, Refused}
-use Rattle.act_model.specs.Acts.{act_of}
+use Rattle.act_model.specs.declared.reply.Text.{Text}
+use Rattle.act_model.specs.declared.reply.Text.TheVariants as texts
+use Rattle.act_model.specs.declared.ruling.Ruling.{Ruling}
+use Rattle.act_model.specs.Deeds.{deed_of, deeds}
 use Rattle.act_model.specs.Roster.{members, next_caller}
-use Rattle.act_model.specs.OfficeTables.{tables_of}
 use Rattle.act_model.specs.History.{next_receipt}
-use Rattle.act_model.specs.Observations.{fault_of, accepted_in, refused_in, observations}
+use Rattle.act_model.specs.Ruling.{accepted_in, refused_in}
+use Rattle.act_model.specs.Observations.{observations}
 use Rattle.act_model.specs.Texts.{line_of, header_name, receipt_line, caller_line, counts_line, accepted_line, refused_line}
 
 -- the answer to a line with this fault, where so many observations came before it
@@ -26,33 +26,31 @@ abbrev pub line_answer : ℕ → ℕ → Option RuleCode → List ℕ
 line_answer before number None = accepted_line number (before + 1)
 line_answer before number (Some rule) = refused_line number rule
 
--- how many observations there are behind it: an accepted line is the next observation
+-- how many observations there are after it: an accepted line is the next observation
 abbrev pub observations_with : ℕ → Option RuleCode → ℕ
 observations_with before None = before + 1
 observations_with before (Some rule) = before
 
--- the answers to the lines of a batch, in their order
-abbrev pub line_answers : TableRows → List Line → ℕ → List ℕ
-line_answers tables [] before = []
-line_answers tables (line ∷ lines) before =
-    line_answer before line.number (fault_of tables line) ++ line_answers tables lines (observations_with before (fault_of tables line))
+-- the answers to the lines of a batch with these rulings, in their order
+abbrev pub line_answers : List Ruling → ℕ → List ℕ
+line_answers [] before = []
+line_answers (ruling ∷ rulings) before =
+    line_answer before ruling.line ruling.fault ++ line_answers rulings (observations_with before ruling.fault)
 
--- the answer to a batch of these lines that became the entry with this receipt, where so many observations came before it
--- and these were the tables
-unfoldable pub batch_answer : ℕ → TableRows → ℕ → List Line → List ℕ
-batch_answer receipt tables before lines =
-    receipt_line receipt ++ (counts_line (accepted_in tables lines) (refused_in tables lines) ++ line_answers tables lines before)
+-- the answer to a batch with these rulings that became the entry with this receipt, where so many observations came before it
+unfoldable pub batch_answer : ℕ → ℕ → List Ruling → List ℕ
+batch_answer receipt before rulings =
+    receipt_line receipt ++ (counts_line (accepted_in rulings) (refused_in rulings) ++ line_answers rulings before)
 
--- the answer to an act that became the next entry of this history
-abbrev pub act_answer : List Entry → Result Act ActFault → List ℕ
-act_answer past (Ok (act.Submit80 lines)) = batch_answer (next_receipt past) (tables_of past) (observations past) lines
-act_answer past (Ok (act.SubmitPsv lines)) = batch_answer (next_receipt past) (tables_of past) (observations past) lines
-act_answer past (Ok (act.Enrol key name role)) = receipt_line (next_receipt past) ++ caller_line (next_caller (members past))
-act_answer past _ = receipt_line (next_receipt past)
+-- the answer to a deed after these deeds, whose entry has this receipt
+abbrev pub deed_answer : ℕ → List Deed → Deed → List ℕ
+deed_answer receipt past (Submitted lines rulings) = batch_answer receipt (observations past) rulings
+deed_answer receipt past (Enrolled member) = receipt_line receipt ++ caller_line (next_caller (members past))
+deed_answer receipt past _ = receipt_line receipt
 
 -- the answer to an entry, worked out at the history before it
 unfoldable pub entry_answer : List Entry → Entry → List ℕ
-entry_answer past entry = act_answer past (act_of entry.verb entry.body)
+entry_answer past entry = deed_answer (next_receipt past) (deeds past) (deed_of (deeds past) entry)
 
 -- the lines of the faults of a batch
 abbrev pub fault_lines : List Fault → List ℕ
@@ -77,6 +75,11 @@ refusal_text NoMemory = line_of (codes "refused 17 NoMemory")
 abbrev pub text_of : Reply → List ℕ
 text_of (Done text) = text
 text_of (Refused refusal) = refusal_text refusal
+
+-- the bytes of a text
+abbrev pub text_bytes : Text → List ℕ
+text_bytes (texts.Lines text) = text
+text_bytes (texts.Line line) = line.items
 
 abbrev pub refusal_status : Refusal → ℕ
 refusal_status (TooLarge what) = 413

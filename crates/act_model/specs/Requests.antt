@@ -3,7 +3,7 @@ use Rattle.std.specs.Prelude.{ℕ, ◌==◌, Bool, true, false, ◌&&◌, bytes_
 use Rattle.act_model.specs.declared.request.Verb.{Verb}
 use Rattle.act_model.specs.declared.request.Verb.TheVariants.{Enrol, Station, Code, Submit80, SubmitPsv, Unknown}
 use Rattle.act_model.specs.declared.request.Body.{Body}
-use Rattle.act_model.specs.declared.request.Body.TheVariants.{Whole, TooLong, NoRoom}
+use Rattle.act_model.specs.declared.request.Body.TheVariants.{Whole, TooLong}
 use Rattle.act_model.specs.declared.request.TheConstants.{BODY_BYTES}
 
 -- the verb that a word names
@@ -25,6 +25,15 @@ is_unknown Submit80 = false
 is_unknown SubmitPsv = false
 is_unknown Unknown = true
 
+-- a verb of an act, which may become an entry; any other is that of a query, which only reads
+abbrev pub is_act : Verb → Bool
+is_act Enrol = true
+is_act Station = true
+is_act Code = true
+is_act Submit80 = true
+is_act SubmitPsv = true
+is_act Unknown = false
+
 -- a verb of officers alone
 abbrev pub is_officers : Verb → Bool
 is_officers Enrol = true
@@ -45,18 +54,6 @@ verb_code Unknown = 0
 
 abbrev pub same_verb : Verb → Verb → Bool
 same_verb a b = verb_code a == verb_code b
-
--- the bytes of a body that is there
-abbrev pub body_bytes : Body → List ℕ
-body_bytes (Whole bytes) = bytes
-body_bytes (TooLong size) = []
-body_bytes NoRoom = []
-
--- how many bytes a body was announced with; nothing is said of one for which there was no room
-abbrev pub announced : Body → ℕ
-announced (Whole bytes) = length bytes
-announced (TooLong size) = size
-announced NoRoom = 0
 
 -- the body of a request that came with these bytes: one that is too long isn't kept
 abbrev pub body_of : List ℕ → Body

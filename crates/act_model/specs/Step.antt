@@ -1,66 +1,89 @@
--- The step of the office: what one request is answered, and the history that it leaves.
-use Rattle.std.specs.Prelude.{ℕ, ℤ, Bool, ◌&&◌, bytes_eq, if◌then◌else◌, List, [], ◌∷◌, Option, Some, None, unwrap_or}
+-- The step of the office: what becomes of one request, what it is answered, and the history that it leaves.
+use Rattle.std.specs.Prelude.{ℕ, ℤ, Bool, ◌&&◌, bytes_eq, if◌then◌else◌, List, ◌∷◌, Option, Some, None, Result, Ok, Err}
 use Rattle.act_bodies.specs.declared.key.Key.{Key}
-use Rattle.act_model.specs.declared.request.Request.{Request}
+use Rattle.act_model.specs.declared.deed.Deed.{Deed}
 use Rattle.act_model.specs.declared.entry.Entry.{Entry}
+use Rattle.act_model.specs.declared.heard.Heard.{Heard}
+use Rattle.act_model.specs.declared.reply.Part.TheVariants as part
 use Rattle.act_model.specs.declared.reply.Refusal.{Refusal}
-use Rattle.act_model.specs.declared.reply.Refusal.TheVariants.{OtherRequest}
+use Rattle.act_model.specs.declared.reply.Refusal.TheVariants.{Unread, OtherRequest}
 use Rattle.act_model.specs.declared.reply.Reply.{Reply}
 use Rattle.act_model.specs.declared.reply.Reply.TheVariants.{Done, Refused}
-use Rattle.act_model.specs.Requests.{same_verb, body_bytes}
-use Rattle.act_model.specs.Roster.{members, caller_of}
+use Rattle.act_model.specs.declared.request.Request.{Request}
+use Rattle.act_model.specs.declared.request.Verb.{Verb}
+use Rattle.act_model.specs.Rows.{◌>>=◌}
+use Rattle.act_model.specs.Requests.{is_act, same_verb}
+use Rattle.act_model.specs.Roster.{members}
+use Rattle.act_model.specs.Deeds.{deeds}
 use Rattle.act_model.specs.History.{Kept, next_moment, next_receipt, kept}
 use Rattle.act_model.specs.Replies.{entry_answer}
-use Rattle.act_model.specs.Refusals.{early_refusal, late_refusal}
+use Rattle.act_model.specs.Refusals.{bytes_in, hear, work_out}
 
--- the request is the one that became the entry
-abbrev pub is_resend : Request → Entry → Bool
-is_resend request entry = same_verb request.verb entry.verb && bytes_eq (body_bytes request.body) entry.body
+-- what becomes of a request: it is refused; its number was used, and this is the reply that is kept for it; or it becomes an entry
+pub data Outcome : Type 0 where
+  Refuses : Refusal → Outcome
+  Keeps : Reply → Outcome
+  Adds : Entry → Outcome
 
--- the answer to a number that was used: that of the entry's own time to the same request, and else a refusal
-abbrev pub kept_reply : Request → Kept → Reply
-kept_reply request k =
-    if is_resend request k.entry then Done (entry_answer k.before k.entry) else Refused (OtherRequest (next_receipt k.before))
+-- ---- an act whose number was used
 
--- the entry that an act becomes
-abbrev pub new_entry : ℕ → List Entry → Request → ℤ → Entry
-new_entry caller past request reading =
-    record {
-      caller = caller;
-      number = unwrap_or request.number 0;
-      moment = next_moment past reading;
-      verb = request.verb;
-      body = body_bytes request.body;
-    }
+-- the request of this verb and these bytes is the one that became the entry
+abbrev pub is_resend : Verb → List ℕ → Entry → Bool
+is_resend verb bytes entry = same_verb verb entry.verb && bytes_eq bytes entry.body
 
--- an accepted act: its answer, and the history with its entry
-abbrev pub accepted_act : List Entry → Entry → Reply × List Entry
-accepted_act past entry = (Done (entry_answer past entry), entry ∷ past)
+-- the reply that is kept for the entry's number: the answer of the entry's own time to the same request, and else a refusal
+abbrev pub kept_reply : Verb → List ℕ → Kept → Reply
+kept_reply verb bytes k =
+    if is_resend verb bytes k.entry then Done (entry_answer k.before k.entry) else Refused (OtherRequest (next_receipt k.before))
 
--- a refusal leaves the history; without one it goes on
-abbrev pub unless_refused : Option Refusal → List Entry → Reply × List Entry → Reply × List Entry
-unless_refused (Some refusal) past goes_on = (Refused refusal, past)
-unless_refused None past goes_on = goes_on
+abbrev pub unless_kept : Option Kept → Heard → List ℕ → Outcome → Outcome
+unless_kept (Some k) heard bytes goes_on = Keeps (kept_reply heard.verb bytes k)
+unless_kept None heard bytes goes_on = goes_on
 
--- the answer to a number that was used, which leaves the history; to one that wasn't it goes on
-abbrev pub unless_kept : Option Kept → List Entry → Request → Reply × List Entry → Reply × List Entry
-unless_kept (Some k) past request goes_on = (kept_reply request k, past)
-unless_kept None past request goes_on = goes_on
+-- ---- an act whose number was not used
 
--- the caller of a request
-abbrev pub asking : Key → List Entry → Request → ℕ
-asking founder past request = unwrap_or (caller_of founder (members past) request.key) 0
+-- the entry that an act becomes at this moment
+abbrev pub new_entry : Heard → List ℕ → ℤ → Entry
+new_entry heard bytes moment =
+    record { caller = heard.caller.number; number = heard.number; moment = moment; verb = heard.verb; body = bytes }
 
--- an act of a caller, behind the early refusals: the reply that is kept for its number; else the late refusals; else the
--- act becomes an entry
-abbrev pub act_step : Key → ℕ → List Entry → Request → ℤ → Reply × List Entry
-act_step founder caller past request reading =
-    unless_kept (kept past caller (unwrap_or request.number 0)) past request
-    (unless_refused (late_refusal founder past caller request) past
-    (accepted_act past (new_entry caller past request reading)))
+-- an act becomes its entry, unless what it would do is refused
+abbrev pub unless_refused : Result Deed Refusal → Entry → Outcome
+unless_refused (Ok deed) entry = Adds entry
+unless_refused (Err refusal) entry = Refuses refusal
 
--- early refusals, and behind them the act of the caller
+-- ---- the step
+
+-- an act: the reply that is kept for its number; else the later refusals; else it becomes an entry
+abbrev pub act_step : List Entry → Heard → List ℕ → ℤ → Outcome
+act_step past heard bytes moment =
+    unless_kept (kept past heard.caller.number heard.number) heard bytes
+    (unless_refused (work_out (deeds past) moment heard) (new_entry heard bytes moment))
+
+-- a query reads the office and leaves it; the one verb of queries names nothing yet, and was refused before
+abbrev pub query_step : Heard → Outcome
+query_step heard = Refuses (Unread part.Verb)
+
+-- a request that was heard, which comes at this moment
+abbrev pub heard_step : List Entry → Heard → List ℕ → ℤ → Outcome
+heard_step past heard bytes moment = if is_act heard.verb then act_step past heard bytes moment else query_step heard
+
+abbrev pub unless_unheard : Result Outcome Refusal → Outcome
+unless_unheard (Ok outcome) = outcome
+unless_unheard (Err refusal) = Refuses refusal
+
+-- what becomes of a request at a history, with this reading of the clock: its bytes are taken, it is heard, and it makes its step
+unfoldable pub outcome : Key → List Entry → Request → ℤ → Outcome
+outcome founder past request reading = unless_unheard do
+  bytes ← bytes_in request.body
+  heard ← hear founder (members (deeds past)) request bytes
+  Ok (heard_step past heard bytes (next_moment past reading))
+
+-- the reply to a request of which this becomes, and the history that it leaves
+abbrev pub after : List Entry → Outcome → Reply × List Entry
+after past (Refuses refusal) = (Refused refusal, past)
+after past (Keeps reply) = (reply, past)
+after past (Adds entry) = (Done (entry_answer past entry), entry ∷ past)
+
 unfoldable pub step : Key → List Entry → Request → ℤ → Reply × List Entry
-step founder past request reading =
-    unless_refused (early_refusal founder past request) past
-    (act_step founder (asking founder past request) past request reading)
+step founder past request reading = after past (outcome founder past request reading)

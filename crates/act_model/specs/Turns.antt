@@ -2,6 +2,7 @@
 use Rattle.std.specs.Prelude.{◌≡◌, ◌⊎◌, true, false, ℕ, ◌+◌, ℤ, pos, List, [], ◌∷◌, map, flat_map, filter_map, Option, Some, None, IfSome, unwrap_or}
 use Rattle.desk_frames.specs.Frames.{Frame}
 use Rattle.desk_frames.specs.Replies.{reply_frame}
+use Rattle.obs_time.specs.Instants.{IsInstantNs}
 use Rattle.act_bodies.specs.declared.key.Key.{Key}
 use Rattle.act_model.specs.declared.request.Verb.{Verb}
 use Rattle.act_model.specs.declared.request.Request.{Request}
@@ -10,7 +11,7 @@ use Rattle.act_model.specs.declared.reply.Refusal.TheVariants.{NoMemory}
 use Rattle.act_model.specs.declared.reply.Reply.{Reply}
 use Rattle.act_model.specs.declared.reply.Reply.TheVariants.{Refused}
 use Rattle.act_bodies.specs.Keys.{key_of}
-use Rattle.act_model.specs.Requests.{verb_of, is_unknown, body_of}
+use Rattle.act_model.specs.Requests.{verb_of, is_act, body_of}
 use Rattle.act_model.specs.Replies.{status_of, text_of}
 use Rattle.act_model.specs.Step.{step}
 
@@ -25,10 +26,10 @@ pub record Turn : Type 0 where
   pub reading : Option ℤ
   pub reply : Reply
 
--- a request whose verb is an act takes one reading of the clock, any other takes none
+-- a request whose verb is that of an act takes one reading of the clock, a moment of the years 1800 to 2199; any other takes none
 abbrev pub TakesReading : Verb → Option ℤ → Type 0
-TakesReading verb (Some reading) = is_unknown verb ≡ false
-TakesReading verb None = is_unknown verb ≡ true
+TakesReading verb (Some reading) = (is_act verb ≡ true) × IsInstantNs reading
+TakesReading verb None = is_act verb ≡ false
 
 -- the reply is that of the step; or it is want of memory, which changes nothing
 abbrev pub Answers : Key → List Entry → Request → ℤ → Reply → List Entry → Type 0

@@ -1,16 +1,26 @@
 //! Laws of histories and conducts, each the contract of a function that does nothing.
 
-ghost use Rattle.std.specs.Prelude.{◌≡◌, ℕ, ℤ, List, [], ◌∷◌, Some};
+ghost use Rattle.std.specs.Prelude.{◌≡◌, true, ℕ, ℤ, List, [], ◌∷◌, ◌++◌, Some, Ok};
+ghost use Rattle.obs_time.specs.Instants.{IsInstantNs};
+ghost use Rattle.act_bodies.specs.declared.key.Key.{Key};
+ghost use Rattle.act_bodies.specs.Keys.{key_text, begins_with_plus};
+ghost use Rattle.act_model.specs.declared.deed.Deed.{Deed};
 ghost use Rattle.act_model.specs.declared.entry.Entry.{Entry};
+ghost use Rattle.act_model.specs.declared.heard.Heard.{Heard};
 ghost use Rattle.act_model.specs.declared.reply.Refusal.{Refusal};
+ghost use Rattle.act_model.specs.declared.reply.Refusal.TheVariants.{NoMemory};
 ghost use Rattle.act_model.specs.declared.reply.Reply.{Reply};
 ghost use Rattle.act_model.specs.declared.reply.Reply.TheVariants.{Done, Refused};
-ghost use Rattle.act_bodies.specs.declared.key.Key.{Key};
+ghost use Rattle.act_model.specs.declared.request.Body.TheVariants.{NoRoom};
 ghost use Rattle.act_model.specs.declared.request.Request.{Request};
+ghost use Rattle.act_model.specs.declared.roster.Caller.{Caller};
+ghost use Rattle.act_model.specs.Acts.{act_of};
 ghost use Rattle.act_model.specs.Roster.{members, caller_of};
+ghost use Rattle.act_model.specs.Deeds.{deed_of, deeds};
 ghost use Rattle.act_model.specs.History.{Kept, kept, EachNumberOnce};
-ghost use Rattle.act_model.specs.Step.{step};
-ghost use Rattle.act_model.specs.Turns.{Turn, Conduct};
+ghost use Rattle.act_model.specs.Refusals.{asked_in, work_out};
+ghost use Rattle.act_model.specs.Step.{new_entry, step};
+ghost use Rattle.act_model.specs.Turns.{Turn, Answers, IsTurn, Conduct};
 ghost use Rattle.act_model.specs.Conducts.{Extends, HadMemory, IsStepped};
 ghost use Rattle.act_model.specs.Legal.{IsLegal};
 
@@ -18,6 +28,34 @@ ghost use Rattle.act_model.specs.Legal.{IsLegal};
 pub fn a_refusal_changes_nothing()
     ensures { (founder : Key) (past after : List Entry) (request : Request) (reading : ℤ) (refusal : Refusal) →
         step founder past request reading ≡ (Refused refusal, after) → after ≡ past }
+{}
+
+/// A request for whose body there was no room is answered want of memory and nothing else, and changes nothing.
+pub fn no_room_no_step()
+    ensures step { (founder : Key) (past : List Entry) (request : Request) (reading : ℤ) →
+        request.body ≡ NoRoom → step founder past request reading ≡ (Refused NoMemory, past) }
+    ensures turn { (founder : Key) (past after : List Entry) (request : Request) (reading : ℤ) (reply : Reply) →
+        request.body ≡ NoRoom → Answers founder past request reading reply after → (reply ≡ Refused NoMemory) × (after ≡ past) }
+{}
+
+/// What is worked out for a request that was heard is the deed of the entry that it becomes.
+pub fn deeds_are_worked_out_once()
+    ensures { (bytes : List ℕ) (heard : Heard) (past : List Deed) (moment : ℤ) (deed : Deed) →
+        asked_in (act_of heard.verb bytes) ≡ Ok heard.asked → work_out past moment heard ≡ Ok deed → deed_of past (new_entry heard bytes moment) ≡ deed }
+{}
+
+/// Want of memory may stand in the place of a refusal, and changes nothing.
+pub fn want_of_memory_changes_nothing()
+    ensures instead { (founder : Key) (past after : List Entry) (request : Request) (reading : ℤ) (refusal : Refusal) →
+        Answers founder past request reading (Refused refusal) after → Answers founder past request reading (Refused NoMemory) after }
+    ensures stays { (founder : Key) (past after : List Entry) (request : Request) (reading : ℤ) →
+        Answers founder past request reading (Refused NoMemory) after → after ≡ past }
+{}
+
+/// A conduct goes on with one turn more.
+pub fn conducts_go_on()
+    ensures { (founder : Key) (past between after : List Entry) (turns : List Turn) (turn : Turn) →
+        Conduct founder past turns between → IsTurn founder between turn after → Conduct founder past (turns ++ turn ∷ []) after }
 {}
 
 /// A later history is an earlier one with newer entries before it: what was accepted stays.
@@ -42,12 +80,21 @@ pub fn no_faults()
 /// is each that it makes from nothing, since the history without entries is legal.
 pub fn histories_are_legal()
     ensures step { (founder : Key) (past after : List Entry) (request : Request) (reading : ℤ) (reply : Reply) →
-        IsLegal founder past → step founder past request reading ≡ (reply, after) → IsLegal founder after }
+        IsLegal founder past → IsInstantNs reading → step founder past request reading ≡ (reply, after) → IsLegal founder after }
     ensures conduct { (founder : Key) (past after : List Entry) (turns : List Turn) →
         IsLegal founder past → Conduct founder past turns after → IsLegal founder after }
     ensures from_nothing { (founder : Key) (after : List Entry) (turns : List Turn) →
         Conduct founder [] turns after → IsLegal founder after }
 {}
+
+/// The founding officer's key finds a caller and does nothing else: a history that is legal under one key is
+/// legal under every key that begins with a plus.
+pub fn any_founder()
+    ensures { (founder other : Key) (history : List Entry) →
+        begins_with_plus (key_text other) ≡ true → IsLegal founder history → IsLegal other history }
+{
+    act_bodies::laws::enrol_keys_are_plain();
+}
 
 /// Each legal history is one that the office can come to: some turns make it from nothing.
 pub fn legal_histories_are_reached()
@@ -69,8 +116,8 @@ pub fn legal_numbers_once()
 /// A caller keeps the number: a key stands for the same caller in every later legal history, since a key
 /// that is on the roster isn't enrolled again.
 pub fn callers_stay()
-    ensures { (founder key : Key) (earlier later : List Entry) (caller : ℕ) →
-        IsLegal founder later → Extends earlier later → caller_of founder (members earlier) key ≡ Some caller → caller_of founder (members later) key ≡ Some caller }
+    ensures { (founder key : Key) (earlier later : List Entry) (caller : Caller) →
+        IsLegal founder later → Extends earlier later → caller_of founder (members (deeds earlier)) key ≡ Some caller → caller_of founder (members (deeds later)) key ≡ Some caller }
 {}
 
 /// A kept reply doesn't change as a legal history grows. A number goes on to stand for the same

@@ -1,28 +1,34 @@
 //! What callers ask of the office, what the office keeps and answers, and the definitions by which
-//! every layer above says so: histories, the roster, the tables, accepted observations, texts,
-//! refusals, the step, turns.
+//! every layer above says so: histories and their deeds, the roster, the tables, rulings on lines,
+//! observations, texts, refusals, the step, turns.
 //!
 //! Contracts see the types of this crate as the definitions in `specs/` have them, since every list
 //! in them is an `ItemList`, whose value is the list.
 #![tactic(auto)]
 
 mod act;
+mod deed;
 mod entry;
+mod heard;
 pub mod laws;
 mod reply;
 mod request;
 mod roster;
 mod rules;
+mod ruling;
 mod texts;
 
 pub use act::{Act, ActFault, read_act};
 pub use act_bodies::{Key, Rank};
+pub use deed::Deed;
 pub use entry::Entry;
+pub use heard::{Asked, Heard, read_asked};
 pub use reply::{
-    Excess, Fault, Faults, Part, REFUSAL_BYTES, Refusal, Reply, no_line_text, refusal_line,
+    Excess, Fault, Faults, Part, REFUSAL_BYTES, Refusal, Reply, Text, no_line_text, refusal_line,
     refusal_status, reply_text, status,
 };
 pub use request::{BODY_BYTES, BODY_LINES, Body, Request, Verb, is_resend, line_feeds, read_verb};
-pub use roster::{CALLERS, Member};
-pub use rules::{accepted_in, fault_of, faults_in};
+pub use roster::{CALLERS, Caller, Member};
+pub use rules::fault_of;
+pub use ruling::{Ruling, Rulings, accepted_in, faults_in, judge};
 pub use texts::{batch_answer, enrol_answer, receipt_answer};

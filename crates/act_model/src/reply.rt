@@ -1,7 +1,7 @@
-ghost use Rattle.std.specs.Prelude.{◌≡◌, ◌++◌, ◌≤◌, IfOk, IfSome, IfNone, List, length, decimal};
+ghost use Rattle.std.specs.Prelude.{◌≡◌, ◌++◌, ◌≤◌, IfOk, IfErr, IfSome, IfNone, List, length, decimal};
 ghost use Rattle.act_model.specs.declared.reply.Fault.{Fault};
 ghost use Rattle.act_model.specs.Texts.{line_of, header_name};
-ghost use Rattle.act_model.specs.Replies.{status_of, text_of, refusal_text, refusal_status, fault_lines};
+ghost use Rattle.act_model.specs.Replies.{status_of, text_of, text_bytes, refusal_text, refusal_status, fault_lines};
 
 use crate::texts::push_fault_lines;
 use arrayvec::ArrayVec;
@@ -220,16 +220,54 @@ pub fn no_line_text(alloc: Global, faults: &Faults) -> Result<Bytes, NoMemory>
     Ok(out)
 }
 
-/// The text of a reply: what was answered, or the lines of the refusal. Err where there was no memory
-/// for the text, so a reply that says so is better written by `refusal_line`.
-pub fn reply_text(alloc: Global, reply: &Reply) -> Result<Bytes, NoMemory>
-    ensures { IfOk result (λ text. text ≡ text_of reply.now) }
+/// The text of a reply.
+#[derive(Debug, Drop)]
+pub enum Text {
+    /// The text of an answer, or of a refusal of several lines.
+    Lines(Bytes),
+    /// The one line of a refusal, for which no memory is taken.
+    Line(ArrayVec<u8, REFUSAL_BYTES>),
+}
+
+impl Text {
+    /// The bytes of the text.
+    pub fn as_slice(&self) -> &[u8]
+        ensures { result.now ≡ text_bytes self.now }
+    {
+        match self {
+            Text::Lines(text) => text.as_slice(),
+            Text::Line(line) => line.as_slice(),
+        }
+    }
+}
+
+/// The text of a reply: what was answered, or the lines of the refusal. It takes memory for a `NoLine`
+/// alone, so that want of memory can be told without any.
+///
+/// # Errors
+///
+/// Memory was refused for the lines of a `NoLine`.
+pub fn reply_text(alloc: Global, reply: Reply) -> Result<Text, NoMemory>
+    ensures text { IfOk result (λ text. text_bytes text ≡ text_of reply) }
+    ensures memory { IfErr result (λ _. (faults : List Fault) × (reply ≡ Reply.Refused (Refusal.NoLine faults))) }
 {
     match reply {
-        Reply::Done(text) => Bytes::from_slice(alloc, text.as_slice()),
-        Reply::Refused(Refusal::NoLine(faults)) => no_line_text(alloc, faults),
-        Reply::Refused(refusal) => match refusal_line(refusal) {
-            Some(line) => Bytes::from_slice(alloc, line.as_slice()),
+        Reply::Done(text) => Ok(Text::Lines(text)),
+        Reply::Refused(refusal) => refusal_as_text(alloc, &refusal),
+    }
+}
+
+fn refusal_as_text(alloc: Global, refusal: &Refusal) -> Result<Text, NoMemory>
+    ensures text { IfOk result (λ text. text_bytes text ≡ refusal_text refusal.now) }
+    ensures memory { IfErr result (λ _. (faults : List Fault) × (refusal.now ≡ Refusal.NoLine faults)) }
+{
+    match refusal {
+        Refusal::NoLine(faults) => match no_line_text(alloc, faults) {
+            Ok(text) => Ok(Text::Lines(text)),
+            Err(wanting) => Err(wanting),
+        },
+        other => match refusal_line(other) {
+            Some(line) => Ok(Text::Line(line)),
             None => unreachable!(),
         },
     }

@@ -1,5 +1,5 @@
-ghost use Rattle.std.specs.Prelude.{◌≡◌, ◌≤◌, length};
-ghost use Rattle.act_model.specs.Requests.{verb_of, is_unknown, is_officers, verb_code, same_verb, body_bytes, announced, line_feeds};
+ghost use Rattle.std.specs.Prelude.{◌≡◌};
+ghost use Rattle.act_model.specs.Requests.{verb_of, is_unknown, is_act, is_officers, verb_code, same_verb, line_feeds};
 ghost use Rattle.act_model.specs.Step.{is_resend};
 
 use crate::entry::Entry;
@@ -35,6 +35,13 @@ impl Verb {
         ensures { result ≡ is_unknown self }
     {
         matches!(self, Verb::Unknown)
+    }
+
+    /// Whether the verb is that of an act. Any other is that of a query.
+    pub fn is_act(self) -> bool
+        ensures { result ≡ is_act self }
+    {
+        !matches!(self, Verb::Unknown)
     }
 
     /// Whether the verb is one of officers alone.
@@ -89,29 +96,6 @@ pub enum Body {
     NoRoom,
 }
 
-impl Body {
-    /// The bytes of the body, none where they were thrown away.
-    pub fn bytes(&self) -> &[u8]
-        ensures { result.now ≡ body_bytes self.now }
-    {
-        match self {
-            Body::Whole(bytes) => bytes.as_slice(),
-            Body::TooLong(_) | Body::NoRoom => &[],
-        }
-    }
-
-    /// How many bytes the body was announced with; 0 for one for which there was no memory.
-    pub fn announced(&self) -> u64
-        ensures { result ≡ announced self.now }
-    {
-        match self {
-            Body::Whole(bytes) => bytes.len(),
-            Body::TooLong(size) => *size,
-            Body::NoRoom => 0,
-        }
-    }
-}
-
 /// How many line feeds a body has.
 #[tactic(auto, unfolding(crate::specs::Requests::line_feeds))]
 pub fn line_feeds(bytes: &[u8]) -> u64
@@ -146,9 +130,10 @@ fn same_verb(a: Verb, b: Verb) -> bool
     a.code() == b.code()
 }
 
-/// Whether the request is the one that became the entry: the same verb and the same body.
-pub fn is_resend(request: &Request, entry: &Entry) -> bool
-    ensures { result ≡ is_resend request.now entry.now }
+/// Whether the request of this verb and this body is the one that became the entry: its verb and its body
+/// are the same.
+pub fn is_resend(verb: Verb, body: &[u8], entry: &Entry) -> bool
+    ensures { result ≡ is_resend verb body.now entry.now }
 {
-    same_verb(request.verb, entry.verb) && request.body.bytes() == entry.body.as_slice()
+    same_verb(verb, entry.verb) && body == entry.body.as_slice()
 }

@@ -13,3 +13,12 @@ pub struct Member {
     /// Whether it is an observer or an officer.
     pub rank: Rank,
 }
+
+/// Whoever asks, as found by the key.
+#[derive(Clone, Copy, Debug)]
+pub struct Caller {
+    /// 0 for the founding officer, and 1, 2, 3 and so on for those that were enrolled.
+    pub number: u32,
+    /// Whether it is an observer or an officer. The founding officer is an officer.
+    pub rank: Rank,
+}

@@ -1,15 +1,12 @@
 //! The rules that lines break, judged by the office's tables.
 
-ghost use Rattle.std.specs.Prelude.{◌≡◌, ◌++◌, IfOk, OnOk, option_to_list};
-ghost use Rattle.act_model.specs.Observations.{is_named, is_in_row, station_serving, office_rules, fault_of, is_accepted, accepted_in, line_fault, faults_in};
+ghost use Rattle.std.specs.Prelude.{◌≡◌};
+ghost use Rattle.act_model.specs.Ruling.{is_named, is_in_row, station_serving, office_rules, fault_of};
 ghost use Rattle.act_model.specs.Rows.{first_row};
 
-use crate::reply::{Fault, Faults};
-use item_list::{ItemList, NoMemory};
-use obs_record::{Coded, Line, Lines, RuleCode, Sighting};
+use obs_record::{Coded, Line, RuleCode, Sighting};
 use obs_time::day;
 use station_tables::{Kind, Serving, Tables};
-use std::alloc::Global;
 
 // Whether the observation stands under a number or a designation.
 fn is_named(sighting: &Sighting) -> bool
@@ -66,7 +63,7 @@ fn office_fault(tables: &Tables, sighting: &Sighting) -> Option<RuleCode>
 /// where no station row has its code, T2 where none of the code's rows holds the day of UTC, T3, T4
 /// and T5 where the word or letter of its catalogue, band or mode is in no row. Then it breaks B3 where
 /// it stands under a number or a designation, since the office has given none yet.
-#[tactic(auto, unfolding(crate::specs::Observations::fault_of))]
+#[tactic(auto, unfolding(crate::specs::Ruling::fault_of))]
 pub fn fault_of(tables: &Tables, line: &Line) -> Option<RuleCode>
     ensures { result ≡ fault_of tables.now line.now }
 {
@@ -74,69 +71,4 @@ pub fn fault_of(tables: &Tables, line: &Line) -> Option<RuleCode>
         Ok(sighting) => office_fault(tables, sighting),
         Err(rule) => Some(*rule),
     }
-}
-
-#[tactic(auto, unfolding(crate::specs::Observations::is_accepted))]
-fn is_accepted(tables: &Tables, line: &Line) -> bool
-    ensures { result ≡ is_accepted tables.now line.now }
-{
-    fault_of(tables, line).is_none()
-}
-
-fn count_accepted(tables: &Tables, lines: &[Line]) -> u64
-    ensures { result ≡ accepted_in tables.now lines.now }
-{
-    let mut accepted = 0;
-    for line in lines {
-        if is_accepted(tables, line) {
-            accepted += 1;
-        }
-    }
-    accepted
-}
-
-/// How many of the lines the office accepts. The others are refused, line by line.
-pub fn accepted_in(tables: &Tables, lines: &Lines) -> u64
-    ensures { result ≡ accepted_in tables.now lines.now }
-{
-    count_accepted(tables, lines.as_slice())
-}
-
-// A line's number with the rule that it breaks.
-#[tactic(auto, unfolding(crate::specs::Observations::line_fault))]
-fn line_fault(tables: &Tables, line: &Line) -> Option<Fault>
-    ensures { result ≡ line_fault tables.now line.now }
-{
-    let rule = fault_of(tables, line)?;
-    Some(Fault {
-        line: line.number,
-        rule,
-    })
-}
-
-fn push_fault(faults: &mut Faults, fault: Option<Fault>) -> Result<(), NoMemory>
-    ensures { OnOk result (faults.new ≡ faults.old ++ option_to_list fault) }
-{
-    match fault {
-        Some(fault) => faults.push(fault),
-        None => Ok(()),
-    }
-}
-
-fn faults_among(alloc: Global, tables: &Tables, lines: &[Line]) -> Result<Faults, NoMemory>
-    ensures { IfOk result (λ faults. faults ≡ faults_in tables.now lines.now) }
-{
-    let mut faults = ItemList::new(alloc);
-    for line in lines {
-        push_fault(&mut faults, line_fault(tables, line))?;
-    }
-    Ok(faults)
-}
-
-/// The lines that the office doesn't accept, each with the rule that it breaks first. Err where there
-/// was no memory for the list.
-pub fn faults_in(alloc: Global, tables: &Tables, lines: &Lines) -> Result<Faults, NoMemory>
-    ensures { IfOk result (λ faults. faults ≡ faults_in tables.now lines.now) }
-{
-    faults_among(alloc, tables, lines.as_slice())
 }

@@ -1,16 +1,15 @@
 //! The texts of answers. All of them are lines that end in a line feed.
 
 ghost use Rattle.std.specs.Prelude.{◌≡◌, ◌+◌, ◌-◌, ◌<◌, ◌≤◌, ◌^◌, ◌++◌, ◌∷◌, [], length, decimal, codes, OnOk, IfOk};
-ghost use Rattle.act_model.specs.Observations.{fault_of, accepted_in, refused_in};
+ghost use Rattle.act_model.specs.Ruling.{accepted_in, refused_in};
 ghost use Rattle.act_model.specs.Texts.{receipt_line, caller_line, counts_line, accepted_line, refused_line};
 ghost use Rattle.act_model.specs.Replies.{line_answer, line_answers, observations_with, batch_answer, fault_lines};
 
 use crate::reply::Fault;
-use crate::rules::{accepted_in, fault_of};
+use crate::ruling::{Ruling, Rulings, accepted_in};
 use item_list::{Bytes, NoMemory};
 use itoa::Buffer;
-use obs_record::{Line, Lines, RuleCode};
-use station_tables::Tables;
+use obs_record::RuleCode;
 use std::alloc::Global;
 
 fn push_decimal(out: &mut Bytes, n: u64) -> Result<(), NoMemory>
@@ -76,66 +75,58 @@ pub(crate) fn push_fault_lines(out: &mut Bytes, faults: &[Fault]) -> Result<(), 
     Ok(())
 }
 
-/// Writes the answer to a line, and says how many observations there are behind it.
-fn push_line_answer(
-    out: &mut Bytes,
-    tables: &Tables,
-    before: u64,
-    line: &Line,
-) -> Result<u64, NoMemory>
+/// Writes the answer to a line, and says how many observations there are after it.
+fn push_line_answer(out: &mut Bytes, before: u64, ruling: &Ruling) -> Result<u64, NoMemory>
     requires { before + 1 < 2 ^ 64 }
-    ensures text { OnOk result (out.new ≡ out.old ++ line_answer before line.now.number (fault_of tables.now line.now)) }
-    ensures count { IfOk result (λ after. after ≡ observations_with before (fault_of tables.now line.now)) }
+    ensures text { OnOk result (out.new ≡ out.old ++ line_answer before ruling.now.line ruling.now.fault) }
+    ensures count { IfOk result (λ after. after ≡ observations_with before ruling.now.fault) }
     ensures more { IfOk result (λ after. after ≤ before + 1) }
 {
-    match fault_of(tables, line) {
+    match ruling.fault {
         None => {
-            push_accepted_line(out, line.number, before + 1)?;
+            push_accepted_line(out, ruling.line, before + 1)?;
             Ok(before + 1)
         }
         Some(rule) => {
-            push_refused_line(out, line.number, rule)?;
+            push_refused_line(out, ruling.line, rule)?;
             Ok(before)
         }
     }
 }
 
-fn push_line_answers(
-    out: &mut Bytes,
-    tables: &Tables,
-    lines: &[Line],
-    before: u64,
-) -> Result<(), NoMemory>
-    requires { before + length lines.now < 2 ^ 64 }
-    ensures { OnOk result (out.new ≡ out.old ++ line_answers tables.now lines.now before) }
+fn push_line_answers(out: &mut Bytes, rulings: &[Ruling], before: u64) -> Result<(), NoMemory>
+    requires { before + length rulings.now < 2 ^ 64 }
+    ensures { OnOk result (out.new ≡ out.old ++ line_answers rulings.now before) }
 {
     let mut observations = before;
-    for line in lines {
-        observations = push_line_answer(out, tables, observations, line)?;
+    for ruling in rulings {
+        observations = push_line_answer(out, observations, ruling)?;
     }
     Ok(())
 }
 
-/// The answer to a batch of these lines that became the entry with this receipt, judged by the
-/// office's tables, where the office had so many observations before it: the receipt, how many lines
-/// were accepted and refused, and a line for each with the number of its observation or the rule that
-/// it breaks. Observations count from 1. Err where there was no memory for the text.
+/// The answer to a batch with these rulings that became the entry with this receipt, where the office had
+/// so many observations before it: the receipt, how many lines were accepted and refused, and a line for
+/// each with the number of its observation or the rule that it breaks. Observations count from 1.
+///
+/// # Errors
+///
+/// Memory was refused.
 #[tactic(auto, unfolding(crate::specs::Replies::batch_answer))]
 pub fn batch_answer(
     alloc: Global,
     receipt: u64,
-    tables: &Tables,
     before: u64,
-    lines: &Lines,
+    rulings: &Rulings,
 ) -> Result<Bytes, NoMemory>
-    requires { before + length lines.now < 2 ^ 64 }
-    ensures { IfOk result (λ text. text ≡ batch_answer receipt tables.now before lines.now) }
+    requires { before + length rulings.now < 2 ^ 64 }
+    ensures { IfOk result (λ text. text ≡ batch_answer receipt before rulings.now) }
 {
-    let accepted = accepted_in(tables, lines);
+    let accepted = accepted_in(rulings);
     let mut out = Bytes::new(alloc);
     push_receipt_line(&mut out, receipt)?;
-    push_counts_line(&mut out, accepted, lines.len() - accepted)?;
-    push_line_answers(&mut out, tables, lines.as_slice(), before)?;
+    push_counts_line(&mut out, accepted, rulings.len() - accepted)?;
+    push_line_answers(&mut out, rulings.as_slice(), before)?;
     Ok(out)
 }
 

@@ -6,7 +6,7 @@ use Rattle.std.proofs.Math.Seq.{drop-cons}
 use Rattle.std.proofs.Math.Numerals.{add-one}
 use Rattle.std.proofs.lemmas.Option.{get_or_from_slice_get, slice_get_within}
 use Rattle.act_model.specs.declared.entry.Entry.{Entry}
-use Rattle.act_model.specs.declared.request.Request.{Request}
+use Rattle.act_model.specs.declared.request.Verb.{Verb}
 use Rattle.act_model.specs.declared.reply.Reply.TheVariants.{Done, Refused}
 use Rattle.act_model.specs.declared.reply.Refusal.TheVariants.{OtherRequest}
 use Rattle.act_model.specs.History.{Kept, next_receipt}
@@ -39,21 +39,21 @@ pub receipt_at : (filed : List Filed) (place : ℕ) → place < length filed →
 receipt_at filed place within =
     simp (length-map, length-reverse, length-take) (omega arith)
 
-pub kept_again : (filed : List Filed) (place : ℕ) (f : Filed) (q : Request) (text : List ℕ) → place < length filed → AreAnswered (reverse filed) → f ≡ get_or filed place f → is_resend q f.entry ≡ true → text ≡ f.answer
-    → (k : Kept) → IsFiledAt filed place k → Done text ≡ kept_reply q k
-kept_again filed place f q text within answered here resend is k at =
+pub kept_again : (filed : List Filed) (place : ℕ) (f : Filed) (verb : Verb) (bytes : List ℕ) (text : List ℕ) → place < length filed → AreAnswered (reverse filed) → f ≡ get_or filed place f → is_resend verb bytes f.entry ≡ true → text ≡ f.answer
+    → (k : Kept) → IsFiledAt filed place k → Done text ≡ kept_reply verb bytes k
+kept_again filed place f verb bytes text within answered here resend is k at =
     let same : at.at ≡ f = sym (get_or_from_slice_get filed place at.at f at.there) ∙ sym here in
     let entry : k.entry ≡ f.entry = at.entry ∙ ap (λ (g : Filed). g.entry) same in
     let old : f.answer ≡ entry_answer (history_of (take place filed)) f.entry = answered_at filed place f (at.there ∙ ap (λ (g : Filed). Some g) same) answered in
     let given : text ≡ entry_answer k.before k.entry = is ∙ old ∙ ap (λ (e : Entry). entry_answer (history_of (take place filed)) e) (sym entry) ∙ ap (λ (h : List Entry). entry_answer h k.entry) (sym at.before) in
-    let resent : is_resend q k.entry ≡ true = ap (is_resend q) entry ∙ resend in
+    let resent : is_resend verb bytes k.entry ≡ true = ap (is_resend verb bytes) entry ∙ resend in
     ap (λ (t : List ℕ). Done t) given ∙ sym (ap (λ (b : Bool). cond b (Done (entry_answer k.before k.entry)) (Refused (OtherRequest (next_receipt k.before)))) resent)
 
-pub kept_other : (filed : List Filed) (place : ℕ) (f : Filed) (q : Request) → place < length filed → f ≡ get_or filed place f → is_resend q f.entry ≡ false
-    → (k : Kept) → IsFiledAt filed place k → Refused (OtherRequest (place + 1)) ≡ kept_reply q k
-kept_other filed place f q within here other k at =
+pub kept_other : (filed : List Filed) (place : ℕ) (f : Filed) (verb : Verb) (bytes : List ℕ) → place < length filed → f ≡ get_or filed place f → is_resend verb bytes f.entry ≡ false
+    → (k : Kept) → IsFiledAt filed place k → Refused (OtherRequest (place + 1)) ≡ kept_reply verb bytes k
+kept_other filed place f verb bytes within here other k at =
     let same : at.at ≡ f = sym (get_or_from_slice_get filed place at.at f at.there) ∙ sym here in
     let entry : k.entry ≡ f.entry = at.entry ∙ ap (λ (g : Filed). g.entry) same in
     let receipt : place + 1 ≡ next_receipt k.before = sym (receipt_at filed place within) ∙ ap (λ (h : List Entry). next_receipt h) (sym at.before) in
-    let not_resent : is_resend q k.entry ≡ false = ap (is_resend q) entry ∙ other in
+    let not_resent : is_resend verb bytes k.entry ≡ false = ap (is_resend verb bytes) entry ∙ other in
     ap (λ (r : ℕ). Refused (OtherRequest r)) receipt ∙ sym (ap (λ (b : Bool). cond b (Done (entry_answer k.before k.entry)) (Refused (OtherRequest (next_receipt k.before)))) not_resent)

@@ -3,7 +3,7 @@ ghost use Rattle.act_model.specs.History.{Kept, kept, is_numbered, next_moment};
 ghost use Rattle.act_model.specs.Step.{kept_reply};
 ghost use Rattle.desk_core.specs.Filed.{history_of, AreAnswered, IsFiledAt};
 
-use act_model::{Entry, Refusal, Reply, Request, is_resend};
+use act_model::{Entry, Refusal, Reply, Verb, is_resend};
 use item_list::{Bytes, NoMemory};
 use obs_time::Instant;
 use std::alloc::Global;
@@ -39,19 +39,20 @@ pub fn find(filed: &[Filed], caller: u32, number: u64) -> Option<usize>
 }
 
 /// The answer to a request under a number that stands for the entry at this place: the entry's own
-/// answer to the same request, and else a refusal. Err where there was no memory for a copy.
+/// answer to the same verb and body, and else a refusal. Err where there was no memory for a copy.
 pub fn kept_reply(
     alloc: Global,
     filed: &[Filed],
     place: usize,
-    request: &Request,
+    verb: Verb,
+    bytes: &[u8],
 ) -> Result<Reply, NoMemory>
     requires within { place < length filed.now }
     requires answered { AreAnswered (reverse filed.now) }
-    ensures { IfOk result (λ reply. (k : Kept) → IsFiledAt filed.now place k → reply ≡ kept_reply request.now k) }
+    ensures { IfOk result (λ reply. (k : Kept) → IsFiledAt filed.now place k → reply ≡ kept_reply verb bytes.now k) }
 {
     let f = &filed[place];
-    if !is_resend(request, &f.entry) {
+    if !is_resend(verb, bytes, &f.entry) {
         return Ok(Reply::Refused(Refusal::OtherRequest {
             receipt: place as u64 + 1,
         }));

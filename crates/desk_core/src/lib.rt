@@ -2,10 +2,11 @@
 //! be refused for want of memory and the one that can't be.
 #![tactic(auto)]
 
-mod asked;
 mod filed;
+mod hearing;
 mod office;
 mod prepared;
+mod preparing;
 mod refusals;
 mod roster;
 

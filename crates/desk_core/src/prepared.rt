@@ -1,29 +1,28 @@
 ghost use Rattle.std.specs.Prelude.{◌≡◌};
 
-use act_model::{Entry, Member, Refusal, Reply};
+use crate::filed::Filed;
+use act_model::{Deed, Refusal, Reply};
 use item_list::Bytes;
 use station_tables::Tables;
 use std::marker::Model;
 
-/// What changes with an act beside the history.
+/// What stands beside the history once an act is added.
 #[derive(Drop)]
-pub enum Change {
-    /// A caller is enrolled.
-    Enrolled(Member),
-    /// These are the tables.
-    Tabled(Tables),
-    /// So many observations are there.
-    Observed(u64),
+pub struct Change {
+    /// The tables with it, or None where they stay.
+    pub tables: Option<Tables>,
+    /// How many observations there are with it.
+    pub observations: u64,
 }
 
 /// An act that is ready to become the next entry of the office: all memory that it needs is taken.
 ///
-/// Contracts see its entry, its answer, and what changes with it.
+/// Contracts see its entry, its answer, its deed, and what stands with it beside the history.
 #[derive(Drop)]
 pub struct Prepared {
-    entry: Entry,
+    filed: Filed,
     answer: Bytes,
-    kept: Bytes,
+    deed: Deed,
     change: Change,
 }
 
@@ -33,41 +32,43 @@ impl Model for Prepared {
 
     ghost Value = { Ready };
 
-    ghost view = { λ p. record { entry = p.entry; answer = p.answer; change = p.change } };
+    ghost view = { λ p. record { entry = p.filed.entry; answer = p.answer; deed = p.deed; change = p.change } };
 
-    ghost invariant = { λ p. p.kept ≡ p.answer };
+    ghost invariant = { λ p. p.filed.answer ≡ p.answer };
 }
 
 impl Prepared {
-    /// An act of this entry and this answer, of which a second copy is kept.
-    pub(crate) fn new(entry: Entry, answer: Bytes, kept: Bytes, change: Change) -> Prepared
-        requires { kept ≡ answer }
-        ensures entry { result.entry ≡ entry }
+    /// An act that is filed so, with a second copy of its answer.
+    pub(crate) fn new(filed: Filed, answer: Bytes, deed: Deed, change: Change) -> Prepared
+        requires { filed.answer ≡ answer }
+        ensures entry { result.entry ≡ filed.entry }
         ensures answer { result.answer ≡ answer }
+        ensures deed { result.deed ≡ deed }
         ensures change { result.change ≡ change }
     {
         Prepared {
-            entry,
+            filed,
             answer,
-            kept,
+            deed,
             change,
         }
     }
 
-    /// The entry, the answer, the answer to keep, and what changes beside the history.
-    pub(crate) fn into_parts(self) -> (Entry, Bytes, Bytes, Change)
-        ensures entry { result.0 ≡ self.entry }
+    /// The entry with its answer, the answer, the deed, and what stands beside the history.
+    pub(crate) fn into_parts(self) -> (Filed, Bytes, Deed, Change)
+        ensures entry { result.0.entry ≡ self.entry }
+        ensures kept { result.0.answer ≡ self.answer }
         ensures answer { result.1 ≡ self.answer }
-        ensures kept { result.2 ≡ self.answer }
+        ensures deed { result.2 ≡ self.deed }
         ensures change { result.3 ≡ self.change }
     {
         let Prepared {
-            entry,
+            filed,
             answer,
-            kept,
+            deed,
             change,
         } = self;
-        (entry, answer, kept, change)
+        (filed, answer, deed, change)
     }
 }
 

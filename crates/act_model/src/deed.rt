@@ -1,0 +1,38 @@
+use crate::roster::Member;
+use crate::ruling::Rulings;
+use obs_record::{Lines, Short};
+use station_tables::Kind;
+
+/// What an act does where it stands in the history, with all that was worked out there.
+#[derive(Debug, Drop)]
+pub enum Deed {
+    /// It puts this caller on the roster.
+    Enrolled(Member),
+    /// It enters a station row.
+    Stationed {
+        /// The observatory code.
+        code: [u8; 3],
+        /// The first day on which the station serves, in days since 1970-01-01.
+        from: i32,
+        /// The last day on which it serves, not before the first.
+        to: i32,
+    },
+    /// It enters a code row.
+    Coded {
+        /// What the letter and the word name.
+        kind: Kind,
+        /// The letter of the 80-column format.
+        letter: u8,
+        /// The word of ADES.
+        word: Short,
+    },
+    /// It takes in a batch.
+    Submitted {
+        /// The observation lines of the batch.
+        lines: Lines,
+        /// The ruling on each line.
+        rulings: Rulings,
+    },
+    /// It does nothing, since it can't be read. No history that the office comes to has such an entry.
+    Nothing,
+}

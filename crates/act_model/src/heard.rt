@@ -1,0 +1,58 @@
+//! What is heard of a request before the history is asked.
+
+ghost use Rattle.std.specs.Prelude.{◌<◌, length, IfOk};
+ghost use Rattle.act_model.specs.Rows.{IsDue};
+ghost use Rattle.act_model.specs.Acts.{act_of, IsForwardAsked};
+ghost use Rattle.act_model.specs.Refusals.{asked_in};
+
+use crate::act::{Act, ActFault, read_act};
+use crate::reply::{Part, Refusal};
+use crate::request::Verb;
+use crate::roster::Caller;
+use obs_record::HeaderFault;
+use std::alloc::Global;
+
+/// What a request asks, where its body is one that its verb has.
+#[derive(Debug, Drop)]
+pub enum Asked {
+    /// This act.
+    Act(Act),
+    /// To take in a batch that has a fault of its headers.
+    Header {
+        /// The fault.
+        fault: HeaderFault,
+        /// The line's number, counted from 1.
+        line: u32,
+    },
+}
+
+/// A request as it was heard: what it asks, and who asks. What comes later in the step takes it from here.
+#[derive(Debug, Drop)]
+pub struct Heard {
+    /// The verb.
+    pub verb: Verb,
+    /// The number, one that the verb may have.
+    pub number: u64,
+    /// What is asked.
+    pub asked: Asked,
+    /// Who asks.
+    pub caller: Caller,
+}
+
+/// What a verb and a body of fewer than 4,294,967,295 bytes ask.
+///
+/// # Errors
+///
+/// `Unread` exactly where `read_act` says so, and want of memory.
+pub fn read_asked(alloc: Global, verb: Verb, body: &[u8]) -> Result<Asked, Refusal>
+    requires { length body.now < 4_294_967_295 }
+    ensures due { IsDue (asked_in (act_of verb body.now)) result }
+    ensures forward { IfOk result IsForwardAsked }
+{
+    match read_act(alloc, verb, body) {
+        Ok(act) => Ok(Asked::Act(act)),
+        Err(ActFault::Header { fault, line }) => Ok(Asked::Header { fault, line }),
+        Err(ActFault::Unread) => Err(Refusal::Unread(Part::Body)),
+        Err(ActFault::NoMemory) => Err(Refusal::NoMemory),
+    }
+}

@@ -1,0 +1,276 @@
+//! What becomes of an act, worked out question by question, with the memory for it.
+
+ghost use Rattle.std.specs.Prelude.{◌≡◌, ◌<◌, ◌≤◌, ◌^◌, length, unwrap_or, true, Ok, None, IfOk};
+ghost use Rattle.act_model.specs.declared.request.TheConstants.{BODY_BYTES};
+ghost use Rattle.act_model.specs.declared.roster.TheConstants.{CALLERS};
+ghost use Rattle.act_model.specs.Rows.{first_row, IsDue};
+ghost use Rattle.act_model.specs.Requests.{is_act};
+ghost use Rattle.act_model.specs.Acts.{act_of, IsForward, IsForwardAsked};
+ghost use Rattle.act_model.specs.Roster.{members, with_enrolled};
+ghost use Rattle.act_model.specs.OfficeTables.{tables_of, with_row};
+ghost use Rattle.act_model.specs.Observations.{observations, with_accepted};
+ghost use Rattle.act_model.specs.Deeds.{done_by, deed_of, deeds};
+ghost use Rattle.act_model.specs.History.{next_receipt, next_moment};
+ghost use Rattle.act_model.specs.Refusals.{asked_in, hear, deed_rows, allowed, work_out};
+ghost use Rattle.act_model.specs.Replies.{deed_answer};
+ghost use Rattle.act_model.specs.Step.{outcome, act_step, unless_refused, new_entry};
+ghost use Rattle.desk_core.specs.Office.{IsReadyAt, IsForwardDeed};
+ghost use Rattle.desk_core.specs.Preparing.{IsPrepared};
+
+use crate::filed::{Filed, find, kept_reply, next_moment};
+use crate::hearing::{bytes_in, hear};
+use crate::office::Core;
+use crate::prepared::{Change, Prep, Prepared};
+use crate::refusals::{deed_refusal, is_barred};
+use act_model::{
+    Act, Asked, Deed, Entry, Heard, Member, Refusal, Request, accepted_in, batch_answer,
+    enrol_answer, judge, receipt_answer,
+};
+use item_list::{Bytes, NoMemory};
+use obs_time::Instant;
+use station_tables::Tables;
+use std::alloc::{AllocError, Global};
+
+impl Core {
+    /// What becomes of an act, where a refusal is an error.
+    pub(crate) fn try_prepare(&mut self, request: &Request, reading: Instant) -> Result<Prep, Refusal>
+        requires act { is_act request.now.verb ≡ true }
+        ensures answer { IsPrepared self.old.history (outcome self.old.founder self.old.history request.now reading) self.new.spare result }
+        ensures history { self.new.history ≡ self.old.history }
+        ensures founder { self.new.founder ≡ self.old.founder }
+    {
+        let alloc = self.allocator();
+        let bytes = match bytes_in(&request.body) {
+            Ok(bytes) => bytes,
+            Err(refusal) => return Err(refusal),
+        };
+        let heard = match self.hear(alloc, request, bytes) {
+            Ok(heard) => heard,
+            Err(refusal) => return Err(refusal),
+        };
+        self.prepare_heard(alloc, heard, bytes, reading)
+    }
+
+    /// What is heard of a request with these bytes.
+    fn hear(&self, alloc: Global, request: &Request, bytes: &[u8]) -> Result<Heard, Refusal>
+        requires short { length bytes.now ≤ BODY_BYTES }
+        ensures due { IsDue (hear self.now.founder (members (deeds self.now.history)) request.now bytes.now) result }
+        ensures verb { IfOk result (λ heard. heard.verb ≡ request.now.verb) }
+        ensures asked { IfOk result (λ heard. asked_in (act_of heard.verb bytes.now) ≡ Ok heard.asked) }
+        ensures forward { IfOk result (λ heard. IsForwardAsked heard.asked) }
+    {
+        hear(alloc, self.founder(), self.members(), request, bytes)
+    }
+
+    /// What becomes of an act that was heard: the reply that is kept for its number, where it was used.
+    fn prepare_heard(
+        &mut self,
+        alloc: Global,
+        heard: Heard,
+        bytes: &[u8],
+        reading: Instant,
+    ) -> Result<Prep, Refusal>
+        requires asked { asked_in (act_of heard.verb bytes.now) ≡ Ok heard.asked }
+        requires forward { IsForwardAsked heard.asked }
+        ensures answer { IsPrepared self.old.history (act_step self.old.history heard bytes.now (next_moment self.old.history reading)) self.new.spare result }
+        ensures history { self.new.history ≡ self.old.history }
+        ensures founder { self.new.founder ≡ self.old.founder }
+    {
+        if let Some(place) = find(self.filed(), heard.caller.number, heard.number) {
+            return match kept_reply(alloc, self.filed(), place, heard.verb, bytes) {
+                Ok(reply) => Ok(Prep::Kept(reply)),
+                Err(_) => Err(Refusal::NoMemory),
+            };
+        }
+        let moment = next_moment(self.filed(), reading);
+        self.prepare_new(alloc, heard, bytes, moment)
+    }
+
+    /// What becomes of an act whose number was not used, at this moment.
+    fn prepare_new(
+        &mut self,
+        alloc: Global,
+        heard: Heard,
+        bytes: &[u8],
+        moment: Instant,
+    ) -> Result<Prep, Refusal>
+        requires asked { asked_in (act_of heard.verb bytes.now) ≡ Ok heard.asked }
+        requires forward { IsForwardAsked heard.asked }
+        ensures answer { IsPrepared self.old.history (unless_refused (work_out (deeds self.old.history) moment heard) (new_entry heard bytes.now moment)) self.new.spare result }
+        ensures history { self.new.history ≡ self.old.history }
+        ensures founder { self.new.founder ≡ self.old.founder }
+    {
+        act_model::laws::deeds_are_worked_out_once();
+        let caller = heard.caller.number;
+        let number = heard.number;
+        let verb = heard.verb;
+        let deed = match self.work_out(alloc, heard, moment) {
+            Ok(deed) => deed,
+            Err(refusal) => return Err(refusal),
+        };
+        let Ok(body) = Bytes::from_slice(alloc, bytes) else {
+            return Err(Refusal::NoMemory);
+        };
+        let entry = Entry {
+            caller,
+            number,
+            moment,
+            verb,
+            body,
+        };
+        match self.ready(alloc, entry, deed) {
+            Ok(prepared) => Ok(Prep::Ready(prepared)),
+            Err(_) => Err(Refusal::NoMemory),
+        }
+    }
+
+    /// What a request that was heard does at this moment, or the first refusal that it meets.
+    fn work_out(&self, alloc: Global, heard: Heard, moment: Instant) -> Result<Deed, Refusal>
+        requires forward { IsForwardAsked heard.asked }
+        ensures due { IsDue (work_out (deeds self.now.history) moment heard) result }
+        ensures free { IfOk result (λ deed. first_row (deed_rows (members (deeds self.now.history)) (tables_of (deeds self.now.history)) deed) ≡ None) }
+        ensures forward { IfOk result IsForwardDeed }
+    {
+        if is_barred(heard.verb, heard.caller.rank) {
+            return Err(Refusal::Role);
+        }
+        match heard.asked {
+            Asked::Act(act) => self.allowed(alloc, moment, act),
+            Asked::Header { fault, line } => Err(Refusal::Header { fault, line }),
+        }
+    }
+
+    /// What an act does at this moment, where nothing refuses it.
+    fn allowed(&self, alloc: Global, moment: Instant, act: Act) -> Result<Deed, Refusal>
+        requires forward { IsForward act }
+        ensures due { IsDue (allowed (deeds self.now.history) (done_by (deeds self.now.history) moment act)) result }
+        ensures free { IfOk result (λ deed. first_row (deed_rows (members (deeds self.now.history)) (tables_of (deeds self.now.history)) deed) ≡ None) }
+        ensures forward { IfOk result IsForwardDeed }
+    {
+        let Ok(deed) = self.done_by(alloc, moment, act) else {
+            return Err(Refusal::NoMemory);
+        };
+        match self.refusal_of(alloc, &deed) {
+            Ok(None) => Ok(deed),
+            Ok(Some(refusal)) => Err(refusal),
+            Err(_) => Err(Refusal::NoMemory),
+        }
+    }
+
+    /// The first refusal that a deed meets.
+    fn refusal_of(&self, alloc: Global, deed: &Deed) -> Result<Option<Refusal>, NoMemory>
+        ensures { IfOk result (λ refusal. refusal ≡ first_row (deed_rows (members (deeds self.now.history)) (tables_of (deeds self.now.history)) deed.now)) }
+    {
+        deed_refusal(alloc, self.members(), self.tables(), deed)
+    }
+
+    /// What an act does at this moment. A batch is judged here, and nowhere else.
+    fn done_by(&self, alloc: Global, moment: Instant, act: Act) -> Result<Deed, NoMemory>
+        requires forward { IsForward act }
+        ensures deed { IfOk result (λ deed. deed ≡ done_by (deeds self.now.history) moment act) }
+        ensures forward { IfOk result IsForwardDeed }
+    {
+        match act {
+            Act::Enrol { key, role, .. } => Ok(Deed::Enrolled(Member { key, rank: role })),
+            Act::Station { code, from, to, .. } => Ok(Deed::Stationed { code, from, to }),
+            Act::Code { kind, letter, word } => Ok(Deed::Coded { kind, letter, word }),
+            Act::Submit80(lines) | Act::SubmitPsv(lines) => {
+                let rulings = judge(alloc, self.tables(), moment, &lines)?;
+                Ok(Deed::Submitted { lines, rulings })
+            }
+        }
+    }
+
+    /// An entry that does this deed, with its answer, what stands with it, and room for it.
+    fn ready(&mut self, alloc: Global, entry: Entry, deed: Deed) -> Result<Prepared, NoMemory>
+        requires deed { deed_of (deeds self.old.history) entry ≡ deed }
+        requires forward { IsForwardDeed deed }
+        requires free { first_row (deed_rows (members (deeds self.old.history)) (tables_of (deeds self.old.history)) deed) ≡ None }
+        ensures entry { IfOk result (λ ready. ready.entry ≡ entry) }
+        ensures at { IfOk result (λ ready. IsReadyAt self.old.history ready) }
+        ensures room { IfOk result (λ ready. 0 < self.new.spare) }
+        ensures history { self.new.history ≡ self.old.history }
+        ensures founder { self.new.founder ≡ self.old.founder }
+    {
+        let answer = self.answer_to(alloc, &deed)?;
+        let kept = Bytes::from_slice(alloc, answer.as_slice())?;
+        let change = self.change_by(&deed)?;
+        self.reserve_entry()?;
+        let filed = Filed {
+            entry,
+            answer: kept,
+        };
+        Ok(Prepared::new(filed, answer, deed, change))
+    }
+
+    /// The answer to a deed that comes next.
+    fn answer_to(&self, alloc: Global, deed: &Deed) -> Result<Bytes, NoMemory>
+        ensures { IfOk result (λ text. text ≡ deed_answer (next_receipt self.now.history) (deeds self.now.history) deed.now) }
+    {
+        let receipt = self.entries() + 1;
+        match deed {
+            Deed::Enrolled(_) => enrol_answer(alloc, receipt, self.members().len() as u64 + 1),
+            Deed::Submitted { rulings, .. } => {
+                if rulings.len() > u64::MAX - self.observations() {
+                    return Err(AllocError);
+                }
+                batch_answer(alloc, receipt, self.observations(), rulings)
+            }
+            Deed::Stationed { .. } | Deed::Coded { .. } | Deed::Nothing => {
+                receipt_answer(alloc, receipt)
+            }
+        }
+    }
+
+    /// What stands beside the history with a deed, with the memory for it.
+    fn change_by(&self, deed: &Deed) -> Result<Change, NoMemory>
+        requires forward { IsForwardDeed deed.now }
+        requires free { first_row (deed_rows (members (deeds self.now.history)) (tables_of (deeds self.now.history)) deed.now) ≡ None }
+        ensures tables { IfOk result (λ change. unwrap_or change.tables (tables_of (deeds self.now.history)) ≡ with_row deed.now (tables_of (deeds self.now.history))) }
+        ensures observations { IfOk result (λ change. change.observations ≡ with_accepted deed.now (observations (deeds self.now.history))) }
+        ensures callers { IfOk result (λ change. length (with_enrolled deed.now (members (deeds self.now.history))) < CALLERS) }
+    {
+        let tables = self.tables_with(deed)?;
+        let observations = self.observations_with(deed)?;
+        Ok(Change {
+            tables,
+            observations,
+        })
+    }
+
+    /// The tables with a deed, or None where they stay.
+    fn tables_with(&self, deed: &Deed) -> Result<Option<Tables>, NoMemory>
+        requires forward { IsForwardDeed deed.now }
+        requires free { first_row (deed_rows (members (deeds self.now.history)) (tables_of (deeds self.now.history)) deed.now) ≡ None }
+        ensures { IfOk result (λ tables. unwrap_or tables (tables_of (deeds self.now.history)) ≡ with_row deed.now (tables_of (deeds self.now.history))) }
+    {
+        match deed {
+            Deed::Stationed { code, from, to } => {
+                let tables = self.tables().with_station(*code, *from, *to)?;
+                Ok(Some(tables))
+            }
+            Deed::Coded { kind, letter, word } => {
+                let tables = self.tables().with_code(*kind, *letter, *word)?;
+                Ok(Some(tables))
+            }
+            Deed::Enrolled(_) | Deed::Submitted { .. } | Deed::Nothing => Ok(None),
+        }
+    }
+
+    /// How many observations there are with a deed.
+    fn observations_with(&self, deed: &Deed) -> Result<u64, NoMemory>
+        ensures { IfOk result (λ count. count ≡ with_accepted deed.now (observations (deeds self.now.history))) }
+    {
+        match deed {
+            Deed::Submitted { rulings, .. } => {
+                match self.observations().checked_add(accepted_in(rulings)) {
+                    Some(count) => Ok(count),
+                    None => Err(AllocError),
+                }
+            }
+            Deed::Enrolled(_) | Deed::Stationed { .. } | Deed::Coded { .. } | Deed::Nothing => {
+                Ok(self.observations())
+            }
+        }
+    }
+}
