@@ -1,0 +1,8 @@
+//! The rules for the lines of a batch: which rule each line breaks first, by the office's tables, what the office
+//! knows, and the other lines of the batch.
+#![tactic(auto)]
+
+mod checking;
+mod earlier;
+mod names;
+mod rules;
