@@ -1,0 +1,3 @@
+mod Any
+mod Fast
+mod KeyLemmas

@@ -4,5 +4,7 @@
 
 mod checking;
 mod earlier;
+mod groups;
+mod keys;
 mod names;
 mod rules;
