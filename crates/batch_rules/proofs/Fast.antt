@@ -46,7 +46,7 @@ lt_chain x y z one two =
     lt_true x z (omega (arith, ints))
 
 -- a change over a third observation is no faster than the faster one of the two changes to it and from it
-slow_through : (a b c : Sighting) → int_lt a.time c.time ≡ true → int_lt c.time b.time ≡ true → is_too_fast a c ≡ false → is_too_fast c b ≡ false → is_too_fast a b ≡ false
+pub slow_through : (a b c : Sighting) → int_lt a.time c.time ≡ true → int_lt c.time b.time ≡ true → is_too_fast a c ≡ false → is_too_fast c b ≡ false → is_too_fast a b ≡ false
 slow_through a b c before after first second =
     let low : a.time <ℤ c.time = lt_told a.time c.time before in
     let high : c.time <ℤ b.time = lt_told c.time b.time after in
@@ -66,12 +66,12 @@ slow_through a b c before after first second =
 -- ---- neighbours
 
 -- two tests of which each passes where the other does
-same_tests : (x y : Bool) → (x ≡ true → y ≡ true) → (y ≡ true → x ≡ true) → x ≡ y
+pub same_tests : (x y : Bool) → (x ≡ true → y ≡ true) → (y ≡ true → x ≡ true) → x ≡ y
 same_tests true y there back = sym (there refl)
 same_tests false true there back = back refl
 same_tests false false there back = refl
 
-both_pass : (x y : Bool) → x ≡ true → y ≡ true → x && y ≡ true
+pub both_pass : (x y : Bool) → x ≡ true → y ≡ true → x && y ≡ true
 both_pass x y one two = ap (λ (b : Bool). b && y) one ∙ two
 
 module _ (group : List Sighting) where

@@ -1,3 +1,5 @@
 mod Any
 mod Fast
 mod KeyLemmas
+mod Lists
+mod Summaries
