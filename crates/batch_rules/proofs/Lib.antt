@@ -3,3 +3,4 @@ mod Fast
 mod KeyLemmas
 mod Lists
 mod Summaries
+mod Transfer

@@ -24,6 +24,19 @@ module _ {A : Type 0} where
       by true rest = (each.0, rest)
       by false rest = rest
 
+  pub in_filter : (p : A → Bool) (xs : List A) (x : A) → IsIn (filter p xs) x → IsIn xs x × (p x ≡ true)
+  in_filter p [] x there = elim there [ ]
+  in_filter p (y ∷ ys) x there = by (p y) refl there (in_filter p ys x)
+    where
+      by : (b : Bool) → p y ≡ b → IsIn (cond b (y ∷ filter p ys) (filter p ys)) x → (IsIn (filter p ys) x → IsIn ys x × (p x ≡ true)) → IsIn (y ∷ ys) x × (p x ≡ true)
+      by true is (inl same) rest = (inl same, ap p (sym same) ∙ is)
+      by true is (inr there) rest =
+          let found = rest there in
+          (inr found.0, found.1)
+      by false is there rest =
+          let found = rest there in
+          (inr found.0, found.1)
+
   pub filter_same : (p q : A → Bool) (xs : List A) → ((x : A) → p x ≡ q x) → filter p xs ≡ filter q xs
   filter_same p q [] same = refl
   filter_same p q (x ∷ xs) same =

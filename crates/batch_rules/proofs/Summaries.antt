@@ -162,9 +162,6 @@ says_more s older told before falls said = by (int_lt (told.first +ℤ pos nanos
     all_fall : IsDescending (said.newest ∷ said.others)
     all_fall = subst IsDescending said.split (descending_filter (λ e. not (int_lt (told.first +ℤ pos nanos_of_a_day) e.time)) older falls)
 
-    more : (late : Bool) → List Sighting
-    more late = cond (not late) (s ∷ within_day told.first older) (within_day told.first older)
-
     by : (late : Bool) → int_lt (told.first +ℤ pos nanos_of_a_day) s.time ≡ late → Says (s ∷ older) (cond late told (record {
       first = told.first;
       last = s.time;
