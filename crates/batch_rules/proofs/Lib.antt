@@ -4,3 +4,5 @@ mod KeyLemmas
 mod Lists
 mod Summaries
 mod Transfer
+mod Sorting
+mod Apart

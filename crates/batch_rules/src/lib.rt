@@ -7,4 +7,5 @@ mod earlier;
 mod groups;
 mod keys;
 mod names;
+mod numbers;
 mod rules;
