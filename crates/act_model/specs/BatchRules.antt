@@ -1,7 +1,7 @@
 -- The rules for the lines of a batch, and the rulings on them: the first rule that each line breaks, and the group of each
 -- line that is accepted.
-use Rattle.std.specs.Prelude.{ℕ, ◌*◌, ℤ, pos, ◌+ℤ◌, ◌-ℤ◌, unsigned_abs, Bool, true, false, not, ◌&&◌, ◌||◌, ◌==◌, nat_le, nat_lt, int_lt, List, [], ◌∷◌, length, map, filter, filter_map, Option, Some, None, option_map, is_none, Result, Ok, Err, if◌then◌else◌}
-use Rattle.std.specs.List.{list_any, position_or_len}
+use Rattle.std.specs.Prelude.{ℕ, ◌*◌, ℤ, pos, ◌+ℤ◌, ◌-ℤ◌, unsigned_abs, Bool, true, false, not, ◌&&◌, ◌||◌, ◌==◌, nat_le, nat_lt, int_lt, List, [], ◌∷◌, length, map, filter, filter_map, Option, Some, None, option_map, unwrap_or, is_none, position, Result, Ok, Err, if◌then◌else◌}
+use Rattle.std.specs.List.{list_any}
 use Rattle.std.specs.Option.{option_and_then}
 use Rattle.std.specs.Result.{result_ok}
 use Rattle.std.specs.Ordering.{int_eq}
@@ -211,9 +211,9 @@ firsts_after seen (s ∷ rest) =
 abbrev pub firsts_of : List Sighting → List Sighting
 firsts_of passed = firsts_after [] (accepted_of passed)
 
--- the number of a reading's group, counted from 0 in the order of the firsts; 0 for a line that isn't accepted
+-- the number of a reading's group: the place of its first among the firsts, counted from 0; 0 for a line that isn't accepted
 abbrev pub group_among : List Sighting → Option RuleCode → Result Sighting RuleCode → ℕ
-group_among firsts None (Ok s) = position_or_len (same_group s) firsts
+group_among firsts None (Ok s) = unwrap_or (position (same_group s) firsts) 0
 group_among firsts _ _ = 0
 
 abbrev pub ruling_among : List Sighting → Line → Ruling

@@ -6,3 +6,4 @@ mod Summaries
 mod Transfer
 mod Sorting
 mod Apart
+mod Firsts

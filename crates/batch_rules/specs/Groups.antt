@@ -1,5 +1,5 @@
 -- Groups of observations by their keys, and what their lines in the order of time say of a group.
-use Rattle.std.specs.Prelude.{ℕ, ◌≤◌, ℤ, pos, ◌+ℤ◌, ◌-ℤ◌, ◌*◌, unsigned_abs, Bool, true, false, ◌&&◌, ◌||◌, nat_lt, int_lt, List, [], ◌∷◌, count_by, Option, Some, None, if◌then◌else◌}
+use Rattle.std.specs.Prelude.{ℕ, ◌≤◌, ℤ, pos, ◌+ℤ◌, ◌-ℤ◌, ◌*◌, unsigned_abs, Bool, true, false, ◌&&◌, ◌||◌, nat_lt, int_lt, List, [], ◌∷◌, count_by, Option, Some, None, is_none, filter, Result, Ok, Err, if◌then◌else◌}
 use Rattle.std.specs.Ordering.{int_eq}
 use Rattle.packed_names.specs.Order.{survey_place}
 use Rattle.packed_names.specs.declared.name.Designation.TheVariants as designations
@@ -56,6 +56,15 @@ abbrev pub fault_by : Option Summary → Sighting → Option RuleCode
 fault_by None s = first_row ((is_sub (name_of s), B6) ∷ [])
 fault_by (Some group) s =
     first_row ((int_lt (group.first +ℤ pos nanos_of_a_day) s.time, B7) ∷ (group.fast, B8) ∷ (is_sub (name_of s) && group.alone, B6) ∷ [])
+
+-- ---- rulings by the summaries that were found at the keys of groups, and by the keys of groups in their order
+
+abbrev pub reading_by : (GroupKey → Option Summary) → Result Sighting RuleCode → Option RuleCode
+reading_by found (Ok s) = fault_by (found (group_key s)) s
+reading_by found (Err rule) = Some rule
+
+abbrev pub accepted_by : (GroupKey → Option Summary) → List Sighting → List Sighting
+accepted_by found passed = filter (λ s. is_none (fault_by (found (group_key s)) s)) passed
 
 -- no two observations of a group have the same time
 abbrev pub AreApart : List Sighting → Type 0

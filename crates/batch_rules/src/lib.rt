@@ -5,7 +5,10 @@
 mod checking;
 mod earlier;
 mod groups;
+mod judging;
 mod keys;
 mod names;
 mod numbers;
 mod rules;
+
+pub use judging::judge;
