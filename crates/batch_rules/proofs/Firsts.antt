@@ -1,7 +1,7 @@
 -- The groups in the order of their firsts, by their keys; and rulings by them.
-use Rattle.std.proofs.Common.{◌≡◌, ℕ, Bool, true, false, not, ◌||◌, cond, List, [], ◌∷◌, ◌++◌, map, filter, Option, Some, None, Result, Ok, Err, refl, ap, sym, ◌∙◌}
-use Rattle.std.specs.Prelude.{position, unwrap_or, is_none}
-use Rattle.std.specs.List.{list_any, prefix_len, position_or_len}
+use Rattle.std.proofs.Common.{◌≡◌, ℕ, ◌+◌, length, Bool, true, false, not, ◌||◌, cond, List, [], ◌∷◌, ◌++◌, map, filter, Option, Some, None, Result, Ok, Err, refl, ap, sym, ◌∙◌}
+use Rattle.std.specs.Prelude.{position, unwrap_or, is_none, nat_lt}
+use Rattle.std.specs.List.{list_any, position_or_len}
 use Rattle.std.proofs.lemmas.List.{length-map}
 use Rattle.indexmap.specs.IndexSet.{insert_key}
 use Rattle.obs_record.specs.declared.line.Line.{Line}
@@ -71,7 +71,26 @@ keys_more xs x =
 
 place_of_key : (x : Sighting) (xs : List Sighting) → position_or_len (same_key (group_key x)) (map group_key xs) ≡ position_or_len (same_group x) xs
 place_of_key x [] = refl
-place_of_key x (y ∷ ys) = ?
+place_of_key x (y ∷ ys) =
+    ap (λ (b : Bool). cond (not b) (1 + position_or_len (same_key (group_key x)) (map group_key ys)) 0) (same_keys x y)
+    ∙ ap (λ (n : ℕ). cond (not (same_group x y)) (1 + n) 0) (place_of_key x ys)
+
+same_place : (x : Sighting) (xs : List Sighting) → position (same_key (group_key x)) (map group_key xs) ≡ position (same_group x) xs
+same_place x xs =
+    ap (λ (n : ℕ). cond (nat_lt n (length (map group_key xs))) (Some n) None) (place_of_key x xs)
+    ∙ ap (λ (m : ℕ). cond (nat_lt (position_or_len (same_group x) xs) m) (Some (position_or_len (same_group x) xs)) None) (length-map xs group_key)
+
+same_number : (firsts : List Sighting) (fault : Option RuleCode) (read : Result Sighting RuleCode) → number_by (map group_key firsts) fault read ≡ group_among firsts fault read
+same_number firsts None (Ok s) = ap (λ (o : Option ℕ). unwrap_or o 0) (same_place s firsts)
+same_number firsts None (Err rule) = refl
+same_number firsts (Some broken) read = refl
+
+map_same : {A B : Type 0} (f g : A → B) (xs : List A) → ((x : A) → f x ≡ g x) → map f xs ≡ map g xs
+map_same f g [] same = refl
+map_same f g (x ∷ xs) same = ap (λ (y : _). y ∷ map f xs) (same x) ∙ ap (λ (ys : List _). g x ∷ ys) (map_same f g xs same)
+
+abbrev ruling : ℕ → Option RuleCode → ℕ → Ruling
+ruling line fault group = record { line = line; fault = fault; group = group }
 
 module _ (found : GroupKey → Option Summary) (checked : List Line) (told : (s : Sighting) → fault_by (found (group_key s)) s ≡ group_fault (passed_in checked) s) where
   same_reading : (read : Result Sighting RuleCode) → reading_by found read ≡ reading_fault (passed_in checked) read
@@ -79,4 +98,16 @@ module _ (found : GroupKey → Option Summary) (checked : List Line) (told : (s 
   same_reading (Err rule) = refl
 
   same_accepted : accepted_by found (passed_in checked) ≡ accepted_of (passed_in checked)
-  same_accepted = filter_same _ _ (passed_in checked) (λ s. ap is_none (told s))
+  same_accepted =
+      filter_same (λ s. is_none (fault_by (found (group_key s)) s)) (λ s. is_none (group_fault (passed_in checked) s)) (passed_in checked) (λ s. ap (λ (o : Option RuleCode). is_none o) (told s))
+
+  same_ruling : (line : Line) → ruling_by found (map group_key (firsts_of (passed_in checked))) line ≡ ruling_among (passed_in checked) line
+  same_ruling line =
+      ap (λ (fault : Option RuleCode). ruling line.number fault (number_by (map group_key (firsts_of (passed_in checked))) fault line.read)) (same_reading line.read)
+      ∙ ap (λ (group : ℕ). ruling line.number (reading_fault (passed_in checked) line.read) group) (same_number (firsts_of (passed_in checked)) (reading_fault (passed_in checked) line.read) line.read)
+
+  -- the rulings by what was found of groups are those of the rules
+  pub rulings_told : (keys : List GroupKey) → keys ≡ map group_key (firsts_after [] (accepted_by found (passed_in checked))) → map (ruling_by found keys) checked ≡ rulings_among checked
+  rulings_told keys are =
+      ap (λ (ks : List GroupKey). map (ruling_by found ks) checked) (are ∙ ap (λ (xs : List Sighting). map group_key (firsts_after [] xs)) same_accepted)
+      ∙ map_same (ruling_by found (map group_key (firsts_of (passed_in checked)))) (ruling_among (passed_in checked)) checked same_ruling
