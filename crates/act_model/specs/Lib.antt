@@ -2,6 +2,8 @@ pub mod Rows
 pub mod Requests
 pub mod Acts
 pub mod Ruling
+pub mod Known
+pub mod BatchRules
 pub mod Roster
 pub mod OfficeTables
 pub mod Observations

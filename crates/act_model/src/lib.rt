@@ -10,6 +10,7 @@ mod act;
 mod deed;
 mod entry;
 mod heard;
+mod known;
 pub mod laws;
 mod reply;
 mod request;
@@ -23,6 +24,7 @@ pub use act_bodies::{Key, Rank};
 pub use deed::Deed;
 pub use entry::Entry;
 pub use heard::{Asked, Heard, read_asked};
+pub use known::Known;
 pub use reply::{
     Excess, Fault, Faults, Part, REFUSAL_BYTES, Refusal, Reply, Text, no_line_text, refusal_line,
     refusal_status, reply_text, status,

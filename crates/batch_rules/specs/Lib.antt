@@ -1,0 +1,4 @@
+pub mod Groups
+pub mod KeyTests
+pub mod Numbers
+pub mod Rulings

@@ -1,0 +1,23 @@
+-- Rulings by what was found of groups.
+use Rattle.std.specs.Prelude.{ℕ, List, Option, Some, None, unwrap_or, position, Result, Ok, Err}
+use Rattle.obs_record.specs.declared.line.Line.{Line}
+use Rattle.obs_record.specs.declared.sighting.Sighting.{Sighting}
+use Rattle.obs_record.specs.declared.rule.RuleCode.{RuleCode}
+use Rattle.act_model.specs.declared.ruling.Ruling.{Ruling}
+use Rattle.batch_rules.specs.declared.keys.GroupKey.{GroupKey}
+use Rattle.batch_rules.specs.declared.groups.Summary.{Summary}
+use Rattle.batch_rules.specs.KeyTests.{same_key}
+use Rattle.batch_rules.specs.Groups.{group_key, reading_by}
+
+-- the place of an accepted observation's group among the keys of groups
+abbrev pub number_by : List GroupKey → Option RuleCode → Result Sighting RuleCode → ℕ
+number_by keys None (Ok s) = unwrap_or (position (same_key (group_key s)) keys) 0
+number_by keys _ _ = 0
+
+abbrev pub ruling_by : (GroupKey → Option Summary) → List GroupKey → Line → Ruling
+ruling_by found keys line =
+    record {
+      line = line.number;
+      fault = reading_by found line.read;
+      group = number_by keys (reading_by found line.read) line.read;
+    }

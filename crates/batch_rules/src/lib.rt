@@ -1,0 +1,17 @@
+//! The rules for the lines of a batch: which rule each line breaks first, by the office's tables, what the office
+//! knows, and the other lines of the batch.
+#![tactic(auto)]
+
+mod checking;
+mod earlier;
+mod groups;
+mod judging;
+mod keys;
+mod names;
+mod numbers;
+mod rules;
+mod rulings;
+
+pub use act_model::Ruling;
+pub use judging::judge;
+pub use rulings::Rulings;

@@ -1,0 +1,66 @@
+//! The names that observations go by.
+
+ghost use Rattle.std.specs.Prelude.{◌≡◌};
+ghost use Rattle.tracklet_file.specs.Observations.{same_station};
+ghost use Rattle.act_model.specs.BatchRules.{same_designation, same_track, number_of, designation_of};
+
+use obs_record::{Short, Sighting, TrackName};
+use packed_names::{Designation, Name};
+
+/// Whether two short texts are the same.
+pub(crate) fn same_text(one: Short, other: Short) -> bool
+    ensures { result ≡ same_station one other }
+{
+    one == other
+}
+
+/// Whether two designations are the same.
+pub(crate) fn same_designation(one: Designation, other: Designation) -> bool
+    ensures { result ≡ same_designation one other }
+{
+    match (one, other) {
+        (Designation::Provisional(one), Designation::Provisional(other)) => {
+            one.half.year == other.half.year
+                && one.half.index == other.half.index
+                && one.order == other.order
+        }
+        (Designation::Survey(one, number), Designation::Survey(other, other_number)) => {
+            one == other && number == other_number
+        }
+        _ => false,
+    }
+}
+
+/// Whether two observations that go by these names go by the same one.
+pub(crate) fn same_track(one: TrackName, other: TrackName) -> bool
+    ensures { result ≡ same_track one other }
+{
+    match (one, other) {
+        (TrackName::Number(one), TrackName::Number(other)) => one.0 == other.0,
+        (TrackName::Designation(one), TrackName::Designation(other)) => {
+            same_designation(one, other)
+        }
+        (TrackName::Sub(one), TrackName::Sub(other)) => same_text(one, other),
+        _ => false,
+    }
+}
+
+/// The number of a line, as a name.
+pub(crate) fn number_of(s: &Sighting) -> Option<Name>
+    ensures { result ≡ number_of s.now }
+{
+    match s.perm {
+        Some(number) => Some(Name::Number(number)),
+        None => None,
+    }
+}
+
+/// The designation of a line, as a name.
+pub(crate) fn designation_of(s: &Sighting) -> Option<Name>
+    ensures { result ≡ designation_of s.now }
+{
+    match s.prov {
+        Some(designation) => Some(Name::Designation(designation)),
+        None => None,
+    }
+}

@@ -1,0 +1,148 @@
+//! The rules that a line may break by itself, and beside earlier lines.
+
+ghost use Rattle.std.specs.Prelude.{◌≡◌, not};
+ghost use Rattle.obs_time.specs.Dates.{day_of};
+ghost use Rattle.obs_time.specs.Calendar.{year_of};
+ghost use Rattle.act_model.specs.Rows.{first_row};
+ghost use Rattle.act_model.specs.Ruling.{is_in_row, station_serving};
+ghost use Rattle.act_model.specs.BatchRules.{is_in_years, is_ungiven, names_ungiven, stands_already, object_of, are_two, is_of_two_objects, line_rules};
+
+use crate::earlier::Earlier;
+use crate::names::{designation_of, number_of, same_designation};
+use act_model::Known;
+use obs_record::{Coded, RuleCode, Sighting};
+use obs_time::{Instant, civil_of, day};
+use packed_names::{Designation, Name};
+use station_tables::{Kind, Serving, Tables};
+
+// Whether the letter or the word that a line gives, if it gives one, is in a row of the kind.
+fn is_in_row(tables: &Tables, kind: Kind, coded: Coded) -> bool
+    ensures { result ≡ is_in_row tables.now kind coded }
+{
+    match coded {
+        Coded::Nothing => true,
+        Coded::Letter(letter) => tables.word(kind, letter).is_some(),
+        Coded::Word(word) => tables.letter(kind, word).is_some(),
+    }
+}
+
+// How the observation's station stands on the observation's day of UTC.
+fn station_serving(tables: &Tables, s: &Sighting) -> Serving
+    ensures { result ≡ station_serving tables.now s.now }
+{
+    tables.station(s.station, day(s.time))
+}
+
+// The year of a moment.
+fn year_of(time: Instant) -> u16
+    ensures { result ≡ year_of (day_of time) }
+{
+    civil_of(time).year
+}
+
+// Whether its year is one that designations have.
+fn is_in_years(s: &Sighting) -> bool
+    ensures { result ≡ is_in_years s.now }
+{
+    let year = year_of(s.time);
+    year >= 1925 && year <= 2099
+}
+
+// Whether a line names what the office didn't give.
+fn is_ungiven<V: Known>(known: &V, name: Option<Name>) -> bool
+    ensures { result ≡ is_ungiven (V.office known.now) name }
+{
+    match name {
+        None => false,
+        Some(name) => known.stands_for(name).is_none(),
+    }
+}
+
+// The principal designation of the object that a name stands for.
+fn object_of<V: Known>(known: &V, name: Option<Name>) -> Option<Designation>
+    ensures { result ≡ object_of (V.office known.now) name }
+{
+    match name {
+        None => None,
+        Some(name) => match known.stands_for(name) {
+            None => None,
+            Some(designation) => known.principal(designation),
+        },
+    }
+}
+
+// Whether there are both, and they differ.
+fn are_two(one: Option<Designation>, other: Option<Designation>) -> bool
+    ensures { result ≡ are_two one other }
+{
+    match (one, other) {
+        (Some(one), Some(other)) => !same_designation(one, other),
+        _ => false,
+    }
+}
+
+fn names_ungiven<V: Known>(known: &V, s: &Sighting) -> bool
+    ensures { result ≡ names_ungiven (V.office known.now) s.now }
+{
+    is_ungiven(known, number_of(s)) || is_ungiven(known, designation_of(s))
+}
+
+fn stands_already<V: Known>(known: &V, earlier: &Earlier, s: &Sighting) -> bool
+    ensures { result ≡ stands_already (V.office known.now) earlier.now s.now }
+{
+    known.has_live(s.station, s.time, s.ra, s.dec) || earlier.has(s)
+}
+
+fn is_of_two_objects<V: Known>(known: &V, s: &Sighting) -> bool
+    ensures { result ≡ is_of_two_objects (V.office known.now) s.now }
+{
+    are_two(
+        object_of(known, number_of(s)),
+        object_of(known, designation_of(s)),
+    )
+}
+
+/// The first rule that an observation breaks by itself, or beside the earlier ones of its batch.
+pub(crate) fn line_fault<V: Known>(
+    tables: &Tables,
+    known: &V,
+    moment: Instant,
+    earlier: &Earlier,
+    s: &Sighting,
+) -> Option<RuleCode>
+    ensures { result ≡ first_row (line_rules (V.office known.now) tables.now moment earlier.now s.now) }
+{
+    match station_serving(tables, s) {
+        Serving::Unknown => return Some(RuleCode::T1),
+        Serving::Outside => return Some(RuleCode::T2),
+        Serving::Serving => {}
+    }
+    if !is_in_row(tables, Kind::Catalogue, s.catalogue) {
+        return Some(RuleCode::T3);
+    }
+    if !is_in_row(tables, Kind::Band, s.band) {
+        return Some(RuleCode::T4);
+    }
+    if !is_in_row(tables, Kind::Mode, s.mode) {
+        return Some(RuleCode::T5);
+    }
+    if moment.ns() < s.time.ns() {
+        return Some(RuleCode::B1);
+    }
+    if !is_in_years(s) {
+        return Some(RuleCode::B2);
+    }
+    if names_ungiven(known, s) {
+        return Some(RuleCode::B3);
+    }
+    if stands_already(known, earlier, s) {
+        return Some(RuleCode::B4);
+    }
+    if earlier.has_elsewhere(s) {
+        return Some(RuleCode::B5);
+    }
+    if is_of_two_objects(known, s) {
+        return Some(RuleCode::B9);
+    }
+    None
+}
