@@ -14,7 +14,6 @@ unless (Some refusal) goes_on = Err refusal
 unless None goes_on = goes_on
 
 infixl 10 ◌>>=◌
-
 -- one question after the other: the next one takes what was found
 abbrev pub ◌>>=◌ : {A B : Type 0} → Result A Refusal → (A → Result B Refusal) → Result B Refusal
 (Ok found) >>= next = next found

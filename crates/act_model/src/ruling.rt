@@ -72,11 +72,7 @@ fn ruling_of(tables: &Tables, line: &Line) -> Ruling
     }
 }
 
-fn rulings_on(
-    alloc: Global,
-    tables: &Tables,
-    lines: &[Line],
-) -> Result<ItemList<Ruling>, NoMemory>
+fn rulings_on(alloc: Global, tables: &Tables, lines: &[Line]) -> Result<ItemList<Ruling>, NoMemory>
     ensures { IfOk result (λ list. list ≡ map (ruling_of tables.now) lines.now) }
 {
     let mut list = ItemList::with_capacity(alloc, lines.len())?;

@@ -32,7 +32,11 @@ use std::alloc::{AllocError, Global};
 
 impl Core {
     /// What becomes of an act, where a refusal is an error.
-    pub(crate) fn try_prepare(&mut self, request: &Request, reading: Instant) -> Result<Prep, Refusal>
+    pub(crate) fn try_prepare(
+        &mut self,
+        request: &Request,
+        reading: Instant,
+    ) -> Result<Prep, Refusal>
         requires act { is_act request.now.verb ≡ true }
         ensures answer { IsPrepared self.old.history
             (outcome self.old.founder self.old.history request.now reading) self.new.spare result }
