@@ -1,5 +1,5 @@
 -- The fields of a data line: what is read from one is what it says, and what it says is read.
-use Rattle.std.proofs.Common.{◌≡◌, ◌≢◌, ℕ, ◌+◌, ◌<◌, ◌≤◌, Bool, true, false, cond, leb, ltb, ◌&&◌, List, [], ◌∷◌, ◌++◌, length, length-append, get_or, All, Option, Some, None, Result, Ok, Err, ℤ, refl, sym, ap, subst, ◌∙◌, arith}
+use Rattle.std.proofs.Common.{◌≡◌, ◌≢◌, ℕ, ◌+◌, ◌≤◌, Bool, true, false, cond, leb, ltb, ◌&&◌, List, [], ◌∷◌, length, length-append, get_or, All, Option, Some, None, Result, Ok, Err, refl, sym, ap, subst, ◌∙◌, arith}
 use Rattle.std.specs.Prelude.{◌↔◌, option_map}
 use Rattle.std.specs.List.{list_all}
 use Rattle.std.proofs.lemmas.Bool.{and_parts, leb-true, le-leb}
@@ -9,7 +9,7 @@ use Rattle.ascii_text.specs.declared.digits.Radix.TheVariants.{Ten}
 use Rattle.ascii_text.specs.Digits.{digits_text, decimals_text}
 use Rattle.ascii_text.specs.DecimalNumbers.{NumberParts, IsSpelledNumber, number_spelling, number_parts_at, within, whole_at}
 use Rattle.ascii_text.specs.Reading.{digits_at, digit_run, run_at, number_at, behind, more_digits, digit_at}
-use Rattle.ascii_text.specs.Judged.{IsReader, answer_of}
+use Rattle.ascii_text.specs.Judged.{answer_of}
 use Rattle.angle_fixed.specs.declared.fault.AngleFault.TheVariants as angles
 use Rattle.obs_time.specs.declared.fault.TimeFault.TheVariants as times
 use Rattle.obs_time.specs.DateText.{date_at}
@@ -23,7 +23,6 @@ use Rattle.packed_names.specs.declared.name.NameFault.{NameFault}
 use Rattle.packed_names.specs.declared.name.NameFault.TheVariants.{Spelling}
 use Rattle.packed_names.specs.Printed.{IsPrintedAs}
 use Rattle.packed_names.specs.PrintedReading.{printed_in, number_in as printed_number_in, designation_in as printed_designation_in, provisional_in, half_at, survey_in}
-use Rattle.packed_names.specs.Judging.{is_in_range, answered}
 use Rattle.obs_record.specs.declared.short.Short.{Short}
 use Rattle.obs_record.specs.declared.rule.RuleCode.{RuleCode}
 use Rattle.obs_record.specs.declared.rule.RuleCode.TheVariants.{S3, S5, S6, S7, S9, S12}

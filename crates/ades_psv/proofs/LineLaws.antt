@@ -32,7 +32,7 @@ use Rattle.ades_psv.specs.Names.{IsNumberText, IsDesignationText, IsTemporary, n
 use Rattle.ades_psv.specs.Rules.{Keeps, IsTextByte, IsTime, IsRa, IsDec, HasFields, line_rules, IsSightingOf, IsReading, coded}
 use Rattle.ades_psv.specs.Reading.{is_text_byte, names_in, time_in, ra_in, dec_in, stated_in, lacks_field, lacks_name, lacks_band, required, position_from, position_in, observed, reading_of}
 use Rattle.ades_psv.proofs.LawsBelow.{Laws}
-use Rattle.ades_psv.proofs.Judging.{empty_from, filled_from, filled_is, said_given, said_found, said_fault, says_one, reads_one, judged_field, IsReadingOf}
+use Rattle.ades_psv.proofs.Judging.{empty_from, filled_from, filled_is, said_given, said_found, said_fault, says_one, reads_one, judged_field}
 use Rattle.ades_psv.proofs.FieldLaws.{number_field, designation_field, temporary_field, magnitude_field, time_field, ra_field, dec_field}
 
 -- ---- parts of a line

@@ -1,5 +1,5 @@
 -- A data line's observation has its fields in their ranges.
-use Rattle.std.proofs.Common.{◌≡◌, ◌≢◌, ◌⊎◌, ℕ, ◌<◌, ◌≤◌, Bool, true, false, cond, List, [], Option, Some, None, refl, sym, ap, subst, ◌∙◌, inl, inr, pos, neg_ℤ, ◌≤ℤ◌, arith, lit≤}
+use Rattle.std.proofs.Common.{◌≢◌, ◌⊎◌, ℕ, ◌<◌, ◌≤◌, Bool, true, false, cond, List, [], Option, Some, None, refl, sym, subst, inl, inr, pos, neg_ℤ, ◌≤ℤ◌, arith, lit≤}
 use Rattle.std.specs.Prelude.{IfSome, IsSome}
 use Rattle.angle_fixed.specs.Angles.{circle, quarter}
 use Rattle.obs_time.specs.Instants.{IsInstantNs}
@@ -8,11 +8,10 @@ use Rattle.packed_names.specs.declared.name.Designation.{Designation}
 use Rattle.packed_names.specs.Ranges.{IsNumber, IsDesignation}
 use Rattle.obs_record.specs.declared.short.Short.{Short}
 use Rattle.obs_record.specs.declared.sighting.Coded.TheVariants.{Nothing, Word}
-use Rattle.obs_record.specs.declared.sighting.Shape.TheVariants.{Psv}
 use Rattle.obs_record.specs.declared.sighting.Sighting.{Sighting}
 use Rattle.obs_record.specs.Short.{IsShort, kept_short}
-use Rattle.obs_record.specs.Magnitudes.{magnitude_of, greatest_magnitude, HasDecimals}
-use Rattle.obs_record.specs.Sighting.{IsPrintable, IsCoded, IsShape, IsSighting, places_of as shape_places}
+use Rattle.obs_record.specs.Magnitudes.{greatest_magnitude, HasDecimals}
+use Rattle.obs_record.specs.Sighting.{IsPrintable, IsCoded, IsShape, IsSighting}
 use Rattle.text_lines.specs.Rules.{KeepsEach}
 use Rattle.ades_psv.specs.Fields.{Fields}
 use Rattle.ades_psv.specs.Optional.{Says, is_empty}

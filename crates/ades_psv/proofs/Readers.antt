@@ -1,5 +1,5 @@
 -- A reader, from its first piece to its end.
-use Rattle.std.proofs.Common.{◌≡◌, ℕ, ◌+◌, ◌<◌, List, [], ◌∷◌, ◌++◌, append_assoc, length, length-append, map, All, Option, Some, None, Result, Ok, Err, eqb, false, refl, sym, ap, subst, ◌∙◌, arith}
+use Rattle.std.proofs.Common.{◌≡◌, ℕ, ◌+◌, ◌<◌, List, [], ◌∷◌, ◌++◌, append_assoc, length, length-append, map, Option, None, Result, Ok, Err, eqb, false, refl, sym, ap, subst, ◌∙◌, arith}
 use Rattle.std.specs.Prelude.{IsOk, IfOk}
 use Rattle.std.specs.List.{AllZip, enumerate_from}
 use Rattle.std.specs.Str.Lines.{lines}

@@ -1,16 +1,13 @@
 -- What lines say behind lines.
-use Rattle.std.proofs.Common.{◌≡◌, ℕ, ◌+◌, List, [], ◌∷◌, ◌++◌, append_assoc, length, length-append, map, Result, Ok, Err, refl, sym, ap, ◌∙◌, arith}
+use Rattle.std.proofs.Common.{◌≡◌, ℕ, ◌+◌, List, [], ◌∷◌, ◌++◌, length, Ok, Err, refl, sym, ap, ◌∙◌, arith}
 use Rattle.std.specs.List.{enumerate_from}
-use Rattle.obs_record.specs.declared.rule.HeaderFault.{HeaderFault}
 use Rattle.ades_psv.specs.declared.header.Place.{Place}
 use Rattle.ades_psv.specs.declared.header.Place.TheVariants.{Listing}
 use Rattle.ades_psv.specs.declared.header.Step.{Step}
 use Rattle.ades_psv.specs.declared.header.Step.TheVariants.{On, Data, Fault}
-use Rattle.ades_psv.specs.declared.walking.Reached.{Reached}
 use Rattle.text_lines.specs.Steps.{◌>>=◌}
 use Rattle.ades_psv.specs.Headers.{step}
-use Rattle.ades_psv.specs.Batch.{DataLine, Said, before, said_on, said_from, read_of}
-use Rattle.ades_psv.specs.Walking.{said_behind, HasRead}
+use Rattle.ades_psv.specs.Batch.{DataLine, Said, before, said_on, said_from}
 
 -- data lines that stand before what is said
 abbrev pub behind : List DataLine → Place × List DataLine → Said

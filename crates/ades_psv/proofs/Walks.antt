@@ -1,5 +1,5 @@
 -- Lines that are read one after another.
-use Rattle.std.proofs.Common.{◌≡◌, ℕ, ◌+◌, ◌≤◌, take, Bool, true, false, cond, ◌||◌, List, [], ◌∷◌, ◌++◌, append_assoc, length, length-append, map, Result, Ok, Err, refl, sym, ap, subst, ◌∙◌, arith}
+use Rattle.std.proofs.Common.{◌≡◌, ℕ, ◌+◌, ◌≤◌, take, Bool, true, false, cond, List, [], ◌∷◌, ◌++◌, append_assoc, length, length-append, map, Result, Ok, Err, refl, sym, ap, ◌∙◌, arith}
 use Rattle.std.specs.List.{enumerate_from}
 use Rattle.std.proofs.lemmas.List.{append-nil, length-take, take-take}
 use Rattle.ascii_text.specs.Blanks.{are_blanks}
@@ -16,7 +16,7 @@ use Rattle.ades_psv.specs.declared.walking.Reached.{Reached}
 use Rattle.text_lines.specs.Steps.{◌>>=◌}
 use Rattle.ades_psv.specs.Columns.{columns_of}
 use Rattle.ades_psv.specs.Headers.{is_version, is_group, is_element, below_header, filled_step, step}
-use Rattle.ades_psv.specs.Batch.{DataLine, Said, said_on, said_from, read_of}
+use Rattle.ades_psv.specs.Batch.{Said, said_on, said_from, read_of}
 use Rattle.ades_psv.specs.Walking.{said_behind, HasRead, Fails}
 use Rattle.ades_psv.proofs.SaidLaws.{behind, said_join}
 

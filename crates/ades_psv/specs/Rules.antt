@@ -1,5 +1,5 @@
 -- What a data line says, field by field: an observation, or the first rule that the line breaks.
-use Rattle.std.specs.Prelude.{◌≡◌, ◌≢◌, ◌⊎◌, ℕ, ◌≤◌, if◌then◌else◌, List, [], ◌∷◌, All, Option, Result, Ok, Err, ℤ}
+use Rattle.std.specs.Prelude.{◌≡◌, ◌≢◌, ◌⊎◌, ℕ, ◌≤◌, if◌then◌else◌, List, [], ◌∷◌, All, Option, Result, Ok, ℤ}
 use Rattle.angle_fixed.specs.Degrees.{ReadsRaDegrees, ReadsDecDegrees}
 use Rattle.obs_time.specs.IsoText.{IsIsoAnswer}
 use Rattle.obs_record.specs.declared.rule.RuleCode.{RuleCode}

@@ -1,4 +1,4 @@
-use Rattle.std.proofs.Common.{◌≡◌, [], ◌∷◌, List, ℕ, sym, ap, ◌∙◌, arith}
+use Rattle.std.proofs.Common.{sym, ap, ◌∙◌, arith}
 use Rattle.ades_psv.specs.Cells.{cells}
 use Rattle.ades_psv.specs.Fields.{Fields}
 use Rattle.ades_psv.specs.Cutting.{seen, put_all}

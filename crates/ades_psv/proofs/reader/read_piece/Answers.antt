@@ -1,6 +1,6 @@
-use Rattle.std.proofs.Common.{◌≡◌, ◌++◌, [], sym, ap, ◌∙◌}
+use Rattle.std.proofs.Common.{◌≡◌, ◌++◌, sym, ◌∙◌}
 use Rattle.std.proofs.lemmas.Result.{err_from_is_err_and}
-use Rattle.text_lines.specs.Pieces.{complete_lines, unfinished}
+use Rattle.text_lines.specs.Pieces.{complete_lines}
 use Rattle.ades_psv.proofs.Walks.{reads_nothing, reads_further, fails_further, fails_still}
 use Rattle.ades_psv.proofs.Readers.{split_lines, split_rest, no_lines}
 use Rattle.ades_psv.proofs.reader.read_piece.Goals as goal

@@ -1,5 +1,3 @@
-use Rattle.std.proofs.Common.{◌≡◌, ◌∙◌, Result, Ok, Err, sym}
-use Rattle.std.specs.Prelude.{IfOk}
 use Rattle.std.proofs.lemmas.Result.{err_from_is_err_and}
 use Rattle.ades_psv.proofs.Readers.{whole_answer, whole_finished, answer_lines}
 use Rattle.ades_psv.proofs.reader.read_psv.Goals as goal

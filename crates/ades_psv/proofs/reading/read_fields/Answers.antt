@@ -1,4 +1,4 @@
-use Rattle.std.proofs.Common.{ℕ, ◌<◌, Result, Ok, Err, sym, subst, pos, neg_ℤ, ◌≤ℤ◌}
+use Rattle.std.proofs.Common.{◌<◌, Result, Ok, Err, sym, subst, pos, neg_ℤ, ◌≤ℤ◌}
 use Rattle.std.specs.Prelude.{IfOk}
 use Rattle.angle_fixed.specs.Angles.{circle, quarter}
 use Rattle.obs_time.specs.Instants.{IsInstantNs}
@@ -9,7 +9,7 @@ use Rattle.ades_psv.specs.Fields.{Fields}
 use Rattle.ades_psv.specs.Cutting.{seen}
 use Rattle.ades_psv.specs.Rules.{IsReading}
 use Rattle.ades_psv.proofs.LawsBelow.{Laws}
-use Rattle.ades_psv.proofs.LineLaws.{reading_is, one_reading}
+use Rattle.ades_psv.proofs.LineLaws.{reading_is}
 use Rattle.ades_psv.proofs.RangeLaws.{sighting_within}
 use Rattle.ades_psv.proofs.reading.read_fields.Goals as goal
 

@@ -1,5 +1,4 @@
-use Rattle.std.proofs.Common.{◌≡◌, ◌+◌, ◌<◌, ◌≤◌, None, length, refl, ap, arith}
-use Rattle.ades_psv.specs.Feeding.{Fed}
+use Rattle.std.proofs.Common.{◌+◌, length, refl, arith}
 use Rattle.ades_psv.proofs.Options.{none_from}
 use Rattle.ades_psv.proofs.Readers.{fed_on, fed_fault, has_room, room_left}
 use Rattle.ades_psv.proofs.reader.PsvReader.feed.Goals as goal

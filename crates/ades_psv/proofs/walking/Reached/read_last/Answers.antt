@@ -1,4 +1,4 @@
-use Rattle.std.proofs.Common.{◌≡◌, ◌<◌, ◌∷◌, [], ◌++◌, ℕ, List, length, refl, sym, ap, ◌∙◌, arith}
+use Rattle.std.proofs.Common.{◌≡◌, ◌<◌, ◌∷◌, [], ◌++◌, ℕ, List, length, sym, ap, ◌∙◌, arith}
 use Rattle.std.specs.Str.Lines.{lines}
 use Rattle.text_lines.specs.Pieces.{complete_lines, unfinished}
 use Rattle.std.proofs.lemmas.Bool.Decides.{nat_tests}

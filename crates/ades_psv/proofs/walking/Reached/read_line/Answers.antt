@@ -1,12 +1,11 @@
-use Rattle.std.proofs.Common.{◌≡◌, ◌+◌, ◌∷◌, [], ◌++◌, List, refl, sym, ap, subst, ◌∙◌}
+use Rattle.std.proofs.Common.{◌+◌, refl, sym, ap, subst, ◌∙◌}
 use Rattle.std.specs.Prelude.{IfOk}
 use Rattle.std.proofs.lemmas.List.Elements.{All-push}
 use Rattle.obs_record.specs.declared.line.Line.{Line}
 use Rattle.obs_record.specs.Sighting.{IsSighting}
 use Rattle.ades_psv.specs.declared.walking.Reached.{Reached}
-use Rattle.ades_psv.specs.declared.header.Step.TheVariants.{On, Data, Fault}
-use Rattle.ades_psv.specs.Batch.{read_of, AreInRange, said_on}
-use Rattle.ades_psv.specs.Fields.{fields_of}
+use Rattle.ades_psv.specs.declared.header.Step.TheVariants.{Fault}
+use Rattle.ades_psv.specs.Batch.{AreInRange}
 use Rattle.ades_psv.specs.Reading.{reading_of}
 use Rattle.ades_psv.proofs.Walks.{one_said, reads_on, reads_data}
 use Rattle.ades_psv.proofs.walking.Reached.read_line.Goals as goal
