@@ -1,7 +1,6 @@
 -- What the step adds is legal, and what follows for legal histories.
 use Rattle.std.proofs.Common.{◌≡◌, ℕ, ℤ, pos, List, [], ◌∷◌, ◌++◌, length, Bool, true, false, cond, Option, Some, None, Result, Ok, Err, refl, sym, ap, subst, ◌∙◌, append_assoc, inl, inr, arith}
-use Rattle.std.specs.Prelude.{◌⊎◌, unwrap_or, is_some, int_lt, bytes_eq, ◌==◌, ◌&&◌}
-use Rattle.std.specs.List.{AllByRecursion}
+use Rattle.std.specs.Prelude.{unwrap_or, int_lt, bytes_eq, ◌==◌, ◌&&◌}
 use Rattle.std.proofs.lemmas.Int.{ints}
 use Rattle.std.proofs.lemmas.Bool.Decides.{nat_tests}
 use Rattle.std.proofs.lemmas.Slice.Eq.{bytes_eq-Decides}
@@ -19,9 +18,8 @@ use Rattle.ades_psv.specs.Batch.{psv_lines_of}
 use Rattle.act_model.specs.declared.deed.Deed.{Deed}
 use Rattle.act_model.specs.declared.deed.Deed.TheVariants.{Enrolled, Stationed, Coded, Submitted, Nothing}
 use Rattle.act_model.specs.declared.entry.Entry.{Entry}
-use Rattle.act_model.specs.declared.heard.Heard.{Heard}
 use Rattle.act_model.specs.declared.reply.Refusal.{Refusal}
-use Rattle.act_model.specs.declared.reply.Refusal.TheVariants.{OtherRequest, NoMemory}
+use Rattle.act_model.specs.declared.reply.Refusal.TheVariants.{OtherRequest}
 use Rattle.act_model.specs.declared.reply.Reply.{Reply}
 use Rattle.act_model.specs.declared.reply.Reply.TheVariants.{Done, Refused}
 use Rattle.act_model.specs.declared.request.Request.{Request}
@@ -37,13 +35,13 @@ use Rattle.act_model.specs.History.{Kept, kept, next_moment, next_receipt, is_nu
 use Rattle.act_model.specs.Refusals.{bytes_in, asked_in, hear, work_out, deed_rows}
 use Rattle.act_model.specs.Rows.{first_row}
 use Rattle.act_model.specs.Replies.{entry_answer}
-use Rattle.act_model.specs.Step.{Outcome, Keeps, Adds, step, outcome, after, new_entry, kept_reply}
+use Rattle.act_model.specs.Step.{Outcome, Adds, step, outcome, after, new_entry, kept_reply}
 use Rattle.act_model.specs.Turns.{Turn, TakesReading, Answers, IsTurn, Conduct}
 use Rattle.act_model.specs.Conducts.{Extends}
 use Rattle.act_model.specs.Legal.{entry_request, IsAdded, IsLegal}
 use Rattle.act_model.proofs.Callers.{ArePlain, caller_again, caller_stays, caller_under}
-use Rattle.act_model.proofs.Conducts.{Added, adds, adds_again, keeps, step_is, Leaves, leaves, Makes, step_makes, conduct_more}
-use Rattle.act_model.proofs.Hearing.{Hears, hears, hear_again, whole_again, number_some, worked, deed_is}
+use Rattle.act_model.proofs.Conducts.{Added, adds, adds_again, keeps, step_is, Makes, step_makes, conduct_more}
+use Rattle.act_model.proofs.Hearing.{hears, hear_again, whole_again, number_some, worked, deed_is}
 
 -- ---- moments
 

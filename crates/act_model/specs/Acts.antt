@@ -1,5 +1,5 @@
 -- The act that a request asks for. It is a function of the verb and the body alone.
-use Rattle.std.specs.Prelude.{ℕ, Bool, true, false, List, Option, Some, None, Result, Ok, Err, ◌≤ℤ◌}
+use Rattle.std.specs.Prelude.{ℕ, List, Option, Some, None, Result, Ok, Err, ◌≤ℤ◌}
 use Rattle.act_bodies.specs.declared.enrol.Enrol.{Enrol as EnrolBody}
 use Rattle.act_bodies.specs.declared.station.Station.{Station as StationBody}
 use Rattle.act_bodies.specs.declared.code.Code.{Code as CodeBody}
@@ -15,7 +15,7 @@ use Rattle.act_model.specs.declared.act.Act.TheVariants as act
 use Rattle.act_model.specs.declared.heard.Asked.{Asked}
 use Rattle.act_model.specs.declared.heard.Asked.TheVariants as asked
 use Rattle.act_model.specs.declared.act.ActFault.{ActFault}
-use Rattle.act_model.specs.declared.act.ActFault.TheVariants.{Unread, Header, NoMemory}
+use Rattle.act_model.specs.declared.act.ActFault.TheVariants.{Unread, Header}
 
 -- what was asked, or the body isn't as the verb wants it
 abbrev pub read_as : {B : Type 0} → (B → Act) → Option B → Result Act ActFault

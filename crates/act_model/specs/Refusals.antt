@@ -1,6 +1,6 @@
 -- The office's table of refusals, in groups over the values that they ask. A question is answered by what it finds, or by
 -- the first refusal that holds; the next one takes what was found.
-use Rattle.std.specs.Prelude.{ℕ, ◌^◌, ℤ, Bool, not, nat_lt, nat_le, ◌==◌, ◌&&◌, if◌then◌else◌, List, [], ◌∷◌, length, Option, Some, None, is_some, Result, Ok, Err}
+use Rattle.std.specs.Prelude.{ℕ, ◌^◌, ℤ, Bool, nat_lt, nat_le, ◌==◌, ◌&&◌, if◌then◌else◌, List, [], ◌∷◌, length, Option, Some, None, is_some, Result, Ok, Err}
 use Rattle.act_bodies.specs.declared.enrol.Rank.{Rank}
 use Rattle.act_bodies.specs.declared.key.Key.{Key}
 use Rattle.station_tables.specs.Rows.{TableRows}

@@ -1,5 +1,5 @@
 -- Requests: their verbs and their bodies.
-use Rattle.std.specs.Prelude.{ℕ, ◌==◌, Bool, true, false, ◌&&◌, bytes_eq, codes, if◌then◌else◌, List, [], length, nat_lt, count_by}
+use Rattle.std.specs.Prelude.{ℕ, ◌==◌, Bool, true, false, bytes_eq, codes, if◌then◌else◌, List, length, nat_lt, count_by}
 use Rattle.act_model.specs.declared.request.Verb.{Verb}
 use Rattle.act_model.specs.declared.request.Verb.TheVariants.{Enrol, Station, Code, Submit80, SubmitPsv, Unknown}
 use Rattle.act_model.specs.declared.request.Body.{Body}

@@ -1,5 +1,5 @@
 -- The rulings on the lines of a batch: each line is judged once, and all else about the batch is read from its rulings.
-use Rattle.std.specs.Prelude.{ℕ, ◌+◌, ◌-◌, max, ℤ, Bool, true, false, not, if◌then◌else◌, List, [], ◌∷◌, length, map, count_by, filter_map, Option, Some, None, is_some, is_none, option_map, ◌||◌, Ok, Err, Result}
+use Rattle.std.specs.Prelude.{ℕ, ◌+◌, ◌-◌, max, ℤ, Bool, true, false, not, if◌then◌else◌, List, [], ◌∷◌, length, map, count_by, filter_map, Option, Some, is_some, is_none, option_map, ◌||◌, Ok, Err, Result}
 use Rattle.obs_time.specs.Dates.{day_of}
 use Rattle.obs_record.specs.declared.line.Line.{Line}
 use Rattle.obs_record.specs.declared.sighting.Coded.{Coded}
