@@ -49,7 +49,7 @@ module _ (office : KnownOffice) (s : Sighting) (earlier : List Sighting) (no_pla
       by false is =
           let elsewhere : is_elsewhere s e ≡ true =
           both_pass (same_station e.station s.station) _ parts.1
-            (both_pass (int_eq e.time s.time) _ time (both_pass (same_track (name_of e) (name_of s)) _ parts.0 (ap not is))) in
+          (both_pass (int_eq e.time s.time) _ time (both_pass (same_track (name_of e) (name_of s)) _ parts.0 (ap not is))) in
           absurd (true≢false (sym (any_in (is_elsewhere s) earlier e there elsewhere) ∙ no_other))
 
   apart_with : AreApart earlier → AreApart (s ∷ earlier)
@@ -111,7 +111,7 @@ module _ (office : KnownOffice) (tables : TableRows) (moment : ℤ) where
       by : (read : Result Sighting RuleCode) → checked_reading office tables moment earlier line.read ≡ read
           → ((more : List Sighting) → AreApart more → count_by (λ e. same_group s e && int_eq e.time s.time) more + count_by (λ e. same_group s e && int_eq e.time s.time) (passed_in (checked_lines office tables moment more lines)) ≤ 1)
           → count_by (λ e. same_group s e && int_eq e.time s.time) earlier
-            + count_by (λ e. same_group s e && int_eq e.time s.time) (passed_in (record line { read = read } ∷ checked_lines office tables moment (with_passed read earlier) lines)) ≤ 1
+          + count_by (λ e. same_group s e && int_eq e.time s.time) (passed_in (record line { read = read } ∷ checked_lines office tables moment (with_passed read earlier) lines)) ≤ 1
       by (Err rule) is rest = rest earlier apart
       by (Ok found) is rest =
           omega (

@@ -79,8 +79,8 @@ module _ (group : List Sighting) where
   neighbours_found : (a b : Sighting) → IsIn group a → IsIn group b → int_lt a.time b.time ≡ true → is_too_fast a b ≡ true → list_any (is_between a b) group ≡ false → has_fast_pair group ≡ true
   neighbours_found a b here there before fast none =
       any_in (λ first. list_any (λ second. are_neighbours group first second && is_too_fast first second) group) group a here
-        (any_in (λ second. are_neighbours group a second && is_too_fast a second) group b there
-          (both_pass (are_neighbours group a b) (is_too_fast a b) (both_pass (int_lt a.time b.time) (not (list_any (is_between a b) group)) before (ap not none)) fast))
+      (any_in (λ second. are_neighbours group a second && is_too_fast a second) group b there
+      (both_pass (are_neighbours group a b) (is_too_fast a b) (both_pass (int_lt a.time b.time) (not (list_any (is_between a b) group)) before (ap not none)) fast))
 
   fewer_before : (a b c : Sighting) → IsIn group c → is_between a b c ≡ true → count_by (is_between a c) group < count_by (is_between a b) group
   fewer_before a b c there between =
@@ -161,7 +161,7 @@ module _ (group : List Sighting) where
           let parts = and_parts (are_neighbours group first.0 second.0) (is_too_fast first.0 second.0) second.2 in
           let before = and_parts (int_lt first.0.time second.0.time) (not (list_any (is_between first.0 second.0) group)) parts.0 in
           any_in (λ first. list_any (λ second. int_lt first.time second.time && is_too_fast first second) group) group first.0 first.1
-            (any_in (λ other. int_lt first.0.time other.time && is_too_fast first.0 other) group second.0 second.1 (both_pass (int_lt first.0.time second.0.time) (is_too_fast first.0 second.0) before.0 parts.1))
+          (any_in (λ other. int_lt first.0.time other.time && is_too_fast first.0 other) group second.0 second.1 (both_pass (int_lt first.0.time second.0.time) (is_too_fast first.0 second.0) before.0 parts.1))
 
       stronger : any_fast group ≡ true → has_fast_pair group ≡ true
       stronger some =

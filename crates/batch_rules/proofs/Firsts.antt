@@ -42,16 +42,16 @@ firsts_push seen (y ∷ ys) x = by (list_any (same_group y) seen) (firsts_push s
     by : (b : Bool)
         → firsts_after seen (ys ++ x ∷ []) ≡ cond (list_any (same_group x) seen || list_any (same_group x) (firsts_after seen ys)) (firsts_after seen ys) (firsts_after seen ys ++ x ∷ [])
         → firsts_after (y ∷ seen) (ys ++ x ∷ [])
-          ≡ cond (list_any (same_group x) (y ∷ seen) || list_any (same_group x) (firsts_after (y ∷ seen) ys)) (firsts_after (y ∷ seen) ys) (firsts_after (y ∷ seen) ys ++ x ∷ [])
+        ≡ cond (list_any (same_group x) (y ∷ seen) || list_any (same_group x) (firsts_after (y ∷ seen) ys)) (firsts_after (y ∷ seen) ys) (firsts_after (y ∷ seen) ys ++ x ∷ [])
         → cond b (firsts_after seen (ys ++ x ∷ [])) (y ∷ firsts_after (y ∷ seen) (ys ++ x ∷ []))
-          ≡ cond (list_any (same_group x) seen || list_any (same_group x) (cond b (firsts_after seen ys) (y ∷ firsts_after (y ∷ seen) ys)))
-              (cond b (firsts_after seen ys) (y ∷ firsts_after (y ∷ seen) ys)) (cond b (firsts_after seen ys) (y ∷ firsts_after (y ∷ seen) ys) ++ x ∷ [])
+        ≡ cond (list_any (same_group x) seen || list_any (same_group x) (cond b (firsts_after seen ys) (y ∷ firsts_after (y ∷ seen) ys)))
+        (cond b (firsts_after seen ys) (y ∷ firsts_after (y ∷ seen) ys)) (cond b (firsts_after seen ys) (y ∷ firsts_after (y ∷ seen) ys) ++ x ∷ [])
     by true rest other = rest
     by false other rest =
         ap (λ (xs : List Sighting). y ∷ xs) rest
         ∙ out (list_any (same_group x) (y ∷ seen) || list_any (same_group x) (firsts_after (y ∷ seen) ys)) (firsts_after (y ∷ seen) ys) (firsts_after (y ∷ seen) ys ++ x ∷ [])
         ∙ ap (λ (b : Bool). cond b (y ∷ firsts_after (y ∷ seen) ys) (y ∷ (firsts_after (y ∷ seen) ys ++ x ∷ [])))
-            (moved_or (same_group x y) (list_any (same_group x) seen) (list_any (same_group x) (firsts_after (y ∷ seen) ys)))
+        (moved_or (same_group x y) (list_any (same_group x) seen) (list_any (same_group x) (firsts_after (y ∷ seen) ys)))
 
 -- the keys with one more line
 pub keys_more : (xs : List Sighting) (x : Sighting) → insert_key same_key (map group_key (firsts_after [] xs)) (group_key x) ≡ map group_key (firsts_after [] (xs ++ x ∷ []))

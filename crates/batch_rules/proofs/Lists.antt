@@ -75,8 +75,8 @@ unfolding fast_among
 any_fast_among p xs =
     any_filter p (λ first. list_any (λ second. int_lt first.time second.time && is_too_fast first second) (filter p xs)) xs
     ∙ any_same (λ first. p first && list_any (λ second. int_lt first.time second.time && is_too_fast first second) (filter p xs))
-        (λ first. p first && list_any (λ second. p second && (int_lt first.time second.time && is_too_fast first second)) xs) xs
-        (each_always _ xs (λ first. ap (λ (b : Bool). p first && b) (any_filter p (λ second. int_lt first.time second.time && is_too_fast first second) xs)))
+    (λ first. p first && list_any (λ second. p second && (int_lt first.time second.time && is_too_fast first second)) xs) xs
+    (each_always _ xs (λ first. ap (λ (b : Bool). p first && b) (any_filter p (λ second. int_lt first.time second.time && is_too_fast first second) xs)))
 
 pub any_fast_moved : (p : Sighting → Bool) (xs ys : List Sighting) → IsPermutation xs ys → any_fast (filter p xs) ≡ any_fast (filter p ys)
 unfolding fast_among
@@ -84,8 +84,8 @@ any_fast_moved p xs ys moved =
     any_fast_among p xs
     ∙ list_any-IsPermutation (λ first. p first && list_any (λ second. p second && (int_lt first.time second.time && is_too_fast first second)) xs) xs ys moved
     ∙ any_same (λ first. p first && list_any (λ second. p second && (int_lt first.time second.time && is_too_fast first second)) xs)
-        (λ first. p first && list_any (λ second. p second && (int_lt first.time second.time && is_too_fast first second)) ys) ys
-        (each_always _ ys (λ first. ap (λ (b : Bool). p first && b) (list_any-IsPermutation (λ second. p second && (int_lt first.time second.time && is_too_fast first second)) xs ys moved)))
+    (λ first. p first && list_any (λ second. p second && (int_lt first.time second.time && is_too_fast first second)) ys) ys
+    (each_always _ ys (λ first. ap (λ (b : Bool). p first && b) (list_any-IsPermutation (λ second. p second && (int_lt first.time second.time && is_too_fast first second)) xs ys moved)))
     ∙ sym (any_fast_among p ys)
 
 -- each is earlier than those before it in the list

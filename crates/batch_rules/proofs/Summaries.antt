@@ -37,7 +37,7 @@ pub record Says (group : List Sighting) (told : Summary) : Type 0 where
 pair_in : (group : List Sighting) (a b : Sighting) → IsIn group a → IsIn group b → int_lt a.time b.time ≡ true → is_too_fast a b ≡ true → any_fast group ≡ true
 pair_in group a b here there before fast =
     any_in (λ first. list_any (λ second. int_lt first.time second.time && is_too_fast first second) group) group a here
-      (any_in (λ second. int_lt a.time second.time && is_too_fast a second) group b there (both_pass (int_lt a.time b.time) (is_too_fast a b) before fast))
+    (any_in (λ second. int_lt a.time second.time && is_too_fast a second) group b there (both_pass (int_lt a.time b.time) (is_too_fast a b) before fast))
 
 record Pair (group : List Sighting) : Type 0 where
   pub one : Sighting
@@ -101,7 +101,7 @@ any_fast_more s newest others before falls = same_tests (any_fast (s ∷ newest 
 
     back : any_fast (newest ∷ others) || is_too_fast newest s ≡ true → any_fast (s ∷ newest ∷ others) ≡ true
     back some = elim (one_of (any_fast (newest ∷ others)) (is_too_fast newest s) some) [
-      inl inside ↦ wider inside
+      | inl inside ↦ wider inside
       | inr fast ↦ pair_in (s ∷ newest ∷ others) newest s (inr (inl refl)) (inl refl) before.0 fast
     ]
       where
@@ -157,7 +157,7 @@ says_more s older told before falls said = by (int_lt (told.first +ℤ pos nanos
     all_before : Each (λ e. int_lt e.time s.time ≡ true) (said.newest ∷ said.others)
     all_before =
         subst (Each (λ e. int_lt e.time s.time ≡ true)) said.split
-          (each_filter (λ e. int_lt e.time s.time ≡ true) (λ e. not (int_lt (told.first +ℤ pos nanos_of_a_day) e.time)) older before)
+        (each_filter (λ e. int_lt e.time s.time ≡ true) (λ e. not (int_lt (told.first +ℤ pos nanos_of_a_day) e.time)) older before)
 
     all_fall : IsDescending (said.newest ∷ said.others)
     all_fall = subst IsDescending said.split (descending_filter (λ e. not (int_lt (told.first +ℤ pos nanos_of_a_day) e.time)) older falls)
@@ -194,10 +194,10 @@ says_more s older told before falls said = by (int_lt (told.first +ℤ pos nanos
       dec_is = refl;
       alone_is = sym two;
       fast_is =
-        ap (λ (b : Bool). b || is_fast_change told.last told.dec s.time s.dec) said.fast_is
-        ∙ ap (λ (t : ℤ). any_fast (said.newest ∷ said.others) || is_fast_change t told.dec s.time s.dec) said.last_is
-        ∙ ap (λ (d : ℤ). any_fast (said.newest ∷ said.others) || is_fast_change said.newest.time d s.time s.dec) said.dec_is
-        ∙ sym (any_fast_more s said.newest said.others all_before all_fall.0);
+          ap (λ (b : Bool). b || is_fast_change told.last told.dec s.time s.dec) said.fast_is
+          ∙ ap (λ (t : ℤ). any_fast (said.newest ∷ said.others) || is_fast_change t told.dec s.time s.dec) said.last_is
+          ∙ ap (λ (d : ℤ). any_fast (said.newest ∷ said.others) || is_fast_change said.newest.time d s.time s.dec) said.dec_is
+          ∙ sym (any_fast_more s said.newest said.others all_before all_fall.0);
     }
       where
         two : nat_lt (length (s ∷ said.newest ∷ said.others)) 2 ≡ false

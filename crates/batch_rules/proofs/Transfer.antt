@@ -49,7 +49,7 @@ module _ (passed turned : List Sighting) (moved : IsPermutation passed turned) (
   late_among other same =
       list_any-IsPermutation (λ e. same_group e other && is_late_after e other) passed turned moved
       ∙ any_same (λ e. same_group e other && is_late_after e other) (λ e. same_group s e && is_late_after e other) turned
-          (each_always _ turned (λ e. ap (λ (b : Bool). b && is_late_after e other) (same_turned e other ∙ sym (same_with s other e same))))
+      (each_always _ turned (λ e. ap (λ (b : Bool). b && is_late_after e other) (same_turned e other ∙ sym (same_with s other e same))))
       ∙ sym (any_filter (same_group s) (λ e. is_late_after e other) turned)
 
   -- those of the group that B7 leaves, by a time

@@ -41,7 +41,11 @@ fn reading_fault(groups: &Groups, read: &Result<Sighting, RuleCode>) -> Option<R
     }
 }
 
-fn push_if(accepted: &mut Vec<Sighting>, s: &Sighting, fault: Option<RuleCode>) -> Result<(), NoMemory>
+fn push_if(
+    accepted: &mut Vec<Sighting>,
+    s: &Sighting,
+    fault: Option<RuleCode>,
+) -> Result<(), NoMemory>
     ensures { OnOk result (accepted.new.items ≡ accepted.old.items ++ (if is_none fault then s.now ∷ [] else [])) }
 {
     match fault {
@@ -54,7 +58,11 @@ fn push_if(accepted: &mut Vec<Sighting>, s: &Sighting, fault: Option<RuleCode>) 
 }
 
 // The observations that break no rule.
-fn accepted_among(alloc: Global, groups: &Groups, passed: &[Sighting]) -> Result<Vec<Sighting>, NoMemory>
+fn accepted_among(
+    alloc: Global,
+    groups: &Groups,
+    passed: &[Sighting],
+) -> Result<Vec<Sighting>, NoMemory>
     ensures { IfOk result (λ accepted. accepted.items ≡ accepted_by (λ (key : Key). get same_key groups.now key) passed.now) }
 {
     let mut accepted = Vec::new(alloc);
@@ -65,7 +73,11 @@ fn accepted_among(alloc: Global, groups: &Groups, passed: &[Sighting]) -> Result
 }
 
 // The place of an accepted line's group. More places than a number has are a want of memory: no memory holds so many.
-fn number(firsts: &IndexSet<GroupKey>, fault: Option<RuleCode>, read: &Result<Sighting, RuleCode>) -> Result<u32, NoMemory>
+fn number(
+    firsts: &IndexSet<GroupKey>,
+    fault: Option<RuleCode>,
+    read: &Result<Sighting, RuleCode>,
+) -> Result<u32, NoMemory>
     ensures { IfOk result (λ number. number ≡ number_by firsts.now.keys fault read.now) }
 {
     match (fault, read) {
