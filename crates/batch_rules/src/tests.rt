@@ -47,8 +47,8 @@ fn designation(order: u32) -> Designation
 // The time of the office's live observation.
 const LIVE: i64 = 1_600_000_000_000_000_000;
 
-/// An office that gave 2024 EA and 2024 EB, each the principal designation of its object, and number 1 to 2024 EA. It has
-/// one live observation, and asks for its time alone.
+/// An office that gave 2024 EA and 2024 EB, each the principal designation of its object, and number 1 to 2024 EA. It
+/// has one live observation, and asks for its time alone.
 struct Office;
 
 impl Known for Office {
