@@ -1,5 +1,5 @@
--- The rules for the lines of a batch, and the rulings on them: the first rule that each line breaks, and the group of each
--- line that is accepted.
+-- The rules for the lines of a batch, and the rulings on them: the first rule that each line breaks, and the group of
+-- each line that is accepted.
 use Rattle.std.specs.Prelude.{ℕ, ◌*◌, ℤ, pos, ◌+ℤ◌, ◌-ℤ◌, unsigned_abs, Bool, true, false, not, ◌&&◌, ◌||◌, ◌==◌, nat_le, nat_lt, int_lt, List, [], ◌∷◌, length, map, filter, filter_map, Option, Some, None, option_map, unwrap_or, is_none, position, Result, Ok, Err, if◌then◌else◌}
 use Rattle.std.specs.List.{list_any}
 use Rattle.std.specs.Option.{option_and_then}
@@ -19,7 +19,9 @@ use Rattle.obs_record.specs.declared.name.TrackName.{TrackName}
 use Rattle.obs_record.specs.declared.name.TrackName.TheVariants as tracks
 use Rattle.obs_record.specs.declared.rule.RuleCode.{RuleCode}
 use Rattle.obs_record.specs.declared.rule.RuleCode.TheVariants.{T1, T2, T3, T4, T5, B1, B2, B3, B4, B5, B6, B7, B8, B9}
-use Rattle.obs_record.specs.Sighting.{name_of}
+use Rattle.obs_record.specs.Short.{kept_short}
+use Rattle.obs_record.specs.declared.short.Short.{Short}
+use Rattle.packed_names.specs.declared.number.Number.{Number}
 use Rattle.station_tables.specs.declared.kind.Kind.TheVariants as kinds
 use Rattle.station_tables.specs.Rows.{TableRows}
 use Rattle.tracklet_file.specs.Observations.{same_station, is_at}
@@ -36,6 +38,17 @@ same_designation (designations.Provisional one) (designations.Provisional other)
 same_designation (designations.Survey survey number) (designations.Survey other_survey other_number) =
     (survey_place survey == survey_place other_survey) && (number == other_number)
 same_designation _ _ = false
+
+-- The name that an observation goes by: the number; where there is none, the designation; and where there is none either, the
+-- temporary designation. Each observation has one of the three, so that the last case is met by none.
+abbrev pub name_among : Option Number → Option Designation → Option Short → TrackName
+name_among (Some number) prov sub = tracks.Number number
+name_among None (Some designation) sub = tracks.Designation designation
+name_among None None (Some short) = tracks.Sub short
+name_among None None None = tracks.Sub (kept_short [])
+
+abbrev pub name_of : Sighting → TrackName
+name_of s = name_among s.perm s.prov s.sub
 
 -- the two go by the same name
 abbrev pub same_track : TrackName → TrackName → Bool
@@ -100,8 +113,8 @@ are_two _ _ = false
 abbrev pub is_of_two_objects : KnownOffice → Sighting → Bool
 is_of_two_objects known s = are_two (object_of known (number_of s)) (object_of known (designation_of s))
 
--- The rules that an observation may break by itself, and beside the earlier ones of its batch that broke none of these, in
--- their order.
+-- The rules that an observation may break by itself, and beside the earlier ones of its batch that broke none of these,
+-- in their order.
 abbrev pub line_rules : KnownOffice → TableRows → ℤ → List Sighting → Sighting → List (Bool × RuleCode)
 line_rules known tables moment earlier s =
     (is_unknown_station (station_serving tables s), T1)
@@ -122,8 +135,10 @@ abbrev pub unless_broken : Sighting → Option RuleCode → Result Sighting Rule
 unless_broken s None = Ok s
 unless_broken s (Some rule) = Err rule
 
-unfoldable pub checked_reading : KnownOffice → TableRows → ℤ → List Sighting → Result Sighting RuleCode → Result Sighting RuleCode
-checked_reading known tables moment earlier (Ok s) = unless_broken s (first_row (line_rules known tables moment earlier s))
+unfoldable pub checked_reading : KnownOffice → TableRows → ℤ → List Sighting → Result Sighting RuleCode
+    → Result Sighting RuleCode
+checked_reading known tables moment earlier (Ok s) =
+    unless_broken s (first_row (line_rules known tables moment earlier s))
 checked_reading known tables moment earlier (Err rule) = Err rule
 
 -- one more that broke no rule
@@ -136,7 +151,8 @@ abbrev pub checked_lines : KnownOffice → TableRows → ℤ → List Sighting �
 checked_lines known tables moment earlier [] = []
 checked_lines known tables moment earlier (line ∷ lines) =
     record line { read = checked_reading known tables moment earlier line.read }
-    ∷ checked_lines known tables moment (with_passed (checked_reading known tables moment earlier line.read) earlier) lines
+    ∷ checked_lines known tables moment
+        (with_passed (checked_reading known tables moment earlier line.read) earlier) lines
 
 -- the observations that these lines have
 abbrev pub passed_in : List Line → List Sighting
@@ -172,15 +188,16 @@ fastest_a_day = 270000000000000
 -- from the first to the second the declination changes by more than 30 degrees a day
 abbrev pub is_too_fast : Sighting → Sighting → Bool
 is_too_fast first second =
-    nat_lt (fastest_a_day * unsigned_abs (second.time -ℤ first.time)) (unsigned_abs (second.dec -ℤ first.dec) * nanos_of_a_day)
+    nat_lt (fastest_a_day * unsigned_abs (second.time -ℤ first.time))
+      (unsigned_abs (second.dec -ℤ first.dec) * nanos_of_a_day)
 
 -- B8: two neighbours in time are too far apart
 abbrev pub has_fast_pair : List Sighting → Bool
 has_fast_pair group =
     list_any (λ first. list_any (λ second. are_neighbours group first second && is_too_fast first second) group) group
 
--- The rules that an observation may break with its group, in their order. B6: it goes by the observer's own name, alone in
--- what B7 leaves of its group; where B8 comes first, none of them is left for B6.
+-- The rules that an observation may break with its group, in their order. B6: it goes by the observer's own name, alone
+-- in what B7 leaves of its group; where B8 comes first, none of them is left for B6.
 abbrev pub group_rules : List Sighting → Sighting → List (Bool × RuleCode)
 group_rules passed s =
     (is_late passed s, B7)
@@ -211,7 +228,8 @@ firsts_after seen (s ∷ rest) =
 abbrev pub firsts_of : List Sighting → List Sighting
 firsts_of passed = firsts_after [] (accepted_of passed)
 
--- the number of a reading's group: the place of its first among the firsts, counted from 0; 0 for a line that isn't accepted
+-- the number of a reading's group: the place of its first among the firsts, counted from 0; 0 for a line that isn't
+-- accepted
 abbrev pub group_among : List Sighting → Option RuleCode → Result Sighting RuleCode → ℕ
 group_among firsts None (Ok s) = unwrap_or (position (same_group s) firsts) 0
 group_among firsts _ _ = 0
@@ -227,8 +245,8 @@ ruling_among passed line =
 abbrev pub rulings_among : List Line → List Ruling
 rulings_among checked = map (ruling_among (passed_in checked)) checked
 
--- The rulings on the lines of a batch that comes at this moment, where the office knows this and these are its tables: one on
--- each line, with the first rule that the line breaks.
+-- The rulings on the lines of a batch that comes at this moment, where the office knows this and these are its tables:
+-- one on each line, with the first rule that the line breaks.
 unfoldable pub batch_rulings : KnownOffice → TableRows → ℤ → List Line → List Ruling
 batch_rulings known tables moment lines = rulings_among (checked_lines known tables moment [] lines)
 

@@ -11,7 +11,7 @@ use Rattle.obs_record.specs.declared.line.Line.{Line}
 use Rattle.obs_record.specs.declared.sighting.Sighting.{Sighting}
 use Rattle.obs_record.specs.declared.rule.RuleCode.{RuleCode}
 use Rattle.obs_record.specs.declared.rule.RuleCode.TheVariants.{B4}
-use Rattle.obs_record.specs.Sighting.{name_of}
+use Rattle.act_model.specs.BatchRules.{name_of}
 use Rattle.station_tables.specs.Rows.{TableRows}
 use Rattle.tracklet_file.specs.Observations.{same_station, is_at}
 use Rattle.act_model.specs.Rows.{first_row}

@@ -4,7 +4,7 @@ use Rattle.obs_record.specs.declared.sighting.Sighting.{Sighting}
 use Rattle.obs_record.specs.declared.name.TrackName.{TrackName}
 use Rattle.obs_record.specs.declared.name.TrackName.TheVariants as tracks
 use Rattle.packed_names.specs.declared.name.Designation.TheVariants as designations
-use Rattle.obs_record.specs.Sighting.{name_of}
+use Rattle.act_model.specs.BatchRules.{name_of}
 use Rattle.tracklet_file.specs.Observations.{same_station}
 use Rattle.act_model.specs.BatchRules.{same_track, same_group}
 use Rattle.batch_rules.specs.contracts.keys.NameKeyPartialEq.TheImpl as name_keys

@@ -7,3 +7,4 @@ mod Transfer
 mod Sorting
 mod Apart
 mod Firsts
+mod Rows

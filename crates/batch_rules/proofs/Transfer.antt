@@ -15,7 +15,7 @@ use Rattle.obs_time.specs.Instants.{nanos_of_a_day}
 use Rattle.obs_record.specs.declared.sighting.Sighting.{Sighting}
 use Rattle.obs_record.specs.declared.rule.RuleCode.{RuleCode}
 use Rattle.obs_record.specs.declared.rule.RuleCode.TheVariants.{B6, B7, B8}
-use Rattle.obs_record.specs.Sighting.{name_of}
+use Rattle.act_model.specs.BatchRules.{name_of}
 use Rattle.act_model.specs.Rows.{first_row}
 use Rattle.act_model.specs.BatchRules.{same_group, is_sub, is_late, is_late_after, left_with, has_fast_pair, group_fault}
 use Rattle.batch_rules.specs.contracts.keys.GroupKeyEq.TheImpl.Laws.{laws-law}

@@ -9,7 +9,7 @@ use Rattle.obs_record.specs.declared.name.TrackName.{TrackName}
 use Rattle.obs_record.specs.declared.name.TrackName.TheVariants as tracks
 use Rattle.obs_record.specs.declared.rule.RuleCode.{RuleCode}
 use Rattle.obs_record.specs.declared.rule.RuleCode.TheVariants.{B6, B7, B8}
-use Rattle.obs_record.specs.Sighting.{name_of}
+use Rattle.act_model.specs.BatchRules.{name_of}
 use Rattle.act_model.specs.Rows.{first_row}
 use Rattle.act_model.specs.BatchRules.{same_group, is_sub, fastest_a_day}
 use Rattle.batch_rules.specs.declared.keys.NameKey.{NameKey}
@@ -33,7 +33,8 @@ abbrev pub is_fast_change : ℤ → ℤ → ℤ → ℤ → Bool
 is_fast_change time dec next_time next_dec =
     nat_lt (fastest_a_day * unsigned_abs (next_time -ℤ time)) (unsigned_abs (next_dec -ℤ dec) * nanos_of_a_day)
 
--- a group with one more observation, later than the others: one that is more than 24 hours after the first is no part of it
+-- a group with one more observation, later than the others: one that is more than 24 hours after the first is no part
+-- of it
 abbrev pub with_later : Option Summary → Sighting → Summary
 with_later None s = record { first = s.time; last = s.time; dec = s.dec; alone = true; fast = false }
 with_later (Some group) s =
@@ -55,7 +56,9 @@ summary (s ∷ earlier) = Some (with_later (summary earlier) s)
 abbrev pub fault_by : Option Summary → Sighting → Option RuleCode
 fault_by None s = first_row ((is_sub (name_of s), B6) ∷ [])
 fault_by (Some group) s =
-    first_row ((int_lt (group.first +ℤ pos nanos_of_a_day) s.time, B7) ∷ (group.fast, B8) ∷ (is_sub (name_of s) && group.alone, B6) ∷ [])
+    first_row (
+    (int_lt (group.first +ℤ pos nanos_of_a_day) s.time, B7) ∷ (group.fast, B8)
+    ∷ (is_sub (name_of s) && group.alone, B6) ∷ [])
 
 -- ---- rulings by the summaries that were found at the keys of groups, and by the keys of groups in their order
 

@@ -56,7 +56,8 @@ pub(crate) fn checked_lines<V: Known>(
     moment: Instant,
     lines: &[Line],
 ) -> Result<Vec<Line>, NoMemory>
-    ensures { IfOk result (λ checked. checked.items ≡ checked_lines (V.office known.now) tables.now moment [] lines.now) }
+    ensures { IfOk result (λ checked.
+        checked.items ≡ checked_lines (V.office known.now) tables.now moment [] lines.now) }
 {
     let mut earlier = Earlier::new(alloc);
     let mut checked = Vec::with_capacity(alloc, lines.len())?;

@@ -7,7 +7,8 @@ ghost use Rattle.act_model.specs.BatchRules.{is_elsewhere, stands_elsewhere};
 
 use crate::names::{same_text, same_track};
 use item_list::NoMemory;
-use obs_record::{Sighting, track_name};
+use crate::names::track_name;
+use obs_record::Sighting;
 use std::alloc::Global;
 use std::marker::Model;
 

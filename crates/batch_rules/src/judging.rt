@@ -63,7 +63,8 @@ fn accepted_among(
     groups: &Groups,
     passed: &[Sighting],
 ) -> Result<Vec<Sighting>, NoMemory>
-    ensures { IfOk result (λ accepted. accepted.items ≡ accepted_by (λ (key : Key). get same_key groups.now key) passed.now) }
+    ensures { IfOk result (λ accepted.
+        accepted.items ≡ accepted_by (λ (key : Key). get same_key groups.now key) passed.now) }
 {
     let mut accepted = Vec::new(alloc);
     for s in passed {
@@ -91,7 +92,8 @@ fn number(
 }
 
 fn ruling(groups: &Groups, firsts: &IndexSet<GroupKey>, line: &Line) -> Result<Ruling, NoMemory>
-    ensures { IfOk result (λ ruling. ruling ≡ ruling_by (λ (key : Key). get same_key groups.now key) firsts.now.keys line.now) }
+    ensures { IfOk result (λ ruling.
+        ruling ≡ ruling_by (λ (key : Key). get same_key groups.now key) firsts.now.keys line.now) }
 {
     let fault = reading_fault(groups, &line.read);
     let group = number(firsts, fault, &line.read)?;
@@ -108,7 +110,8 @@ fn rulings(
     firsts: &IndexSet<GroupKey>,
     checked: &[Line],
 ) -> Result<ItemList<Ruling>, NoMemory>
-    ensures { IfOk result (λ list. list ≡ map (ruling_by (λ (key : Key). get same_key groups.now key) firsts.now.keys) checked.now) }
+    ensures { IfOk result (λ list.
+        list ≡ map (ruling_by (λ (key : Key). get same_key groups.now key) firsts.now.keys) checked.now) }
 {
     let mut list = ItemList::with_capacity(alloc, checked.len())?;
     for line in checked {
@@ -141,8 +144,10 @@ pub fn judge<V: Known>(
     moment: Instant,
     batch: &Lines,
 ) -> Result<Rulings, NoMemory>
-    ensures rulings { IfOk result (λ judged. judged.list ≡ batch_rulings (V.office known.now) tables.now moment batch.now) }
-    ensures groups { IfOk result (λ judged. judged.groups ≡ groups_of (V.office known.now) tables.now moment batch.now) }
+    ensures rulings { IfOk result (λ judged.
+        judged.list ≡ batch_rulings (V.office known.now) tables.now moment batch.now) }
+    ensures groups { IfOk result (λ judged.
+        judged.groups ≡ groups_of (V.office known.now) tables.now moment batch.now) }
 {
     let checked = checked_lines(alloc, tables, known, moment, batch.as_slice())?;
     let passed = passed_in(alloc, checked.as_slice())?;

@@ -4,7 +4,8 @@ ghost use Rattle.std.specs.Prelude.{◌≡◌};
 ghost use Rattle.packed_names.specs.Order.{survey_place};
 ghost use Rattle.batch_rules.specs.Groups.{name_key, group_key};
 
-use obs_record::{Sighting, TrackName, track_name};
+use crate::names::track_name;
+use obs_record::{Sighting, TrackName};
 use packed_names::{Designation, Survey};
 
 /// What tells the names of observations apart.

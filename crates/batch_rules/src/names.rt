@@ -2,7 +2,7 @@
 
 ghost use Rattle.std.specs.Prelude.{◌≡◌};
 ghost use Rattle.tracklet_file.specs.Observations.{same_station};
-ghost use Rattle.act_model.specs.BatchRules.{same_designation, same_track, number_of, designation_of};
+ghost use Rattle.act_model.specs.BatchRules.{name_of, same_designation, same_track, number_of, designation_of};
 
 use obs_record::{Short, Sighting, TrackName};
 use packed_names::{Designation, Name};
@@ -42,6 +42,18 @@ pub(crate) fn same_track(one: TrackName, other: TrackName) -> bool
         }
         (TrackName::Sub(one), TrackName::Sub(other)) => same_text(one, other),
         _ => false,
+    }
+}
+
+/// The name that an observation goes by: its number, else its designation, else its temporary designation, of which one is there.
+pub(crate) fn track_name(s: &Sighting) -> TrackName
+    ensures { result ≡ name_of s.now }
+{
+    match (s.perm, s.prov, s.sub) {
+        (Some(number), _, _) => TrackName::Number(number),
+        (None, Some(designation), _) => TrackName::Designation(designation),
+        (None, None, Some(short)) => TrackName::Sub(short),
+        (None, None, None) => TrackName::Sub(Short::new(&[])),
     }
 }
 

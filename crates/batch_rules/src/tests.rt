@@ -1,0 +1,272 @@
+ghost use Rattle.std.specs.Prelude.{◌≡◌};
+ghost use Rattle.batch_rules.specs.Memory.{order_of_2024, memory_office};
+
+use super::*;
+use act_model::Known;
+use angle_fixed::{Dec, Ra};
+use item_list::{ItemList, NoMemory};
+use obs_record::{Coded, Line, Lines, RuleCode, Shape, Short, Sighting};
+use obs_time::Instant;
+use packed_names::{Designation, HalfMonth, Name, Number, Provisional};
+use station_tables::Tables;
+use std::alloc::{AllocError, Global};
+use std::test::Fail;
+
+const DAY: i64 = 86_400_000_000_000;
+
+const HOUR: i64 = 3_600_000_000_000;
+
+/// 30 degrees of declination.
+const THIRTY: i64 = 270_000_000_000_000;
+
+// Nanoseconds since 1970-01-01 of the beginnings of 1925, of 2024-03-15 and of 2100.
+const FROM_1925: i64 = -1_420_070_400_000_000_000;
+
+const NIGHT: i64 = 1_710_460_800_000_000_000;
+
+const FROM_2100: i64 = 4_102_444_800_000_000_000;
+
+// Days since 1970-01-01 of 1900-01-01 and 2199-12-31.
+const FROM: i32 = -25_567;
+
+const TO: i32 = 84_005;
+
+/// 2024 E with this order.
+fn designation(order: u32) -> Designation
+    ensures { result ≡ order_of_2024 order }
+{
+    Designation::Provisional(Provisional {
+        half: HalfMonth {
+            year: 2024,
+            index: 4,
+        },
+        order,
+    })
+}
+
+// The time of the office's live observation.
+const LIVE: i64 = 1_600_000_000_000_000_000;
+
+/// An office that gave 2024 EA and 2024 EB, each the principal designation of its object, and number 1 to 2024 EA. It
+/// has one live observation, and asks for its time alone.
+struct Office;
+
+impl Known for Office {
+    ghost office = { λ o. memory_office };
+
+    fn has_live(&self, _station: Short, time: Instant, _ra: Ra, _dec: Dec) -> bool {
+        time.ns() == LIVE
+    }
+
+    fn stands_for(&self, name: Name) -> Option<Designation> {
+        match name {
+            Name::Number(number) if number.0 == 1 => Some(designation(1)),
+            Name::Number(_) => None,
+            Name::Designation(Designation::Provisional(p)) if p.order <= 2 => {
+                Some(Designation::Provisional(p))
+            }
+            Name::Designation(_) => None,
+        }
+    }
+
+    fn principal(&self, d: Designation) -> Option<Designation> {
+        Some(d)
+    }
+}
+
+// Who is observed: the observer's own names, designations, and numbers with designations.
+#[derive(Clone, Copy)]
+enum Who {
+    Sub(u8),
+    Order(u32),
+    Both(u32, u32),
+}
+
+fn seen(who: Who, station: &[u8], time: i64, dec: i64) -> Option<Sighting> {
+    let (perm, prov, sub) = match who {
+        Who::Sub(byte) => (None, None, Some(Short::new(&[byte]))),
+        Who::Order(order) => (None, Some(designation(order)), None),
+        Who::Both(number, order) => (Some(Number(number)), Some(designation(order)), None),
+    };
+    let time = Instant::new(time)?;
+    let ra = Ra::new(5)?;
+    let dec = Dec::new(dec)?;
+    Some(Sighting {
+        perm,
+        prov,
+        sub,
+        station: Short::new(station),
+        time,
+        ra,
+        dec,
+        mag: None,
+        band: Coded::Nothing,
+        mode: Coded::Nothing,
+        catalogue: Coded::Nothing,
+        note1: b' ',
+        shape: Shape::Psv { mag: 0 },
+    })
+}
+
+// A line of a batch: who, where, when, at which declination, and the rule that it breaks.
+type Row = (Who, &'static [u8], i64, i64, Option<RuleCode>);
+
+fn lines(alloc: Global, rows: &[Row]) -> Result<Lines, NoMemory> {
+    let mut lines = ItemList::new(alloc);
+    for (who, station, time, dec, _fault) in rows {
+        let Some(s) = seen(*who, station, *time, *dec) else {
+            return Err(AllocError);
+        };
+        lines.push(Line {
+            number: 1,
+            read: Ok(s),
+        })?;
+    }
+    Ok(lines)
+}
+
+fn tables(alloc: Global) -> Result<Tables, NoMemory> {
+    let mut tables = Tables::new(alloc)?;
+    for code in [*b"703", *b"W84"] {
+        if tables.overlaps(code, FROM, TO) {
+            return Err(AllocError);
+        }
+        tables = tables.with_station(code, FROM, TO)?;
+    }
+    Ok(tables)
+}
+
+// Whether the lines break the rules beside them, in a batch that comes a day and an hour after midnight.
+fn breaks(alloc: Global, tables: &Tables, moment: Instant, rows: &[Row]) -> Result<bool, NoMemory> {
+    let batch = lines(alloc, rows)?;
+    let rulings = judge(alloc, tables, &Office, moment, &batch)?;
+    let same = rulings
+        .as_slice()
+        .iter()
+        .zip(rows)
+        .all(|(ruling, row)| ruling.fault == row.4);
+    Ok(same && rulings.len() == rows.len() as u64)
+}
+
+const A: Who = Who::Sub(b'A');
+
+const B: Who = Who::Sub(b'B');
+
+const S703: &[u8] = b"703";
+
+const W84: &[u8] = b"W84";
+
+const BATCHES: &[&[Row]] = &[
+    // One line under the observer's own name, and two; from two stations.
+    &[(A, S703, NIGHT, 0, Some(RuleCode::B6))],
+    &[(A, S703, NIGHT, 0, None), (A, S703, NIGHT + HOUR, 0, None)],
+    &[
+        (A, S703, NIGHT, 0, Some(RuleCode::B6)),
+        (A, W84, NIGHT + HOUR, 0, Some(RuleCode::B6)),
+    ],
+    // One line under a designation, given or not.
+    &[(Who::Order(2), S703, NIGHT, 0, None)],
+    &[(Who::Order(3), S703, NIGHT, 0, Some(RuleCode::B3))],
+    // A number with its own designation, with another one, and with one that wasn't given.
+    &[(Who::Both(1, 1), S703, NIGHT, 0, None)],
+    &[(Who::Both(1, 2), S703, NIGHT, 0, Some(RuleCode::B9))],
+    &[(Who::Both(1, 3), S703, NIGHT, 0, Some(RuleCode::B3))],
+    // 24 hours and a nanosecond more; 25 hours; the middle one of three.
+    &[(A, S703, NIGHT + DAY, 0, None), (A, S703, NIGHT, 0, None)],
+    &[
+        (A, S703, NIGHT + DAY + 1, 0, Some(RuleCode::B7)),
+        (A, S703, NIGHT, 0, Some(RuleCode::B6)),
+    ],
+    &[
+        (A, S703, NIGHT, 0, None),
+        (A, S703, NIGHT + DAY + HOUR, 0, Some(RuleCode::B7)),
+        (A, S703, NIGHT + HOUR, 0, None),
+    ],
+    // 30 degrees in 24 hours and a unit more: all of the group break it.
+    &[
+        (A, S703, NIGHT, 0, None),
+        (A, S703, NIGHT + DAY, THIRTY, None),
+    ],
+    &[
+        (A, S703, NIGHT, 0, Some(RuleCode::B8)),
+        (A, S703, NIGHT + DAY, THIRTY + 1, Some(RuleCode::B8)),
+    ],
+    &[
+        (A, S703, NIGHT, 0, Some(RuleCode::B8)),
+        (A, S703, NIGHT + HOUR, 0, Some(RuleCode::B8)),
+        (A, S703, NIGHT + HOUR + 1, 400, Some(RuleCode::B8)),
+    ],
+    // The years 1924 and 1925, 2099 and 2100; the moment and a nanosecond after.
+    &[(Who::Order(1), S703, FROM_1925 - 1, 0, Some(RuleCode::B2))],
+    &[(Who::Order(1), S703, FROM_1925, 0, None)],
+    &[(Who::Order(1), S703, FROM_2100 - 1, 0, None)],
+    &[(Who::Order(1), S703, FROM_2100, 0, Some(RuleCode::B2))],
+    &[(Who::Order(1), S703, FROM_2100 + DAY, 0, Some(RuleCode::B2))],
+    &[(
+        Who::Order(1),
+        S703,
+        FROM_2100 + DAY + 1,
+        0,
+        Some(RuleCode::B1),
+    )],
+    // A live observation; one time and position under two names; another position under one name.
+    &[(Who::Order(1), S703, LIVE, 0, Some(RuleCode::B4))],
+    &[
+        (Who::Order(1), S703, NIGHT, 0, None),
+        (Who::Order(2), S703, NIGHT, 0, Some(RuleCode::B4)),
+    ],
+    &[
+        (Who::Order(1), S703, NIGHT, 0, None),
+        (Who::Order(1), S703, NIGHT, 1, Some(RuleCode::B5)),
+    ],
+    // Beside a line that is refused by a rule up to B9, and beside one that B6 refuses.
+    &[
+        (Who::Order(3), S703, NIGHT, 0, Some(RuleCode::B3)),
+        (Who::Order(1), S703, NIGHT, 0, None),
+    ],
+    &[
+        (B, S703, NIGHT, 0, Some(RuleCode::B6)),
+        (B, S703, NIGHT, 1, Some(RuleCode::B5)),
+    ],
+    // A station without a row.
+    &[(A, b"W85", NIGHT, 0, Some(RuleCode::T1))],
+];
+
+#[test]
+fn rules_at_their_edges(rt: HostRuntime) -> Result<(), Fail> {
+    let tables = tables(rt.alloc())?;
+    let moment = Instant::new(FROM_2100 + DAY);
+    for (place, rows) in BATCHES.iter().enumerate() {
+        if let Some(moment) = moment {
+            assert!(rt; breaks(rt.alloc(), &tables, moment, rows)?, "batch {place}");
+        }
+    }
+    Ok(())
+}
+
+// Groups that alternate, with a refused line before them.
+fn groups(alloc: Global, tables: &Tables) -> Result<(u32, [Option<u32>; 4]), NoMemory> {
+    let rows = [
+        (Who::Order(3), S703, NIGHT, 0, None),
+        (Who::Order(2), S703, NIGHT, 1, None),
+        (Who::Order(1), S703, NIGHT, 2, None),
+        (Who::Order(2), S703, NIGHT + 1, 1, None),
+    ];
+    let batch = lines(alloc, &rows)?;
+    let Some(moment) = Instant::new(FROM_2100) else {
+        return Err(AllocError);
+    };
+    let rulings = judge(alloc, tables, &Office, moment, &batch)?;
+    let of = |place: usize| rulings.as_slice().get(place).map(|ruling| ruling.group);
+    Ok((rulings.groups(), [of(0), of(1), of(2), of(3)]))
+}
+
+#[test]
+fn groups_by_their_first_accepted_lines(rt: HostRuntime) -> Result<(), Fail> {
+    let tables = tables(rt.alloc())?;
+    assert_eq!(rt;
+        groups(rt.alloc(), &tables)?,
+        (2, [Some(0), Some(0), Some(1), Some(0)])
+    );
+    Ok(())
+}
