@@ -152,7 +152,7 @@ checked_lines known tables moment earlier [] = []
 checked_lines known tables moment earlier (line ∷ lines) =
     record line { read = checked_reading known tables moment earlier line.read }
     ∷ checked_lines known tables moment
-        (with_passed (checked_reading known tables moment earlier line.read) earlier) lines
+    (with_passed (checked_reading known tables moment earlier line.read) earlier) lines
 
 -- the observations that these lines have
 abbrev pub passed_in : List Line → List Sighting
@@ -189,7 +189,7 @@ fastest_a_day = 270000000000000
 abbrev pub is_too_fast : Sighting → Sighting → Bool
 is_too_fast first second =
     nat_lt (fastest_a_day * unsigned_abs (second.time -ℤ first.time))
-      (unsigned_abs (second.dec -ℤ first.dec) * nanos_of_a_day)
+    (unsigned_abs (second.dec -ℤ first.dec) * nanos_of_a_day)
 
 -- B8: two neighbours in time are too far apart
 abbrev pub has_fast_pair : List Sighting → Bool

@@ -5,9 +5,8 @@ ghost use Rattle.std.specs.List.{list_any};
 ghost use Rattle.tracklet_file.specs.Observations.{is_at};
 ghost use Rattle.act_model.specs.BatchRules.{is_elsewhere, stands_elsewhere};
 
-use crate::names::{same_text, same_track};
+use crate::names::{same_text, same_track, track_name};
 use item_list::NoMemory;
-use crate::names::track_name;
 use obs_record::Sighting;
 use std::alloc::Global;
 use std::marker::Model;
