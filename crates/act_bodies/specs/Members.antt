@@ -6,7 +6,7 @@ use Rattle.std.specs.Result.{result_ok}
 use Rattle.std.specs.Str.{is_utf8}
 use Rattle.serde_json.specs.Data.{Data}
 use Rattle.serde_json.specs.Read.{read}
-use Rattle.serde_json.specs.Find.{get, as_str, as_object}
+use Rattle.serde_json.specs.Find.{get, as_str, as_object, as_number, as_u64}
 use Rattle.serde_json.specs.Events.{members_len}
 use Rattle.ascii_text.specs.Reading.{◌>>=◌}
 use Rattle.obs_time.specs.DateText.{date_of}
@@ -34,6 +34,10 @@ object_of count bytes = value_of bytes >>= λ value. if has_members count value 
 -- the text of a member that is a string
 abbrev pub text_in : List ℕ → Data → Option (List ℕ)
 text_in name value = option_and_then as_str (get name value)
+
+-- the number of a member that is a whole number, given without sign, point and exponent
+abbrev pub number_in : List ℕ → Data → Option ℕ
+number_in name value = option_and_then (λ found. option_and_then as_u64 (as_number found)) (get name value)
 
 -- a printable character, a blank included
 abbrev pub is_printable : ℕ → Bool

@@ -3,7 +3,7 @@
 ghost use Rattle.std.specs.Prelude.{◌≡◌, ◌||◌, ◌==◌, Some, None, IfOk, option_map};
 ghost use Rattle.std.specs.List.{list_all};
 ghost use Rattle.serde_json.specs.View.{view};
-ghost use Rattle.act_bodies.specs.Members.{value_of, has_members, object_of, text_in, is_printable, is_alphanumeric, is_name, name_in};
+ghost use Rattle.act_bodies.specs.Members.{value_of, has_members, object_of, text_in, number_in, is_printable, is_alphanumeric, is_name, name_in};
 
 use crate::fault::BodyFault;
 use serde_json::Value;
@@ -52,6 +52,16 @@ pub(crate) fn text_in<'v>(name: &str, value: &'v Value) -> Option<&'v [u8]>
 {
     match value.get(name).and_then(Value::as_str) {
         Some(text) => Some(text.as_bytes()),
+        None => None,
+    }
+}
+
+/// The number of a member that is a whole number.
+pub(crate) fn number_in(name: &str, value: &Value) -> Option<u64>
+    ensures { result ≡ number_in name.now (view value.now) }
+{
+    match value.get(name) {
+        Some(found) => found.as_u64(),
         None => None,
     }
 }

@@ -5,9 +5,8 @@ use Rattle.act_bodies.specs.declared.key.Key.{Key}
 use Rattle.act_model.specs.declared.deed.Deed.{Deed}
 use Rattle.act_model.specs.declared.entry.Entry.{Entry}
 use Rattle.act_model.specs.declared.heard.Heard.{Heard}
-use Rattle.act_model.specs.declared.reply.Part.TheVariants as part
 use Rattle.act_model.specs.declared.reply.Refusal.{Refusal}
-use Rattle.act_model.specs.declared.reply.Refusal.TheVariants.{Unread, NoMemory}
+use Rattle.act_model.specs.declared.reply.Refusal.TheVariants.{NoMemory}
 use Rattle.act_model.specs.declared.reply.Reply.{Reply}
 use Rattle.act_model.specs.declared.reply.Reply.TheVariants.{Done, Refused}
 use Rattle.act_model.specs.declared.request.Body.{Body}
@@ -19,8 +18,9 @@ use Rattle.act_model.specs.Roster.{members}
 use Rattle.act_model.specs.Deeds.{deeds}
 use Rattle.act_model.specs.History.{Kept, kept, next_moment, IsUnused, EachNumberOnce}
 use Rattle.act_model.specs.Replies.{entry_answer}
-use Rattle.act_model.specs.Refusals.{bytes_in, hear, work_out}
-use Rattle.act_model.specs.Step.{Outcome, Refuses, Keeps, Adds, step, outcome, after, unless_unheard, heard_step, unless_kept, unless_refused, new_entry}
+use Rattle.act_model.specs.Hearing.{bytes_in, hear}
+use Rattle.act_model.specs.Refusals.{work_out}
+use Rattle.act_model.specs.Step.{Outcome, Refuses, Keeps, Tells, Adds, step, outcome, after, unless_unheard, heard_step, query_step, query_in, told, tells, unless_kept, unless_refused, new_entry}
 use Rattle.act_model.specs.Turns.{Turn, Answers, IsTurn, Conduct}
 use Rattle.act_model.specs.Conducts.{Extends, HadMemory, IsStepped}
 
@@ -36,13 +36,14 @@ was_heard (Ok o) e is = ap (λ (o : Outcome). Ok o) is
 was_heard (Err r) e is = absurd cc
 
 -- an outcome that adds an entry adds that of an act whose number was not used, and which nothing refuses
-acted : (act : Bool) (used : Option Kept) (heard : Heard) (bytes : List ℕ) (work : Result Deed Refusal) (new e : Entry) (r : Refusal)
-    → cond act (unless_kept used heard bytes (unless_refused work new)) (Refuses r) ≡ Adds e
+acted : (act : Bool) (used : Option Kept) (heard : Heard) (bytes : List ℕ) (work : Result Deed Refusal) (new e : Entry) (query : Result (List ℕ) Refusal)
+    → cond act (unless_kept used heard bytes (unless_refused work new)) (tells query) ≡ Adds e
     → (act ≡ true) × (used ≡ None) × ((deed : Deed) × (work ≡ Ok deed)) × (e ≡ new)
-acted true None heard bytes (Ok deed) new e r is = (refl, refl, (deed, refl), cc)
-acted true None heard bytes (Err x) new e r is = absurd cc
-acted true (Some k) heard bytes work new e r is = absurd cc
-acted false used heard bytes work new e r is = absurd cc
+acted true None heard bytes (Ok deed) new e query is = (refl, refl, (deed, refl), cc)
+acted true None heard bytes (Err x) new e query is = absurd cc
+acted true (Some k) heard bytes work new e query is = absurd cc
+acted false used heard bytes work new e (Ok text) is = absurd cc
+acted false used heard bytes work new e (Err r) is = absurd cc
 
 -- the request adds this entry: its bytes, what was heard of it, and the deed that it does
 pub record Added (founder : Key) (past : List Entry) (q : Request) (t : ℤ) (e : Entry) : Type 0 where
@@ -53,7 +54,7 @@ pub record Added (founder : Key) (past : List Entry) (q : Request) (t : ℤ) (e 
   pub hears : hear founder (members (deeds past)) q bytes ≡ Ok heard
   pub act : is_act heard.verb ≡ true
   pub unused : kept past heard.caller.number heard.number ≡ None
-  pub works : work_out (deeds past) (next_moment past t) heard ≡ Ok deed
+  pub works : work_out past (next_moment past t) heard ≡ Ok deed
   pub entry : e ≡ new_entry heard bytes (next_moment past t)
 
 -- what was found
@@ -79,7 +80,7 @@ module _ (founder : Key) (past : List Entry) (q : Request) (t : ℤ) where
   added_by e (bytes, body, rest) =
       let (heard, hears, last) = bound (hear founder (members (deeds past)) q bytes) (heard_outcome bytes) (Adds e) rest in
       let (act, unused, (deed, works), entry) =
-      acted (is_act heard.verb) (kept past heard.caller.number heard.number) heard bytes (work_out (deeds past) (next_moment past t) heard) (new_entry heard bytes (next_moment past t)) e (Unread part.Verb) (ok_is (heard_step past heard bytes (next_moment past t)) (Adds e) last) in
+      acted (is_act heard.verb) (kept past heard.caller.number heard.number) heard bytes (work_out past (next_moment past t) heard) (new_entry heard bytes (next_moment past t)) e (query_in heard.asked >>= told past heard.caller.number) (ok_is (heard_step past heard bytes (next_moment past t)) (Adds e) last) in
       record { bytes = bytes; heard = heard; deed = deed; body = body; hears = hears; act = act; unused = unused; works = works; entry = entry }
 
   pub adds : (e : Entry) → outcome founder past q t ≡ Adds e → Added founder past q t e
@@ -87,13 +88,13 @@ module _ (founder : Key) (past : List Entry) (q : Request) (t : ℤ) where
 
   -- and what is heard, not used and not refused is added
   pub adds_again : (bytes : List ℕ) (heard : Heard) (deed : Deed) → bytes_in q.body ≡ Ok bytes → hear founder (members (deeds past)) q bytes ≡ Ok heard → is_act heard.verb ≡ true
-      → kept past heard.caller.number heard.number ≡ None → work_out (deeds past) (next_moment past t) heard ≡ Ok deed → outcome founder past q t ≡ Adds (new_entry heard bytes (next_moment past t))
+      → kept past heard.caller.number heard.number ≡ None → work_out past (next_moment past t) heard ≡ Ok deed → outcome founder past q t ≡ Adds (new_entry heard bytes (next_moment past t))
   adds_again bytes heard deed body hears act unused works =
       outcome_is
       ∙ ap (λ (x : Result (List ℕ) Refusal). unless_unheard (x >>= hearing)) body
       ∙ ap (λ (x : Result Heard Refusal). unless_unheard (x >>= heard_outcome bytes)) hears
-      ∙ ap (λ (b : Bool). cond b (unless_kept (kept past heard.caller.number heard.number) heard bytes (unless_refused (work_out (deeds past) (next_moment past t) heard) (new_entry heard bytes (next_moment past t)))) (Refuses (Unread part.Verb))) act
-      ∙ ap (λ (k : Option Kept). unless_kept k heard bytes (unless_refused (work_out (deeds past) (next_moment past t) heard) (new_entry heard bytes (next_moment past t)))) unused
+      ∙ ap (λ (b : Bool). cond b (unless_kept (kept past heard.caller.number heard.number) heard bytes (unless_refused (work_out past (next_moment past t) heard) (new_entry heard bytes (next_moment past t)))) (query_step past heard)) act
+      ∙ ap (λ (k : Option Kept). unless_kept k heard bytes (unless_refused (work_out past (next_moment past t) heard) (new_entry heard bytes (next_moment past t)))) unused
       ∙ ap (λ (w : Result Deed Refusal). unless_refused w (new_entry heard bytes (next_moment past t))) works
 
   -- a number that was used keeps its reply
@@ -103,8 +104,8 @@ module _ (founder : Key) (past : List Entry) (q : Request) (t : ℤ) where
       outcome_is
       ∙ ap (λ (x : Result (List ℕ) Refusal). unless_unheard (x >>= hearing)) body
       ∙ ap (λ (x : Result Heard Refusal). unless_unheard (x >>= heard_outcome bytes)) hears
-      ∙ ap (λ (b : Bool). cond b (unless_kept (kept past heard.caller.number heard.number) heard bytes (unless_refused (work_out (deeds past) (next_moment past t) heard) (new_entry heard bytes (next_moment past t)))) (Refuses (Unread part.Verb))) act
-      ∙ ap (λ (k : Option Kept). unless_kept k heard bytes (unless_refused (work_out (deeds past) (next_moment past t) heard) (new_entry heard bytes (next_moment past t)))) used
+      ∙ ap (λ (b : Bool). cond b (unless_kept (kept past heard.caller.number heard.number) heard bytes (unless_refused (work_out past (next_moment past t) heard) (new_entry heard bytes (next_moment past t)))) (query_step past heard)) act
+      ∙ ap (λ (k : Option Kept). unless_kept k heard bytes (unless_refused (work_out past (next_moment past t) heard) (new_entry heard bytes (next_moment past t)))) used
 
   -- the step by its outcome
   pub step_is : step founder past q t ≡ after past (outcome founder past q t)
@@ -127,11 +128,13 @@ Makes past o reply next = (next ≡ past) ⊎ ((e : Entry) × (o ≡ Adds e) × 
 makes : (past : List Entry) (o : Outcome) (reply : Reply) (next : List Entry) → after past o ≡ (reply, next) → Makes past o reply next
 makes past (Refuses r) reply next is = inl (sym (ap (λ (p : Reply × List Entry). p.1) is))
 makes past (Keeps kept) reply next is = inl (sym (ap (λ (p : Reply × List Entry). p.1) is))
+makes past (Tells text) reply next is = inl (sym (ap (λ (p : Reply × List Entry). p.1) is))
 makes past (Adds e) reply next is = inr (e, refl, sym (ap (λ (p : Reply × List Entry). p.0) is), sym (ap (λ (p : Reply × List Entry). p.1) is))
 
 refused_leaves : (past : List Entry) (o : Outcome) (r : Refusal) (next : List Entry) → after past o ≡ (Refused r, next) → next ≡ past
 refused_leaves past (Refuses x) r next is = sym (ap (λ (p : Reply × List Entry). p.1) is)
 refused_leaves past (Keeps kept) r next is = sym (ap (λ (p : Reply × List Entry). p.1) is)
+refused_leaves past (Tells text) r next is = sym (ap (λ (p : Reply × List Entry). p.1) is)
 refused_leaves past (Adds e) r next is = let reply = ap (λ (p : Reply × List Entry). p.0) is in absurd cc
 
 module _ (founder : Key) where

@@ -11,12 +11,18 @@ use Rattle.act_bodies.specs.declared.code.Code.{Code as CodeBody}
 use Rattle.act_bodies.specs.declared.enrol.Enrol.{Enrol as EnrolBody}
 use Rattle.act_bodies.specs.declared.station.Station.{Station as StationBody}
 use Rattle.act_bodies.specs.declared.key.Key.{Key}
-use Rattle.act_bodies.specs.Bodies.{enrol_of, station_of, code_of}
+use Rattle.act_bodies.specs.declared.enrol.Rank.{Rank}
+use Rattle.act_bodies.specs.declared.retract.Retract.{Retract as RetractBody}
+use Rattle.act_bodies.specs.Bodies.{enrol_of, station_of, code_of, retract_of}
 use Rattle.act_bodies.specs.Keys.{key_text, begins_with_plus}
-use Rattle.station_tables.specs.Rows.{TableRows}
+use Rattle.station_tables.specs.Stations.{overlaps}
+use Rattle.station_tables.specs.Codes.{has_code}
+use Rattle.col80_format.specs.Batch.{lines_of}
 use Rattle.ades_psv.specs.Batch.{psv_lines_of}
+use Rattle.act_model.specs.declared.act.Act.{Act}
+use Rattle.act_model.specs.declared.act.Act.TheVariants as act
 use Rattle.act_model.specs.declared.deed.Deed.{Deed}
-use Rattle.act_model.specs.declared.deed.Deed.TheVariants.{Enrolled, Stationed, Coded, Submitted, Nothing}
+use Rattle.act_model.specs.declared.deed.Deed.TheVariants.{Enrolled, Stationed, Coded, Submitted, Retracted, Nothing}
 use Rattle.act_model.specs.declared.entry.Entry.{Entry}
 use Rattle.act_model.specs.declared.reply.Refusal.{Refusal}
 use Rattle.act_model.specs.declared.reply.Refusal.TheVariants.{OtherRequest}
@@ -24,23 +30,27 @@ use Rattle.act_model.specs.declared.reply.Reply.{Reply}
 use Rattle.act_model.specs.declared.reply.Reply.TheVariants.{Done, Refused}
 use Rattle.act_model.specs.declared.request.Request.{Request}
 use Rattle.act_model.specs.declared.request.Verb.{Verb}
-use Rattle.act_model.specs.declared.request.Verb.TheVariants.{Enrol, Station, Code, Submit80, SubmitPsv, Unknown}
+use Rattle.act_model.specs.declared.request.Verb.TheVariants.{Enrol, Station, Code, Submit80, SubmitPsv, Retract, Receipt, Tally, Unknown}
 use Rattle.act_model.specs.declared.roster.Caller.{Caller}
 use Rattle.act_model.specs.declared.roster.Member.{Member}
 use Rattle.act_model.specs.Requests.{verb_code, is_act}
-use Rattle.act_model.specs.Acts.{read_as, enrol_act, station_act, code_act, psv_act, act_of}
+use Rattle.act_model.specs.Acts.{read_as, enrol_act, station_act, code_act, retract_act, psv_act, act_of}
+use Rattle.act_model.specs.OfficeTables.{tables_of}
+use Rattle.act_model.specs.Holdings.{holdings}
+use Rattle.act_model.specs.Doing.{enrol_rows, row_rows, batch_rows, retract_rows, taken_after, does}
 use Rattle.act_model.specs.Roster.{members, with_enrolled, caller_of, key_at}
-use Rattle.act_model.specs.Deeds.{done_if_read, deed_of, deeds}
+use Rattle.act_model.specs.Deeds.{unless_refused_deed, done_if_read, deed_of, deeds}
 use Rattle.act_model.specs.History.{Kept, kept, next_moment, next_receipt, is_numbered, IsUnused, EachNumberOnce}
-use Rattle.act_model.specs.Refusals.{bytes_in, asked_in, hear, work_out, deed_rows}
-use Rattle.act_model.specs.Rows.{first_row}
+use Rattle.act_model.specs.Hearing.{bytes_in, asked_of, hear}
+use Rattle.act_model.specs.Refusals.{work_out}
+use Rattle.act_model.specs.Rows.{first_row, unless}
 use Rattle.act_model.specs.Replies.{entry_answer}
 use Rattle.act_model.specs.Step.{Outcome, Adds, step, outcome, after, new_entry, kept_reply}
 use Rattle.act_model.specs.Turns.{Turn, TakesReading, Answers, IsTurn, Conduct}
 use Rattle.act_model.specs.Conducts.{Extends}
 use Rattle.act_model.specs.Legal.{entry_request, IsAdded, IsLegal}
 use Rattle.act_model.proofs.Callers.{ArePlain, caller_again, caller_stays, caller_under}
-use Rattle.act_model.proofs.Conducts.{Added, adds, adds_again, keeps, step_is, Makes, step_makes, conduct_more}
+use Rattle.act_model.proofs.Conducts.{ok_is, Added, adds, adds_again, keeps, step_is, Makes, step_makes, conduct_more}
 use Rattle.act_model.proofs.Hearing.{hears, hear_again, whole_again, number_some, worked, deed_is}
 
 -- ---- moments
@@ -102,7 +112,7 @@ module _ (founder : Key) (past : List Entry) (q : Request) (t : ℤ) (e : Entry)
   added_for founder' q' t' body verb number caller moment =
       let h = hears founder (members (deeds past)) q a.bytes a.heard a.hears in
       let again : hear founder' (members (deeds past)) q' a.bytes ≡ Ok a.heard = hear_again founder (members (deeds past)) q a.bytes a.heard h founder' (members (deeds past)) q' verb number caller in
-      let works : work_out (deeds past) (next_moment past t') a.heard ≡ Ok a.deed = ap (λ (m : ℤ). work_out (deeds past) m a.heard) moment ∙ a.works in
+      let works : work_out past (next_moment past t') a.heard ≡ Ok a.deed = ap (λ (m : ℤ). work_out past m a.heard) moment ∙ a.works in
       adds_again founder' past q' t' a.bytes a.heard a.deed body again a.act a.unused works
       ∙ ap (λ (m : ℤ). Adds (new_entry a.heard a.bytes m)) moment
       ∙ ap (λ (x : Entry). Adds x) (sym a.entry)
@@ -111,7 +121,7 @@ module _ (founder : Key) (past : List Entry) (q : Request) (t : ℤ) (e : Entry)
   deed_added : deed_of (deeds past) e ≡ a.deed
   deed_added =
       let h = hears founder (members (deeds past)) q a.bytes a.heard a.hears in
-      ap (deed_of (deeds past)) a.entry ∙ deed_is a.bytes a.heard (deeds past) (next_moment past t) a.deed (ap (λ (v : Verb). asked_in (act_of v a.bytes)) h.verb ∙ h.asked) a.works
+      ap (deed_of (deeds past)) a.entry ∙ deed_is a.bytes a.heard past (next_moment past t) a.deed (ap (λ (v : Verb). asked_of v a.bytes) h.verb ∙ h.asked) a.works
 
   caller_is : e.caller ≡ a.heard.caller.number
   caller_is = ap (λ (x : Entry). x.caller) a.entry
@@ -246,23 +256,38 @@ first_false : (b : Bool) (x : Refusal) (rest : Option Refusal) → cond b (Some 
 first_false true x rest none = absurd cc
 first_false false x rest none = refl
 
--- a deed that nothing refuses takes nobody's place
-deed_keeps_callers : (founder : Key) (enrolled : List Member) (tables : TableRows) (deed : Deed) (key : Key) (caller : Caller) → first_row (deed_rows enrolled tables deed) ≡ None
-    → caller_of founder enrolled key ≡ Some caller → caller_of founder (with_enrolled deed enrolled) key ≡ Some caller
-deed_keeps_callers founder enrolled tables (Enrolled member) key caller none found = caller_stays founder enrolled member key caller (first_false _ _ _ none) found
-deed_keeps_callers founder enrolled tables (Stationed code from to) key caller none found = found
-deed_keeps_callers founder enrolled tables (Coded kind letter word) key caller none found = found
-deed_keeps_callers founder enrolled tables (Submitted lines rulings) key caller none found = found
-deed_keeps_callers founder enrolled tables Nothing key caller none found = found
+-- the deed is the one that is done where nothing refuses it
+same_deed : (o : Option Refusal) (done deed : Deed) → unless o (Ok done) ≡ Ok deed → (o ≡ None) × (done ≡ deed)
+same_deed None done deed is = (refl, ok_is done deed is)
+same_deed (Some r) done deed is = absurd cc
+
+module _ (founder : Key) (past : List Deed) (moment : ℤ) (key : Key) (caller : Caller) (found : caller_of founder (members past) key ≡ Some caller) where
+  abbrev keeps_caller : Deed → Type 0
+  keeps_caller deed = caller_of founder (with_enrolled deed (members past)) key ≡ Some caller
+
+  by_deed : (o : Option Refusal) (done deed : Deed) → keeps_caller done → unless o (Ok done) ≡ Ok deed → keeps_caller deed
+  by_deed o done deed keeps is = subst keeps_caller (same_deed o done deed is).1 keeps
+
+  -- what an act does takes nobody's place
+  deed_keeps_callers : (a : Act) (deed : Deed) → does past moment a ≡ Ok deed → keeps_caller deed
+  unfolding does
+  deed_keeps_callers (act.Enrol k name role) deed is =
+      let done = same_deed (first_row (enrol_rows (members past) k)) (Enrolled (record { key = k; rank = role })) deed is in
+      subst keeps_caller done.1 (caller_stays founder (members past) (record { key = k; rank = role }) key caller (first_false _ _ _ done.0) found)
+  deed_keeps_callers (act.Station code name from to) deed is = by_deed (first_row (row_rows (overlaps (tables_of past).stations code from to))) (Stationed code from to) deed found is
+  deed_keeps_callers (act.Code kind letter word) deed is = by_deed (first_row (row_rows (has_code (tables_of past).codes kind letter word))) (Coded kind letter word) deed found is
+  deed_keeps_callers (act.Submit80 lines) deed is = by_deed (first_row (batch_rows (taken_after past moment lines))) (Submitted (taken_after past moment lines)) deed found is
+  deed_keeps_callers (act.SubmitPsv lines) deed is = by_deed (first_row (batch_rows (taken_after past moment lines))) (Submitted (taken_after past moment lines)) deed found is
+  deed_keeps_callers (act.Retract k) deed is = by_deed (first_row (retract_rows (holdings past).observations k)) (Retracted k) deed found is
 
 module _ (founder : Key) where
   added_callers : (past : List Entry) (e : Entry) (key : Key) (caller : Caller) → IsAdded founder past e → caller_of founder (members (deeds past)) key ≡ Some caller → caller_of founder (members (deeds (e ∷ past))) key ≡ Some caller
   added_callers past e key caller is found =
       let request : Request = entry_request founder past e in
       let a = added founder past e is in
-      let w = worked (deeds past) (next_moment past e.moment) a.heard a.deed a.works in
+      let w = worked past (next_moment past e.moment) a.heard a.deed a.works in
       ap (λ (d : Deed). caller_of founder (with_enrolled d (members (deeds past))) key) (deed_added founder past request e.moment e a)
-      ∙ deed_keeps_callers founder (members (deeds past)) _ a.deed key caller w.free found
+      ∙ deed_keeps_callers founder (deeds past) (next_moment past e.moment) key caller found w.act a.deed w.done
 
   callers_behind : (newer earlier : List Entry) (key : Key) (caller : Caller) → IsLegal founder (newer ++ earlier) → caller_of founder (members (deeds earlier)) key ≡ Some caller → caller_of founder (members (deeds (newer ++ earlier))) key ≡ Some caller
   callers_behind [] earlier key caller legal found = found
@@ -338,37 +363,64 @@ abbrev pub IsPlain : Deed → Type 0
 IsPlain (Enrolled member) = begins_with_plus (key_text member.key) ≡ false
 IsPlain _ = Unit {0}
 
+plain_unless : (o : Option Refusal) (deed : Deed) → IsPlain deed → IsPlain (unless_refused_deed (unless o (Ok deed)))
+plain_unless None deed plain = plain
+plain_unless (Some r) deed plain = tt
+
 module _ (plain : Plain) (past : List Deed) (moment : ℤ) where
+  abbrev is_plain_act : Act → Type 0
+  is_plain_act a = IsPlain (unless_refused_deed (does past moment a))
+
+  enrol_plain : (key : Key) (name : List ℕ) (role : Rank) → begins_with_plus (key_text key) ≡ false → is_plain_act (act.Enrol key name role)
+  unfolding does
+  enrol_plain key name role is = plain_unless (first_row (enrol_rows (members past) key)) (Enrolled (record { key = key; rank = role })) is
+
   enrolment_plain : (body : List ℕ) (read : Option EnrolBody) → enrol_of body ≡ read → IsPlain (done_if_read past moment (read_as enrol_act read))
-  enrolment_plain body (Some enrol) is = plain body enrol is
+  enrolment_plain body (Some enrol) is = enrol_plain enrol.key enrol.name enrol.role (plain body enrol is)
   enrolment_plain body None is = tt
 
   station_plain : (read : Option StationBody) → IsPlain (done_if_read past moment (read_as station_act read))
-  station_plain (Some station) = tt
+  unfolding does
+  station_plain (Some station) = plain_unless (first_row (row_rows (overlaps (tables_of past).stations station.code station.from station.to))) (Stationed station.code station.from station.to) tt
   station_plain None = tt
 
   code_plain : (read : Option CodeBody) → IsPlain (done_if_read past moment (read_as code_act read))
-  code_plain (Some code) = tt
+  unfolding does
+  code_plain (Some code) = plain_unless (first_row (row_rows (has_code (tables_of past).codes code.kind code.letter code.word))) (Coded code.kind code.letter code.word) tt
   code_plain None = tt
 
+  submit_plain : (lines : List Line) → is_plain_act (act.Submit80 lines)
+  unfolding does
+  submit_plain lines = plain_unless (first_row (batch_rows (taken_after past moment lines))) (Submitted (taken_after past moment lines)) tt
+
   psv_plain : (read : Result (List Line) (HeaderFault × ℕ)) → IsPlain (done_if_read past moment (psv_act read))
-  psv_plain (Ok lines) = tt
+  unfolding does
+  psv_plain (Ok lines) = plain_unless (first_row (batch_rows (taken_after past moment lines))) (Submitted (taken_after past moment lines)) tt
   psv_plain (Err fault) = tt
+
+  retraction_plain : (read : Option RetractBody) → IsPlain (done_if_read past moment (read_as retract_act read))
+  unfolding does
+  retraction_plain (Some retract) = plain_unless (first_row (retract_rows (holdings past).observations retract.observation)) (Retracted retract.observation) tt
+  retraction_plain None = tt
 
   act_plain : (verb : Verb) (body : List ℕ) → IsPlain (done_if_read past moment (act_of verb body))
   unfolding act_of
   act_plain Enrol body = enrolment_plain body (enrol_of body) refl
   act_plain Station body = station_plain (station_of body)
   act_plain Code body = code_plain (code_of body)
-  act_plain Submit80 body = tt
+  act_plain Submit80 body = submit_plain (lines_of body)
   act_plain SubmitPsv body = psv_plain (psv_lines_of body)
+  act_plain Retract body = retraction_plain (retract_of body)
+  act_plain Receipt body = tt
+  act_plain Tally body = tt
   act_plain Unknown body = tt
 
 with_plain : (deed : Deed) (enrolled : List Member) → IsPlain deed → ArePlain enrolled → ArePlain (with_enrolled deed enrolled)
 with_plain (Enrolled member) enrolled plain others = (plain, others)
 with_plain (Stationed code from to) enrolled plain others = others
 with_plain (Coded kind letter word) enrolled plain others = others
-with_plain (Submitted lines rulings) enrolled plain others = others
+with_plain (Submitted lines) enrolled plain others = others
+with_plain (Retracted k) enrolled plain others = others
 with_plain Nothing enrolled plain others = others
 
 module _ (plain : Plain) where

@@ -1,14 +1,7 @@
--- How many observations the office has.
-use Rattle.std.specs.Prelude.{ℕ, ◌+◌, List, [], ◌∷◌}
+-- How many observations and tracklets the office has.
+use Rattle.std.specs.Prelude.{ℕ, List, length}
 use Rattle.act_model.specs.declared.deed.Deed.{Deed}
-use Rattle.act_model.specs.declared.deed.Deed.TheVariants.{Submitted}
-use Rattle.act_model.specs.Ruling.{accepted_in}
-
--- a batch adds its accepted lines, and no other deed adds any
-abbrev pub with_accepted : Deed → ℕ → ℕ
-with_accepted (Submitted lines rulings) before = before + accepted_in rulings
-with_accepted _ before = before
+use Rattle.act_model.specs.Holdings.{holdings}
 
 abbrev pub observations : List Deed → ℕ
-observations [] = 0
-observations (deed ∷ past) = with_accepted deed (observations past)
+observations past = length (holdings past).observations

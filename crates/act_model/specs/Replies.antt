@@ -1,5 +1,5 @@
 -- What the office answers to an act that it accepted, and the text and status of every reply.
-use Rattle.std.specs.Prelude.{ℕ, ◌+◌, List, [], ◌∷◌, ◌++◌, flat_map, codes, decimal, Option, Some, None}
+use Rattle.std.specs.Prelude.{ℕ, ◌+◌, List, [], ◌∷◌, ◌++◌, flat_map, codes, decimal, Result, Ok, Err}
 use Rattle.obs_record.specs.declared.rule.RuleCode.{RuleCode}
 use Rattle.act_model.specs.declared.deed.Deed.{Deed}
 use Rattle.act_model.specs.declared.deed.Deed.TheVariants.{Enrolled, Submitted}
@@ -8,44 +8,45 @@ use Rattle.act_model.specs.declared.reply.Excess.TheVariants as excess
 use Rattle.act_model.specs.declared.reply.Fault.{Fault}
 use Rattle.act_model.specs.declared.reply.Part.TheVariants as part
 use Rattle.act_model.specs.declared.reply.Refusal.{Refusal}
-use Rattle.act_model.specs.declared.reply.Refusal.TheVariants.{TooLarge, Unread, UnknownKey, OtherRequest, Role, Header, NoLine, AlreadyThere, RosterFull, NoMemory}
+use Rattle.act_model.specs.declared.reply.Refusal.TheVariants.{TooLarge, Unread, UnknownKey, OtherRequest, Role, UnknownThing, Header, NoLine, AlreadyRetracted, AlreadyThere, RosterFull, NoMemory}
 use Rattle.act_model.specs.declared.reply.Reply.{Reply}
 use Rattle.act_model.specs.declared.reply.Reply.TheVariants.{Done, Refused}
 use Rattle.act_model.specs.declared.reply.Text.{Text}
 use Rattle.act_model.specs.declared.reply.Text.TheVariants as texts
-use Rattle.act_model.specs.declared.ruling.Ruling.{Ruling}
+use Rattle.act_model.specs.declared.reply.Thing.TheVariants as thing
+use Rattle.act_model.specs.declared.taken.Placed.{Placed}
+use Rattle.act_model.specs.declared.taken.Taken.{Taken}
 use Rattle.act_model.specs.Deeds.{deed_of, deeds}
 use Rattle.act_model.specs.Roster.{members, next_caller}
 use Rattle.act_model.specs.History.{next_receipt}
-use Rattle.act_model.specs.Ruling.{accepted_in, refused_in}
+use Rattle.act_model.specs.Taken.{accepted_in, refused_in}
 use Rattle.act_model.specs.Observations.{observations}
 use Rattle.act_model.specs.Texts.{line_of, header_name, receipt_line, caller_line, counts_line, accepted_line, refused_line}
 
--- the answer to a line with this fault, where so many observations came before it
-abbrev pub line_answer : ℕ → ℕ → Option RuleCode → List ℕ
-line_answer before number None = accepted_line number (before + 1)
-line_answer before number (Some rule) = refused_line number rule
+-- the answer to a line that was taken in so, where so many observations came before it
+abbrev pub line_answer : ℕ → ℕ → Result Placed RuleCode → List ℕ
+line_answer before number (Ok placed) = accepted_line number (before + 1) placed.track
+line_answer before number (Err rule) = refused_line number rule
 
 -- how many observations there are after it: an accepted line is the next observation
-abbrev pub observations_with : ℕ → Option RuleCode → ℕ
-observations_with before None = before + 1
-observations_with before (Some rule) = before
+abbrev pub observations_with : ℕ → Result Placed RuleCode → ℕ
+observations_with before (Ok placed) = before + 1
+observations_with before (Err rule) = before
 
--- the answers to the lines of a batch with these rulings, in their order
-abbrev pub line_answers : List Ruling → ℕ → List ℕ
+-- the answers to the lines of a batch, in their order
+abbrev pub line_answers : List Taken → ℕ → List ℕ
 line_answers [] before = []
-line_answers (ruling ∷ rulings) before =
-    line_answer before ruling.line ruling.fault ++ line_answers rulings (observations_with before ruling.fault)
+line_answers (taken ∷ lines) before =
+    line_answer before taken.line taken.found ++ line_answers lines (observations_with before taken.found)
 
--- the answer to a batch with these rulings that became the entry with this receipt, where so many observations came before
--- it
-unfoldable pub batch_answer : ℕ → ℕ → List Ruling → List ℕ
-batch_answer receipt before rulings =
-    receipt_line receipt ++ (counts_line (accepted_in rulings) (refused_in rulings) ++ line_answers rulings before)
+-- the answer to a batch of these lines that became the entry with this receipt, where so many observations came before it
+unfoldable pub batch_answer : ℕ → ℕ → List Taken → List ℕ
+batch_answer receipt before lines =
+    receipt_line receipt ++ (counts_line (accepted_in lines) (refused_in lines) ++ line_answers lines before)
 
 -- the answer to a deed after these deeds, whose entry has this receipt
 abbrev pub deed_answer : ℕ → List Deed → Deed → List ℕ
-deed_answer receipt past (Submitted lines rulings) = batch_answer receipt (observations past) rulings
+deed_answer receipt past (Submitted lines) = batch_answer receipt (observations past) lines
 deed_answer receipt past (Enrolled member) = receipt_line receipt ++ caller_line (next_caller (members past))
 deed_answer receipt past _ = receipt_line receipt
 
@@ -67,9 +68,12 @@ refusal_text (Unread part.Body) = line_of (codes "refused 1 Unread body")
 refusal_text UnknownKey = line_of (codes "refused 2 UnknownKey")
 refusal_text (OtherRequest receipt) = line_of (codes "refused 3 OtherRequest receipt " ++ decimal receipt)
 refusal_text Role = line_of (codes "refused 4 Role")
+refusal_text (UnknownThing (thing.Observation k)) = line_of (codes "refused 5 UnknownThing observation " ++ decimal k)
+refusal_text (UnknownThing (thing.Receipt number)) = line_of (codes "refused 5 UnknownThing receipt " ++ decimal number)
 refusal_text (Header fault line) =
     line_of (codes "refused 6 Header " ++ header_name fault ++ codes " line " ++ decimal line)
 refusal_text (NoLine faults) = line_of (codes "refused 7 NoLine") ++ fault_lines faults
+refusal_text (AlreadyRetracted k) = line_of (codes "refused 11 AlreadyRetracted " ++ decimal k)
 refusal_text AlreadyThere = line_of (codes "refused 13 AlreadyThere")
 refusal_text RosterFull = line_of (codes "refused 13 RosterFull")
 refusal_text NoMemory = line_of (codes "refused 17 NoMemory")
@@ -89,8 +93,10 @@ refusal_status (Unread what) = 400
 refusal_status UnknownKey = 401
 refusal_status (OtherRequest receipt) = 409
 refusal_status Role = 403
+refusal_status (UnknownThing thing) = 404
 refusal_status (Header fault line) = 422
 refusal_status (NoLine faults) = 422
+refusal_status (AlreadyRetracted k) = 409
 refusal_status AlreadyThere = 409
 refusal_status RosterFull = 409
 refusal_status NoMemory = 507

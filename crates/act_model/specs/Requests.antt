@@ -1,7 +1,7 @@
 -- Requests: their verbs and their bodies.
 use Rattle.std.specs.Prelude.{ℕ, ◌==◌, Bool, true, false, bytes_eq, codes, if◌then◌else◌, List, length, nat_lt, count_by}
 use Rattle.act_model.specs.declared.request.Verb.{Verb}
-use Rattle.act_model.specs.declared.request.Verb.TheVariants.{Enrol, Station, Code, Submit80, SubmitPsv, Unknown}
+use Rattle.act_model.specs.declared.request.Verb.TheVariants.{Enrol, Station, Code, Submit80, SubmitPsv, Retract, Receipt, Tally, Unknown}
 use Rattle.act_model.specs.declared.request.Body.{Body}
 use Rattle.act_model.specs.declared.request.Body.TheVariants.{Whole, TooLong}
 use Rattle.act_model.specs.declared.request.TheConstants.{BODY_BYTES}
@@ -14,7 +14,10 @@ verb_of word =
     else (if bytes_eq word (codes "code") then Code
     else (if bytes_eq word (codes "submit80") then Submit80
     else (if bytes_eq word (codes "submitpsv") then SubmitPsv
-    else Unknown))))
+    else (if bytes_eq word (codes "retract") then Retract
+    else (if bytes_eq word (codes "receipt") then Receipt
+    else (if bytes_eq word (codes "tally") then Tally
+    else Unknown)))))))
 
 -- a verb that names nothing
 abbrev pub is_unknown : Verb → Bool
@@ -23,6 +26,9 @@ is_unknown Station = false
 is_unknown Code = false
 is_unknown Submit80 = false
 is_unknown SubmitPsv = false
+is_unknown Retract = false
+is_unknown Receipt = false
+is_unknown Tally = false
 is_unknown Unknown = true
 
 -- a verb of an act, which may become an entry; any other is that of a query, which only reads
@@ -32,6 +38,9 @@ is_act Station = true
 is_act Code = true
 is_act Submit80 = true
 is_act SubmitPsv = true
+is_act Retract = true
+is_act Receipt = false
+is_act Tally = false
 is_act Unknown = false
 
 -- a verb of officers alone
@@ -41,6 +50,9 @@ is_officers Station = true
 is_officers Code = true
 is_officers Submit80 = false
 is_officers SubmitPsv = false
+is_officers Retract = false
+is_officers Receipt = false
+is_officers Tally = false
 is_officers Unknown = false
 
 -- the number of a verb of an act, and 0 for no act
@@ -50,6 +62,9 @@ verb_code Station = 2
 verb_code Code = 3
 verb_code Submit80 = 4
 verb_code SubmitPsv = 5
+verb_code Retract = 13
+verb_code Receipt = 0
+verb_code Tally = 0
 verb_code Unknown = 0
 
 abbrev pub same_verb : Verb → Verb → Bool

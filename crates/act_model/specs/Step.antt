@@ -3,12 +3,17 @@ use Rattle.std.specs.Prelude.{ℕ, ℤ, Bool, ◌&&◌, bytes_eq, if◌then◌el
 use Rattle.act_bodies.specs.declared.key.Key.{Key}
 use Rattle.act_model.specs.declared.deed.Deed.{Deed}
 use Rattle.act_model.specs.declared.entry.Entry.{Entry}
+use Rattle.act_model.specs.declared.heard.Asked.{Asked}
+use Rattle.act_model.specs.declared.heard.Asked.TheVariants as asked
 use Rattle.act_model.specs.declared.heard.Heard.{Heard}
+use Rattle.act_model.specs.declared.query.Query.{Query}
+use Rattle.act_model.specs.declared.query.Query.TheVariants as query
 use Rattle.act_model.specs.declared.reply.Part.TheVariants as part
 use Rattle.act_model.specs.declared.reply.Refusal.{Refusal}
-use Rattle.act_model.specs.declared.reply.Refusal.TheVariants.{Unread, OtherRequest}
+use Rattle.act_model.specs.declared.reply.Refusal.TheVariants.{Unread, OtherRequest, UnknownThing}
 use Rattle.act_model.specs.declared.reply.Reply.{Reply}
 use Rattle.act_model.specs.declared.reply.Reply.TheVariants.{Done, Refused}
+use Rattle.act_model.specs.declared.reply.Thing.TheVariants as thing
 use Rattle.act_model.specs.declared.request.Request.{Request}
 use Rattle.act_model.specs.declared.request.Verb.{Verb}
 use Rattle.act_model.specs.Rows.{◌>>=◌}
@@ -17,13 +22,16 @@ use Rattle.act_model.specs.Roster.{members}
 use Rattle.act_model.specs.Deeds.{deeds}
 use Rattle.act_model.specs.History.{Kept, next_moment, next_receipt, kept}
 use Rattle.act_model.specs.Replies.{entry_answer}
-use Rattle.act_model.specs.Refusals.{bytes_in, hear, work_out}
+use Rattle.act_model.specs.Hearing.{bytes_in, hear}
+use Rattle.act_model.specs.Refusals.{work_out}
+use Rattle.act_model.specs.Tallies.{tally, tally_text}
 
--- what becomes of a request: it is refused; its number was used, and this is the reply that is kept for it; or it becomes
--- an entry
+-- what becomes of a request: it is refused; its number was used, and this is the reply that is kept for it; it is a query,
+-- and this text tells what it asks; or it becomes an entry
 pub data Outcome : Type 0 where
   Refuses : Refusal → Outcome
   Keeps : Reply → Outcome
+  Tells : List ℕ → Outcome
   Adds : Entry → Outcome
 
 -- ---- an act whose number was used
@@ -55,21 +63,45 @@ abbrev pub unless_refused : Result Deed Refusal → Entry → Outcome
 unless_refused (Ok deed) entry = Adds entry
 unless_refused (Err refusal) entry = Refuses refusal
 
+-- ---- a query
+
+-- the text that tells what is asked, or the refusal where the thing isn't there
+abbrev pub told_receipt : ℕ → Option Kept → Result (List ℕ) Refusal
+told_receipt number (Some k) = Ok (entry_answer k.before k.entry)
+told_receipt number None = Err (UnknownThing (thing.Receipt number))
+
+-- what a caller's query is told at this history
+unfoldable pub told : List Entry → ℕ → Query → Result (List ℕ) Refusal
+told past caller (query.Receipt number) = told_receipt number (kept past caller number)
+told past caller query.Tally = Ok (tally_text (tally past))
+
+-- the query that is asked; an act is none
+abbrev pub query_in : Asked → Result Query Refusal
+query_in (asked.Query query) = Ok query
+query_in (asked.Act act) = Err (Unread part.Verb)
+query_in (asked.Header what line) = Err (Unread part.Verb)
+
+abbrev pub tells : Result (List ℕ) Refusal → Outcome
+tells (Ok text) = Tells text
+tells (Err refusal) = Refuses refusal
+
 -- ---- the step
 
 -- an act: the reply that is kept for its number; else the later refusals; else it becomes an entry
 abbrev pub act_step : List Entry → Heard → List ℕ → ℤ → Outcome
 act_step past heard bytes moment =
     unless_kept (kept past heard.caller.number heard.number) heard bytes
-    (unless_refused (work_out (deeds past) moment heard) (new_entry heard bytes moment))
+    (unless_refused (work_out past moment heard) (new_entry heard bytes moment))
 
--- a query reads the office and leaves it; the one verb of queries names nothing yet, and was refused before
-abbrev pub query_step : Heard → Outcome
-query_step heard = Refuses (Unread part.Verb)
+-- a query reads the office and leaves it
+abbrev pub query_step : List Entry → Heard → Outcome
+query_step past heard = tells do
+  query ← query_in heard.asked
+  told past heard.caller.number query
 
 -- a request that was heard, which comes at this moment
 abbrev pub heard_step : List Entry → Heard → List ℕ → ℤ → Outcome
-heard_step past heard bytes moment = if is_act heard.verb then act_step past heard bytes moment else query_step heard
+heard_step past heard bytes moment = if is_act heard.verb then act_step past heard bytes moment else query_step past heard
 
 abbrev pub unless_unheard : Result Outcome Refusal → Outcome
 unless_unheard (Ok outcome) = outcome
@@ -87,6 +119,7 @@ outcome founder past request reading = unless_unheard do
 abbrev pub after : List Entry → Outcome → Reply × List Entry
 after past (Refuses refusal) = (Refused refusal, past)
 after past (Keeps reply) = (reply, past)
+after past (Tells text) = (Done text, past)
 after past (Adds entry) = (Done (entry_answer past entry), entry ∷ past)
 
 unfoldable pub step : Key → List Entry → Request → ℤ → Reply × List Entry

@@ -28,9 +28,14 @@ caller_line caller = line_of (codes "caller " ++ decimal caller)
 abbrev pub counts_line : ℕ → ℕ → List ℕ
 counts_line accepted refused = line_of (codes "accepted " ++ decimal accepted ++ codes " refused " ++ decimal refused)
 
--- `line N obs K`: the line was accepted, as observation K
-abbrev pub accepted_line : ℕ → ℕ → List ℕ
-accepted_line number observation = line_of (codes "line " ++ decimal number ++ codes " obs " ++ decimal observation)
+-- `line N obs K track T`: the line was accepted, as observation K of tracklet T
+abbrev pub accepted_line : (number observation track : ℕ) → List ℕ
+accepted_line number observation track =
+    line_of (codes "line " ++ decimal number ++ codes " obs " ++ decimal observation ++ codes " track " ++ decimal track)
+
+-- a name and a number, as the lines of a tally have them
+abbrev pub count_line : List ℕ → ℕ → List ℕ
+count_line name count = line_of (name ++ decimal count)
 
 -- `line N refused S1`: the rule that the line broke first
 abbrev pub refused_line : ℕ → RuleCode → List ℕ

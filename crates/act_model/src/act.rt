@@ -3,7 +3,7 @@ ghost use Rattle.obs_record.specs.declared.rule.HeaderFault.{HeaderFault};
 ghost use Rattle.act_model.specs.Acts.{act_of, IsForward};
 
 use crate::request::Verb;
-use act_bodies::{BodyFault, Key, Rank, read_code, read_enrol, read_station};
+use act_bodies::{BodyFault, Key, Rank, read_code, read_enrol, read_retract, read_station};
 use ades_psv::{PsvFault, read_psv};
 use col80_format::split_batch;
 use item_list::Bytes;
@@ -48,6 +48,8 @@ pub enum Act {
     Submit80(Lines),
     /// The same of a batch of ADES 2017 in its PSV form.
     SubmitPsv(Lines),
+    /// To retract the observation with this number, for good.
+    Retract(u64),
 }
 
 /// Why no act was read.
@@ -132,6 +134,19 @@ fn read_code_row(alloc: Global, body: &[u8]) -> Result<Act, ActFault>
 }
 
 #[tactic(auto, unfolding(crate::specs::Acts::act_of))]
+fn read_retraction(alloc: Global, body: &[u8]) -> Result<Act, ActFault>
+    ensures act { IfOk result (λ act. act_of Verb.Retract body.now ≡ Ok act) }
+    ensures unread { result ≡ Err ActFault.Unread → act_of Verb.Retract body.now ≡ Err ActFault.Unread }
+    ensures plain { (fault : HeaderFault) (line : ℕ) → result ≡ Err (ActFault.Header fault line) → ⊥ }
+    ensures forward { IfOk result IsForward }
+{
+    match read_retract(alloc, body) {
+        Ok(retract) => Ok(Act::Retract(retract.observation)),
+        Err(fault) => Err(unread_body(fault)),
+    }
+}
+
+#[tactic(auto, unfolding(crate::specs::Acts::act_of))]
 fn read_psv_batch(alloc: Global, body: &[u8]) -> Result<Act, ActFault>
     requires { length body.now < 4_294_967_295 }
     ensures act { IfOk result (λ act. act_of Verb.SubmitPsv body.now ≡ Ok act) }
@@ -172,6 +187,7 @@ pub fn read_act(alloc: Global, verb: Verb, body: &[u8]) -> Result<Act, ActFault>
             Err(_) => Err(ActFault::NoMemory),
         },
         Verb::SubmitPsv => read_psv_batch(alloc, body),
-        Verb::Unknown => Err(ActFault::Unread),
+        Verb::Retract => read_retraction(alloc, body),
+        Verb::Receipt | Verb::Tally | Verb::Unknown => Err(ActFault::Unread),
     }
 }

@@ -1,6 +1,7 @@
 use crate::roster::Member;
-use crate::ruling::Rulings;
-use obs_record::{Lines, Short};
+use crate::taken::Taken;
+use item_list::ItemList;
+use obs_record::Short;
 use station_tables::Kind;
 
 /// What an act does where it stands in the history, with all that was worked out there.
@@ -26,13 +27,11 @@ pub enum Deed {
         /// The word of ADES.
         word: Short,
     },
-    /// It takes in a batch.
-    Submitted {
-        /// The observation lines of the batch.
-        lines: Lines,
-        /// The ruling on each line.
-        rulings: Rulings,
-    },
-    /// It does nothing, since it can't be read. No history that the office comes to has such an entry.
+    /// It takes in a batch. These are its observation lines, each with what became of it.
+    Submitted(ItemList<Taken>),
+    /// It retracts this observation, for good.
+    Retracted(u64),
+    /// It does nothing: what it asks can't be read, or is refused. No history that the office comes to has such an
+    /// entry.
     Nothing,
 }

@@ -14,11 +14,11 @@ ghost use Rattle.act_model.specs.declared.reply.Reply.TheVariants.{Done, Refused
 ghost use Rattle.act_model.specs.declared.request.Body.TheVariants.{NoRoom};
 ghost use Rattle.act_model.specs.declared.request.Request.{Request};
 ghost use Rattle.act_model.specs.declared.roster.Caller.{Caller};
-ghost use Rattle.act_model.specs.Acts.{act_of};
 ghost use Rattle.act_model.specs.Roster.{members, caller_of};
 ghost use Rattle.act_model.specs.Deeds.{deed_of, deeds};
 ghost use Rattle.act_model.specs.History.{Kept, kept, EachNumberOnce};
-ghost use Rattle.act_model.specs.Refusals.{asked_in, work_out};
+ghost use Rattle.act_model.specs.Hearing.{asked_of};
+ghost use Rattle.act_model.specs.Refusals.{work_out};
 ghost use Rattle.act_model.specs.Step.{new_entry, step};
 ghost use Rattle.act_model.specs.Turns.{Turn, Answers, IsTurn, Conduct};
 ghost use Rattle.act_model.specs.Conducts.{Extends, HadMemory, IsStepped};
@@ -41,9 +41,9 @@ pub fn no_room_no_step()
 
 /// What is worked out for a request that was heard is the deed of the entry that it becomes.
 pub fn deeds_are_worked_out_once()
-    ensures { (bytes : List ℕ) (heard : Heard) (past : List Deed) (moment : ℤ) (deed : Deed) →
-        asked_in (act_of heard.verb bytes) ≡ Ok heard.asked → work_out past moment heard ≡ Ok deed →
-        deed_of past (new_entry heard bytes moment) ≡ deed }
+    ensures { (bytes : List ℕ) (heard : Heard) (past : List Entry) (moment : ℤ) (deed : Deed) →
+        asked_of heard.verb bytes ≡ Ok heard.asked → work_out past moment heard ≡ Ok deed →
+        deed_of (deeds past) (new_entry heard bytes moment) ≡ deed }
 {}
 
 /// `NoMemory` may stand in the place of a refusal, and changes nothing.

@@ -12,11 +12,13 @@ mod entry;
 mod heard;
 mod known;
 pub mod laws;
+mod query;
 mod reply;
 mod request;
 mod roster;
-mod rules;
 mod ruling;
+mod taken;
+mod tally;
 mod texts;
 
 pub use act::{Act, ActFault, read_act};
@@ -25,12 +27,14 @@ pub use deed::Deed;
 pub use entry::Entry;
 pub use heard::{Asked, Heard, read_asked};
 pub use known::Known;
+pub use query::{Query, read_query};
 pub use reply::{
-    Excess, Fault, Faults, Part, REFUSAL_BYTES, Refusal, Reply, Text, no_line_text, refusal_line,
+    Excess, Fault, Faults, Part, REFUSAL_BYTES, Refusal, Reply, Text, Thing, no_line_text, refusal_line,
     refusal_status, reply_text, status,
 };
 pub use request::{BODY_BYTES, BODY_LINES, Body, Request, Verb, is_resend, line_feeds, read_verb};
 pub use roster::{CALLERS, Caller, Member};
-pub use rules::fault_of;
-pub use ruling::{Ruling, Rulings, accepted_in, faults_in, judge};
+pub use ruling::Ruling;
+pub use taken::{Placed, Taken, accepted_in, faults_in};
+pub use tally::{Tally, tally_answer};
 pub use texts::{batch_answer, enrol_answer, receipt_answer};

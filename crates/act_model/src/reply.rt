@@ -33,6 +33,15 @@ pub enum Excess {
     Lines(u64),
 }
 
+/// A thing that a request names and that isn't there.
+#[derive(Clone, Copy, Debug, PartialEq, Eq)]
+pub enum Thing {
+    /// The observation with this number.
+    Observation(u64),
+    /// An act of the caller's with this number.
+    Receipt(u64),
+}
+
 /// A line of a batch that isn't accepted.
 #[derive(Clone, Copy, Debug, PartialEq, Eq)]
 pub struct Fault {
@@ -59,8 +68,10 @@ pub enum Refusal {
         /// The receipt of that request, counted from 1.
         receipt: u64,
     },
-    /// The act is one of officers, and the caller is an observer.
+    /// The act is one of officers, or retracts an observation that another caller sent, and the caller is an observer.
     Role,
+    /// This thing, which the request names, isn't there.
+    UnknownThing(Thing),
     /// The batch has a fault of its headers, in this line.
     Header {
         /// The fault.
@@ -70,6 +81,8 @@ pub enum Refusal {
     },
     /// No line of the batch is accepted. These are its faults.
     NoLine(Faults),
+    /// The observation with this number is retracted already.
+    AlreadyRetracted(u64),
     /// The key is on the roster, the station's days overlap with those of a row, or the letter or word
     /// is in a row.
     AlreadyThere,
@@ -97,16 +110,20 @@ pub fn refusal_status(refusal: &Refusal) -> u16
         Refusal::Unread(_) => 400,
         Refusal::UnknownKey => 401,
         Refusal::Role => 403,
+        Refusal::UnknownThing(_) => 404,
         Refusal::Header { .. } | Refusal::NoLine(_) => 422,
-        Refusal::OtherRequest { .. } | Refusal::AlreadyThere | Refusal::RosterFull => 409,
+        Refusal::OtherRequest { .. }
+        | Refusal::AlreadyRetracted(_)
+        | Refusal::AlreadyThere
+        | Refusal::RosterFull => 409,
         Refusal::NoMemory => 507,
     }
 }
 
 /// The status of a reply, as HTTP numbers them (RFC 9110, and RFC 4918 where memory was refused): 200 for
 /// a request that was done, 400 for one that can't be read, 401 for a key that nobody has, 403 for an
-/// observer who asks what officers may, 409 for a number that was used and for what is there already,
-/// 413 for a body that is too large, 422 for a batch with a fault of its headers or without a line that
+/// observer who asks what officers may, 404 for a thing that isn't there, 409 for a number that was used and for
+/// what is there or retracted already, 413 for a body that is too large, 422 for a batch with a fault of its headers or without a line that
 /// is accepted, and 507 where memory was refused.
 pub fn status(reply: &Reply) -> u16
     ensures { result ≡ status_of reply.now }
@@ -187,6 +204,15 @@ fn unread_line(part: Part) -> ArrayVec<u8, REFUSAL_BYTES>
     }
 }
 
+fn unknown_line(thing: Thing) -> ArrayVec<u8, REFUSAL_BYTES>
+    ensures { result.items ≡ refusal_text (Refusal.UnknownThing thing) }
+{
+    match thing {
+        Thing::Observation(k) => numbered_line(b"refused 5 UnknownThing observation ", k),
+        Thing::Receipt(number) => numbered_line(b"refused 5 UnknownThing receipt ", number),
+    }
+}
+
 /// The line of a refusal that has no more than one: `refused`, its number in the office's table of
 /// refusals, its name, and what it carries, with a line feed at the end. It takes no memory, so a want
 /// of memory can be answered too. None for `NoLine` alone, whose faults follow in lines of their own.
@@ -202,8 +228,10 @@ pub fn refusal_line(refusal: &Refusal) -> Option<ArrayVec<u8, REFUSAL_BYTES>>
             Some(numbered_line(b"refused 3 OtherRequest receipt ", *receipt))
         }
         Refusal::Role => Some(line_in_place(b"refused 4 Role")),
+        Refusal::UnknownThing(thing) => Some(unknown_line(*thing)),
         Refusal::Header { fault, line } => Some(header_line(*fault, *line)),
         Refusal::NoLine(_) => None,
+        Refusal::AlreadyRetracted(k) => Some(numbered_line(b"refused 11 AlreadyRetracted ", *k)),
         Refusal::AlreadyThere => Some(line_in_place(b"refused 13 AlreadyThere")),
         Refusal::RosterFull => Some(line_in_place(b"refused 13 RosterFull")),
         Refusal::NoMemory => Some(line_in_place(b"refused 17 NoMemory")),

@@ -25,6 +25,12 @@ pub enum Verb {
     Submit80,
     /// To take in a batch of ADES in PSV form, by the word `submitpsv`. It is an act.
     SubmitPsv,
+    /// To retract an observation, by the word `retract`. It is an act.
+    Retract,
+    /// To ask for the answer of an earlier act, by the word `receipt`. It is a query.
+    Receipt,
+    /// To ask how many entries and observations the office has, by the word `tally`. It is a query.
+    Tally,
     /// A word that names nothing. It is no act.
     Unknown,
 }
@@ -41,7 +47,7 @@ impl Verb {
     pub fn is_act(self) -> bool
         ensures { result ≡ is_act self }
     {
-        !matches!(self, Verb::Unknown)
+        self.code() > 0
     }
 
     /// Whether the verb is one of officers alone.
@@ -51,7 +57,7 @@ impl Verb {
         matches!(self, Verb::Enrol | Verb::Station | Verb::Code)
     }
 
-    /// The number of the verb of an act, 1 to 5, and 0 for no act.
+    /// The number of the verb of an act, 1 to 13, and 0 for no act.
     pub fn code(self) -> u8
         ensures { result ≡ verb_code self }
     {
@@ -61,7 +67,8 @@ impl Verb {
             Verb::Code => 3,
             Verb::Submit80 => 4,
             Verb::SubmitPsv => 5,
-            Verb::Unknown => 0,
+            Verb::Retract => 13,
+            Verb::Receipt | Verb::Tally | Verb::Unknown => 0,
         }
     }
 }
@@ -80,6 +87,12 @@ pub fn read_verb(word: &[u8]) -> Verb
         Verb::Submit80
     } else if word == b"submitpsv".as_slice() {
         Verb::SubmitPsv
+    } else if word == b"retract".as_slice() {
+        Verb::Retract
+    } else if word == b"receipt".as_slice() {
+        Verb::Receipt
+    } else if word == b"tally".as_slice() {
+        Verb::Tally
     } else {
         Verb::Unknown
     }

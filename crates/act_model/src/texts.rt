@@ -1,12 +1,12 @@
 //! The texts of answers. All of them are lines that end in a line feed.
 
 ghost use Rattle.std.specs.Prelude.{◌≡◌, ◌+◌, ◌-◌, ◌<◌, ◌≤◌, ◌^◌, ◌++◌, ◌∷◌, [], length, decimal, codes, OnOk, IfOk};
-ghost use Rattle.act_model.specs.Ruling.{accepted_in, refused_in};
-ghost use Rattle.act_model.specs.Texts.{receipt_line, caller_line, counts_line, accepted_line, refused_line};
+ghost use Rattle.act_model.specs.Taken.{accepted_in, refused_in};
+ghost use Rattle.act_model.specs.Texts.{receipt_line, caller_line, counts_line, accepted_line, count_line, refused_line};
 ghost use Rattle.act_model.specs.Replies.{line_answer, line_answers, observations_with, batch_answer, fault_lines};
 
 use crate::reply::Fault;
-use crate::ruling::{Ruling, Rulings, accepted_in};
+use crate::taken::{Taken, accepted_in};
 use item_list::{Bytes, NoMemory};
 use itoa::Buffer;
 use obs_record::RuleCode;
@@ -45,13 +45,29 @@ fn push_counts_line(out: &mut Bytes, accepted: u64, refused: u64) -> Result<(), 
     out.push(b'\n')
 }
 
-fn push_accepted_line(out: &mut Bytes, number: u32, observation: u64) -> Result<(), NoMemory>
-    ensures { OnOk result (out.new ≡ out.old ++ accepted_line number observation) }
+fn push_accepted_line(
+    out: &mut Bytes,
+    number: u32,
+    observation: u64,
+    track: u64,
+) -> Result<(), NoMemory>
+    ensures { OnOk result (out.new ≡ out.old ++ accepted_line number observation track) }
 {
     out.extend_from_slice(b"line ")?;
     push_decimal(out, u64::from(number))?;
     out.extend_from_slice(b" obs ")?;
     push_decimal(out, observation)?;
+    out.extend_from_slice(b" track ")?;
+    push_decimal(out, track)?;
+    out.push(b'\n')
+}
+
+/// Writes a line of a tally: a name that ends in a blank, and the count.
+pub(crate) fn push_count_line(out: &mut Bytes, name: &[u8], count: u64) -> Result<(), NoMemory>
+    ensures { OnOk result (out.new ≡ out.old ++ count_line name.now count) }
+{
+    out.extend_from_slice(name)?;
+    push_decimal(out, count)?;
     out.push(b'\n')
 }
 
@@ -76,38 +92,38 @@ pub(crate) fn push_fault_lines(out: &mut Bytes, faults: &[Fault]) -> Result<(), 
 }
 
 /// Writes the answer to a line, and says how many observations there are after it.
-fn push_line_answer(out: &mut Bytes, before: u64, ruling: &Ruling) -> Result<u64, NoMemory>
+fn push_line_answer(out: &mut Bytes, before: u64, taken: &Taken) -> Result<u64, NoMemory>
     requires { before + 1 < 2 ^ 64 }
-    ensures text { OnOk result (out.new ≡ out.old ++ line_answer before ruling.now.line ruling.now.fault) }
-    ensures count { IfOk result (λ after. after ≡ observations_with before ruling.now.fault) }
+    ensures text { OnOk result (out.new ≡ out.old ++ line_answer before taken.now.line taken.now.found) }
+    ensures count { IfOk result (λ after. after ≡ observations_with before taken.now.found) }
     ensures more { IfOk result (λ after. after ≤ before + 1) }
 {
-    match ruling.fault {
-        None => {
-            push_accepted_line(out, ruling.line, before + 1)?;
+    match &taken.found {
+        Ok(placed) => {
+            push_accepted_line(out, taken.line, before + 1, placed.track)?;
             Ok(before + 1)
         }
-        Some(rule) => {
-            push_refused_line(out, ruling.line, rule)?;
+        Err(rule) => {
+            push_refused_line(out, taken.line, *rule)?;
             Ok(before)
         }
     }
 }
 
-fn push_line_answers(out: &mut Bytes, rulings: &[Ruling], before: u64) -> Result<(), NoMemory>
-    requires { before + length rulings.now < 2 ^ 64 }
-    ensures { OnOk result (out.new ≡ out.old ++ line_answers rulings.now before) }
+fn push_line_answers(out: &mut Bytes, lines: &[Taken], before: u64) -> Result<(), NoMemory>
+    requires { before + length lines.now < 2 ^ 64 }
+    ensures { OnOk result (out.new ≡ out.old ++ line_answers lines.now before) }
 {
     let mut observations = before;
-    for ruling in rulings {
-        observations = push_line_answer(out, observations, ruling)?;
+    for taken in lines {
+        observations = push_line_answer(out, observations, taken)?;
     }
     Ok(())
 }
 
-/// The answer to a batch with these rulings that became the entry with this receipt, where the office had
-/// so many observations before it: the receipt, how many lines were accepted and refused, and a line for
-/// each with the number of its observation or the rule that it breaks. Observations count from 1.
+/// The answer to a batch of these lines that became the entry with this receipt, where the office had so many observations
+/// before it: the receipt, how many lines were accepted and refused, and a line for each with the numbers of its
+/// observation and its tracklet, or with the rule that it breaks. Observations and tracklets count from 1.
 ///
 /// # Errors
 ///
@@ -117,16 +133,16 @@ pub fn batch_answer(
     alloc: Global,
     receipt: u64,
     before: u64,
-    rulings: &Rulings,
+    lines: &[Taken],
 ) -> Result<Bytes, NoMemory>
-    requires { before + length rulings.now < 2 ^ 64 }
-    ensures { IfOk result (λ text. text ≡ batch_answer receipt before rulings.now) }
+    requires { before + length lines.now < 2 ^ 64 }
+    ensures { IfOk result (λ text. text ≡ batch_answer receipt before lines.now) }
 {
-    let accepted = accepted_in(rulings);
+    let accepted = accepted_in(lines);
     let mut out = Bytes::new(alloc);
     push_receipt_line(&mut out, receipt)?;
-    push_counts_line(&mut out, accepted, rulings.len() - accepted)?;
-    push_line_answers(&mut out, rulings.as_slice(), before)?;
+    push_counts_line(&mut out, accepted, lines.len() as u64 - accepted)?;
+    push_line_answers(&mut out, lines, before)?;
     Ok(out)
 }
 
