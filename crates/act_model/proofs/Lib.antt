@@ -2,3 +2,4 @@ pub mod Conducts
 pub mod Callers
 pub mod Hearing
 pub mod Legal
+pub mod Places

@@ -17,6 +17,7 @@ pub mod Deeds
 pub mod History
 pub mod Texts
 pub mod Tallies
+pub mod Places
 pub mod Replies
 pub mod Refusals
 pub mod Step

@@ -1,6 +1,6 @@
 //! Laws of histories and conducts, each the contract of a function that does nothing.
 
-ghost use Rattle.std.specs.Prelude.{◌≡◌, true, ℕ, ℤ, List, [], ◌∷◌, ◌++◌, Some, Ok};
+ghost use Rattle.std.specs.Prelude.{◌≡◌, ◌+◌, true, ℕ, ℤ, List, [], ◌∷◌, ◌++◌, Some, Ok};
 ghost use Rattle.obs_time.specs.Instants.{IsInstantNs};
 ghost use Rattle.act_bodies.specs.declared.key.Key.{Key};
 ghost use Rattle.act_bodies.specs.Keys.{key_text, begins_with_plus};
@@ -23,6 +23,8 @@ ghost use Rattle.act_model.specs.Step.{new_entry, step};
 ghost use Rattle.act_model.specs.Turns.{Turn, Answers, IsTurn, Conduct};
 ghost use Rattle.act_model.specs.Conducts.{Extends, HadMemory, IsStepped};
 ghost use Rattle.act_model.specs.Legal.{IsLegal};
+ghost use Rattle.act_model.specs.Observations.{observations};
+ghost use Rattle.act_model.specs.Places.{OnePlace, added_by};
 
 /// A refusal changes nothing.
 pub fn a_refusal_changes_nothing()
@@ -138,4 +140,16 @@ pub fn kept_replies_stay()
         (text : List ℕ) (entry : Entry) →
         step founder past request first ≡ (Done text, entry ∷ past) →
         IsLegal founder later → Extends (entry ∷ past) later → step founder later request again ≡ (Done text, later) }
+{}
+
+/// Each accepted observation stands in exactly one place: isolated, in an object, or retracted.
+pub fn one_place()
+    ensures { (history : List Entry) → OnePlace history }
+{
+    tracklet_file::laws::one_place();
+}
+
+/// An act adds to the accepted observations its own accepted lines, and takes none away.
+pub fn acts_add_their_lines()
+    ensures { (past : List Deed) (deed : Deed) → observations (deed ∷ past) ≡ observations past + added_by deed }
 {}

@@ -1,0 +1,5 @@
+use Rattle.act_model.proofs.Places.{one_place}
+use Rattle.act_model.proofs.laws.one_place.Goals as goal
+
+pub returns : goal.returns
+returns c = λ history. one_place c.one_place.ensures history
