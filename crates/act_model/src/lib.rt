@@ -35,6 +35,6 @@ pub use reply::{
 pub use request::{BODY_BYTES, BODY_LINES, Body, Request, Verb, is_resend, line_feeds, read_verb};
 pub use roster::{CALLERS, Caller, Member};
 pub use ruling::Ruling;
-pub use taken::{Placed, Taken, accepted_in, faults_in};
+pub use taken::{Placed, Taken, accepted_in, faults_in, name_of};
 pub use tally::{Tally, tally_answer};
 pub use texts::{batch_answer, enrol_answer, receipt_answer};

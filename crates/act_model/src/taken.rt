@@ -1,11 +1,12 @@
 //! The observation lines of a batch, as the office took them in.
 
 ghost use Rattle.std.specs.Prelude.{◌≡◌, ◌≤◌, ◌++◌, length, IfOk, OnOk, option_to_list};
+ghost use Rattle.act_model.specs.BatchRules.{name_of};
 ghost use Rattle.act_model.specs.Taken.{is_accepted, accepted_in, fault_with, faults_in};
 
 use crate::reply::{Fault, Faults};
 use item_list::{ItemList, NoMemory};
-use obs_record::{RuleCode, Sighting};
+use obs_record::{RuleCode, Short, Sighting, TrackName};
 use packed_names::Designation;
 use std::alloc::Global;
 
@@ -27,6 +28,19 @@ pub struct Placed {
     pub track: u64,
     /// The designation in which its tracklet starts, or None where the tracklet starts isolated.
     pub home: Option<Designation>,
+}
+
+/// The name that an observation goes by: its number, else its designation, else its temporary designation, of which one
+/// is there.
+pub fn name_of(s: &Sighting) -> TrackName
+    ensures { result ≡ name_of s.now }
+{
+    match (s.perm, s.prov, s.sub) {
+        (Some(number), _, _) => TrackName::Number(number),
+        (None, Some(designation), _) => TrackName::Designation(designation),
+        (None, None, Some(short)) => TrackName::Sub(short),
+        (None, None, None) => TrackName::Sub(Short::new(&[])),
+    }
 }
 
 fn is_accepted(taken: &Taken) -> bool

@@ -9,10 +9,9 @@ use Rattle.act_model.specs.declared.reply.Refusal.TheVariants.{Unread, UnknownKe
 use Rattle.act_model.specs.declared.request.Request.{Request}
 use Rattle.act_model.specs.declared.roster.Caller.{Caller}
 use Rattle.act_model.specs.declared.roster.Member.{Member}
-use Rattle.act_model.specs.Acts.{act_of}
 use Rattle.act_model.specs.Requests.{is_unknown}
 use Rattle.act_model.specs.Roster.{caller_of}
-use Rattle.act_model.specs.Refusals.{verb_rows, number_in, asked_in, caller_in, hear}
+use Rattle.act_model.specs.Hearing.{verb_rows, number_in, asked_of, caller_in, hear}
 use Rattle.act_model.specs.Rows.{first_row, unless, ◌>>=◌, IsDue}
 
 module _ (founder : Key) (enrolled : List Member) (q : Request) (bytes : List ℕ) where
@@ -25,7 +24,7 @@ module _ (founder : Key) (enrolled : List Member) (q : Request) (bytes : List �
   numbered = number_in q.verb q.number
 
   abbrev what : Result Asked Refusal
-  what = asked_in (act_of q.verb bytes)
+  what = asked_of q.verb bytes
 
   abbrev who : Result Caller Refusal
   who = caller_in (caller_of founder enrolled q.key)

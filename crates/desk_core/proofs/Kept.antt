@@ -39,15 +39,23 @@ pub receipt_at : (filed : List Filed) (place : ℕ) → place < length filed →
 receipt_at filed place within =
     simp (length-map, length-reverse, length-take) (omega arith)
 
-pub kept_again : (filed : List Filed) (place : ℕ) (f : Filed) (verb : Verb) (bytes : List ℕ) (text : List ℕ) → place < length filed → AreAnswered (reverse filed) → f ≡ get_or filed place f → is_resend verb bytes f.entry ≡ true → text ≡ f.answer
-    → (k : Kept) → IsFiledAt filed place k → Done text ≡ kept_reply verb bytes k
-kept_again filed place f verb bytes text within answered here resend is k at =
+-- a copy of what is filed is the answer of its entry
+pub kept_given : (filed : List Filed) (place : ℕ) (f : Filed) (text : List ℕ) → AreAnswered (reverse filed) → f ≡ get_or filed place f → text ≡ f.answer
+    → (k : Kept) → IsFiledAt filed place k → text ≡ entry_answer k.before k.entry
+kept_given filed place f text answered here is k at =
     let same : at.at ≡ f = sym (get_or_from_slice_get filed place at.at f at.there) ∙ sym here in
     let entry : k.entry ≡ f.entry = at.entry ∙ ap (λ (g : Filed). g.entry) same in
     let old : f.answer ≡ entry_answer (history_of (take place filed)) f.entry = answered_at filed place f (at.there ∙ ap (λ (g : Filed). Some g) same) answered in
-    let given : text ≡ entry_answer k.before k.entry = is ∙ old ∙ ap (λ (e : Entry). entry_answer (history_of (take place filed)) e) (sym entry) ∙ ap (λ (h : List Entry). entry_answer h k.entry) (sym at.before) in
+    is ∙ old ∙ ap (λ (e : Entry). entry_answer (history_of (take place filed)) e) (sym entry) ∙ ap (λ (h : List Entry). entry_answer h k.entry) (sym at.before)
+
+pub kept_again : (filed : List Filed) (place : ℕ) (f : Filed) (verb : Verb) (bytes : List ℕ) (text : List ℕ) → f ≡ get_or filed place f → is_resend verb bytes f.entry ≡ true
+    → ((k : Kept) → IsFiledAt filed place k → text ≡ entry_answer k.before k.entry)
+    → (k : Kept) → IsFiledAt filed place k → Done text ≡ kept_reply verb bytes k
+kept_again filed place f verb bytes text here resend given k at =
+    let same : at.at ≡ f = sym (get_or_from_slice_get filed place at.at f at.there) ∙ sym here in
+    let entry : k.entry ≡ f.entry = at.entry ∙ ap (λ (g : Filed). g.entry) same in
     let resent : is_resend verb bytes k.entry ≡ true = ap (is_resend verb bytes) entry ∙ resend in
-    ap (λ (t : List ℕ). Done t) given ∙ sym (ap (λ (b : Bool). cond b (Done (entry_answer k.before k.entry)) (Refused (OtherRequest (next_receipt k.before)))) resent)
+    ap (λ (t : List ℕ). Done t) (given k at) ∙ sym (ap (λ (b : Bool). cond b (Done (entry_answer k.before k.entry)) (Refused (OtherRequest (next_receipt k.before)))) resent)
 
 pub kept_other : (filed : List Filed) (place : ℕ) (f : Filed) (verb : Verb) (bytes : List ℕ) → place < length filed → f ≡ get_or filed place f → is_resend verb bytes f.entry ≡ false
     → (k : Kept) → IsFiledAt filed place k → Refused (OtherRequest (place + 1)) ≡ kept_reply verb bytes k

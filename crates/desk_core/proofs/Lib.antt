@@ -5,3 +5,4 @@ pub mod RosterLemmas
 pub mod Steps
 pub mod Readying
 pub mod Working
+pub mod Fitting

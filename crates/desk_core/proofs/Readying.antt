@@ -1,21 +1,13 @@
 -- An act that is ready at a history.
-use Rattle.std.proofs.Common.{◌≡◌, ◌<◌, List, length, None, sym, ap, subst, ◌∙◌}
+use Rattle.std.proofs.Common.{◌≡◌, List, sym, ap, subst, ◌∙◌}
 use Rattle.std.specs.Prelude.{unwrap_or}
-use Rattle.station_tables.specs.Rows.{TableRows}
 use Rattle.act_model.specs.declared.deed.Deed.{Deed}
 use Rattle.act_model.specs.declared.entry.Entry.{Entry}
-use Rattle.act_model.specs.declared.roster.TheConstants.{CALLERS}
-use Rattle.act_model.specs.Rows.{first_row}
 use Rattle.act_model.specs.Deeds.{deed_of, deeds}
 use Rattle.act_model.specs.History.{next_receipt}
-use Rattle.act_model.specs.Roster.{members, with_enrolled}
 use Rattle.act_model.specs.OfficeTables.{tables_of, with_row}
-use Rattle.act_model.specs.Observations.{observations, with_accepted}
-use Rattle.act_model.specs.Refusals.{deed_rows}
 use Rattle.act_model.specs.Replies.{deed_answer, entry_answer}
-use Rattle.desk_core.specs.declared.prepared.Change.{Change}
-use Rattle.desk_core.specs.Office.{Ready, IsReadyAt}
-use Rattle.desk_core.proofs.Steps.{callers_with}
+use Rattle.desk_core.specs.Office.{Ready, IsReadyAt, Fits}
 
 module _ (past : List Entry) (ready : Ready) (deed : Deed) (done : deed_of (deeds past) ready.entry ≡ deed) where
   answer_at : ready.answer ≡ deed_answer (next_receipt past) (deeds past) deed → ready.answer ≡ entry_answer past ready.entry
@@ -24,13 +16,11 @@ module _ (past : List Entry) (ready : Ready) (deed : Deed) (done : deed_of (deed
 
   -- what was worked out for a deed stands with the entry that does it
   pub ready_at : ready.deed ≡ deed → ready.answer ≡ deed_answer (next_receipt past) (deeds past) deed
-      → unwrap_or ready.change.tables (tables_of (deeds past)) ≡ with_row deed (tables_of (deeds past)) → ready.change.observations ≡ with_accepted deed (observations (deeds past))
-      → length (members (deeds past)) < CALLERS → first_row (deed_rows (members (deeds past)) (tables_of (deeds past)) deed) ≡ None → IsReadyAt past ready
-  ready_at deed_is answer tables count within free =
+      → unwrap_or ready.tables (tables_of (deeds past)) ≡ with_row deed (tables_of (deeds past)) → Fits (deeds past) deed → IsReadyAt past ready
+  ready_at deed_is answer tables fits =
       record {
         answer = answer_at answer;
         deed = deed_is ∙ sym done;
+        fits = subst (Fits (deeds past)) (sym deed_is) fits;
         tables = tables ∙ ap (λ (d : Deed). with_row d (tables_of (deeds past))) (sym done);
-        observations = count ∙ ap (λ (d : Deed). with_accepted d (observations (deeds past))) (sym done);
-        callers = subst (λ (d : Deed). length (with_enrolled d (members (deeds past))) < CALLERS) (sym done) (callers_with (members (deeds past)) (tables_of (deeds past)) deed within free);
       }

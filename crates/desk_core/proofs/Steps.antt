@@ -3,34 +3,32 @@ use Rattle.std.proofs.Common.{◌≡◌, ℕ, ℤ, Bool, true, false, cond, List
 use Rattle.std.specs.Prelude.{◌⊎◌, ◌+◌, nat_le}
 use Rattle.std.proofs.lemmas.Bool.Decides.{nat_tests}
 use Rattle.act_bodies.specs.declared.key.Key.{Key}
-use Rattle.station_tables.specs.Rows.{TableRows}
 use Rattle.act_model.specs.declared.deed.Deed.{Deed}
-use Rattle.act_model.specs.declared.deed.Deed.TheVariants.{Enrolled, Stationed, Coded, Submitted, Nothing}
+use Rattle.act_model.specs.declared.deed.Deed.TheVariants.{Enrolled, Stationed, Coded, Submitted, Retracted, Nothing}
 use Rattle.act_model.specs.declared.entry.Entry.{Entry}
 use Rattle.act_model.specs.declared.heard.Heard.{Heard}
-use Rattle.act_model.specs.declared.reply.Part.TheVariants as part
 use Rattle.act_model.specs.declared.reply.Refusal.{Refusal}
-use Rattle.act_model.specs.declared.reply.Refusal.TheVariants.{Unread, AlreadyThere, RosterFull, NoMemory}
+use Rattle.act_model.specs.declared.reply.Refusal.TheVariants.{NoMemory}
 use Rattle.act_model.specs.declared.reply.Reply.{Reply}
-use Rattle.act_model.specs.declared.reply.Reply.TheVariants.{Refused}
+use Rattle.act_model.specs.declared.reply.Reply.TheVariants.{Done, Refused}
 use Rattle.act_model.specs.declared.request.Body.{Body}
 use Rattle.act_model.specs.declared.request.Body.TheVariants.{NoRoom}
 use Rattle.act_model.specs.declared.request.Request.{Request}
-use Rattle.act_model.specs.declared.request.Verb.{Verb}
-use Rattle.act_model.specs.declared.request.Verb.TheVariants as verbs
 use Rattle.act_model.specs.declared.roster.Member.{Member}
 use Rattle.act_model.specs.declared.roster.TheConstants.{CALLERS}
 use Rattle.act_model.specs.Rows.{first_row, unless, ◌>>=◌, IsDue}
-use Rattle.act_model.specs.Requests.{is_act, is_unknown}
-use Rattle.act_model.specs.Roster.{members, with_enrolled, next_caller}
+use Rattle.act_model.specs.Requests.{is_act}
+use Rattle.act_model.specs.Roster.{members, with_enrolled}
 use Rattle.act_model.specs.Deeds.{deeds}
 use Rattle.act_model.specs.History.{Kept, kept, next_moment}
-use Rattle.act_model.specs.Refusals.{bytes_in, hear, deed_rows, work_out}
-use Rattle.act_model.specs.Step.{Outcome, Refuses, Keeps, Adds, outcome, unless_unheard, heard_step, act_step, unless_kept, unless_refused, new_entry, step, after}
-use Rattle.desk_core.specs.Preparing.{IsRefused, Prepares, IsPrepared}
+use Rattle.act_model.specs.Hearing.{bytes_in, hear}
+use Rattle.act_model.specs.Refusals.{work_out}
+use Rattle.act_model.specs.Turns.{Answers}
+use Rattle.act_model.specs.Step.{Outcome, Refuses, Keeps, Tells, Adds, outcome, unless_unheard, heard_step, act_step, query_step, query_in, told, tells, unless_kept, unless_refused, new_entry, step, after}
+use Rattle.desk_core.specs.Office.{Room, Fits}
+use Rattle.desk_core.specs.Preparing.{IsRefused, Prepares, IsPrepared, IsTold}
 use Rattle.desk_core.specs.declared.prepared.Prep.{Prep}
 use Rattle.desk_core.specs.declared.prepared.Prep.TheVariants as prep
-use Rattle.desk_core.proofs.HearingLemmas.{hear_unnamed}
 
 module _ (founder : Key) (past : List Entry) (q : Request) (t : ℤ) where
   -- the step of a request that was heard, and what is heard before it
@@ -65,37 +63,43 @@ module _ (founder : Key) (past : List Entry) (q : Request) (t : ℤ) where
   outcome_heard bytes heard body is verb act =
       after_bytes bytes body
       ∙ ap (λ (x : Result Heard Refusal). unless_unheard (x >>= heard_outcome bytes)) is
-      ∙ ap (λ (b : Bool). cond b (act_step past heard bytes (next_moment past t)) (Refuses (Unread part.Verb))) (ap is_act verb ∙ act)
+      ∙ ap (λ (b : Bool). cond b (act_step past heard bytes (next_moment past t)) (query_step past heard)) (ap is_act verb ∙ act)
 
   -- a body for which there was no room
   pub outcome_no_room : q.body ≡ NoRoom → outcome founder past q t ≡ Refuses NoMemory
   outcome_no_room none = outcome_is ∙ ap (λ (b : Body). unless_unheard (bytes_in b >>= hearing)) none
 
-  -- a query: no verb of one is known
-  unknown_is : (verb : Verb) → is_act verb ≡ false → is_unknown verb ≡ true
-  unknown_is verbs.Enrol is = absurd cc
-  unknown_is verbs.Station is = absurd cc
-  unknown_is verbs.Code is = absurd cc
-  unknown_is verbs.Submit80 is = absurd cc
-  unknown_is verbs.SubmitPsv is = absurd cc
-  unknown_is verbs.Unknown is = refl
+  -- a query that is heard
+  pub outcome_query : (bytes : List ℕ) (heard : Heard) → bytes_in q.body ≡ Ok bytes → hear founder (members (deeds past)) q bytes ≡ Ok heard → heard.verb ≡ q.verb → is_act q.verb ≡ false
+      → outcome founder past q t ≡ tells (query_in heard.asked >>= told past heard.caller.number)
+  outcome_query bytes heard body is verb query =
+      after_bytes bytes body
+      ∙ ap (λ (x : Result Heard Refusal). unless_unheard (x >>= heard_outcome bytes)) is
+      ∙ ap (λ (b : Bool). cond b (act_step past heard bytes (next_moment past t)) (query_step past heard)) (ap is_act verb ∙ query)
 
-  pub step_query : (bytes : List ℕ) → bytes_in q.body ≡ Ok bytes → is_act q.verb ≡ false → step founder past q t ≡ (Refused (Unread part.Verb), past)
+  pub answers_told : (text : List ℕ) → outcome founder past q t ≡ Tells text → Answers founder past q t (Done text) past
   unfolding step
-  step_query bytes body query = ap (after past) (outcome_unheard bytes (Unread part.Verb) body (hear_unnamed founder (members (deeds past)) q bytes (unknown_is q.verb query)))
+  answers_told text is = inl (ap (after past) is)
 
-  pub step_bytes : (r : Refusal) → bytes_in q.body ≡ Err r → step founder past q t ≡ (Refused r, past)
+  pub answers_refused : (r : Refusal) → IsRefused (outcome founder past q t) r → Answers founder past q t (Refused r) past
   unfolding step
-  step_bytes r is = ap (after past) (outcome_bytes r is)
+  answers_refused r (inl is) = inl (ap (after past) is)
+  answers_refused r (inr wants) = inr (ap (λ (r : Refusal). Refused r) wants, refl)
+
+-- what a query is told, where this becomes of it
+pub told_as : (o : Outcome) (due result : Result (List ℕ) Refusal) → o ≡ tells due → IsDue due result → IsTold o result
+told_as o due (Ok text) is told = is ∙ ap tells told
+told_as o due (Err r) is (inl told) = inl (is ∙ ap tells told)
+told_as o due (Err r) is (inr wants) = inr wants
 
 -- ---- the parts of an act's step
 
 -- the same outcome
-pub prepared_as : (past : List Entry) (o o' : Outcome) (spare : ℕ) (result : Result Prep Refusal) → o' ≡ o → IsPrepared past o spare result → IsPrepared past o' spare result
+pub prepared_as : (past : List Entry) (o o' : Outcome) (spare : Room) (result : Result Prep Refusal) → o' ≡ o → IsPrepared past o spare result → IsPrepared past o' spare result
 prepared_as past o o' spare result same is = subst (λ (x : Outcome). IsPrepared past x spare result) (sym same) is
 
 -- where there was no room for the body, it is refused with want of memory
-pub no_room_prep : (past : List Entry) (due : Outcome) (spare : ℕ) (p : Prep) → due ≡ Refuses NoMemory → Prepares past due spare p → p ≡ prep.Refused NoMemory
+pub no_room_prep : (past : List Entry) (due : Outcome) (spare : Room) (p : Prep) → due ≡ Refuses NoMemory → Prepares past due spare p → p ≡ prep.Refused NoMemory
 no_room_prep past due spare (prep.Kept reply) none is = absurd cc
 no_room_prep past due spare (prep.Refused r) none (inl is) = let same = sym none ∙ is in cc
 no_room_prep past due spare (prep.Refused r) none (inr wants) = ap (λ (x : Refusal). prep.Refused x) wants
@@ -105,13 +109,13 @@ no_room_prep past due spare (prep.Ready ready) none is = let added = is.0 in abs
 pub kept_step : (past : List Entry) (heard : Heard) (bytes : List ℕ) (moment : ℤ) (k : Kept) → kept past heard.caller.number heard.number ≡ Some k
     → act_step past heard bytes moment ≡ unless_kept (Some k) heard bytes (Refuses NoMemory)
 kept_step past heard bytes moment k used =
-    ap (λ (o : Option Kept). unless_kept o heard bytes (unless_refused (work_out (deeds past) moment heard) (new_entry heard bytes moment))) used
+    ap (λ (o : Option Kept). unless_kept o heard bytes (unless_refused (work_out past moment heard) (new_entry heard bytes moment))) used
 
 -- a number that was not used
 pub new_step : (past : List Entry) (heard : Heard) (bytes : List ℕ) (moment : ℤ) → kept past heard.caller.number heard.number ≡ None
-    → act_step past heard bytes moment ≡ unless_refused (work_out (deeds past) moment heard) (new_entry heard bytes moment)
+    → act_step past heard bytes moment ≡ unless_refused (work_out past moment heard) (new_entry heard bytes moment)
 new_step past heard bytes moment unused =
-    ap (λ (o : Option Kept). unless_kept o heard bytes (unless_refused (work_out (deeds past) moment heard) (new_entry heard bytes moment))) unused
+    ap (λ (o : Option Kept). unless_kept o heard bytes (unless_refused (work_out past moment heard) (new_entry heard bytes moment))) unused
 
 -- an act that is refused, and one that isn't
 pub refused_work : (work : Result Deed Refusal) (e : Entry) (r : Refusal) → IsDue work (Err r) → IsRefused (unless_refused work e) r
@@ -123,21 +127,14 @@ added_work work e deed is = ap (λ (w : Result Deed Refusal). unless_refused w e
 
 -- ---- the roster with a deed
 
-enrol_free : (b full : Bool) → cond b (Some AlreadyThere) (cond full (Some RosterFull) None) ≡ None → full ≡ false
-enrol_free true full none = absurd cc
-enrol_free false true none = absurd cc
-enrol_free false false none = refl
-
-below : (count : ℕ) → nat_le CALLERS (count + 1) ≡ false → count + 1 < CALLERS
-below count is = grind (arith, nat_tests)
-
--- a deed that nothing refuses leaves no more callers than there may be
-pub callers_with : (enrolled : List Member) (tables : TableRows) (deed : Deed) → length enrolled < CALLERS → first_row (deed_rows enrolled tables deed) ≡ None → length (with_enrolled deed enrolled) < CALLERS
-callers_with enrolled tables (Enrolled member) within free = let room = below (length enrolled) (enrol_free _ _ free) in omega arith
-callers_with enrolled tables (Stationed code from to) within free = within
-callers_with enrolled tables (Coded kind letter word) within free = within
-callers_with enrolled tables (Submitted lines rulings) within free = within
-callers_with enrolled tables Nothing within free = within
+-- a deed that fits leaves no more callers than there may be
+pub callers_with : (past : List Deed) (deed : Deed) → length (members past) < CALLERS → Fits past deed → length (with_enrolled deed (members past)) < CALLERS
+callers_with past (Enrolled member) within fits = omega arith
+callers_with past (Stationed code from to) within fits = within
+callers_with past (Coded kind letter word) within fits = within
+callers_with past (Submitted lines) within fits = within
+callers_with past (Retracted k) within fits = within
+callers_with past Nothing within fits = within
 
 -- the same number of the same caller in the same history
 pub kept_by : (h h' : List Entry) (caller number : ℕ) (o : Option Kept) → h ≡ h' → kept h' caller number ≡ o → kept h caller number ≡ o

@@ -1,40 +1,41 @@
 -- What is worked out for a request that was heard, question by question.
-use Rattle.std.proofs.Common.{◌≡◌, ℕ, ℤ, List, Bool, true, false, cond, Option, Some, None, Result, Ok, Err, refl, sym, ap, subst, ◌∙◌, inl, inr}
-use Rattle.std.specs.Prelude.{◌&&◌}
+use Rattle.std.proofs.Common.{◌≡◌, ℤ, List, Bool, true, false, cond, Option, Some, None, Result, Ok, Err, refl, sym, ap, subst, ◌∙◌, inl, inr}
 use Rattle.act_model.specs.declared.act.Act.{Act}
 use Rattle.act_model.specs.declared.deed.Deed.{Deed}
+use Rattle.act_model.specs.declared.entry.Entry.{Entry}
 use Rattle.act_model.specs.declared.heard.Asked.{Asked}
 use Rattle.act_model.specs.declared.heard.Asked.TheVariants as asked
 use Rattle.act_model.specs.declared.heard.Heard.{Heard}
-use Rattle.obs_record.specs.declared.rule.HeaderFault.{HeaderFault}
 use Rattle.act_model.specs.declared.reply.Refusal.{Refusal}
-use Rattle.act_model.specs.declared.reply.Refusal.TheVariants.{Role, Header}
-use Rattle.act_model.specs.Deeds.{done_by}
-use Rattle.act_model.specs.Requests.{is_officers}
-use Rattle.act_model.specs.Roster.{is_observer}
-use Rattle.act_model.specs.Refusals.{act_in, allowed, work_out}
-use Rattle.act_model.specs.Rows.{unless, ◌>>=◌, IsDue}
+use Rattle.act_model.specs.declared.reply.Refusal.TheVariants.{Role}
+use Rattle.act_model.specs.Deeds.{deeds}
+use Rattle.act_model.specs.Doing.{does}
+use Rattle.act_model.specs.Refusals.{role_rows, act_in, work_out}
+use Rattle.act_model.specs.Rows.{first_row, unless, ◌>>=◌, IsDue}
 
-module _ (past : List Deed) (moment : ℤ) (heard : Heard) where
-  -- working out, by whether the caller is barred and by what is asked
-  abbrev parts : Bool → Asked → Result Deed Refusal
-  parts barred what = unless (cond barred (Some Role) None) (act_in what >>= λ act. allowed past (done_by past moment act))
+module _ (past : List Entry) (moment : ℤ) (heard : Heard) where
+  -- working out, by the refusal of what the caller may not, and by what is asked
+  abbrev parts : Option Refusal → Result Act Refusal → Result Deed Refusal
+  parts barred what = unless barred (what >>= does (deeds past) moment)
 
-  abbrev barred : Bool
-  barred = is_officers heard.verb && is_observer heard.caller.rank
-
-  work_is : work_out past moment heard ≡ parts barred heard.asked
+  work_is : work_out past moment heard ≡ parts (first_row (role_rows past heard)) (act_in heard.asked)
   unfolding work_out
   work_is = refl
 
-  pub work_barred : barred ≡ true → work_out past moment heard ≡ Err Role
-  work_barred is = work_is ∙ ap (λ (b : Bool). parts b heard.asked) is
+  by_bar : (b : Bool) → first_row (role_rows past heard) ≡ cond b (Some Role) None → work_out past moment heard ≡ parts (cond b (Some Role) None) (act_in heard.asked)
+  by_bar b is = work_is ∙ ap (λ (o : Option Refusal). parts o (act_in heard.asked)) is
 
-  pub work_header : (what : HeaderFault) (line : ℕ) → barred ≡ false → heard.asked ≡ asked.Header what line → work_out past moment heard ≡ Err (Header what line)
-  work_header what line free is = work_is ∙ ap (λ (b : Bool). parts b heard.asked) free ∙ ap (parts false) is
+  pub work_barred : (b : Bool) → b ≡ true → first_row (role_rows past heard) ≡ cond b (Some Role) None → work_out past moment heard ≡ Err Role
+  work_barred b barred is = by_bar b is ∙ ap (λ (b : Bool). parts (cond b (Some Role) None) (act_in heard.asked)) barred
 
-  work_act : (act : Act) → barred ≡ false → heard.asked ≡ asked.Act act → work_out past moment heard ≡ allowed past (done_by past moment act)
-  work_act act free is = work_is ∙ ap (λ (b : Bool). parts b heard.asked) free ∙ ap (parts false) is
+  free : (b : Bool) → b ≡ false → first_row (role_rows past heard) ≡ cond b (Some Role) None → work_out past moment heard ≡ parts None (act_in heard.asked)
+  free b may is = by_bar b is ∙ ap (λ (b : Bool). parts (cond b (Some Role) None) (act_in heard.asked)) may
 
-  pub due_act : (act : Act) (result : Result Deed Refusal) → barred ≡ false → heard.asked ≡ asked.Act act → IsDue (allowed past (done_by past moment act)) result → IsDue (work_out past moment heard) result
-  due_act act result free is due = subst (λ (x : Result Deed Refusal). IsDue x result) (sym (work_act act free is)) due
+  pub work_other : (b : Bool) (what : Asked) (refusal : Refusal) → b ≡ false → first_row (role_rows past heard) ≡ cond b (Some Role) None → heard.asked ≡ what → act_in what ≡ Err refusal
+      → work_out past moment heard ≡ Err refusal
+  work_other b what refusal may is asks none = free b may is ∙ ap (λ (w : Asked). parts None (act_in w)) asks ∙ ap (parts None) none
+
+  pub due_act : (b : Bool) (act : Act) (result : Result Deed Refusal) → b ≡ false → first_row (role_rows past heard) ≡ cond b (Some Role) None → heard.asked ≡ asked.Act act
+      → IsDue (does (deeds past) moment act) result → IsDue (work_out past moment heard) result
+  due_act b act result may is asks due =
+      subst (λ (x : Result Deed Refusal). IsDue x result) (sym (free b may is ∙ ap (λ (w : Asked). parts None (act_in w)) asks)) due

@@ -1,3 +1,4 @@
 pub mod Filed
 pub mod Office
+pub mod Holding
 pub mod Preparing

@@ -1,43 +1,95 @@
 -- The office as contracts see it, and an act that is ready to become its next entry.
-use Rattle.std.specs.Prelude.{◌≡◌, ℕ, ◌<◌, ◌≤ℤ◌, List, ◌∷◌, length, unwrap_or}
+use Rattle.std.specs.Prelude.{◌≡◌, ℕ, ◌+◌, ◌<◌, ◌≤◌, ◌≤ℤ◌, false, List, [], ◌∷◌, length, unwrap_or, IsTrue, Option, Result, Ok, Err}
+use Rattle.obs_record.specs.declared.rule.RuleCode.{RuleCode}
+use Rattle.station_tables.specs.Stations.{overlaps}
+use Rattle.station_tables.specs.Codes.{has_code}
+use Rattle.tracklet_file.specs.Contents.{Contents}
+use Rattle.tracklet_file.specs.Observations.{is_live}
 use Rattle.act_bodies.specs.declared.key.Key.{Key}
 use Rattle.act_model.specs.declared.deed.Deed.{Deed}
-use Rattle.act_model.specs.declared.deed.Deed.TheVariants.{Enrolled, Stationed, Coded, Submitted, Nothing}
+use Rattle.act_model.specs.declared.deed.Deed.TheVariants.{Enrolled, Stationed, Coded, Submitted, Retracted, Nothing}
 use Rattle.act_model.specs.declared.entry.Entry.{Entry}
 use Rattle.act_model.specs.declared.roster.TheConstants.{CALLERS}
+use Rattle.act_model.specs.declared.taken.Placed.{Placed}
+use Rattle.act_model.specs.declared.taken.Taken.{Taken}
 use Rattle.act_model.specs.Deeds.{deed_of, deeds}
-use Rattle.act_model.specs.Roster.{members}
+use Rattle.act_model.specs.Roster.{members, next_caller}
 use Rattle.act_model.specs.OfficeTables.{tables_of}
-use Rattle.act_model.specs.Observations.{observations}
+use Rattle.act_model.specs.Taken.{tracks_with}
+use Rattle.act_model.specs.Holdings.{Holdings, holdings}
+use Rattle.act_model.specs.Places.{added_by}
 use Rattle.act_model.specs.Replies.{entry_answer}
-use Rattle.desk_core.specs.declared.prepared.Change.{Change}
+use Rattle.station_tables.specs.Rows.{TableRows}
 
--- the office: the founder's key, the history with the newest entry first, and for how many more entries there is room
+-- ---- the office
+
+-- for how many more entries, callers, observations and tracklets there is room
+pub record Room : Type 0 where
+  pub entries : ℕ
+  pub callers : ℕ
+  pub observations : ℕ
+  pub tracklets : ℕ
+
+-- the office: the founder's key, the history with the newest entry first, and for how much more there is room
 pub record Office : Type 0 where
   pub founder : Key
   pub history : List Entry
-  pub spare : ℕ
+  pub spare : Room
 
--- an act that is ready to become an entry: the entry, its answer, its deed, and what stands with it beside the history
+-- what a file of observations and tracklets holds
+abbrev pub held_in : Contents → Holdings
+held_in file = record { observations = file.observations; tracklets = file.tracklets }
+
+-- ---- an act that is ready
+
+-- an act that is ready to become an entry: the entry, its answer, its deed, and the tables with it, or None where they stay
 pub record Ready : Type 0 where
   pub entry : Entry
   pub answer : List ℕ
   pub deed : Deed
-  pub change : Change
+  pub tables : Option TableRows
 
--- The act was worked out at this history: its answer and its deed are those of the entry there, and so are the tables
--- and the observations with it. The roster with it has no more callers than it may have.
+-- the tracklet of a line is one of these, or the next one
+abbrev pub IsTracked : ℕ → Result Placed RuleCode → Type 0
+IsTracked now (Ok placed) = (1 ≤ placed.track) × (placed.track ≤ now + 1)
+IsTracked now (Err rule) = Unit {0}
+
+-- the tracklets of the lines of a batch are there, or begin one after the other
+abbrev pub AreTracked : ℕ → List Taken → Type 0
+AreTracked now [] = Unit {0}
+AreTracked now (taken ∷ lines) = IsTracked now taken.found × AreTracked (tracks_with now taken.found) lines
+
+-- what a deed is sure of that comes after these, since the office refuses an act else
+abbrev pub Fits : List Deed → Deed → Type 0
+Fits past (Enrolled member) = next_caller (members past) < CALLERS
+Fits past (Stationed code from to) = (from ≤ℤ to) × (overlaps (tables_of past).stations code from to ≡ false)
+Fits past (Coded kind letter word) = has_code (tables_of past).codes kind letter word ≡ false
+Fits past (Submitted lines) = AreTracked (length (holdings past).tracklets) lines
+Fits past (Retracted k) = IsTrue (is_live (holdings past).observations k)
+Fits past Nothing = Unit {0}
+
+-- The act was worked out at this history: its answer and its deed are those of the entry there, and so are the tables with
+-- it. The deed fits what was before it.
 pub record IsReadyAt (past : List Entry) (ready : Ready) : Type 0 where
   pub answer : ready.answer ≡ entry_answer past ready.entry
   pub deed : ready.deed ≡ deed_of (deeds past) ready.entry
-  pub tables : unwrap_or ready.change.tables (tables_of (deeds past)) ≡ tables_of (deeds (ready.entry ∷ past))
-  pub observations : ready.change.observations ≡ observations (deeds (ready.entry ∷ past))
-  pub callers : length (members (deeds (ready.entry ∷ past))) < CALLERS
+  pub fits : Fits (deeds past) ready.deed
+  pub tables : unwrap_or ready.tables (tables_of (deeds past)) ≡ tables_of (deeds (ready.entry ∷ past))
 
--- a station's last day isn't before its first
-abbrev pub IsForwardDeed : Deed → Type 0
-IsForwardDeed (Enrolled member) = Unit {0}
-IsForwardDeed (Stationed code from to) = from ≤ℤ to
-IsForwardDeed (Coded kind letter word) = Unit {0}
-IsForwardDeed (Submitted lines rulings) = Unit {0}
-IsForwardDeed Nothing = Unit {0}
+-- ---- room
+
+-- there is room for an entry that does this deed; each line that is accepted may begin a tracklet
+pub record IsRoomFor (deed : Deed) (room : Room) : Type 0 where
+  pub entries : 0 < room.entries
+  pub callers : 0 < room.callers
+  pub observations : added_by deed ≤ room.observations
+  pub tracklets : added_by deed ≤ room.tracklets
+
+-- what such an entry used of the room: no more than it may need, and of entries and callers none was taken
+pub record UsesRoom (deed : Deed) (old new : Room) : Type 0 where
+  pub entries : old.entries ≤ new.entries + 1
+  pub callers : old.callers ≤ new.callers + 1
+  pub observations : old.observations ≤ new.observations + added_by deed
+  pub tracklets : old.tracklets ≤ new.tracklets + added_by deed
+  pub no_more_entries : new.entries ≤ old.entries
+  pub no_more_callers : new.callers ≤ old.callers

@@ -1,12 +1,14 @@
 -- What preparing a request answers, by cases on the answer, where this is what becomes of the request.
-use Rattle.std.specs.Prelude.{◌≡◌, ◌⊎◌, ℕ, ◌<◌, List, Result, Ok, Err}
+use Rattle.std.specs.Prelude.{◌≡◌, ◌⊎◌, ℕ, List, Result, Ok, Err}
 use Rattle.act_model.specs.declared.entry.Entry.{Entry}
 use Rattle.act_model.specs.declared.reply.Refusal.{Refusal}
 use Rattle.act_model.specs.declared.reply.Refusal.TheVariants.{NoMemory}
-use Rattle.act_model.specs.Step.{Outcome, Refuses, Keeps, Adds}
+use Rattle.act_model.specs.declared.heard.Heard.{Heard}
+use Rattle.act_model.specs.Rows.{◌>>=◌}
+use Rattle.act_model.specs.Step.{Outcome, Refuses, Keeps, Tells, Adds, query_in, told}
 use Rattle.desk_core.specs.declared.prepared.Prep.{Prep}
 use Rattle.desk_core.specs.declared.prepared.Prep.TheVariants as prep
-use Rattle.desk_core.specs.Office.{IsReadyAt}
+use Rattle.desk_core.specs.Office.{Room, IsReadyAt, IsRoomFor}
 
 -- the request is refused so; or memory was refused, whatever would become of it
 abbrev pub IsRefused : Outcome → Refusal → Type 0
@@ -14,12 +16,21 @@ IsRefused due refusal = (due ≡ Refuses refusal) ⊎ (refusal ≡ NoMemory)
 
 -- A reply is kept where the number was used. A refusal is the one that the request meets. An act is ready where it becomes
 -- an entry, at the history at which it was worked out, and there is room for it.
-abbrev pub Prepares : List Entry → Outcome → ℕ → Prep → Type 0
+abbrev pub Prepares : List Entry → Outcome → Room → Prep → Type 0
 Prepares past due spare (prep.Kept reply) = due ≡ Keeps reply
 Prepares past due spare (prep.Refused refusal) = IsRefused due refusal
-Prepares past due spare (prep.Ready ready) = (due ≡ Adds ready.entry) × IsReadyAt past ready × (0 < spare)
+Prepares past due spare (prep.Ready ready) = (due ≡ Adds ready.entry) × IsReadyAt past ready × IsRoomFor ready.deed spare
 
 -- the same, where a refusal is an error
-abbrev pub IsPrepared : List Entry → Outcome → ℕ → Result Prep Refusal → Type 0
+abbrev pub IsPrepared : List Entry → Outcome → Room → Result Prep Refusal → Type 0
 IsPrepared past due spare (Ok prep) = Prepares past due spare prep
 IsPrepared past due spare (Err refusal) = IsRefused due refusal
+
+-- what is due to a query that was heard at this history
+abbrev pub due_to : List Entry → Heard → Result (List ℕ) Refusal
+due_to past heard = query_in heard.asked >>= told past heard.caller.number
+
+-- what a query is told, or the refusal that it meets
+abbrev pub IsTold : Outcome → Result (List ℕ) Refusal → Type 0
+IsTold due (Ok text) = due ≡ Tells text
+IsTold due (Err refusal) = IsRefused due refusal

@@ -1,5 +1,7 @@
-ghost use Rattle.std.specs.Prelude.{◌≡◌, ◌<◌, length, IfOk, IfSome, IfNone, reverse, int_lt, if◌then◌else◌};
+ghost use Rattle.std.specs.Prelude.{◌≡◌, ◌<◌, length, option_map, IfOk, IfSome, IfNone, reverse, int_lt, if◌then◌else◌};
+ghost use Rattle.tracklet_file.specs.Numbering.{numbered};
 ghost use Rattle.act_model.specs.History.{Kept, kept, is_numbered, next_moment};
+ghost use Rattle.act_model.specs.Replies.{entry_answer};
 ghost use Rattle.act_model.specs.Step.{kept_reply};
 ghost use Rattle.desk_core.specs.Filed.{history_of, AreAnswered, IsFiledAt};
 
@@ -7,6 +9,7 @@ use act_model::{Entry, Refusal, Reply, Verb, is_resend};
 use item_list::{Bytes, NoMemory};
 use obs_time::Instant;
 use std::alloc::Global;
+use tracklet_file::numbered;
 
 /// An entry with its answer, as it was given.
 #[derive(Debug, Drop)]
@@ -39,6 +42,30 @@ pub fn find(filed: &[Filed], caller: u32, number: u64) -> Option<usize>
     None
 }
 
+/// Who sent the entry with this receipt. None for what isn't there.
+pub fn caller_at(filed: &[Filed], receipt: u64) -> Option<u32>
+    ensures { result ≡ option_map (λ entry. entry.caller) (numbered (history_of filed.now) receipt) }
+{
+    match numbered(filed, receipt) {
+        Some(f) => Some(f.entry.caller),
+        None => None,
+    }
+}
+
+/// A copy of the answer of the entry at this place.
+///
+/// # Errors
+///
+/// Memory was refused.
+pub fn kept_answer(alloc: Global, filed: &[Filed], place: usize) -> Result<Bytes, NoMemory>
+    requires within { place < length filed.now }
+    requires answered { AreAnswered (reverse filed.now) }
+    ensures { IfOk result (λ text. (k : Kept) → IsFiledAt filed.now place k → text ≡ entry_answer k.before k.entry) }
+{
+    let copy = Bytes::from_slice(alloc, filed[place].answer.as_slice())?;
+    Ok(copy)
+}
+
 /// The answer to a request under a number that stands for the entry at this place: the entry's own
 /// answer to the same verb and body, and else a refusal. Err where there was no memory for a copy.
 pub fn kept_reply(
@@ -58,7 +85,7 @@ pub fn kept_reply(
             receipt: place as u64 + 1,
         }));
     }
-    Ok(Reply::Done(Bytes::from_slice(alloc, f.answer.as_slice())?))
+    Ok(Reply::Done(kept_answer(alloc, filed, place)?))
 }
 
 /// The moment of the entry that is filed next: the reading, but never before the last entry's moment.

@@ -2,13 +2,18 @@
 //! run out of memory and the one that can't be.
 #![tactic(auto)]
 
+mod answering;
+mod doing;
 mod filed;
 mod hearing;
+mod holding;
+mod knowing;
 mod office;
 mod prepared;
 mod preparing;
 mod refusals;
 mod roster;
+mod taking;
 
 pub use office::Core;
 pub use prepared::{Prep, Prepared};

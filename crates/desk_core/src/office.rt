@@ -1,49 +1,50 @@
-ghost use Rattle.std.specs.Prelude.{◌≡◌, ◌+◌, ◌<◌, ◌≤◌, ◌∷◌, [], IfOk, OnOk, ℤ, length, reverse, true, false, unwrap_or};
+ghost use Rattle.std.specs.Prelude.{◌≡◌, ◌<◌, ◌∷◌, [], IfOk, OnOk, ℤ, length, reverse, true, false, unwrap_or};
 ghost use Rattle.act_model.specs.declared.roster.TheConstants.{CALLERS};
 ghost use Rattle.act_model.specs.Requests.{is_act};
 ghost use Rattle.act_model.specs.Roster.{members, IsFounder};
 ghost use Rattle.act_model.specs.Deeds.{deeds};
 ghost use Rattle.act_model.specs.OfficeTables.{tables_of};
-ghost use Rattle.act_model.specs.Observations.{observations};
+ghost use Rattle.act_model.specs.Holdings.{holdings};
 ghost use Rattle.act_model.specs.History.{next_receipt};
-ghost use Rattle.act_model.specs.Step.{outcome, step};
+ghost use Rattle.act_model.specs.Step.{outcome};
+ghost use Rattle.act_model.specs.Turns.{Answers};
 ghost use Rattle.desk_core.specs.Filed.{history_of, AreAnswered};
-ghost use Rattle.desk_core.specs.Office.{IsReadyAt};
+ghost use Rattle.desk_core.specs.Office.{IsReadyAt, IsRoomFor, UsesRoom, held_in};
 ghost use Rattle.desk_core.specs.Preparing.{Prepares};
 
 use crate::filed::Filed;
-use crate::hearing::bytes_in;
+use crate::holding::{added_by, hold};
 use crate::prepared::{Prep, Prepared};
 use crate::roster::enrol;
-use act_model::{Body, Key, Member, Part, Refusal, Reply, Request};
+use act_model::{Body, Deed, Key, Member, Refusal, Reply, Request};
 use item_list::NoMemory;
 use obs_time::Instant;
 use station_tables::Tables;
-use std::alloc::Global;
+use std::alloc::{AllocError, Global};
 use std::marker::Model;
+use tracklet_file::TrackletFile;
 
 /// The office in memory: the founding officer's key, and the history of what was accepted, with what
-/// is worked out from its deeds: the roster, the tables, and how many observations there are.
+/// is worked out from its deeds: the roster, the tables, and the file of the observations and tracklets.
 ///
-/// Contracts see the key, the history with its newest entry first, and for how many more entries
-/// there is room.
+/// Contracts see the key, the history with its newest entry first, and for how much more there is room.
 #[derive(Drop)]
 pub struct Core {
     founder: Key,
     filed: Vec<Filed>,
     members: Vec<Member>,
     tables: Tables,
-    observations: u64,
+    file: TrackletFile,
 }
 
 impl Model for Core {
-    ghost use Rattle.std.specs.Prelude.{◌≡◌, ◌-◌, ◌<◌, min, vec_len, vec_capacity, reverse};
+    ghost use Rattle.std.specs.Prelude.{◌≡◌, ◌-◌, ◌<◌, vec_len, vec_capacity, reverse};
     ghost use Rattle.act_model.specs.declared.roster.TheConstants.{CALLERS};
     ghost use Rattle.act_model.specs.Deeds.{deeds};
     ghost use Rattle.act_model.specs.Roster.{members as members_of};
     ghost use Rattle.act_model.specs.OfficeTables.{tables_of};
-    ghost use Rattle.act_model.specs.Observations.{observations as observations_in};
-    ghost use Rattle.desk_core.specs.Office.{Office};
+    ghost use Rattle.act_model.specs.Holdings.{holdings};
+    ghost use Rattle.desk_core.specs.Office.{Office, held_in};
     ghost use Rattle.desk_core.specs.Filed.{history_of, AreAnswered};
 
     ghost Value = { Office };
@@ -51,7 +52,12 @@ impl Model for Core {
     ghost view = { λ c. record {
       founder = c.founder;
       history = history_of c.filed.items;
-      spare = min (vec_capacity c.filed - vec_len c.filed) (vec_capacity c.members - vec_len c.members);
+      spare = record {
+        entries = vec_capacity c.filed - vec_len c.filed;
+        callers = vec_capacity c.members - vec_len c.members;
+        observations = c.file.observation_room;
+        tracklets = c.file.tracklet_room;
+      };
     } };
 
     ghost invariant = { λ c.
@@ -59,7 +65,7 @@ impl Model for Core {
         × (reverse c.members.items ≡ members_of (deeds (history_of c.filed.items)))
         × (vec_len c.members < CALLERS)
         × (c.tables ≡ tables_of (deeds (history_of c.filed.items)))
-        × (c.observations ≡ observations_in (deeds (history_of c.filed.items))) };
+        × (held_in c.file ≡ holdings (deeds (history_of c.filed.items))) };
 }
 
 impl Core {
@@ -79,7 +85,7 @@ impl Core {
             filed: Vec::new(alloc),
             members: Vec::new(alloc),
             tables: Tables::new(alloc)?,
-            observations: 0,
+            file: TrackletFile::new(alloc)?,
         })
     }
 
@@ -104,17 +110,18 @@ impl Core {
         }
     }
 
-    /// The answer to a query, a request whose verb is that of no act. No query is known yet, so it is refused,
-    /// since its verb can't be read or its body is too large; and with `NoMemory` exactly where there was no room
-    /// for its body. The history stays.
+    /// The answer to a query, a request whose verb is that of no act: the text that tells what is asked, or the first
+    /// refusal that the query meets; `NoMemory` also where memory was refused for the text, and always where there was
+    /// no room for the body. The history stays.
     pub fn answer(&self, request: &Request) -> Reply
         requires query { is_act request.now.verb ≡ false }
         ensures answer { (reading : ℤ) →
-            step self.now.founder self.now.history request.now reading ≡ (result, self.now.history) }
+            Answers self.now.founder self.now.history request.now reading result self.now.history }
         ensures no_room { request.now.body ≡ Body.NoRoom → result ≡ Reply.Refused Refusal.NoMemory }
     {
-        match bytes_in(&request.body) {
-            Ok(_) => Reply::Refused(Refusal::Unread(Part::Verb)),
+        act_model::laws::no_room_no_step();
+        match self.try_answer(request) {
+            Ok(text) => Reply::Done(text),
             Err(refusal) => Reply::Refused(refusal),
         }
     }
@@ -132,18 +139,18 @@ impl Core {
     /// The act was worked out at this history, and `prepare` left room for its entry.
     pub fn commit(&mut self, prepared: Prepared) -> Reply
         requires ready { IsReadyAt self.old.history prepared }
-        requires room { 0 < self.old.spare }
+        requires room { IsRoomFor prepared.deed self.old.spare }
         ensures reply { result ≡ Reply.Done prepared.answer }
         ensures history { self.new.history ≡ prepared.entry ∷ self.old.history }
         ensures founder { self.new.founder ≡ self.old.founder }
-        ensures used { self.old.spare ≤ self.new.spare + 1 }
-        ensures no_more { self.new.spare ≤ self.old.spare }
+        ensures used { UsesRoom prepared.deed self.old.spare self.new.spare }
     {
-        let (filed, answer, deed, change) = prepared.into_parts();
+        let receipt = self.next_receipt();
+        let (filed, answer, deed, tables) = prepared.into_parts();
         self.filed.push_reserved(filed);
+        replace(&mut self.tables, tables);
+        hold(&mut self.file, receipt, &deed);
         enrol(&mut self.members, deed);
-        replace(&mut self.tables, change.tables);
-        self.observations = change.observations;
         Reply::Done(answer)
     }
 
@@ -184,11 +191,11 @@ impl Core {
         &self.tables
     }
 
-    /// How many observations there are.
-    pub(crate) fn observations(&self) -> u64
-        ensures { result ≡ observations (deeds self.now.history) }
+    /// The observations and tracklets.
+    pub(crate) fn file(&self) -> &TrackletFile
+        ensures { held_in result.now ≡ holdings (deeds self.now.history) }
     {
-        self.observations
+        &self.file
     }
 
     /// The receipt of the entry that comes next.
@@ -198,16 +205,18 @@ impl Core {
         self.filed.len() as u64 + 1
     }
 
-    /// Takes the room for one more entry.
-    pub(crate) fn reserve_entry(&mut self) -> Result<(), NoMemory>
-        ensures callers { length (members (deeds self.old.history)) < CALLERS }
-        ensures room { OnOk result (0 < self.new.spare) }
+    /// Takes the room for one more entry that does this deed.
+    pub(crate) fn reserve_for(&mut self, deed: &Deed) -> Result<(), NoMemory>
+        ensures room { OnOk result (IsRoomFor deed.now self.new.spare) }
         ensures history { self.new.history ≡ self.old.history }
         ensures founder { self.new.founder ≡ self.old.founder }
     {
+        let Ok(more) = u32::try_from(added_by(deed)) else {
+            return Err(AllocError);
+        };
         self.filed.reserve(1)?;
         self.members.reserve(1)?;
-        Ok(())
+        self.file.reserve(more, more)
     }
 }
 

@@ -6,24 +6,15 @@ use item_list::Bytes;
 use station_tables::Tables;
 use std::marker::Model;
 
-/// What stands beside the history once an act is added.
-#[derive(Drop)]
-pub struct Change {
-    /// The tables with it, or None where they stay.
-    pub tables: Option<Tables>,
-    /// How many observations there are with it.
-    pub observations: u64,
-}
-
 /// An act that is ready to become the next entry of the office: all memory that it needs is taken.
 ///
-/// Contracts see its entry, its answer, its deed, and what stands with it beside the history.
+/// Contracts see its entry, its answer, its deed, and the tables with it, or None where they stay.
 #[derive(Drop)]
 pub struct Prepared {
     filed: Filed,
     answer: Bytes,
     deed: Deed,
-    change: Change,
+    tables: Option<Tables>,
 }
 
 impl Model for Prepared {
@@ -32,43 +23,48 @@ impl Model for Prepared {
 
     ghost Value = { Ready };
 
-    ghost view = { λ p. record { entry = p.filed.entry; answer = p.answer; deed = p.deed; change = p.change } };
+    ghost view = { λ p. record { entry = p.filed.entry; answer = p.answer; deed = p.deed; tables = p.tables } };
 
     ghost invariant = { λ p. p.filed.answer ≡ p.answer };
 }
 
 impl Prepared {
     /// An act that is filed so, with a second copy of its answer.
-    pub(crate) fn new(filed: Filed, answer: Bytes, deed: Deed, change: Change) -> Prepared
+    pub(crate) fn new(
+        filed: Filed,
+        answer: Bytes,
+        deed: Deed,
+        tables: Option<Tables>,
+    ) -> Prepared
         requires { filed.answer ≡ answer }
         ensures entry { result.entry ≡ filed.entry }
         ensures answer { result.answer ≡ answer }
         ensures deed { result.deed ≡ deed }
-        ensures change { result.change ≡ change }
+        ensures tables { result.tables ≡ tables }
     {
         Prepared {
             filed,
             answer,
             deed,
-            change,
+            tables,
         }
     }
 
-    /// The entry with its answer, the answer, the deed, and what stands beside the history.
-    pub(crate) fn into_parts(self) -> (Filed, Bytes, Deed, Change)
+    /// The entry with its answer, the answer, the deed, and the tables with it.
+    pub(crate) fn into_parts(self) -> (Filed, Bytes, Deed, Option<Tables>)
         ensures entry { result.0.entry ≡ self.entry }
         ensures kept { result.0.answer ≡ self.answer }
         ensures answer { result.1 ≡ self.answer }
         ensures deed { result.2 ≡ self.deed }
-        ensures change { result.3 ≡ self.change }
+        ensures tables { result.3 ≡ self.tables }
     {
         let Prepared {
             filed,
             answer,
             deed,
-            change,
+            tables,
         } = self;
-        (filed, answer, deed, change)
+        (filed, answer, deed, tables)
     }
 }
 

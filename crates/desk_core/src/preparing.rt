@@ -1,29 +1,27 @@
 //! What becomes of an act, worked out question by question, with the memory for it.
 
-ghost use Rattle.std.specs.Prelude.{◌≡◌, ◌<◌, ◌≤◌, length, unwrap_or, true, Ok, None, IfOk};
+ghost use Rattle.std.specs.Prelude.{◌≡◌, ◌≤◌, length, unwrap_or, true, Ok, IfOk};
 ghost use Rattle.act_model.specs.declared.request.TheConstants.{BODY_BYTES};
 ghost use Rattle.act_model.specs.Rows.{IsDue};
 ghost use Rattle.act_model.specs.Requests.{is_act};
-ghost use Rattle.act_model.specs.Acts.{act_of, IsForward, IsForwardAsked};
+ghost use Rattle.act_model.specs.Acts.{IsForwardAsked};
 ghost use Rattle.act_model.specs.Roster.{members};
 ghost use Rattle.act_model.specs.OfficeTables.{tables_of, with_row};
-ghost use Rattle.act_model.specs.Observations.{observations, with_accepted};
-ghost use Rattle.act_model.specs.Deeds.{done_by, deed_of, deeds};
+ghost use Rattle.act_model.specs.Deeds.{deed_of, deeds};
 ghost use Rattle.act_model.specs.History.{next_receipt, next_moment};
-ghost use Rattle.act_model.specs.Refusals.{asked_in, hear, deed_refusal, allowed, work_out};
+ghost use Rattle.act_model.specs.Hearing.{asked_of, hear};
+ghost use Rattle.act_model.specs.Refusals.{work_out};
 ghost use Rattle.act_model.specs.Replies.{deed_answer};
 ghost use Rattle.act_model.specs.Step.{outcome, act_step, unless_refused, new_entry};
-ghost use Rattle.desk_core.specs.Office.{IsReadyAt, IsForwardDeed};
+ghost use Rattle.desk_core.specs.Office.{IsReadyAt, IsRoomFor, Fits};
 ghost use Rattle.desk_core.specs.Preparing.{IsPrepared};
 
 use crate::filed::{Filed, find, kept_reply, next_moment};
 use crate::hearing::{bytes_in, hear};
 use crate::office::Core;
-use crate::prepared::{Change, Prep, Prepared};
-use crate::refusals::{deed_refusal, is_barred};
+use crate::prepared::{Prep, Prepared};
 use act_model::{
-    Act, Asked, Deed, Entry, Heard, Member, Refusal, Request, accepted_in, batch_answer,
-    enrol_answer, judge, receipt_answer,
+    Deed, Entry, Heard, Refusal, Request, batch_answer, enrol_answer, receipt_answer,
 };
 use item_list::{Bytes, NoMemory};
 use obs_time::Instant;
@@ -56,11 +54,11 @@ impl Core {
     }
 
     /// What is heard of a request with these bytes.
-    fn hear(&self, alloc: Global, request: &Request, bytes: &[u8]) -> Result<Heard, Refusal>
+    pub(crate) fn hear(&self, alloc: Global, request: &Request, bytes: &[u8]) -> Result<Heard, Refusal>
         requires short { length bytes.now ≤ BODY_BYTES }
         ensures due { IsDue (hear self.now.founder (members (deeds self.now.history)) request.now bytes.now) result }
         ensures verb { IfOk result (λ heard. heard.verb ≡ request.now.verb) }
-        ensures asked { IfOk result (λ heard. asked_in (act_of heard.verb bytes.now) ≡ Ok heard.asked) }
+        ensures asked { IfOk result (λ heard. asked_of heard.verb bytes.now ≡ Ok heard.asked) }
         ensures forward { IfOk result (λ heard. IsForwardAsked heard.asked) }
     {
         hear(alloc, self.founder(), self.members(), request, bytes)
@@ -74,7 +72,7 @@ impl Core {
         bytes: &[u8],
         reading: Instant,
     ) -> Result<Prep, Refusal>
-        requires asked { asked_in (act_of heard.verb bytes.now) ≡ Ok heard.asked }
+        requires asked { asked_of heard.verb bytes.now ≡ Ok heard.asked }
         requires forward { IsForwardAsked heard.asked }
         ensures answer { IsPrepared self.old.history
             (act_step self.old.history heard bytes.now (next_moment self.old.history reading)) self.new.spare result }
@@ -100,10 +98,10 @@ impl Core {
         bytes: &[u8],
         moment: Instant,
     ) -> Result<Prep, Refusal>
-        requires asked { asked_in (act_of heard.verb bytes.now) ≡ Ok heard.asked }
+        requires asked { asked_of heard.verb bytes.now ≡ Ok heard.asked }
         requires forward { IsForwardAsked heard.asked }
         ensures answer { IsPrepared self.old.history
-            (unless_refused (work_out (deeds self.old.history) moment heard) (new_entry heard bytes.now moment))
+            (unless_refused (work_out self.old.history moment heard) (new_entry heard bytes.now moment))
             self.new.spare result }
         ensures history { self.new.history ≡ self.old.history }
         ensures founder { self.new.founder ≡ self.old.founder }
@@ -132,83 +130,25 @@ impl Core {
         }
     }
 
-    /// What a request that was heard does at this moment, or the first refusal that it meets.
-    fn work_out(&self, alloc: Global, heard: Heard, moment: Instant) -> Result<Deed, Refusal>
-        requires forward { IsForwardAsked heard.asked }
-        ensures due { IsDue (work_out (deeds self.now.history) moment heard) result }
-        ensures free { IfOk result (λ deed. deed_refusal (deeds self.now.history) deed ≡ None) }
-        ensures forward { IfOk result IsForwardDeed }
-    {
-        if is_barred(heard.verb, heard.caller.rank) {
-            return Err(Refusal::Role);
-        }
-        match heard.asked {
-            Asked::Act(act) => self.allowed(alloc, moment, act),
-            Asked::Header { fault, line } => Err(Refusal::Header { fault, line }),
-        }
-    }
-
-    /// What an act does at this moment, where nothing refuses it.
-    fn allowed(&self, alloc: Global, moment: Instant, act: Act) -> Result<Deed, Refusal>
-        requires forward { IsForward act }
-        ensures due { IsDue (allowed (deeds self.now.history) (done_by (deeds self.now.history) moment act)) result }
-        ensures free { IfOk result (λ deed. deed_refusal (deeds self.now.history) deed ≡ None) }
-        ensures forward { IfOk result IsForwardDeed }
-    {
-        let Ok(deed) = self.done_by(alloc, moment, act) else {
-            return Err(Refusal::NoMemory);
-        };
-        match self.refusal_of(alloc, &deed) {
-            Ok(None) => Ok(deed),
-            Ok(Some(refusal)) => Err(refusal),
-            Err(_) => Err(Refusal::NoMemory),
-        }
-    }
-
-    /// The first refusal that a deed meets.
-    fn refusal_of(&self, alloc: Global, deed: &Deed) -> Result<Option<Refusal>, NoMemory>
-        ensures { IfOk result (λ refusal. refusal ≡ deed_refusal (deeds self.now.history) deed.now) }
-    {
-        deed_refusal(alloc, self.members(), self.tables(), deed)
-    }
-
-    /// What an act does at this moment. A batch is judged here, and nowhere else.
-    fn done_by(&self, alloc: Global, moment: Instant, act: Act) -> Result<Deed, NoMemory>
-        requires forward { IsForward act }
-        ensures deed { IfOk result (λ deed. deed ≡ done_by (deeds self.now.history) moment act) }
-        ensures forward { IfOk result IsForwardDeed }
-    {
-        match act {
-            Act::Enrol { key, role, .. } => Ok(Deed::Enrolled(Member { key, rank: role })),
-            Act::Station { code, from, to, .. } => Ok(Deed::Stationed { code, from, to }),
-            Act::Code { kind, letter, word } => Ok(Deed::Coded { kind, letter, word }),
-            Act::Submit80(lines) | Act::SubmitPsv(lines) => {
-                let rulings = judge(alloc, self.tables(), moment, &lines)?;
-                Ok(Deed::Submitted { lines, rulings })
-            }
-        }
-    }
-
-    /// An entry that does this deed, with its answer, what stands with it, and room for it.
+    /// An entry that does this deed, with its answer, the tables with it, and room for it.
     fn ready(&mut self, alloc: Global, entry: Entry, deed: Deed) -> Result<Prepared, NoMemory>
         requires deed { deed_of (deeds self.old.history) entry ≡ deed }
-        requires forward { IsForwardDeed deed }
-        requires free { deed_refusal (deeds self.old.history) deed ≡ None }
+        requires fits { Fits (deeds self.old.history) deed }
         ensures entry { IfOk result (λ ready. ready.entry ≡ entry) }
         ensures at { IfOk result (λ ready. IsReadyAt self.old.history ready) }
-        ensures room { IfOk result (λ ready. 0 < self.new.spare) }
+        ensures room { IfOk result (λ ready. IsRoomFor ready.deed self.new.spare) }
         ensures history { self.new.history ≡ self.old.history }
         ensures founder { self.new.founder ≡ self.old.founder }
     {
         let answer = self.answer_to(alloc, &deed)?;
         let kept = Bytes::from_slice(alloc, answer.as_slice())?;
-        let change = self.change_by(&deed)?;
-        self.reserve_entry()?;
+        let tables = self.tables_with(&deed)?;
+        self.reserve_for(&deed)?;
         let filed = Filed {
             entry,
             answer: kept,
         };
-        Ok(Prepared::new(filed, answer, deed, change))
+        Ok(Prepared::new(filed, answer, deed, tables))
     }
 
     /// The answer to a deed that comes next.
@@ -219,39 +159,22 @@ impl Core {
         let receipt = self.next_receipt();
         match deed {
             Deed::Enrolled(_) => enrol_answer(alloc, receipt, self.members().len() as u64 + 1),
-            Deed::Submitted { rulings, .. } => {
-                if rulings.len() > u64::MAX - self.observations() {
+            Deed::Submitted(lines) => {
+                let before = self.file().observations();
+                if lines.len() > u64::MAX - before {
                     return Err(AllocError);
                 }
-                batch_answer(alloc, receipt, self.observations(), rulings)
+                batch_answer(alloc, receipt, before, lines.as_slice())
             }
-            Deed::Stationed { .. } | Deed::Coded { .. } | Deed::Nothing => {
+            Deed::Stationed { .. } | Deed::Coded { .. } | Deed::Retracted(_) | Deed::Nothing => {
                 receipt_answer(alloc, receipt)
             }
         }
     }
 
-    /// What stands beside the history with a deed, with the memory for it.
-    fn change_by(&self, deed: &Deed) -> Result<Change, NoMemory>
-        requires forward { IsForwardDeed deed.now }
-        requires free { deed_refusal (deeds self.now.history) deed.now ≡ None }
-        ensures tables { IfOk result (λ change. unwrap_or change.tables (tables_of (deeds self.now.history))
-            ≡ with_row deed.now (tables_of (deeds self.now.history))) }
-        ensures observations { IfOk result (λ change.
-            change.observations ≡ with_accepted deed.now (observations (deeds self.now.history))) }
-    {
-        let tables = self.tables_with(deed)?;
-        let observations = self.observations_with(deed)?;
-        Ok(Change {
-            tables,
-            observations,
-        })
-    }
-
     /// The tables with a deed, or None where they stay.
     fn tables_with(&self, deed: &Deed) -> Result<Option<Tables>, NoMemory>
-        requires forward { IsForwardDeed deed.now }
-        requires free { deed_refusal (deeds self.now.history) deed.now ≡ None }
+        requires fits { Fits (deeds self.now.history) deed.now }
         ensures { IfOk result (λ tables. unwrap_or tables (tables_of (deeds self.now.history))
             ≡ with_row deed.now (tables_of (deeds self.now.history))) }
     {
@@ -264,24 +187,7 @@ impl Core {
                 let tables = self.tables().with_code(*kind, *letter, *word)?;
                 Ok(Some(tables))
             }
-            Deed::Enrolled(_) | Deed::Submitted { .. } | Deed::Nothing => Ok(None),
-        }
-    }
-
-    /// How many observations there are with a deed.
-    fn observations_with(&self, deed: &Deed) -> Result<u64, NoMemory>
-        ensures { IfOk result (λ count. count ≡ with_accepted deed.now (observations (deeds self.now.history))) }
-    {
-        match deed {
-            Deed::Submitted { rulings, .. } => {
-                match self.observations().checked_add(accepted_in(rulings)) {
-                    Some(count) => Ok(count),
-                    None => Err(AllocError),
-                }
-            }
-            Deed::Enrolled(_) | Deed::Stationed { .. } | Deed::Coded { .. } | Deed::Nothing => {
-                Ok(self.observations())
-            }
+            Deed::Enrolled(_) | Deed::Submitted(_) | Deed::Retracted(_) | Deed::Nothing => Ok(None),
         }
     }
 }

@@ -1,28 +1,29 @@
-//! The refusals of a deed, in the groups of the office's table.
+//! The refusals of an act, in the groups of the office's table.
 
-ghost use Rattle.std.specs.Prelude.{◌≡◌, ◌<◌, ◌&&◌, List, length, reverse, IfOk};
+ghost use Rattle.std.specs.Prelude.{◌≡◌, ◌<◌, length, reverse, Ok, IfOk};
 ghost use Rattle.act_model.specs.declared.roster.TheConstants.{CALLERS};
-ghost use Rattle.act_model.specs.Requests.{is_officers};
-ghost use Rattle.act_model.specs.Rows.{first_row};
-ghost use Rattle.act_model.specs.Roster.{is_observer};
-ghost use Rattle.act_model.specs.Refusals.{enrol_rows, row_rows, batch_rows, deed_rows};
+ghost use Rattle.act_model.specs.Rows.{first_row, unless};
+ghost use Rattle.act_model.specs.Doing.{enrol_rows, row_rows, batch_rows, retract_rows};
 
 use crate::roster::enrolled_as;
-use act_model::{CALLERS, Deed, Key, Member, Rank, Refusal, Rulings, Verb, accepted_in, faults_in};
+use act_model::{CALLERS, Deed, Key, Member, Refusal, Taken, Thing, accepted_in, faults_in};
 use item_list::NoMemory;
-use station_tables::Tables;
 use std::alloc::Global;
+use tracklet_file::TrackletFile;
 
-/// Whether the verb is one of officers alone, and the caller an observer.
-pub fn is_barred(verb: Verb, rank: Rank) -> bool
-    ensures { result ≡ is_officers verb && is_observer rank }
+/// What is done, unless it is refused.
+pub fn unless(refusal: Option<Refusal>, deed: Deed) -> Result<Deed, Refusal>
+    ensures { result ≡ unless refusal (Ok deed) }
 {
-    verb.is_officers() && matches!(rank, Rank::Observer)
+    match refusal {
+        Some(refusal) => Err(refusal),
+        None => Ok(deed),
+    }
 }
 
 /// The refusal of an enrolment with this key. The founding officer's key is never tested, since no
 /// enrolment can name it.
-fn enrol_refusal(members: &[Member], key: &Key) -> Option<Refusal>
+pub fn enrol_refusal(members: &[Member], key: &Key) -> Option<Refusal>
     requires { length members.now < CALLERS }
     ensures { result ≡ first_row (enrol_rows (reverse members.now) key.now) }
 {
@@ -36,7 +37,7 @@ fn enrol_refusal(members: &[Member], key: &Key) -> Option<Refusal>
 }
 
 /// The refusal of a row that is there already.
-fn row_refusal(is_there: bool) -> Option<Refusal>
+pub fn row_refusal(is_there: bool) -> Option<Refusal>
     ensures { result ≡ first_row (row_rows is_there) }
 {
     if is_there {
@@ -47,37 +48,29 @@ fn row_refusal(is_there: bool) -> Option<Refusal>
 }
 
 /// The refusal of a batch without a line that is accepted.
-fn batch_refusal(alloc: Global, rulings: &Rulings) -> Result<Option<Refusal>, NoMemory>
-    ensures { IfOk result (λ refusal. refusal ≡ first_row (batch_rows rulings.now)) }
-{
-    if accepted_in(rulings) > 0 {
-        return Ok(None);
-    }
-    let faults = faults_in(alloc, rulings)?;
-    Ok(Some(Refusal::NoLine(faults)))
-}
-
-/// The refusal of a deed, where these were enrolled and these are the tables.
 ///
 /// # Errors
 ///
-/// Memory was refused for the faults of a batch.
-pub fn deed_refusal(
-    alloc: Global,
-    members: &[Member],
-    tables: &Tables,
-    deed: &Deed,
-) -> Result<Option<Refusal>, NoMemory>
-    requires { length members.now < CALLERS }
-    ensures { IfOk result (λ refusal. refusal ≡ first_row (deed_rows (reverse members.now) tables.now deed.now)) }
+/// Memory was refused for the faults.
+pub fn batch_refusal(alloc: Global, lines: &[Taken]) -> Result<Option<Refusal>, NoMemory>
+    ensures { IfOk result (λ refusal. refusal ≡ first_row (batch_rows lines.now)) }
 {
-    match deed {
-        Deed::Enrolled(member) => Ok(enrol_refusal(members, &member.key)),
-        Deed::Stationed { code, from, to } => Ok(row_refusal(tables.overlaps(*code, *from, *to))),
-        Deed::Coded { kind, letter, word } => {
-            Ok(row_refusal(tables.has_code(*kind, *letter, *word)))
-        }
-        Deed::Submitted { rulings, .. } => batch_refusal(alloc, rulings),
-        Deed::Nothing => Ok(None),
+    if accepted_in(lines) > 0 {
+        return Ok(None);
     }
+    let faults = faults_in(alloc, lines)?;
+    Ok(Some(Refusal::NoLine(faults)))
+}
+
+/// The refusal of a retraction.
+pub fn retract_refusal(file: &TrackletFile, k: u64) -> Option<Refusal>
+    ensures { result ≡ first_row (retract_rows file.now.observations k) }
+{
+    if file.entry_of(k).is_none() {
+        return Some(Refusal::UnknownThing(Thing::Observation(k)));
+    }
+    if !file.is_live(k) {
+        return Some(Refusal::AlreadyRetracted(k));
+    }
+    None
 }

@@ -18,6 +18,7 @@ mod tracklet;
 
 pub use file::TrackletFile;
 pub use observation::Observation;
+pub use searches::numbered;
 pub use tracklet::Tracklet;
 
 #[cfg(test)]

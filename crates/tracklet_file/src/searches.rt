@@ -9,8 +9,9 @@ use angle_fixed::{Dec, Ra};
 use obs_record::Short;
 use obs_time::Instant;
 
-/// The item with this number. Items are numbered from 1.
-pub(crate) fn numbered<T>(items: &[T], number: u64) -> Option<&T>
+/// The item with this number, in a list that stands oldest first. Items are numbered from 1 in the order in which they
+/// came, so that 0 is no item's number.
+pub fn numbered<T>(items: &[T], number: u64) -> Option<&T>
     ensures { option_copied result ≡ numbered (reverse items.now) number }
 {
     if number == 0 {

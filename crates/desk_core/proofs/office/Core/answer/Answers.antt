@@ -1,8 +1,15 @@
-use Rattle.desk_core.proofs.Steps.{step_query, step_bytes}
+use Rattle.std.proofs.Common.{pos}
+use Rattle.desk_core.proofs.Steps.{answers_told, answers_refused}
 use Rattle.desk_core.proofs.office.Core.answer.Goals as goal
 
 pub returns-in-Ok-clause-answer : goal.returns-in-Ok-clause-answer
-returns-in-Ok-clause-answer c = λ reading. step_query c.args.self.now.founder c.args.self.now.history c.args.request.now reading c.in-Ok.field-0.now c.in-Ok.ensures.bytes c.requires.query
+returns-in-Ok-clause-answer c = λ reading. answers_told c.args.self.now.founder c.args.self.now.history c.args.request.now reading c.in-Ok.text (c.in-Ok.ensures reading)
 
 pub returns-in-Err-clause-answer : goal.returns-in-Err-clause-answer
-returns-in-Err-clause-answer c = λ reading. step_bytes c.args.self.now.founder c.args.self.now.history c.args.request.now reading c.in-Err.refusal c.in-Err.ensures.refused
+returns-in-Err-clause-answer c = λ reading. answers_refused c.args.self.now.founder c.args.self.now.history c.args.request.now reading c.in-Err.refusal (c.in-Err.ensures reading)
+
+pub returns-in-Ok-clause-no_room : goal.returns-in-Ok-clause-no_room
+returns-in-Ok-clause-no_room c = λ none. (c.no_room_no_step.ensures.turn _ _ _ _ (pos 0) _ none (answers_told c.args.self.now.founder c.args.self.now.history c.args.request.now (pos 0) c.in-Ok.text (c.in-Ok.ensures (pos 0)))).0
+
+pub returns-in-Err-clause-no_room : goal.returns-in-Err-clause-no_room
+returns-in-Err-clause-no_room c = λ none. (c.no_room_no_step.ensures.turn _ _ _ _ (pos 0) _ none (answers_refused c.args.self.now.founder c.args.self.now.history c.args.request.now (pos 0) c.in-Err.refusal (c.in-Err.ensures (pos 0)))).0

@@ -1,9 +1,9 @@
 use Rattle.std.proofs.Common.{ap, ◌∙◌}
-use Rattle.std.specs.Prelude.{unwrap_or}
+use Rattle.std.specs.Prelude.{Option, unwrap_or}
+use Rattle.station_tables.specs.Rows.{TableRows}
 use Rattle.act_model.specs.declared.entry.Entry.{Entry}
 use Rattle.act_model.specs.Deeds.{deed_of, deeds}
 use Rattle.act_model.specs.OfficeTables.{tables_of}
-use Rattle.desk_core.specs.declared.prepared.Change.{Change}
 use Rattle.desk_core.proofs.Readying.{ready_at}
 use Rattle.desk_core.proofs.office.Core.ready.Goals as goal
 
@@ -14,7 +14,5 @@ returns-clause-at c =
     (ap (λ (e : Entry). deed_of (deeds past) e) c.new.ensures.entry ∙ c.requires.deed)
     c.new.ensures.deed
     (c.new.ensures.answer ∙ c.in_ok-answer.ensures)
-    (ap (λ (change : Change). unwrap_or change.tables (tables_of (deeds past))) c.new.ensures.change ∙ c.in_ok-change.ensures.tables)
-    (ap (λ (change : Change). change.observations) c.new.ensures.change ∙ c.in_ok-change.ensures.observations)
-    c.in_ok-reserve_entry.ensures.callers
-    c.requires.free
+    (ap (λ (tables : Option TableRows). unwrap_or tables (tables_of (deeds past))) c.new.ensures.tables ∙ c.in_ok-tables.ensures)
+    c.requires.fits

@@ -1,19 +1,26 @@
-use Rattle.std.proofs.Common.{sym, subst, ◌∙◌, inl}
+use Rattle.std.proofs.Common.{sym, subst, ◌∙◌, inl, refl}
 use Rattle.act_model.specs.declared.act.Act.{Act}
-use Rattle.act_model.specs.Deeds.{done_by, deeds}
-use Rattle.act_model.specs.Refusals.{allowed}
+use Rattle.act_model.specs.declared.heard.Asked.TheVariants as asked
+use Rattle.act_model.specs.declared.reply.Part.TheVariants as part
+use Rattle.act_model.specs.declared.reply.Refusal.TheVariants.{Unread, Header}
+use Rattle.act_model.specs.Deeds.{deeds}
+use Rattle.act_model.specs.Doing.{does}
 use Rattle.act_model.specs.Rows.{IsDue}
-use Rattle.desk_core.proofs.Working.{work_barred, work_header, due_act}
+use Rattle.desk_core.proofs.Working.{work_barred, work_other, due_act}
 use Rattle.desk_core.proofs.office.Core.work_out.Goals as goal
 
 pub returns-then-is_barred-clause-due : goal.returns-then-is_barred-clause-due
-returns-then-is_barred-clause-due c = inl (work_barred (deeds c.args.self.now.history) c.args.moment c.args.heard (sym c.is_barred.ensures ∙ c.if-is_barred.true))
+returns-then-is_barred-clause-due c = inl (work_barred c.args.self.now.history c.args.moment c.args.heard c.is_barred.result c.if-is_barred.true c.is_barred.ensures)
 
 pub returns-in-Act-clause-due : goal.returns-in-Act-clause-due
 returns-in-Act-clause-due c =
-    let past = deeds c.args.self.now.history in
-    due_act past c.args.moment c.args.heard c.in-Act.act c.allowed.result (sym c.is_barred.ensures ∙ c.if-is_barred.false) c.in-Act.is
-    (subst (λ (act : Act). IsDue (allowed past (done_by past c.args.moment act)) c.allowed.result) c.in-Act.act-is c.allowed.ensures.due)
+    due_act c.args.self.now.history c.args.moment c.args.heard c.is_barred.result c.in-Act.act c.does.result c.if-is_barred.false c.is_barred.ensures c.in-Act.is
+    (subst (λ (act : Act). IsDue (does (deeds c.args.self.now.history) c.args.moment act) c.does.result) c.in-Act.act-is c.does.ensures.due)
 
 pub returns-in-Header-clause-due : goal.returns-in-Header-clause-due
-returns-in-Header-clause-due c = inl (work_header (deeds c.args.self.now.history) c.args.moment c.args.heard c.in-Header.fault c.in-Header.line (sym c.is_barred.ensures ∙ c.if-is_barred.false) c.in-Header.is)
+returns-in-Header-clause-due c =
+    inl (work_other c.args.self.now.history c.args.moment c.args.heard c.is_barred.result (asked.Header c.in-Header.fault c.in-Header.line) (Header c.in-Header.fault c.in-Header.line) c.if-is_barred.false c.is_barred.ensures c.in-Header.is refl)
+
+pub returns-in-Query-clause-due : goal.returns-in-Query-clause-due
+returns-in-Query-clause-due c =
+    inl (work_other c.args.self.now.history c.args.moment c.args.heard c.is_barred.result (asked.Query c.in-Query.field-0) (Unread part.Verb) c.if-is_barred.false c.is_barred.ensures c.in-Query.is refl)

@@ -1,0 +1,90 @@
+//! What a deed leaves in the file of observations and tracklets.
+
+ghost use Rattle.std.specs.Prelude.{◌≡◌, ◌+◌, ◌≤◌, length, Ok};
+ghost use Rattle.act_model.specs.Holdings.{with_found, with_batch, with_deed};
+ghost use Rattle.act_model.specs.Places.{added_by};
+ghost use Rattle.act_model.specs.Taken.{tracks_with, accepted_in};
+ghost use Rattle.desk_core.specs.Office.{held_in, IsTracked, AreTracked};
+ghost use Rattle.desk_core.specs.Holding.{is_added, HoldsDeed};
+
+use act_model::{Deed, Placed, Taken, accepted_in, name_of};
+use tracklet_file::TrackletFile;
+
+/// Adds an accepted observation. The first one of a tracklet begins it.
+fn hold_placed(file: &mut TrackletFile, receipt: u64, placed: &Placed)
+    requires tracked { IsTracked (length file.old.tracklets) (Ok placed.now) }
+    requires observations { 1 ≤ file.old.observation_room }
+    requires tracklets { 1 ≤ file.old.tracklet_room }
+    ensures held { held_in file.new ≡ with_found receipt (Ok placed.now) (held_in file.old) }
+    ensures tracks { length file.new.tracklets ≡ tracks_with (length file.old.tracklets) (Ok placed.now) }
+    ensures observations { file.old.observation_room ≤ file.new.observation_room + 1 }
+    ensures tracklets { file.old.tracklet_room ≤ file.new.tracklet_room + 1 }
+{
+    if placed.track > file.tracks() {
+        file.add_track(
+            name_of(&placed.sighting),
+            placed.sighting.station,
+            placed.home,
+        );
+    }
+    file.add(placed.track, placed.sighting, receipt);
+}
+
+/// Adds what became of a line, where it was accepted.
+fn hold_line(file: &mut TrackletFile, receipt: u64, taken: &Taken)
+    requires tracked { IsTracked (length file.old.tracklets) taken.now.found }
+    requires observations { is_added taken.now ≤ file.old.observation_room }
+    requires tracklets { is_added taken.now ≤ file.old.tracklet_room }
+    ensures held { held_in file.new ≡ with_found receipt taken.now.found (held_in file.old) }
+    ensures tracks { length file.new.tracklets ≡ tracks_with (length file.old.tracklets) taken.now.found }
+    ensures observations { file.old.observation_room ≤ file.new.observation_room + is_added taken.now }
+    ensures tracklets { file.old.tracklet_room ≤ file.new.tracklet_room + is_added taken.now }
+{
+    if let Ok(placed) = &taken.found {
+        hold_placed(file, receipt, placed);
+    }
+}
+
+/// Adds the accepted lines of a batch, one after the other.
+fn hold_batch(file: &mut TrackletFile, receipt: u64, lines: &[Taken])
+    requires tracked { AreTracked (length file.old.tracklets) lines.now }
+    requires observations { accepted_in lines.now ≤ file.old.observation_room }
+    requires tracklets { accepted_in lines.now ≤ file.old.tracklet_room }
+    ensures held { held_in file.new ≡ with_batch receipt lines.now (held_in file.old) }
+    ensures observations { file.old.observation_room ≤ file.new.observation_room + accepted_in lines.now }
+    ensures tracklets { file.old.tracklet_room ≤ file.new.tracklet_room + accepted_in lines.now }
+{
+    for taken in lines {
+        hold_line(file, receipt, taken);
+    }
+}
+
+/// How many observations a deed adds.
+pub fn added_by(deed: &Deed) -> u64
+    ensures { result ≡ added_by deed.now }
+{
+    match deed {
+        Deed::Submitted(lines) => accepted_in(lines.as_slice()),
+        Deed::Enrolled(_)
+        | Deed::Stationed { .. }
+        | Deed::Coded { .. }
+        | Deed::Retracted(_)
+        | Deed::Nothing => 0,
+    }
+}
+
+/// Does a deed of the entry with this receipt. It takes no memory: there is room.
+pub fn hold(file: &mut TrackletFile, receipt: u64, deed: &Deed)
+    requires fits { HoldsDeed file.old deed.now }
+    requires observations { added_by deed.now ≤ file.old.observation_room }
+    requires tracklets { added_by deed.now ≤ file.old.tracklet_room }
+    ensures held { held_in file.new ≡ with_deed receipt deed.now (held_in file.old) }
+    ensures observations { file.old.observation_room ≤ file.new.observation_room + added_by deed.now }
+    ensures tracklets { file.old.tracklet_room ≤ file.new.tracklet_room + added_by deed.now }
+{
+    match deed {
+        Deed::Submitted(lines) => hold_batch(file, receipt, lines.as_slice()),
+        Deed::Retracted(k) => file.retract(*k),
+        Deed::Enrolled(_) | Deed::Stationed { .. } | Deed::Coded { .. } | Deed::Nothing => {}
+    }
+}

@@ -1,0 +1,29 @@
+//! What the rules for lines ask of the office.
+
+use crate::office::Core;
+use act_model::Known;
+use angle_fixed::{Dec, Ra};
+use obs_record::Short;
+use obs_time::Instant;
+use packed_names::{Designation, Name};
+
+impl Known for Core {
+    ghost use Rattle.act_model.specs.Deeds.{deeds};
+    ghost use Rattle.act_model.specs.Knowing.{known_of};
+
+    ghost office = { λ core. known_of (deeds core.history) };
+
+    fn has_live(&self, station: Short, time: Instant, ra: Ra, dec: Dec) -> bool {
+        self.file().has_live(station, time, ra, dec)
+    }
+
+    /// No designation was given yet.
+    fn stands_for(&self, _name: Name) -> Option<Designation> {
+        None
+    }
+
+    /// No designation was given yet.
+    fn principal(&self, _d: Designation) -> Option<Designation> {
+        None
+    }
+}
