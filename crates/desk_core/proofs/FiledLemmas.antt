@@ -1,11 +1,15 @@
 -- Histories of what was filed.
-use Rattle.std.proofs.Common.{◌≡◌, ℕ, ◌+◌, ◌-◌, ◌<◌, ◌≤◌, Bool, true, cond, List, [], ◌∷◌, ◌++◌, length, get_or, take, Some, refl, ap, sym, ◌∙◌, arith}
+use Rattle.std.proofs.Common.{◌≡◌, ℕ, ◌+◌, ◌-◌, ◌<◌, ◌≤◌, Bool, true, cond, List, [], ◌∷◌, ◌++◌, length, get_or, take, Option, Some, None, refl, ap, sym, ◌∙◌, arith}
+use Rattle.std.specs.Prelude.{reverse}
+use Rattle.std.specs.Option.{option_map}
+use Rattle.tracklet_file.specs.Numbering.{numbered}
 use Rattle.std.proofs.lemmas.List.{take_more, reverse-append}
 use Rattle.std.proofs.lemmas.Option.{slice_get_read}
 use Rattle.act_model.specs.declared.entry.Entry.{Entry}
 use Rattle.act_model.specs.History.{Kept, kept, is_numbered}
 use Rattle.desk_core.specs.declared.filed.Filed.{Filed}
 use Rattle.desk_core.specs.Filed.{entries_of, history_of, IsFiledAt}
+use Rattle.desk_core.proofs.Numbered.{numbered_map}
 
 -- one more that is filed is the newest entry
 pub history_of-push : (filed : List Filed) (f : Filed) → history_of (filed ++ f ∷ []) ≡ f.entry ∷ history_of filed
@@ -33,3 +37,11 @@ kept_here filed last caller number f some within here numbered same =
       sym same ∙ ap (λ (h : List Entry). kept h caller number) newest ∙ kept_found caller number f.entry (history_of (take (last - 1) filed)) numbered,
       record { at = f; there = slice_get_read filed (length filed) (last - 1) f refl below here; entry = refl; before = refl },
     )
+
+-- who sent the entry with a receipt is told by what was filed with that number
+pub caller_numbered : (filed : List Filed) (receipt : ℕ) (o : Option Filed) → o ≡ numbered (reverse filed) receipt
+    → option_map (λ f. f.entry.caller) o ≡ option_map (λ e. e.caller) (numbered (history_of filed) receipt)
+caller_numbered filed receipt None is =
+    ap (option_map (λ e. e.caller)) (ap (option_map (λ f. f.entry)) is ∙ sym (numbered_map (λ f. f.entry) (reverse filed) receipt))
+caller_numbered filed receipt (Some f) is =
+    ap (option_map (λ e. e.caller)) (ap (option_map (λ f. f.entry)) is ∙ sym (numbered_map (λ f. f.entry) (reverse filed) receipt))

@@ -6,3 +6,7 @@ pub mod Steps
 pub mod Readying
 pub mod Working
 pub mod Fitting
+pub mod Numbered
+pub mod Telling
+pub mod TakenLines
+pub mod Committing

@@ -69,11 +69,12 @@ Fits past (Retracted k) = IsTrue (is_live (holdings past).observations k)
 Fits past Nothing = Unit {0}
 
 -- The act was worked out at this history: its answer and its deed are those of the entry there, and so are the tables with
--- it. The deed fits what was before it.
+-- it. The deed fits what was before it, and the roster with it has no more callers than it may have.
 pub record IsReadyAt (past : List Entry) (ready : Ready) : Type 0 where
   pub answer : ready.answer ≡ entry_answer past ready.entry
   pub deed : ready.deed ≡ deed_of (deeds past) ready.entry
   pub fits : Fits (deeds past) ready.deed
+  pub callers : length (members (deeds (ready.entry ∷ past))) < CALLERS
   pub tables : unwrap_or ready.tables (tables_of (deeds past)) ≡ tables_of (deeds (ready.entry ∷ past))
 
 -- ---- room

@@ -48,11 +48,18 @@ impl Core {
         ensures { IsDue (due_to self.now.history heard) result }
     {
         match heard.asked {
-            Asked::Query(Query::Receipt(number)) => {
-                self.receipt(alloc, heard.caller.number, number)
-            }
-            Asked::Query(Query::Tally) => text_or_refusal(tally_answer(alloc, self.tally())),
+            Asked::Query(query) => self.told(alloc, heard.caller.number, query),
             Asked::Act(_) | Asked::Header { .. } => Err(Refusal::Unread(Part::Verb)),
+        }
+    }
+
+    /// What a caller's query is told.
+    fn told(&self, alloc: Global, caller: u32, query: Query) -> Result<Bytes, Refusal>
+        ensures { IsDue (told self.now.history caller query) result }
+    {
+        match query {
+            Query::Receipt(number) => self.receipt(alloc, caller, number),
+            Query::Tally => text_or_refusal(tally_answer(alloc, self.tally())),
         }
     }
 

@@ -1,7 +1,8 @@
 //! What a deed leaves in the file of observations and tracklets.
 
 ghost use Rattle.std.specs.Prelude.{◌≡◌, ◌+◌, ◌≤◌, length, Ok};
-ghost use Rattle.act_model.specs.Holdings.{with_found, with_batch, with_deed};
+ghost use Rattle.tracklet_file.specs.Tracklets.{IsTracklet};
+ghost use Rattle.act_model.specs.Holdings.{with_begun, with_found, with_batch, with_deed};
 ghost use Rattle.act_model.specs.Places.{added_by};
 ghost use Rattle.act_model.specs.Taken.{tracks_with, accepted_in};
 ghost use Rattle.desk_core.specs.Office.{held_in, IsTracked, AreTracked};
@@ -9,6 +10,26 @@ ghost use Rattle.desk_core.specs.Holding.{is_added, HoldsDeed};
 
 use act_model::{Deed, Placed, Taken, accepted_in, name_of};
 use tracklet_file::TrackletFile;
+
+/// Begins the tracklet of an accepted observation, where it isn't there.
+fn begin(file: &mut TrackletFile, placed: &Placed)
+    requires tracked { IsTracked (length file.old.tracklets) (Ok placed.now) }
+    requires tracklets { 1 ≤ file.old.tracklet_room }
+    ensures begun { file.new.tracklets ≡ with_begun placed.now file.old.tracklets }
+    ensures there { IsTracklet file.new.tracklets placed.now.track }
+    ensures tracks { length file.new.tracklets ≡ tracks_with (length file.old.tracklets) (Ok placed.now) }
+    ensures observations { file.new.observations ≡ file.old.observations }
+    ensures observation_room { file.new.observation_room ≡ file.old.observation_room }
+    ensures tracklet_room { file.old.tracklet_room ≤ file.new.tracklet_room + 1 }
+{
+    if placed.track > file.tracks() {
+        file.add_track(
+            name_of(&placed.sighting),
+            placed.sighting.station,
+            placed.home,
+        );
+    }
+}
 
 /// Adds an accepted observation. The first one of a tracklet begins it.
 fn hold_placed(file: &mut TrackletFile, receipt: u64, placed: &Placed)
@@ -20,13 +41,7 @@ fn hold_placed(file: &mut TrackletFile, receipt: u64, placed: &Placed)
     ensures observations { file.old.observation_room ≤ file.new.observation_room + 1 }
     ensures tracklets { file.old.tracklet_room ≤ file.new.tracklet_room + 1 }
 {
-    if placed.track > file.tracks() {
-        file.add_track(
-            name_of(&placed.sighting),
-            placed.sighting.station,
-            placed.home,
-        );
-    }
+    begin(file, placed);
     file.add(placed.track, placed.sighting, receipt);
 }
 

@@ -207,15 +207,16 @@ impl Core {
 
     /// Takes the room for one more entry that does this deed.
     pub(crate) fn reserve_for(&mut self, deed: &Deed) -> Result<(), NoMemory>
+        ensures callers { length (members (deeds self.old.history)) < CALLERS }
         ensures room { OnOk result (IsRoomFor deed.now self.new.spare) }
         ensures history { self.new.history ≡ self.old.history }
         ensures founder { self.new.founder ≡ self.old.founder }
     {
+        self.filed.reserve(1)?;
+        self.members.reserve(1)?;
         let Ok(more) = u32::try_from(added_by(deed)) else {
             return Err(AllocError);
         };
-        self.filed.reserve(1)?;
-        self.members.reserve(1)?;
         self.file.reserve(more, more)
     }
 }

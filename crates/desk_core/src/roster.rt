@@ -1,6 +1,6 @@
 //! The callers on the roster, in the order in which they were enrolled.
 
-ghost use Rattle.std.specs.Prelude.{◌≡◌, ◌<◌, length, reverse, vec_len, vec_capacity};
+ghost use Rattle.std.specs.Prelude.{◌≡◌, ◌+◌, ◌<◌, ◌≤◌, length, reverse, vec_len, vec_capacity};
 ghost use Rattle.act_model.specs.declared.roster.TheConstants.{CALLERS};
 ghost use Rattle.act_model.specs.Roster.{caller_of, enrolled_as, with_enrolled};
 
@@ -41,6 +41,9 @@ pub fn enrol(members: &mut Vec<Member>, deed: Deed)
     requires { vec_len members.old < vec_capacity members.old }
     ensures roster { reverse members.new.items ≡ with_enrolled deed (reverse members.old.items) }
     ensures room { vec_capacity members.new ≡ vec_capacity members.old }
+    ensures no_fewer { vec_len members.old ≤ vec_len members.new }
+    ensures one_more { vec_len members.new ≤ vec_len members.old + 1 }
+    ensures count { vec_len members.new ≡ length (with_enrolled deed (reverse members.old.items)) }
 {
     if let Deed::Enrolled(member) = deed {
         members.push_reserved(member);

@@ -16,3 +16,4 @@ returns-clause-at c =
     (c.new.ensures.answer ∙ c.in_ok-answer.ensures)
     (ap (λ (tables : Option TableRows). unwrap_or tables (tables_of (deeds past))) c.new.ensures.tables ∙ c.in_ok-tables.ensures)
     c.requires.fits
+    c.in_ok-reserve_for.ensures.callers

@@ -1,0 +1,71 @@
+-- What stands with an entry once it is added.
+use Rattle.std.proofs.Common.{◌≡◌, ℕ, ◌+◌, ◌-◌, ◌<◌, ◌≤◌, List, [], ◌∷◌, ◌++◌, length, Option, refl, sym, ap, subst, ◌∙◌, arith, suc}
+use Rattle.std.specs.Prelude.{reverse, unwrap_or}
+use Rattle.std.proofs.lemmas.List.{reverse-append}
+use Rattle.station_tables.specs.Rows.{TableRows}
+use Rattle.tracklet_file.specs.Numbering.{next_number}
+use Rattle.act_model.specs.declared.deed.Deed.{Deed}
+use Rattle.act_model.specs.declared.entry.Entry.{Entry}
+use Rattle.act_model.specs.declared.roster.Member.{Member}
+use Rattle.act_model.specs.declared.roster.TheConstants.{CALLERS}
+use Rattle.act_model.specs.Deeds.{deed_of, deeds}
+use Rattle.act_model.specs.History.{next_receipt}
+use Rattle.act_model.specs.Holdings.{Holdings, with_deed, holdings}
+use Rattle.act_model.specs.OfficeTables.{tables_of}
+use Rattle.act_model.specs.Replies.{entry_answer}
+use Rattle.act_model.specs.Roster.{members, with_enrolled}
+use Rattle.desk_core.specs.declared.filed.Filed.{Filed}
+use Rattle.desk_core.specs.Filed.{entries_of, history_of, AreAnswered}
+use Rattle.act_model.specs.Places.{added_by}
+use Rattle.desk_core.specs.Office.{Ready, IsReadyAt, UsesRoom}
+use Rattle.desk_core.proofs.FiledLemmas.{history_of-push}
+
+deeds_length : (past : List Entry) → length (deeds past) ≡ length past
+deeds_length [] = refl
+deeds_length (entry ∷ past) = ap suc (deeds_length past)
+
+module _ (items : List Filed) (f : Filed) (ready : Ready) (at : IsReadyAt (history_of items) ready) (entry : f.entry ≡ ready.entry) (answer : f.answer ≡ ready.answer) where
+  abbrev past : List Entry
+  past = history_of items
+
+  abbrev now : List Filed
+  now = items ++ f ∷ []
+
+  pub history_is : history_of now ≡ ready.entry ∷ past
+  history_is = history_of-push items f ∙ ap (λ (e : Entry). e ∷ past) entry
+
+  pub answered : AreAnswered (reverse items) → AreAnswered (reverse now)
+  answered before =
+      subst AreAnswered (sym (reverse-append items (f ∷ []))) (answer ∙ at.answer ∙ ap (entry_answer past) (sym entry), before)
+
+  deeds_are : deeds (history_of now) ≡ ready.deed ∷ deeds past
+  deeds_are = ap deeds history_is ∙ ap (λ (d : Deed). d ∷ deeds past) (sym at.deed)
+
+  pub members_are : (old new : List Member) → reverse new ≡ with_enrolled ready.deed (reverse old) → reverse old ≡ members (deeds past) → reverse new ≡ members (deeds (history_of now))
+  members_are old new is before = is ∙ ap (with_enrolled ready.deed) before ∙ sym (ap members deeds_are)
+
+  pub members_within : (old : List Member) (count : ℕ) → count ≡ length (with_enrolled ready.deed (reverse old)) → reverse old ≡ members (deeds past) → count < CALLERS
+  members_within old count is before =
+      subst (λ (n : ℕ). n < CALLERS) (sym (is ∙ ap (λ (ms : List Member). length (with_enrolled ready.deed ms)) before ∙ ap (λ (d : Deed). length (with_enrolled d (members (deeds past)))) at.deed)) at.callers
+
+  pub tables_are : (old new : TableRows) → new ≡ unwrap_or ready.tables old → old ≡ tables_of (deeds past) → new ≡ tables_of (deeds (history_of now))
+  tables_are old new is before = is ∙ ap (unwrap_or ready.tables) before ∙ at.tables ∙ sym (ap (λ (h : List Entry). tables_of (deeds h)) history_is)
+
+  pub held_are : (receipt : ℕ) (old new : Holdings) → new ≡ with_deed receipt ready.deed old → receipt ≡ next_receipt past → old ≡ holdings (deeds past) → new ≡ holdings (deeds (history_of now))
+  held_are receipt old new is number before =
+      is ∙ ap (with_deed receipt ready.deed) before
+      ∙ ap (λ (n : ℕ). with_deed n ready.deed (holdings (deeds past))) (number ∙ ap (λ (n : ℕ). n + 1) (sym (deeds_length past)))
+      ∙ sym (ap holdings deeds_are)
+
+-- what was used of the room
+pub used : (deed : Deed) (cap cap' len len' mcap mcap' mlen mlen' obs obs' tr tr' : ℕ) → cap' ≡ cap → mcap' ≡ mcap → len' ≡ len + 1 → mlen ≤ mlen' → mlen' ≤ mlen + 1 → obs ≤ obs' + added_by deed → tr ≤ tr' + added_by deed
+    → UsesRoom deed (record { entries = cap - len; callers = mcap - mlen; observations = obs; tracklets = tr }) (record { entries = cap' - len'; callers = mcap' - mlen'; observations = obs'; tracklets = tr' })
+used deed cap cap' len len' mcap mcap' mlen mlen' obs obs' tr tr' same same_m one no_fewer one_more observations tracklets =
+    record {
+      entries = omega arith;
+      callers = omega arith;
+      observations = observations;
+      tracklets = tracklets;
+      no_more_entries = omega arith;
+      no_more_callers = omega arith;
+    }

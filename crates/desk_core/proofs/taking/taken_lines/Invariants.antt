@@ -1,0 +1,15 @@
+use Rattle.std.proofs.Common.{◌≡◌, ◌+◌, ◌≤◌, List, ◌++◌, drop, length}
+use Rattle.act_model.specs.declared.taken.Taken.{Taken}
+use Rattle.act_model.specs.Taken.{taken_lines}
+use Rattle.desk_core.specs.Office.{AreTracked}
+use Rattle.desk_core.proofs.taking.taken_lines.Given as goal
+
+-- the lines so far and what becomes of those that are left are all; whatever is tracked after these is tracked with them
+abbrev pub invariant-loop-place : goal.invariant-loop-place
+invariant-loop-place g l =
+    let office = g.V.Known.office l.known in
+    record {
+      taken : l.list ++ taken_lines office l.tracks l.now (drop l.place l.lines) (drop l.place l.rulings) ≡ taken_lines office l.tracks l.tracks l.lines l.rulings;
+      tracked : (rest : List Taken) → AreTracked l.now rest → AreTracked l.tracks (l.list ++ rest);
+      more : l.now ≤ l.tracks + l.place;
+    }
