@@ -10,6 +10,7 @@ use Rattle.act_model.specs.declared.reply.Refusal.TheVariants.{NoMemory}
 use Rattle.act_model.specs.declared.reply.Reply.{Reply}
 use Rattle.act_model.specs.declared.reply.Reply.TheVariants.{Refused}
 use Rattle.act_model.specs.History.{EachNumberOnce}
+use Rattle.act_model.specs.Places.{OnePlace}
 use Rattle.act_model.specs.Conducts.{HadMemory, IsStepped}
 use Rattle.act_model.specs.Turns.{Turn, Answers, IsTurn, Conduct}
 
@@ -20,9 +21,12 @@ pub record RunLaws : Type 0 where
   pub stream_joins : (fs gs : List Frame) (rest : List ℕ) → streamed (fs ++ gs) rest ≡ streamed fs (streamed gs rest)
   -- no frame stands where nothing does
   pub nothing : NoFrame []
-  -- a conduct goes on with one turn more, keeps each number once, and is the step where memory never lacked
+  -- a conduct goes on with one turn more, and keeps each number once
   pub goes_on : (founder : Key) (past between after : List Entry) (turns : List Turn) (turn : Turn) → Conduct founder past turns between → IsTurn founder between turn after → Conduct founder past (turns ++ turn ∷ []) after
   pub once : (founder : Key) (past after : List Entry) (turns : List Turn) → Conduct founder past turns after → EachNumberOnce past → EachNumberOnce after
+  -- each accepted observation stands in one place
+  pub places : (history : List Entry) → OnePlace history
+  -- where memory was never refused, a conduct is the step
   pub steps : (founder : Key) (past after : List Entry) (turns : List Turn) → Conduct founder past turns after → HadMemory turns → IsStepped founder past turns after
 
 -- what is known of out of memory

@@ -206,7 +206,7 @@ module _ {S : Type 0} (left : S → Option (List ℕ)) (gives : Passes S) (found
           served = s;
           answered = answered;
           ended = ended;
-          left = record { entries = refl; once = laws.once founder [] history s.turns s.conduct tt };
+          left = record { entries = refl; once = laws.once founder [] history s.turns s.conduct tt; places = laws.places history };
           stepped = laws.steps founder [] history s.turns s.conduct;
         }
 
@@ -283,6 +283,7 @@ module _ {S : Type 0} (left : S → Option (List ℕ)) (gives : Passes S) (found
               answered = sym (ap length behind.1);
               left = record {
                 entries = refl;
+                places = laws.places next;
                 once = turn_once laws founder past next (request_of t.frame) t.answers.reply now after t.answers.turn (laws.once founder [] past p.served.turns p.served.conduct tt);
               };
             },

@@ -137,6 +137,7 @@ pub fn serve<S: Source, K: Sink, C: Clock>(
     frame_laws::no_frame_yet();
     office_laws::conducts_go_on();
     office_laws::each_once();
+    office_laws::one_place();
     office_laws::no_faults();
     let mut offset = 0u64;
     'frames: loop {

@@ -22,6 +22,7 @@ frames-preserved g c =
       nothing = c.no_frame_yet.ensures.nothing;
       goes_on = c.conducts_go_on.ensures;
       once = c.each_once.ensures;
+      places = c.one_place.ensures;
       steps = c.no_faults.ensures;
     } in
     record {
@@ -42,6 +43,7 @@ returns-in-Over-clause-ends g c =
       nothing = c.no_frame_yet.ensures.nothing;
       goes_on = c.conducts_go_on.ensures;
       once = c.each_once.ensures;
+      places = c.one_place.ensures;
       steps = c.no_faults.ensures;
     } in
     ends_over _ _ c.args.core.now.founder _ laws _ _ _ _ _ _ _ c.frames.offset c.frames.invariant.progress _ _ _ _ _ (step_for c.frames.invariant.founder c.in-Over.ensures.step)
@@ -55,6 +57,7 @@ returns-in-NoMore-clause-ends g c =
       nothing = c.no_frame_yet.ensures.nothing;
       goes_on = c.conducts_go_on.ensures;
       once = c.each_once.ensures;
+      places = c.one_place.ensures;
       steps = c.no_faults.ensures;
     } in
     ends_no_more _ _ c.args.core.now.founder _ laws _ _ _ _ _ _ _ c.frames.offset c.frames.invariant.progress _ _ _ _ _ (step_for c.frames.invariant.founder c.in-NoMore.ensures.step)
@@ -68,6 +71,7 @@ returns-in-ReadFailed-clause-ends g c =
       nothing = c.no_frame_yet.ensures.nothing;
       goes_on = c.conducts_go_on.ensures;
       once = c.each_once.ensures;
+      places = c.one_place.ensures;
       steps = c.no_faults.ensures;
     } in
     ends_reading _ _ c.args.core.now.founder _ laws _ _ _ _ _ _ _ c.frames.offset c.frames.invariant.progress _ _ _ _ _ (step_for c.frames.invariant.founder c.in-ReadFailed.ensures.step)
@@ -81,6 +85,7 @@ returns-in-WriteFailed-clause-ends g c =
       nothing = c.no_frame_yet.ensures.nothing;
       goes_on = c.conducts_go_on.ensures;
       once = c.each_once.ensures;
+      places = c.one_place.ensures;
       steps = c.no_faults.ensures;
     } in
     ends_writing _ _ c.args.core.now.founder _ laws _ _ _ _ _ _ _ c.frames.offset c.frames.invariant.progress _ _ _ _ _ (step_for c.frames.invariant.founder c.in-WriteFailed.ensures.step)
