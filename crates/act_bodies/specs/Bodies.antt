@@ -4,8 +4,9 @@ use Rattle.serde_json.specs.Data.{Data}
 use Rattle.ascii_text.specs.Reading.{◌>>=◌}
 use Rattle.act_bodies.specs.declared.code.Code.{Code}
 use Rattle.act_bodies.specs.declared.enrol.Enrol.{Enrol}
+use Rattle.act_bodies.specs.declared.retract.Retract.{Retract}
 use Rattle.act_bodies.specs.declared.station.Station.{Station}
-use Rattle.act_bodies.specs.Members.{object_of, key_in, name_in, role_in, station_code_in, day_in, kind_in, letter_in, word_in}
+use Rattle.act_bodies.specs.Members.{object_of, key_in, name_in, role_in, station_code_in, day_in, kind_in, letter_in, word_in, whole_in}
 
 -- what the members `key`, `name` and `role` of an object say
 unfoldable pub enrol_in : Data → Option Enrol
@@ -43,3 +44,13 @@ code_in value = do
 -- the body of `code`: an object of these 3 members and no others
 unfoldable pub code_of : List ℕ → Option Code
 code_of bytes = object_of 3 bytes >>= code_in
+
+-- what the member `observation` of an object says
+unfoldable pub retract_in : Data → Option Retract
+retract_in value = do
+  observation ← whole_in (codes "observation") value
+  Some (record { observation = observation })
+
+-- the body of `retract`: an object of this member and no others
+unfoldable pub retract_of : List ℕ → Option Retract
+retract_of bytes = object_of 1 bytes >>= retract_in

@@ -6,7 +6,7 @@ use Rattle.std.specs.Result.{result_ok}
 use Rattle.std.specs.Str.{is_utf8}
 use Rattle.serde_json.specs.Data.{Data}
 use Rattle.serde_json.specs.Read.{read}
-use Rattle.serde_json.specs.Find.{get, as_str, as_object}
+use Rattle.serde_json.specs.Find.{get, as_str, as_number, as_u64, as_object}
 use Rattle.serde_json.specs.Events.{members_len}
 use Rattle.ascii_text.specs.Reading.{◌>>=◌}
 use Rattle.obs_time.specs.DateText.{date_of}
@@ -34,6 +34,14 @@ object_of count bytes = value_of bytes >>= λ value. if has_members count value 
 -- the text of a member that is a string
 abbrev pub text_in : List ℕ → Data → Option (List ℕ)
 text_in name value = option_and_then as_str (get name value)
+
+-- the whole number that a value is: a JSON number from 0 to 2 ^ 64 - 1 without a sign, a point or an exponent
+abbrev pub whole_of : Data → Option ℕ
+whole_of value = option_and_then as_u64 (as_number value)
+
+-- the whole number of a member that is one
+abbrev pub whole_in : List ℕ → Data → Option ℕ
+whole_in name value = option_and_then whole_of (get name value)
 
 -- a printable character, a blank included
 abbrev pub is_printable : ℕ → Bool

@@ -10,12 +10,14 @@ mod fault;
 mod key;
 pub mod laws;
 mod members;
+mod retract;
 mod station;
 
 pub use code::{Code, read_code};
 pub use enrol::{Enrol, Rank, read_enrol};
 pub use fault::BodyFault;
 pub use key::Key;
+pub use retract::{Retract, read_retract};
 pub use station::{Station, read_station};
 
 #[cfg(test)]

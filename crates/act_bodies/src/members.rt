@@ -3,7 +3,7 @@
 ghost use Rattle.std.specs.Prelude.{◌≡◌, ◌||◌, ◌==◌, Some, None, IfOk, option_map};
 ghost use Rattle.std.specs.List.{list_all};
 ghost use Rattle.serde_json.specs.View.{view};
-ghost use Rattle.act_bodies.specs.Members.{value_of, has_members, object_of, text_in, is_printable, is_alphanumeric, is_name, name_in};
+ghost use Rattle.act_bodies.specs.Members.{value_of, has_members, object_of, text_in, whole_in, is_printable, is_alphanumeric, is_name, name_in};
 
 use crate::fault::BodyFault;
 use serde_json::Value;
@@ -54,6 +54,13 @@ pub(crate) fn text_in<'v>(name: &str, value: &'v Value) -> Option<&'v [u8]>
         Some(text) => Some(text.as_bytes()),
         None => None,
     }
+}
+
+/// The whole number of a member that is one.
+pub(crate) fn whole_in(name: &str, value: &Value) -> Option<u64>
+    ensures { result ≡ whole_in name.now (view value.now) }
+{
+    value.get(name).and_then(Value::as_u64)
 }
 
 /// Whether the byte is a letter or a digit.

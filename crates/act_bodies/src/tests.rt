@@ -4,4 +4,5 @@ mod codes;
 mod enrols;
 mod keys;
 mod levels;
+mod retracts;
 mod stations;
