@@ -3,3 +3,4 @@ pub mod Readings
 pub mod EnrolLaws
 pub mod StationLaws
 pub mod WholesLaws
+pub mod DesignateLaws

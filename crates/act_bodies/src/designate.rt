@@ -1,6 +1,7 @@
 //! The body of the act by which tracklets get a designation as one object.
 
-ghost use Rattle.std.specs.Prelude.{◌≡◌, ◌≤◌, ◌==◌, length, Some, None, IfOk, option_map, option_and_then};
+ghost use Rattle.std.specs.Prelude.{◌≡◌, ◌≤◌, ◌==◌, length, Some, None, IfOk, IsTrue, nat_eq, option_map, option_and_then};
+ghost use Rattle.std.specs.List.{IsDistinct};
 ghost use Rattle.serde_json.specs.Find.{get, as_array};
 ghost use Rattle.serde_json.specs.View.{view, items_view};
 ghost use Rattle.act_bodies.specs.Members.{wholes_of, are_different, is_selection, tracklets_in};
@@ -71,6 +72,7 @@ fn is_selection(numbers: &[u64]) -> bool
 fn tracklets_in(alloc: Global, value: &Value) -> Result<Ids, BodyFault>
     ensures read { IfOk result (λ tracklets. tracklets_in (view value.now) ≡ Some tracklets) }
     ensures unread { result ≡ Err BodyFault.Unread → tracklets_in (view value.now) ≡ None }
+    ensures selection { IfOk result (λ tracklets. IsTrue (is_selection tracklets)) }
 {
     let Some(items) = items_in("tracklets", value) else {
         return Err(BodyFault::Unread);
@@ -92,6 +94,9 @@ fn tracklets_in(alloc: Global, value: &Value) -> Result<Ids, BodyFault>
 pub fn read_designate(alloc: Global, body: &[u8]) -> Result<Designate, BodyFault>
     ensures read { IfOk result (λ designate. designate_of body.now ≡ Some designate) }
     ensures unread { result ≡ Err BodyFault.Unread → designate_of body.now ≡ None }
+    ensures some { IfOk result (λ designate. 1 ≤ length designate.tracklets) }
+    ensures few { IfOk result (λ designate. length designate.tracklets ≤ 100) }
+    ensures different { IfOk result (λ designate. IsDistinct nat_eq designate.tracklets) }
 {
     let value = object_of(alloc, 1, body)?;
     let tracklets = tracklets_in(alloc, &value)?;
