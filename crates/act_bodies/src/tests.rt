@@ -1,8 +1,8 @@
 //! Bodies with the values that were worked out for them by hand, and bodies that are none.
 
+mod acts;
 mod codes;
 mod enrols;
 mod keys;
 mod levels;
-mod retracts;
 mod stations;
