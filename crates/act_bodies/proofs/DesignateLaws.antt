@@ -1,16 +1,14 @@
 -- The tracklets of the body of `designate`.
-use Rattle.std.proofs.Common.{◌≡◌, ℕ, ◌≤◌, ◌&&◌, ◌||◌, not, true, false, cond, Bool, List, [], ◌∷◌, length, codes, eqb, leb, Some, None, refl, sym, subst}
+use Rattle.std.proofs.Common.{◌≡◌, ℕ, ◌||◌, true, false, cond, Bool, List, [], ◌∷◌, codes, eqb, Some, None, refl, sym, subst}
 use Rattle.std.specs.Prelude.{IsTrue, option_and_then}
 use Rattle.std.specs.List.{IsDistinct, AllByRecursion, list_any}
-use Rattle.std.proofs.lemmas.Bool.{and_parts, not-true, leb-true, eqb-true, eq-eqb, ne_eqb, both_ways, true≢false}
+use Rattle.std.proofs.lemmas.Bool.{and_parts, not-true, eq-eqb, ne_eqb, both_ways, true≢false}
 use Rattle.std.proofs.lemmas.Option.{cond_some}
 use Rattle.serde_json.specs.Data.{Data}
 use Rattle.serde_json.specs.Find.{get, as_array}
 use Rattle.ascii_text.specs.Reading.{◌>>=◌}
 use Rattle.ascii_text.specs.Reading.{bind_some}
-use Rattle.act_bodies.specs.declared.designate.Designate.{Designate}
-use Rattle.act_bodies.specs.Members.{object_of, wholes_of, are_different, is_selection, tracklets_in}
-use Rattle.act_bodies.specs.Bodies.{designate_in, designate_of}
+use Rattle.act_bodies.specs.Members.{wholes_of, are_different, is_selection, tracklets_in}
 
 or_parts : (x y : Bool) → (x || y) ≡ false → (x ≡ false) × (y ≡ false)
 or_parts false y none = (refl, none)
