@@ -33,8 +33,8 @@ fn attribute_in(value: &Value) -> Option<Attribute>
     Some(Attribute { tracklet, to })
 }
 
-/// Reads the body of `attribute`: a JSON object of the members `tracklet`, a whole number, and `to`, a designation in its
-/// printed form.
+/// Reads the body of `attribute`: a JSON object of the members `tracklet`, a whole number, and `to`, a designation in
+/// its printed form.
 ///
 /// # Errors
 ///

@@ -37,8 +37,8 @@ fn identify_in(value: &Value) -> Option<Identify>
     })
 }
 
-/// Reads the body of `identify`: a JSON object of the members `principal` and `secondary`, designations in their printed
-/// form.
+/// Reads the body of `identify`: a JSON object of the members `principal` and `secondary`, designations in their
+/// printed form.
 ///
 /// # Errors
 ///

@@ -1,6 +1,5 @@
-//! The bodies of officers' acts: JSON texts by which callers are enrolled, stations and codes are entered, tracklets are
-//! made objects, and objects are joined, judged and numbered; and the body of retract, by which an observation is taken
-//! back.
+//! The bodies of acts other than submissions: JSON texts by which callers are enrolled, stations and codes are
+//! entered, tracklets are made objects, objects are joined, judged and numbered, and observations are taken back.
 //!
 //! A body is one JSON value, an object with exactly the members of its act, in any order. Of a member that stands
 //! twice the last value counts.
