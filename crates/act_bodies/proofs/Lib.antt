@@ -2,3 +2,5 @@ pub mod Padded
 pub mod Readings
 pub mod EnrolLaws
 pub mod StationLaws
+pub mod WholesLaws
+pub mod DesignateLaws

@@ -1,15 +1,20 @@
 -- What a body is as JSON, and what its members say.
-use Rattle.std.specs.Prelude.{ℕ, ℤ, Bool, false, not, ◌&&◌, ◌||◌, ◌==◌, nat_le, if◌then◌else◌, List, length, slice_index, codes, bytes_eq, Option, Some, None, option_and_then}
+use Rattle.std.specs.Prelude.{ℕ, ℤ, Bool, true, false, not, ◌&&◌, ◌||◌, ◌==◌, nat_le, if◌then◌else◌, List, [], ◌∷◌, length, slice_index, codes, bytes_eq, Option, Some, None, option_and_then}
 use Rattle.std.specs.List.{list_all, list_any}
 use Rattle.std.specs.Option.{option_map_or}
 use Rattle.std.specs.Result.{result_ok}
 use Rattle.std.specs.Str.{is_utf8}
-use Rattle.serde_json.specs.Data.{Data}
+use Rattle.serde_json.specs.Data.{Data, Items, no_items, item}
 use Rattle.serde_json.specs.Read.{read}
-use Rattle.serde_json.specs.Find.{get, as_str, as_object, as_number, as_u64}
+use Rattle.serde_json.specs.Find.{get, as_str, as_number, as_u64, as_array, as_object}
 use Rattle.serde_json.specs.Events.{members_len}
 use Rattle.ascii_text.specs.Reading.{◌>>=◌}
 use Rattle.obs_time.specs.DateText.{date_of}
+use Rattle.packed_names.specs.declared.name.Designation.{Designation}
+use Rattle.packed_names.specs.declared.name.Name.{Name}
+use Rattle.packed_names.specs.declared.name.Name.TheVariants as names
+use Rattle.packed_names.specs.PrintedReading.{printed_in}
+use Rattle.packed_names.specs.Judging.{is_in_range, answered}
 use Rattle.obs_record.specs.declared.short.Short.{Short}
 use Rattle.obs_record.specs.Short.{kept_short}
 use Rattle.station_tables.specs.declared.kind.Kind.{Kind}
@@ -35,9 +40,60 @@ object_of count bytes = value_of bytes >>= λ value. if has_members count value 
 abbrev pub text_in : List ℕ → Data → Option (List ℕ)
 text_in name value = option_and_then as_str (get name value)
 
--- the number of a member that is a whole number, given without sign, point and exponent
-abbrev pub number_in : List ℕ → Data → Option ℕ
-number_in name value = option_and_then (λ found. option_and_then as_u64 (as_number found)) (get name value)
+-- the whole number that a value is: a JSON number from 0 to 2 ^ 64 - 1 without a sign, a point or an exponent
+abbrev pub whole_of : Data → Option ℕ
+whole_of value = option_and_then as_u64 (as_number value)
+
+-- the whole number of a member that is one
+abbrev pub whole_in : List ℕ → Data → Option ℕ
+whole_in name value = option_and_then whole_of (get name value)
+
+-- the whole number of a member that is one, from the least to the greatest that it may be
+unfoldable pub bounded_in : ℕ → ℕ → List ℕ → Data → Option ℕ
+bounded_in least greatest name value = do
+  whole ← whole_in name value
+  if nat_le least whole && nat_le whole greatest then Some whole else None
+
+-- the whole numbers of a list in which each value is one
+unfoldable pub wholes_of : Items → Option (List ℕ)
+wholes_of no_items = Some []
+wholes_of (item value others) = do
+  whole ← whole_of value
+  wholes ← wholes_of others
+  Some (whole ∷ wholes)
+
+-- no number stands twice
+abbrev pub are_different : List ℕ → Bool
+are_different [] = true
+are_different (first ∷ others) = not (list_any (λ other. other == first) others) && are_different others
+
+-- 1 to 100 different numbers
+abbrev pub is_selection : List ℕ → Bool
+is_selection numbers = (nat_le 1 (length numbers) && nat_le (length numbers) 100) && are_different numbers
+
+-- the tracklets that a body lists
+unfoldable pub tracklets_in : Data → Option (List ℕ)
+tracklets_in value = do
+  items ← option_and_then as_array (get (codes "tracklets") value)
+  numbers ← wholes_of items
+  if is_selection numbers then Some numbers else None
+
+-- the designation that a name is, if it is no number
+abbrev pub designation_from : Name → Option Designation
+designation_from (names.Designation designation) = Some designation
+designation_from (names.Number number) = None
+
+-- the designation whose printed form a text is
+unfoldable pub designation_of : List ℕ → Option Designation
+designation_of text = do
+  name ← result_ok (answered is_in_range (printed_in text))
+  designation_from name
+
+-- the designation of a member that is a string, the printed form of one
+unfoldable pub designation_in : List ℕ → Data → Option Designation
+designation_in name value = do
+  text ← text_in name value
+  designation_of text
 
 -- a printable character, a blank included
 abbrev pub is_printable : ℕ → Bool

@@ -1,11 +1,14 @@
 //! The members of a body, and what they say.
 
-ghost use Rattle.std.specs.Prelude.{◌≡◌, ◌||◌, ◌==◌, Some, None, IfOk, option_map};
+ghost use Rattle.std.specs.Prelude.{◌≡◌, ◌≤◌, ◌||◌, ◌==◌, Some, None, IfOk, IfSome, option_map};
 ghost use Rattle.std.specs.List.{list_all};
 ghost use Rattle.serde_json.specs.View.{view};
-ghost use Rattle.act_bodies.specs.Members.{value_of, has_members, object_of, text_in, number_in, is_printable, is_alphanumeric, is_name, name_in};
+ghost use Rattle.packed_names.specs.declared.name.Name.TheVariants as names;
+ghost use Rattle.packed_names.specs.Ranges.{IsName};
+ghost use Rattle.act_bodies.specs.Members.{value_of, has_members, object_of, text_in, whole_in, bounded_in, designation_of, designation_in, is_printable, is_alphanumeric, is_name, name_in};
 
 use crate::fault::BodyFault;
+use packed_names::{Designation, Name, read};
 use serde_json::Value;
 use std::alloc::Global;
 
@@ -56,14 +59,46 @@ pub(crate) fn text_in<'v>(name: &str, value: &'v Value) -> Option<&'v [u8]>
     }
 }
 
-/// The number of a member that is a whole number.
-pub(crate) fn number_in(name: &str, value: &Value) -> Option<u64>
-    ensures { result ≡ number_in name.now (view value.now) }
+/// The whole number of a member that is one.
+pub(crate) fn whole_in(name: &str, value: &Value) -> Option<u64>
+    ensures { result ≡ whole_in name.now (view value.now) }
 {
-    match value.get(name) {
-        Some(found) => found.as_u64(),
-        None => None,
+    value.get(name).and_then(Value::as_u64)
+}
+
+/// The whole number of a member that is one, from the least to the greatest that it may be.
+#[tactic(auto, unfolding(crate::specs::Members::bounded_in))]
+pub(crate) fn bounded_in(least: u64, greatest: u64, name: &str, value: &Value) -> Option<u64>
+    ensures value { result ≡ bounded_in least greatest name.now (view value.now) }
+    ensures bounds { IfSome result (λ whole. (least ≤ whole) × (whole ≤ greatest)) }
+{
+    let whole = whole_in(name, value)?;
+    if least <= whole && whole <= greatest {
+        Some(whole)
+    } else {
+        None
     }
+}
+
+/// The designation whose printed form the text is.
+#[tactic(auto, unfolding(crate::specs::Members::designation_of))]
+fn designation_of(text: &[u8]) -> Option<Designation>
+    ensures value { result ≡ designation_of text.now }
+    ensures named { IfSome result (λ designation. IsName (names.Designation designation)) }
+{
+    match read(text) {
+        Ok(Name::Designation(designation)) => Some(designation),
+        _ => None,
+    }
+}
+
+/// The designation of a member that is a string, the printed form of one.
+#[tactic(auto, unfolding(crate::specs::Members::designation_in))]
+pub(crate) fn designation_in(name: &str, value: &Value) -> Option<Designation>
+    ensures value { result ≡ designation_in name.now (view value.now) }
+    ensures named { IfSome result (λ designation. IsName (names.Designation designation)) }
+{
+    designation_of(text_in(name, value)?)
 }
 
 /// Whether the byte is a letter or a digit.

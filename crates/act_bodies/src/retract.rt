@@ -1,27 +1,28 @@
-//! The body of the act by which an observation is retracted.
+//! The body of the act by which an observation is taken back.
 
 ghost use Rattle.std.specs.Prelude.{◌≡◌, Some, None, IfOk};
 ghost use Rattle.serde_json.specs.View.{view};
+ghost use Rattle.act_bodies.specs.Members.{whole_in};
 ghost use Rattle.act_bodies.specs.Bodies.{retract_in, retract_of};
 
 use crate::fault::BodyFault;
-use crate::members::{number_in, object_of};
+use crate::members::{object_of, whole_in};
 use serde_json::Value;
 use std::alloc::Global;
 
-/// An observation that is to be retracted.
+/// An observation that is to be taken back.
 #[derive(Clone, Copy, Debug, PartialEq, Eq)]
 pub struct Retract {
-    /// Its number.
+    /// The observation's number.
     pub observation: u64,
 }
 
-/// What the member of an object says.
+/// What the members of an object say.
 #[tactic(auto, unfolding(crate::specs::Bodies::retract_in))]
 fn retract_in(value: &Value) -> Option<Retract>
     ensures { result ≡ retract_in (view value.now) }
 {
-    let observation = number_in("observation", value)?;
+    let observation = whole_in("observation", value)?;
     Some(Retract { observation })
 }
 
@@ -29,7 +30,7 @@ fn retract_in(value: &Value) -> Option<Retract>
 ///
 /// # Errors
 ///
-/// `Unread` where the body is anything else; `NoMemory` where memory was refused.
+/// `Unread` where the body is anything else; `NoMemory` for want of memory.
 #[tactic(auto, unfolding(crate::specs::Bodies::retract_of))]
 pub fn read_retract(alloc: Global, body: &[u8]) -> Result<Retract, BodyFault>
     ensures read { IfOk result (λ retract. retract_of body.now ≡ Some retract) }
