@@ -3,7 +3,7 @@ use Rattle.std.proofs.lemmas.Result.{err_from_is_err_and}
 use Rattle.ades_psv.specs.Feeding.{finished}
 use Rattle.ades_psv.proofs.Options.{none_from}
 use Rattle.ades_psv.proofs.Readers.{ends, fails_last, ended_well, ended_ill}
-use Rattle.ades_psv.proofs.reader.PsvReader.finish.Goals as goal
+use Rattle.ades_psv.proofs.reader.PsvReader.end.Goals as goal
 
 pub returns-in_err-read_last-clause-exact : goal.returns-in_err-read_last-clause-exact
 returns-in_err-read_last-clause-exact c =

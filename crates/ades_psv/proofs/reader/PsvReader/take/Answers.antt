@@ -1,7 +1,7 @@
 use Rattle.std.proofs.Common.{◌+◌, length, refl, arith}
 use Rattle.ades_psv.proofs.Options.{none_from}
 use Rattle.ades_psv.proofs.Readers.{fed_on, fed_fault, has_room, room_left}
-use Rattle.ades_psv.proofs.reader.PsvReader.feed.Goals as goal
+use Rattle.ades_psv.proofs.reader.PsvReader.take.Goals as goal
 
 pub invariant_of-self : goal.invariant_of-self
 invariant_of-self c = λ none.
