@@ -28,7 +28,8 @@ fn count_bars(line: &[u8]) -> usize
 
 /// How many cells a line has.
 pub(crate) fn count_cells(line: &[u8]) -> usize
-    ensures { result ≡ length (cells line.now) }
+    ensures exact { result ≡ length (cells line.now) }
+    ensures few { result ≤ length line.now + 1 }
 {
     count_bars(line) + 1
 }
