@@ -46,28 +46,21 @@ struct CutLine<'a> {
 }
 
 /// Cuts a line into its cells.
-fn cut_line<'a>(line: &'a [u8]) -> CutLine<'a>
-    ensures { AreCells line.now result }
+fn cut_cells(cut: &mut CutLine)
+    ensures line { cut.new.line ≡ cut.old.line }
+    ensures cells { AreCells cut.old.line.now cut.new }
 {
-    let mut first: [&'a [u8]; KEPT] = [&[]; KEPT];
-    let mut rest = line;
+    let mut rest = cut.line;
     'cells: for place in 0..KEPT {
         let (cell, behind) = first_cell(rest);
-        first[place] = cell;
+        cut.first[place] = cell;
         let Some(behind) = behind else {
-            return CutLine {
-                line,
-                first,
-                count: place + 1,
-            };
+            cut.count = place + 1;
+            return;
         };
         rest = behind;
     }
-    CutLine {
-        line,
-        first,
-        count: KEPT + count_cells(rest),
-    }
+    cut.count = KEPT + count_cells(rest);
 }
 
 /// The cell in this place of a line, counted from 0; nothing where the line has fewer.
@@ -101,7 +94,12 @@ fn cell_in<'a>(column: Option<usize>, cut: &CutLine<'a>) -> &'a [u8]
 pub(crate) fn cut_fields<'a>(columns: &Columns, line: &'a [u8]) -> Fields<'a>
     ensures { seen result ≡ fields_of columns.now line.now }
 {
-    let cut = cut_line(line);
+    let mut cut = CutLine {
+        line,
+        first: [&[]; KEPT],
+        count: 0,
+    };
+    cut_cells(&mut cut);
     Fields {
         line,
         perm: cell_in(columns.perm, &cut),
