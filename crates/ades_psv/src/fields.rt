@@ -94,9 +94,10 @@ fn cell_in<'a>(column: Option<usize>, cut: &CutLine<'a>) -> &'a [u8]
 pub(crate) fn cut_fields<'a>(columns: &Columns, line: &'a [u8]) -> Fields<'a>
     ensures { seen result ≡ fields_of columns.now line.now }
 {
+    // What stands in `first` before the line is cut is never read; one slice throughout is the quickest to write.
     let mut cut = CutLine {
         line,
-        first: [&[]; KEPT],
+        first: [line; KEPT],
         count: 0,
     };
     cut_cells(&mut cut);
