@@ -1,5 +1,5 @@
 -- The cells of a line, cut off its front one after another.
-use Rattle.std.proofs.Common.{◌≡◌, ℕ, ◌+◌, ◌<◌, ◌≤◌, zero, suc, Bool, true, false, eqb, List, [], ◌∷◌, length, drop, length-drop, Option, Some, None, Bor, refl, sym, ap, ◌∙◌, arith, add-one}
+use Rattle.std.proofs.Common.{◌≡◌, ℕ, ◌+◌, ◌<◌, ◌≤◌, zero, suc, Bool, true, false, eqb, List, [], ◌∷◌, length, drop, length-drop, Option, Some, None, Bor, refl, ap, arith, add-one}
 use Rattle.std.specs.Prelude.{slice_get, slice_set, option_map, unwrap_or, IfSome, IfNone}
 use Rattle.std.proofs.lemmas.Bool.Decides.{nat_tests}
 use Rattle.std.proofs.lemmas.Option.{slice_get_past}

@@ -1,4 +1,4 @@
-use Rattle.std.proofs.Common.{◌≡◌, ℕ, ◌+◌, ◌≤◌, refl, ◌∙◌, arith}
+use Rattle.std.proofs.Common.{◌≡◌, ◌+◌, refl, ◌∙◌, arith}
 use Rattle.ades_psv.specs.Cells.{cells}
 use Rattle.ades_psv.proofs.Options.{none_from}
 use Rattle.ades_psv.proofs.Cutting.{reached, none_there, begins}
