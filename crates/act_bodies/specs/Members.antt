@@ -8,6 +8,7 @@ use Rattle.serde_json.specs.Data.{Data, Items, no_items, item}
 use Rattle.serde_json.specs.Read.{read}
 use Rattle.serde_json.specs.Find.{get, as_str, as_number, as_u64, as_array, as_object}
 use Rattle.serde_json.specs.Events.{members_len}
+use Rattle.ascii_text.specs.Bytes.{is_printable, is_visible}
 use Rattle.ascii_text.specs.Reading.{◌>>=◌}
 use Rattle.obs_time.specs.DateText.{date_of}
 use Rattle.packed_names.specs.declared.name.Designation.{Designation}
@@ -16,6 +17,7 @@ use Rattle.packed_names.specs.declared.name.Name.TheVariants as names
 use Rattle.packed_names.specs.PrintedReading.{printed_in}
 use Rattle.packed_names.specs.Judging.{is_in_range, answered}
 use Rattle.obs_record.specs.declared.short.Short.{Short}
+use Rattle.obs_record.specs.Modes.{refused_modes}
 use Rattle.obs_record.specs.Short.{kept_short}
 use Rattle.station_tables.specs.declared.kind.Kind.{Kind}
 use Rattle.station_tables.specs.declared.kind.Kind.TheVariants.{Catalogue, Band, Mode}
@@ -95,14 +97,6 @@ designation_in name value = do
   text ← text_in name value
   designation_of text
 
--- a printable character, a blank included
-abbrev pub is_printable : ℕ → Bool
-is_printable byte = nat_le 32 byte && nat_le byte 126
-
--- a printable character other than a blank
-abbrev pub is_visible : ℕ → Bool
-is_visible byte = nat_le 33 byte && nat_le byte 126
-
 -- a letter A to Z or a to z, or a digit
 abbrev pub is_alphanumeric : ℕ → Bool
 is_alphanumeric byte = (nat_le 48 byte && nat_le byte 57) || ((nat_le 65 byte && nat_le byte 90) || (nat_le 97 byte && nat_le byte 122))
@@ -168,11 +162,7 @@ kind_in value = do
   word ← text_in (codes "kind") value
   kind_of word
 
--- the letters that no mode has: those of records of roving observers, radar and satellites
-abbrev pub refused_modes : List ℕ
-refused_modes = codes "VvRrSs"
-
--- a kind may have this letter
+-- A kind may have this letter. No mode has one of those that stand for records of roving observers, radar and satellites.
 abbrev pub may_have : Kind → ℕ → Bool
 may_have Mode letter = is_visible letter && not (list_any (λ mode. mode == letter) refused_modes)
 may_have _ letter = is_visible letter

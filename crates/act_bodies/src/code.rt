@@ -1,14 +1,16 @@
 //! The body of the act by which an officer enters a letter and a word for a catalogue, a band or a mode.
 
 ghost use Rattle.std.specs.Prelude.{◌≡◌, ◌&&◌, ◌==◌, not, Some, None, IfOk};
-ghost use Rattle.std.specs.List.{list_all, list_any};
+ghost use Rattle.std.specs.List.{list_all};
 ghost use Rattle.serde_json.specs.View.{view};
-ghost use Rattle.act_bodies.specs.Members.{is_visible, kind_of, kind_in, refused_modes, may_have, letter_in, is_word, word_in};
+ghost use Rattle.ascii_text.specs.Bytes.{is_visible};
+ghost use Rattle.act_bodies.specs.Members.{kind_of, kind_in, may_have, letter_in, is_word, word_in};
 ghost use Rattle.act_bodies.specs.Bodies.{code_in, code_of};
 
 use crate::fault::BodyFault;
 use crate::members::{object_of, text_in};
-use obs_record::Short;
+use ascii_text::characters::is_visible;
+use obs_record::{Short, is_refused_mode};
 use serde_json::Value;
 use station_tables::Kind;
 use std::alloc::Global;
@@ -22,13 +24,6 @@ pub struct Code {
     pub letter: u8,
     /// The word of ADES, 1 to 11 printable characters, none of them a blank or a bar.
     pub word: Short,
-}
-
-/// Whether the byte is a printable character other than a blank.
-fn is_visible(byte: u8) -> bool
-    ensures { result ≡ is_visible byte }
-{
-    33 <= byte && byte <= 126
 }
 
 /// The kind that a word names.
@@ -55,14 +50,8 @@ fn kind_in(value: &Value) -> Option<Kind>
     kind_of(text_in("kind", value)?)
 }
 
-/// Whether no mode has the letter, since it stands for records of roving observers, of radar or of satellites.
-fn is_refused_mode(letter: u8) -> bool
-    ensures { result ≡ list_any (λ mode. mode == letter) refused_modes }
-{
-    matches!(letter, b'V' | b'v' | b'R' | b'r' | b'S' | b's')
-}
-
-/// Whether a kind may have this letter.
+/// Whether a kind may have this letter. No mode has one of those that stand for records of roving observers, of radar or
+/// of satellites.
 fn may_have(kind: Kind, letter: u8) -> bool
     ensures { result ≡ may_have kind letter }
 {

@@ -1,13 +1,13 @@
 //! The members of a body, and what they say.
 
 ghost use Rattle.std.specs.Prelude.{◌≡◌, ◌≤◌, ◌||◌, ◌==◌, Some, None, IfOk, IfSome, option_map};
-ghost use Rattle.std.specs.List.{list_all};
 ghost use Rattle.serde_json.specs.View.{view};
 ghost use Rattle.packed_names.specs.declared.name.Name.TheVariants as names;
 ghost use Rattle.packed_names.specs.Ranges.{IsName};
-ghost use Rattle.act_bodies.specs.Members.{value_of, has_members, object_of, text_in, whole_in, bounded_in, designation_of, designation_in, is_printable, is_alphanumeric, is_name, name_in};
+ghost use Rattle.act_bodies.specs.Members.{value_of, has_members, object_of, text_in, whole_in, bounded_in, designation_of, designation_in, is_alphanumeric, is_name, name_in};
 
 use crate::fault::BodyFault;
+use ascii_text::characters::are_printable;
 use packed_names::{Designation, Name, read};
 use serde_json::Value;
 use std::alloc::Global;
@@ -106,13 +106,6 @@ pub(crate) fn is_alphanumeric(byte: u8) -> bool
     ensures { result ≡ is_alphanumeric byte }
 {
     matches!(byte, b'0'..=b'9' | b'A'..=b'Z' | b'a'..=b'z')
-}
-
-/// Whether each byte is a printable character, a blank included.
-fn are_printable(text: &[u8]) -> bool
-    ensures { result ≡ list_all is_printable text.now }
-{
-    text.iter().all(|byte| 32 <= *byte && *byte <= 126)
 }
 
 /// Whether the text is a name.

@@ -30,7 +30,8 @@ use Rattle.obs_record.specs.Magnitudes.{magnitude_of, greatest_magnitude}
 use Rattle.obs_record.specs.Short.{kept_short}
 use Rattle.text_lines.specs.Steps.{or_breaks}
 use Rattle.ades_psv.specs.Magnitudes.{IsMagnitude, magnitude_from}
-use Rattle.ades_psv.specs.Names.{IsNumberText, IsDesignationText, IsTemporary, name_of, number_from, designation_from, is_visible, temporary_from}
+use Rattle.ades_psv.specs.Names.{IsNumberText, IsDesignationText, IsTemporary, name_of, number_from, designation_from, temporary_from}
+use Rattle.ascii_text.specs.Bytes.{is_visible}
 use Rattle.ades_psv.specs.Rules.{IsTime, IsRa, IsDec}
 use Rattle.ades_psv.proofs.LawsBelow.{Laws}
 use Rattle.ades_psv.proofs.Judging.{IsReadingOf, same_Ok}

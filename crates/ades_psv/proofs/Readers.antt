@@ -1,6 +1,6 @@
 -- A reader, from its first piece to its end.
-use Rattle.std.proofs.Common.{◌≡◌, ℕ, ◌+◌, ◌<◌, List, [], ◌∷◌, ◌++◌, append_assoc, length, length-append, map, Option, None, Result, Ok, Err, eqb, false, refl, sym, ap, subst, ◌∙◌, arith}
-use Rattle.std.specs.Prelude.{IsOk, IfOk}
+use Rattle.std.proofs.Common.{◌≡◌, ℕ, ◌+◌, ◌<◌, List, [], ◌∷◌, ◌++◌, append_assoc, length, length-append, map, Option, Some, None, Result, Ok, Err, eqb, false, refl, sym, ap, subst, ◌∙◌, arith}
+use Rattle.std.specs.Prelude.{IsOk, IfOk, OnOk}
 use Rattle.std.specs.List.{AllZip, enumerate_from}
 use Rattle.std.specs.Str.Lines.{lines}
 use Rattle.std.proofs.lemmas.List.{append-nil}
@@ -21,7 +21,7 @@ use Rattle.ades_psv.specs.Fields.{Fields, fields_of}
 use Rattle.ades_psv.specs.Rules.{IsReading}
 use Rattle.ades_psv.specs.Reading.{reading_of}
 use Rattle.ades_psv.specs.Walking.{said_behind, HasRead, Fails}
-use Rattle.ades_psv.specs.Feeding.{Progress, Fed, unfed, reached, read_on, fed, fed_all, HasRoom, read_end, finished, Feeds}
+use Rattle.ades_psv.specs.Feeding.{Progress, Fed, unfed, reached, read_on, fed, fed_all, HasRoom, complete_fault, read_end, finished, Feeds}
 use Rattle.ades_psv.specs.Readers.{what_is_fed}
 use Rattle.ades_psv.proofs.SaidLaws.{behind, said_join}
 use Rattle.ades_psv.proofs.Walks.{map_join}
@@ -171,10 +171,10 @@ fed_by laws text piece (Ok end) is =
     (said_from end.0 (enumerate_from (1 + length (complete_lines text)) (complete_lines (unfinished text ++ piece)))) (sym (laws.unfinished_on text piece)) end.0 (unfinished text))
 fed_by laws text piece (Err fault) is = rw (said_on_text laws text piece (Err fault) is, is) refl
 
-fed_text : (laws : LineLaws) (text piece : List ℕ) → fed (fed unfed text) piece ≡ fed unfed (text ++ piece)
+pub fed_text : (laws : LineLaws) (text piece : List ℕ) → fed (fed unfed text) piece ≡ fed unfed (text ++ piece)
 fed_text laws text piece = fed_by laws text piece (said_from Opening (enumerate_from 1 (complete_lines text))) refl
 
-fed_nothing : (laws : LineLaws) → fed unfed [] ≡ unfed
+pub fed_nothing : (laws : LineLaws) → fed unfed [] ≡ unfed
 unfolding read_on said_from
 fed_nothing laws =
     let none : complete_lines [] ≡ [] = laws.none_complete [] (All-nil (λ b. eqb b 10 ≡ false)) in
@@ -210,15 +210,48 @@ fault_stays laws text more fault fails =
     ∙ ap (λ (s : Said). s >>= λ end. said_from end.0 (enumerate_from (1 + length (complete_lines text)) (lines (unfinished text ++ more))) >>= behind end.1) (told text fault fails) in
     rw all refl
 
+-- ---- the text that came
+
+no_fault : (text : List ℕ) (r : Said) → said_from Opening (enumerate_from 1 (complete_lines text)) ≡ r → IsOk (fed unfed text) → complete_fault text ≡ None
+unfolding read_on complete_fault
+no_fault text (Ok end) is fine = rw is refl
+no_fault text (Err fault) is fine = absurd (let wrong = rw is at fine in cc)
+
+the_fault : (text : List ℕ) (fault : HeaderFault × ℕ) → fed unfed text ≡ Err fault → complete_fault text ≡ Some fault
+unfolding complete_fault
+the_fault text fault fails = rw (told text fault fails) refl
+
+fed_on_text : (laws : LineLaws) (text piece : List ℕ) (before after : Fed) → after ≡ fed before piece → before ≡ fed unfed text → after ≡ fed unfed (text ++ piece)
+fed_on_text laws text piece before after new is = new ∙ ap (λ (f : Fed). fed f piece) is ∙ fed_text laws text piece
+
+-- a piece behind a text, where all is well
+pub feeds_text : (laws : LineLaws) (text piece : List ℕ) (before after : Fed) (result : Result (Unit {0}) PsvFault) → Feeds before piece after result → before ≡ fed unfed text
+    → OnOk result ((after ≡ fed unfed (text ++ piece)) × (complete_fault (text ++ piece) ≡ None))
+feeds_text laws text piece before after (Ok x) feeds is =
+    let new = fed_on_text laws text piece before after feeds.0 is in
+    (new, no_fault (text ++ piece) (said_from Opening (enumerate_from 1 (complete_lines (text ++ piece)))) refl (subst (λ (f : Fed). IsOk f) new feeds.1))
+feeds_text laws text piece before after (Err fault) feeds is = tt
+
+-- and where a fault is told
+pub feeds_fault_of : (laws : LineLaws) (text piece : List ℕ) (before after : Fed) (result : Result (Unit {0}) PsvFault) (fault : HeaderFault) (line : ℕ) → Feeds before piece after result → before ≡ fed unfed text
+    → result ≡ Err (faults.Header fault line) → (after ≡ fed unfed (text ++ piece)) × (complete_fault (text ++ piece) ≡ Some (fault, line))
+feeds_fault_of laws text piece before after result fault line feeds is told =
+    let fails = rw told at feeds in
+    let new = fed_on_text laws text piece before after fails.0 is in
+    (new, the_fault (text ++ piece) (fault, line) (sym new ∙ fails.1))
+
+-- what is said at the end is what the text says
+pub finish_text : (laws : LineLaws) (text : List ℕ) (reader : Fed) (result : Result (List Line) PsvFault) → reader ≡ fed unfed text → IsAnswer (finished reader) result → IsAnswer (psv_lines_of text) result
+finish_text laws text reader result is said =
+    let same : finished reader ≡ psv_lines_of text = ap finished is ∙ finished_text laws text in
+    subst (λ (s : Result (List Line) (HeaderFault × ℕ)). IsAnswer s result) same said
+
 -- ---- a batch in one piece
 
 pub whole_answer : (laws : LineLaws) (body : List ℕ) (before after : Fed) (fault : PsvFault) → before ≡ unfed → Feeds before body after (Err fault) → IsAnswer (psv_lines_of body) (Err fault)
 whole_answer laws body before after (faults.Header fault line) new is =
     ap psv_lines_of (sym (append-nil body)) ∙ fault_stays laws body [] (fault, line) (ap (λ (f : Fed). fed f body) (sym new) ∙ sym is.0 ∙ is.1)
 whole_answer laws body before after faults.NoMemory new is = tt
-
-pub whole_finished : (laws : LineLaws) (body : List ℕ) (before after : Fed) → before ≡ unfed → after ≡ fed before body → finished after ≡ psv_lines_of body
-whole_finished laws body before after new is = ap finished (is ∙ ap (λ (f : Fed). fed f body) new) ∙ finished_text laws body
 
 -- each line of a list is read from its data line
 zip_read : ((fields : Fields) → IsReading fields (reading_of fields)) → (data_lines : List DataLine) → AllZip IsReadFrom data_lines (map read_of data_lines)

@@ -1,5 +1,5 @@
 -- A batch that is fed in pieces.
-use Rattle.std.specs.Prelude.{◌≡◌, ℕ, ◌+◌, ◌<◌, List, [], ◌∷◌, ◌++◌, length, map, Result, Ok, Err, IsOk}
+use Rattle.std.specs.Prelude.{◌≡◌, ℕ, ◌+◌, ◌<◌, List, [], ◌∷◌, ◌++◌, length, map, Option, Some, None, Result, Ok, Err, IsOk}
 use Rattle.std.specs.List.{enumerate_from}
 use Rattle.std.specs.Str.Lines.{lines}
 use Rattle.obs_record.specs.declared.rule.HeaderFault.{HeaderFault}
@@ -10,7 +10,7 @@ use Rattle.ades_psv.specs.declared.header.Place.{Place}
 use Rattle.ades_psv.specs.declared.header.Place.TheVariants.{Opening}
 use Rattle.text_lines.specs.Steps.{◌>>=◌}
 use Rattle.text_lines.specs.Pieces.{complete_lines, unfinished}
-use Rattle.ades_psv.specs.Batch.{DataLine, said_from, ended, read_of}
+use Rattle.ades_psv.specs.Batch.{DataLine, Said, said_from, ended, read_of}
 
 -- How far a batch was read whose headers have no fault so far.
 pub record Progress : Type 0 where
@@ -72,6 +72,15 @@ HasRoom (Err fault) more = Unit {0}
 abbrev pub finished : Fed → Result (List Line) (HeaderFault × ℕ)
 finished (Ok progress) = read_end progress
 finished (Err fault) = Err fault
+
+-- the fault of lines that have one, with its line
+abbrev pub fault_in : Said → Option (HeaderFault × ℕ)
+fault_in (Ok end) = None
+fault_in (Err fault) = Some fault
+
+-- the first fault of the headers in the complete lines of a text, with its line, where they have one
+unfoldable pub complete_fault : List ℕ → Option (HeaderFault × ℕ)
+complete_fault text = fault_in (said_from Opening (enumerate_from 1 (complete_lines text)))
 
 -- what a reader does with a piece: all is well so far, or the first fault is told; or memory was wanting, and nothing
 -- was fed

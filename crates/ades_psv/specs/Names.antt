@@ -1,6 +1,7 @@
 -- The names of a data line: number, designation, temporary designation.
-use Rattle.std.specs.Prelude.{◌≡◌, ℕ, ◌≤◌, Bool, ◌&&◌, nat_le, if◌then◌else◌, List, length, All, Option, Result, Ok, Err}
+use Rattle.std.specs.Prelude.{◌≡◌, ℕ, ◌≤◌, ◌&&◌, nat_le, if◌then◌else◌, List, length, All, Option, Result, Ok, Err}
 use Rattle.std.specs.List.{list_all}
+use Rattle.ascii_text.specs.Bytes.{is_visible}
 use Rattle.packed_names.specs.declared.number.Number.{Number}
 use Rattle.packed_names.specs.declared.name.Designation.{Designation}
 use Rattle.packed_names.specs.declared.name.Name.{Name}
@@ -53,10 +54,6 @@ designation_from (Err fault) = Err S3
 -- the designation in a field
 unfoldable pub designation_in : List ℕ → Result (Option Designation) RuleCode
 designation_in text = unless_empty text (designation_from (name_of text))
-
--- a printed character that is no blank
-abbrev pub is_visible : ℕ → Bool
-is_visible byte = nat_le 33 byte && nat_le byte 126
 
 abbrev pub temporary_from : List ℕ → Result Short RuleCode
 temporary_from text = if nat_le (length text) 8 && list_all is_visible text then Ok (kept_short text) else Err S12

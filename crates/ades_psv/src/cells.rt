@@ -1,12 +1,28 @@
 //! The cells of a line, which bars separate.
 
-ghost use Rattle.std.specs.Prelude.{◌≡◌, ◌==◌, ◌+◌, ◌<◌, ◌≤◌, [], ◌∷◌, length, IfSome, IfNone, count_by};
+ghost use Rattle.std.specs.Prelude.{◌≡◌, ◌==◌, ◌+◌, ◌<◌, ◌≤◌, [], ◌∷◌, ◌++◌, All, false, length, IfSome, IfNone, count_by};
 ghost use Rattle.ascii_text.specs.Bytes.{vertical_bar};
 ghost use Rattle.ades_psv.specs.Cells.{cells};
 ghost use Rattle.ades_psv.specs.Columns.{place_of};
 
 use ascii_text::blanks::trimmed;
-use text_lines::cutting::cut;
+
+/// What stands before the first bar of a text, and what stands behind it; the whole text where there is none. Cells are
+/// short, and a plain loop finds their end sooner than a search that is made for long texts.
+fn cut_at_bar(text: &[u8]) -> (&[u8], Option<&[u8]>)
+    ensures parts { IfSome result.1 (λ behind. text.now ≡ result.0.now ++ 124 ∷ behind.now) }
+    ensures whole { IfNone result.1 (result.0.now ≡ text.now) }
+    ensures first { All (λ b. (b == vertical_bar) ≡ false) result.0.now }
+{
+    match text.iter().position(|byte| *byte == b'|') {
+        None => (text, None),
+        Some(place) => {
+            let (front, rest) = text.split_at(place);
+            let (_, behind) = rest.split_at(1);
+            (front, Some(behind))
+        }
+    }
+}
 
 /// The first cell of a line, and the line behind its bar, if a bar stands there.
 pub(crate) fn first_cell(line: &[u8]) -> (&[u8], Option<&[u8]>)
@@ -14,7 +30,7 @@ pub(crate) fn first_cell(line: &[u8]) -> (&[u8], Option<&[u8]>)
     ensures last { IfNone result.1 (cells line.now ≡ result.0.now ∷ []) }
     ensures shorter { IfSome result.1 (λ behind. length behind.now < length line.now) }
 {
-    let (piece, behind) = cut(b'|', line);
+    let (piece, behind) = cut_at_bar(line);
     (trimmed(piece), behind)
 }
 
@@ -28,7 +44,8 @@ fn count_bars(line: &[u8]) -> usize
 
 /// How many cells a line has.
 pub(crate) fn count_cells(line: &[u8]) -> usize
-    ensures { result ≡ length (cells line.now) }
+    ensures exact { result ≡ length (cells line.now) }
+    ensures few { result ≤ length line.now + 1 }
 {
     count_bars(line) + 1
 }

@@ -1,10 +1,11 @@
 //! A data line, cut into its fields.
 
-ghost use Rattle.std.specs.Prelude.{◌≡◌, ◌+◌, ◌<◌, ◌≤◌, length};
+ghost use Rattle.std.specs.Prelude.{◌≡◌, ℕ, ◌<◌, ◌≤◌, length, slice_get, unwrap_or, []};
+ghost use Rattle.ades_psv.specs.Cells.{cells, cell_in};
 ghost use Rattle.ades_psv.specs.Fields.{fields_of};
-ghost use Rattle.ades_psv.specs.Cutting.{seen, put_in, put, uncut_line};
+ghost use Rattle.ades_psv.specs.Cutting.{AreCells, seen};
 
-use crate::cells::first_cell;
+use crate::cells::{count_cells, first_cell};
 use crate::columns::Columns;
 
 /// A data line, and what stands in its fields that are read, without the blanks round it; nothing stands in a field that
@@ -30,76 +31,90 @@ pub(crate) struct Fields<'a> {
     pub(crate) columns: usize,
 }
 
-/// A line of which no cell was seen yet.
-fn uncut<'a>(columns: &Columns, line: &'a [u8]) -> Fields<'a>
-    ensures { seen result ≡ uncut_line columns.now line.now }
-{
-    Fields {
-        line,
-        perm: &[],
-        prov: &[],
-        sub: &[],
-        mode: &[],
-        station: &[],
-        time: &[],
-        ra: &[],
-        dec: &[],
-        catalogue: &[],
-        mag: &[],
-        band: &[],
-        count: 0,
-        columns: columns.count,
-    }
+/// How many cells at the front of a line are kept as it is cut. Lines have fewer as a rule; the others of a longer line
+/// are looked for where they are wanted.
+const KEPT: usize = 32;
+
+/// A line that was cut.
+#[derive(Drop)]
+struct CutLine<'a> {
+    line: &'a [u8],
+    /// Its first cells, as many as are kept.
+    first: [&'a [u8]; KEPT],
+    /// How many cells it has.
+    count: usize,
 }
 
-/// What stands in a column behind one more cell, which stands in this place: the cell, where it is the column's.
-fn put_in<'a>(column: Option<usize>, place: usize, cell: &'a [u8], found: &'a [u8]) -> &'a [u8]
-    ensures { result.now ≡ put_in column place cell.now found.now }
+/// Cuts a line into its cells.
+fn cut_cells(cut: &mut CutLine)
+    ensures line { cut.new.line ≡ cut.old.line }
+    ensures cells { AreCells cut.old.line.now cut.new }
+{
+    let mut rest = cut.line;
+    'cells: for place in 0..KEPT {
+        let (cell, behind) = first_cell(rest);
+        cut.first[place] = cell;
+        let Some(behind) = behind else {
+            cut.count = place + 1;
+            return;
+        };
+        rest = behind;
+    }
+    cut.count = KEPT + count_cells(rest);
+}
+
+/// The cell in this place of a line, counted from 0; nothing where the line has fewer.
+fn cell_at<'a>(place: usize, line: &'a [u8]) -> &'a [u8]
+    ensures { result.now ≡ unwrap_or (slice_get (cells line.now) place) [] }
+{
+    let mut rest = line;
+    'cells: for _passed in 0..place {
+        let Some(behind) = first_cell(rest).1 else {
+            return &[];
+        };
+        rest = behind;
+    }
+    first_cell(rest).0
+}
+
+/// The cell in a column; nothing where the line has fewer cells, or where there is no such column.
+fn cell_in<'a>(column: Option<usize>, cut: &CutLine<'a>) -> &'a [u8]
+    requires { AreCells cut.now.line.now cut.now }
+    ensures { result.now ≡ cell_in column (cells cut.now.line.now) }
 {
     match column {
-        Some(column) if column == place => cell,
-        _ => found,
-    }
-}
-
-/// The fields with one more cell.
-#[tactic(auto, unfolding(crate::specs::Cutting::put))]
-fn put<'a>(columns: &Columns, fields: &Fields<'a>, cell: &'a [u8]) -> Fields<'a>
-    requires { fields.now.count < 9223372036854775808 }
-    ensures cells { seen result ≡ put columns.now (seen fields.now) cell.now }
-    ensures count { result.count ≡ fields.now.count + 1 }
-{
-    let place = fields.count;
-    Fields {
-        line: fields.line,
-        perm: put_in(columns.perm, place, cell, fields.perm),
-        prov: put_in(columns.prov, place, cell, fields.prov),
-        sub: put_in(columns.sub, place, cell, fields.sub),
-        mode: put_in(columns.mode, place, cell, fields.mode),
-        station: put_in(columns.station, place, cell, fields.station),
-        time: put_in(columns.time, place, cell, fields.time),
-        ra: put_in(columns.ra, place, cell, fields.ra),
-        dec: put_in(columns.dec, place, cell, fields.dec),
-        catalogue: put_in(columns.catalogue, place, cell, fields.catalogue),
-        mag: put_in(columns.mag, place, cell, fields.mag),
-        band: put_in(columns.band, place, cell, fields.band),
-        count: place + 1,
-        columns: fields.columns,
+        Some(place) if place < KEPT && place < cut.count => cut.first[place],
+        Some(place) if place < cut.count => cell_at(place, cut.line),
+        _ => &[],
     }
 }
 
 /// The fields of a line below these columns.
+#[tactic(auto, unfolding(crate::specs::Fields::fields_of))]
 pub(crate) fn cut_fields<'a>(columns: &Columns, line: &'a [u8]) -> Fields<'a>
     ensures { seen result ≡ fields_of columns.now line.now }
 {
-    let mut fields = uncut(columns, line);
-    let mut rest = line;
-    'cells: loop {
-        let (cell, behind) = first_cell(rest);
-        fields = put(columns, &fields, cell);
-        let Some(behind) = behind else {
-            return fields;
-        };
-        rest = behind;
+    // What stands in `first` before the line is cut is never read; one slice throughout is the quickest to write.
+    let mut cut = CutLine {
+        line,
+        first: [line; KEPT],
+        count: 0,
+    };
+    cut_cells(&mut cut);
+    Fields {
+        line,
+        perm: cell_in(columns.perm, &cut),
+        prov: cell_in(columns.prov, &cut),
+        sub: cell_in(columns.sub, &cut),
+        mode: cell_in(columns.mode, &cut),
+        station: cell_in(columns.station, &cut),
+        time: cell_in(columns.time, &cut),
+        ra: cell_in(columns.ra, &cut),
+        dec: cell_in(columns.dec, &cut),
+        catalogue: cell_in(columns.catalogue, &cut),
+        mag: cell_in(columns.mag, &cut),
+        band: cell_in(columns.band, &cut),
+        count: cut.count,
+        columns: columns.count,
     }
 }

@@ -1,9 +1,9 @@
 //! The names of a data line.
 
 ghost use Rattle.std.specs.Prelude.{◌≡◌};
-ghost use Rattle.std.specs.List.{list_all};
-ghost use Rattle.ades_psv.specs.Names.{number_in, designation_in, is_visible, temporary_in};
+ghost use Rattle.ades_psv.specs.Names.{number_in, designation_in, temporary_in};
 
+use ascii_text::characters::are_visible;
 use obs_record::{RuleCode, Short};
 use packed_names::{Designation, Name, Number, read};
 
@@ -40,13 +40,6 @@ pub(crate) fn designation_in(text: &[u8]) -> Result<Option<Designation>, RuleCod
         Ok(Name::Designation(designation)) => Ok(Some(designation)),
         _ => Err(RuleCode::S3),
     }
-}
-
-/// Whether each character is printed, and no blank.
-fn are_visible(text: &[u8]) -> bool
-    ensures { result ≡ list_all is_visible text.now }
-{
-    text.iter().all(|byte| 33 <= *byte && *byte <= 126)
 }
 
 /// The temporary designation in a field that isn't empty, or rule S12 where it shows none.

@@ -1,13 +1,14 @@
 //! The reader of a batch.
 
-ghost use Rattle.std.specs.Prelude.{◌≡◌, ℕ, List, ◌+◌, ◌<◌, ◌≤◌, ◌++◌, length, take, IfOk, IfErr, OnOk, OnErr, Ok, Err};
+ghost use Rattle.std.specs.Prelude.{◌≡◌, ℕ, List, [], Some, None, ◌+◌, ◌<◌, ◌≤◌, ◌++◌, length, take, IfOk, IfErr, OnOk, OnErr, Ok, Err};
 ghost use Rattle.text_lines.specs.Lines.{IsNumberable};
 ghost use Rattle.text_lines.specs.Pieces.{complete_lines, unfinished};
 ghost use Rattle.ades_psv.specs.declared.fault.PsvFault.TheVariants as faults;
 ghost use Rattle.ades_psv.specs.Answers.{IsAnswer};
 ghost use Rattle.ades_psv.specs.Batch.{psv_lines_of, AreReadFrom, AreInRange};
 ghost use Rattle.ades_psv.specs.Walking.{Reads};
-ghost use Rattle.ades_psv.specs.Feeding.{unfed, fed, HasRoom, Feeds, finished};
+ghost use Rattle.ades_psv.specs.Feeding.{unfed, fed, complete_fault, HasRoom, Feeds, finished};
+ghost use Rattle.obs_record.specs.declared.rule.HeaderFault.{HeaderFault};
 
 use crate::fault::PsvFault;
 use crate::header::Place;
@@ -79,8 +80,11 @@ fn read_piece(
 impl PsvReader {
     /// A reader to which nothing was fed.
     pub fn new(alloc: Global) -> Result<PsvReader, NoMemory>
-        ensures { IfOk result (λ reader. reader ≡ unfed) }
+        ensures exact { IfOk result (λ reader. reader ≡ unfed) }
+        // No text came.
+        ensures text { IfOk result (λ reader. reader ≡ fed unfed []) }
     {
+        laws::lines();
         Ok(PsvReader {
             alloc,
             reached: Reached {
@@ -93,19 +97,11 @@ impl PsvReader {
         })
     }
 
-    /// Feeds the next piece of the batch.
-    ///
-    /// The answer is Header once a line with a fault of the headers is complete, that is, once its line feed was fed; the
-    /// fault is the first of the batch. From then on the answer is the same, and the piece is let go. After NoMemory the
-    /// reader is as it was, and the piece may be fed again. Where no fault was told, the complete lines so far, the bytes
-    /// of the unfinished line and those of the piece are together fewer than 4,294,967,295, as they are where all pieces
-    /// together have fewer bytes (`laws::room`). Takes memory for the lines that are read and for the unfinished line,
-    /// and while a column header is tested, for its names.
-    pub fn feed(&mut self, piece: &[u8]) -> Result<(), PsvFault>
+    /// Takes the next piece, as `feed` does.
+    fn take(&mut self, piece: &[u8]) -> Result<(), PsvFault>
         requires { HasRoom self.old (length piece.now) }
         ensures exact { Feeds self.old piece.now self.new result }
         ensures room { OnOk result ((more : ℕ) → HasRoom self.old (length piece.now + more) → HasRoom self.new more) }
-        // Once a fault was told, it is told again, and memory isn't wanting.
         ensures stays { IfErr self.old (λ fault. (result ≡ Err (faults.Header fault.0 fault.1)) × (self.new ≡ self.old)) }
         ensures no_memory { result ≡ Err faults.NoMemory → self.new ≡ self.old }
     {
@@ -134,12 +130,34 @@ impl PsvReader {
         }
     }
 
-    /// The data lines of the batch that was fed, each with its number and what it says.
+    /// Feeds the next piece of the batch.
     ///
-    /// The fault is the one that was told, or the first of the batch that wasn't told, since no line feed ends its line
-    /// or since it is one of the whole batch: it has no line that isn't blank (H1, line 1), or it ends inside a header
-    /// (H2, its last line). Takes memory for the last line.
-    pub fn finish(self) -> Result<Lines, PsvFault>
+    /// The answer is Header once a line with a fault of the headers is complete, that is, once its line feed was fed; the
+    /// fault is the first of the batch. From then on the answer is the same, and the piece is let go. After NoMemory the
+    /// reader is as it was, and the piece may be fed again. Where no fault was told, the complete lines so far, the bytes
+    /// of the unfinished line and those of the piece are together fewer than 4,294,967,295, as they are where all pieces
+    /// together have fewer bytes (`laws::room`). Takes memory for the lines that are read and for the unfinished line,
+    /// and while a column header is tested, for its names.
+    pub fn feed(&mut self, piece: &[u8]) -> Result<(), PsvFault>
+        requires { HasRoom self.old (length piece.now) }
+        ensures exact { Feeds self.old piece.now self.new result }
+        ensures room { OnOk result ((more : ℕ) → HasRoom self.old (length piece.now + more) → HasRoom self.new more) }
+        // The piece stands behind the text that came before, and no complete line breaks a rule of headers.
+        ensures ok { (text : List ℕ) → self.old ≡ fed unfed text
+            → OnOk result ((self.new ≡ fed unfed (text ++ piece.now)) × (complete_fault (text ++ piece.now) ≡ None)) }
+        // Header only where the complete lines of the text have a fault, and it is their first one.
+        ensures header { (text : List ℕ) (fault : HeaderFault) (line : ℕ) → self.old ≡ fed unfed text → result ≡ Err (faults.Header fault line)
+            → (self.new ≡ fed unfed (text ++ piece.now)) × (complete_fault (text ++ piece.now) ≡ Some (fault, line)) }
+        // Once a fault was told, it is told again, and memory isn't wanting.
+        ensures stays { IfErr self.old (λ fault. (result ≡ Err (faults.Header fault.0 fault.1)) × (self.new ≡ self.old)) }
+        ensures no_memory { result ≡ Err faults.NoMemory → self.new ≡ self.old }
+    {
+        laws::lines();
+        self.take(piece)
+    }
+
+    /// What is said at the end, as `finish` says it.
+    fn end(self) -> Result<Lines, PsvFault>
         ensures exact { IsAnswer (finished self) result }
         ensures told { IfErr self (λ fault. result ≡ Err (faults.Header fault.0 fault.1)) }
         ensures range { IfOk result AreInRange }
@@ -156,6 +174,25 @@ impl PsvReader {
         reached.read_last(alloc, rest.as_slice())?;
         ended(&reached.place, reached.count)?;
         Ok(reached.found)
+    }
+
+    /// The data lines of the batch that was fed, each with its number and what it says.
+    ///
+    /// The fault is the one that was told, or the first of the batch that wasn't told, since no line feed ends its line
+    /// or since it is one of the whole batch: it has no line that isn't blank (H1, line 1), or it ends inside a header
+    /// (H2, its last line). Takes memory for the last line.
+    pub fn finish(self) -> Result<Lines, PsvFault>
+        ensures exact { IsAnswer (finished self) result }
+        // The answer is what the text that was fed says.
+        ensures text { (text : List ℕ) → self ≡ fed unfed text → IsAnswer (psv_lines_of text) result }
+        // Each data line stands there in its place, with the reading of its fields.
+        ensures lines { (text : List ℕ) → self ≡ fed unfed text → IfOk result (λ found. AreReadFrom text found) }
+        ensures told { IfErr self (λ fault. result ≡ Err (faults.Header fault.0 fault.1)) }
+        ensures range { IfOk result AreInRange }
+    {
+        laws::lines();
+        reads_right();
+        self.end()
     }
 }
 
@@ -174,7 +211,6 @@ pub fn read_psv(alloc: Global, body: &[u8]) -> Result<Lines, PsvFault>
     ensures range { IfOk result AreInRange }
 {
     laws::lines();
-    reads_right();
     let mut reader = PsvReader::new(alloc)?;
     reader.feed(body)?;
     reader.finish()

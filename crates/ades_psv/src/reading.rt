@@ -18,11 +18,22 @@ use crate::names::{Names, designation_in, number_in, temporary_in};
 use crate::position::{Position, Stated, position_from, stated_in};
 use obs_record::{Coded, RuleCode, Shape, Short, Sighting};
 
-/// Whether each byte may stand in a data line.
+/// Whether a byte may stand in a data line.
+fn is_text_byte(byte: u8) -> bool
+    ensures { result ≡ is_text_byte byte }
+{
+    (32 <= byte) & (byte != 127)
+}
+
+/// Whether each byte may stand in a data line. The loop stops nowhere, so that it can take many bytes at a time.
 fn are_text(line: &[u8]) -> bool
     ensures { result ≡ list_all is_text_byte line.now }
 {
-    line.iter().all(|byte| 32 <= *byte && *byte != 127)
+    let mut are = true;
+    'bytes: for byte in line {
+        are &= is_text_byte(*byte);
+    }
+    are
 }
 
 /// The number and the designation, or the first broken rule of S2 and S3.

@@ -63,147 +63,143 @@ fn batch_with(place: usize, text: &'static [u8]) -> [&'static [u8]; 20] {
 }
 
 /// A field, another text in it, and the rule that the line then breaks.
-fn fields() -> [(usize, &'static [u8], Option<RuleCode>); 79] {
-    [
-        (0, b"AAA1", None),
-        // temporary designation
-        (0, b"ABCDEFGH", None),
-        (0, b"  A~!1  ", None),
-        (0, b"ABCDEFGHI", Some(RuleCode::S12)),
-        (0, b"A B", Some(RuleCode::S12)),
-        (0, b"\xc8", Some(RuleCode::S12)),
-        (0, b"\x7f", Some(RuleCode::S2)),
-        (0, b"", Some(RuleCode::S11)),
-        (0, b"   ", Some(RuleCode::S11)),
-        // mode
-        (1, b"", Some(RuleCode::S11)),
-        (1, b"a mode of more than twelve bytes", None),
-        (1, b"\xc8", None),
-        (1, b"\x1f", Some(RuleCode::S2)),
-        // station
-        (2, b"", Some(RuleCode::S11)),
-        (2, b"\x80", None),
-        (2, b"\xff", None),
-        (2, b"\t703", Some(RuleCode::S2)),
-        // time
-        (3, b"2024-03-16T12:00:00Z", None),
-        (3, b" 2024-03-16T12:00:00.123456789Z ", None),
-        (3, b"2024-03-16T12:00:00.1234567890Z", Some(RuleCode::S5)),
-        (3, b"2024-03-16T12:00:00.Z", Some(RuleCode::S5)),
-        (3, b"2024-03-16T12:00:00", Some(RuleCode::S5)),
-        (3, b"2024-03-16 12:00:00Z", Some(RuleCode::S5)),
-        (3, b"2024-02-30T12:00:00Z", Some(RuleCode::S5)),
-        (3, b"2024-03-16T24:00:00Z", Some(RuleCode::S5)),
-        (3, b"2024-03-16T12:00:60Z", Some(RuleCode::S5)),
-        (3, b"1800-01-01T00:00:00Z", None),
-        (3, b"1799-12-31T23:59:59Z", Some(RuleCode::S5)),
-        (3, b"2199-12-31T23:59:59Z", None),
-        (3, b"2200-01-01T00:00:00Z", Some(RuleCode::S5)),
-        (3, b"2024-03-16T12:00:00\xc8", Some(RuleCode::S5)),
-        (3, b"", Some(RuleCode::S11)),
-        // right ascension
-        (4, b"150.000000000000", None),
-        (4, b"150.0000000000001", Some(RuleCode::S6)),
-        (4, b"359.999999999999", None),
-        (4, b"360", Some(RuleCode::S6)),
-        (4, b"000", None),
-        (4, b"0000", Some(RuleCode::S6)),
-        (4, b"+1", Some(RuleCode::S6)),
-        (4, b"150.", Some(RuleCode::S6)),
-        (4, b".5", Some(RuleCode::S6)),
-        (4, b"\xc8", Some(RuleCode::S6)),
-        (4, b"", Some(RuleCode::S11)),
-        // declination
-        (5, b"5.5", None),
-        (5, b"+5.5", None),
-        (5, b"90", None),
-        (5, b"-90.000000000000", None),
-        (5, b"90.000000000001", Some(RuleCode::S7)),
-        (5, b"-5.0000000000001", Some(RuleCode::S7)),
-        (5, b"005", Some(RuleCode::S7)),
-        (5, b"--5", Some(RuleCode::S7)),
-        (5, b"\xc8", Some(RuleCode::S7)),
-        (5, b"", Some(RuleCode::S11)),
-        // catalogue
-        (6, b"", Some(RuleCode::S11)),
-        (6, b"\xc8", None),
-        // magnitude
-        (7, b"0", None),
-        (7, b"05", None),
-        (7, b" 20.123456 ", None),
-        (7, b"99.99", None),
-        (7, b"99.990000", None),
-        (7, b"99.990001", Some(RuleCode::S9)),
-        (7, b"99.991", Some(RuleCode::S9)),
-        (7, b"100", Some(RuleCode::S9)),
-        (7, b"20.1234567", Some(RuleCode::S9)),
-        (7, b"20.", Some(RuleCode::S9)),
-        (7, b".5", Some(RuleCode::S9)),
-        (7, b"-1", Some(RuleCode::S9)),
-        (7, b"2x", Some(RuleCode::S9)),
-        (7, b"\xc8", Some(RuleCode::S9)),
-        // a band without a magnitude is kept
-        (7, b"", None),
-        // band
-        (8, b"", Some(RuleCode::S11)),
-        (8, b"\xc8", None),
-        // more fields than columns, though they are empty
-        (8, b"V|", Some(RuleCode::S10)),
-        (8, b"V|x", Some(RuleCode::S10)),
-        // several rules at once
-        (2, b"|\x7f|x", Some(RuleCode::S2)),
-        (3, b"x|400", Some(RuleCode::S5)),
-        (4, b"x|95", Some(RuleCode::S6)),
-        (5, b"x||100", Some(RuleCode::S7)),
-        (7, b"100||", Some(RuleCode::S9)),
-    ]
-}
+const FIELD_TEXTS: [(usize, &[u8], Option<RuleCode>); 79] = [
+    (0, b"AAA1", None),
+    // temporary designation
+    (0, b"ABCDEFGH", None),
+    (0, b"  A~!1  ", None),
+    (0, b"ABCDEFGHI", Some(RuleCode::S12)),
+    (0, b"A B", Some(RuleCode::S12)),
+    (0, b"\xc8", Some(RuleCode::S12)),
+    (0, b"\x7f", Some(RuleCode::S2)),
+    (0, b"", Some(RuleCode::S11)),
+    (0, b"   ", Some(RuleCode::S11)),
+    // mode
+    (1, b"", Some(RuleCode::S11)),
+    (1, b"a mode of more than twelve bytes", None),
+    (1, b"\xc8", None),
+    (1, b"\x1f", Some(RuleCode::S2)),
+    // station
+    (2, b"", Some(RuleCode::S11)),
+    (2, b"\x80", None),
+    (2, b"\xff", None),
+    (2, b"\t703", Some(RuleCode::S2)),
+    // time
+    (3, b"2024-03-16T12:00:00Z", None),
+    (3, b" 2024-03-16T12:00:00.123456789Z ", None),
+    (3, b"2024-03-16T12:00:00.1234567890Z", Some(RuleCode::S5)),
+    (3, b"2024-03-16T12:00:00.Z", Some(RuleCode::S5)),
+    (3, b"2024-03-16T12:00:00", Some(RuleCode::S5)),
+    (3, b"2024-03-16 12:00:00Z", Some(RuleCode::S5)),
+    (3, b"2024-02-30T12:00:00Z", Some(RuleCode::S5)),
+    (3, b"2024-03-16T24:00:00Z", Some(RuleCode::S5)),
+    (3, b"2024-03-16T12:00:60Z", Some(RuleCode::S5)),
+    (3, b"1800-01-01T00:00:00Z", None),
+    (3, b"1799-12-31T23:59:59Z", Some(RuleCode::S5)),
+    (3, b"2199-12-31T23:59:59Z", None),
+    (3, b"2200-01-01T00:00:00Z", Some(RuleCode::S5)),
+    (3, b"2024-03-16T12:00:00\xc8", Some(RuleCode::S5)),
+    (3, b"", Some(RuleCode::S11)),
+    // right ascension
+    (4, b"150.000000000000", None),
+    (4, b"150.0000000000001", Some(RuleCode::S6)),
+    (4, b"359.999999999999", None),
+    (4, b"360", Some(RuleCode::S6)),
+    (4, b"000", None),
+    (4, b"0000", Some(RuleCode::S6)),
+    (4, b"+1", Some(RuleCode::S6)),
+    (4, b"150.", Some(RuleCode::S6)),
+    (4, b".5", Some(RuleCode::S6)),
+    (4, b"\xc8", Some(RuleCode::S6)),
+    (4, b"", Some(RuleCode::S11)),
+    // declination
+    (5, b"5.5", None),
+    (5, b"+5.5", None),
+    (5, b"90", None),
+    (5, b"-90.000000000000", None),
+    (5, b"90.000000000001", Some(RuleCode::S7)),
+    (5, b"-5.0000000000001", Some(RuleCode::S7)),
+    (5, b"005", Some(RuleCode::S7)),
+    (5, b"--5", Some(RuleCode::S7)),
+    (5, b"\xc8", Some(RuleCode::S7)),
+    (5, b"", Some(RuleCode::S11)),
+    // catalogue
+    (6, b"", Some(RuleCode::S11)),
+    (6, b"\xc8", None),
+    // magnitude
+    (7, b"0", None),
+    (7, b"05", None),
+    (7, b" 20.123456 ", None),
+    (7, b"99.99", None),
+    (7, b"99.990000", None),
+    (7, b"99.990001", Some(RuleCode::S9)),
+    (7, b"99.991", Some(RuleCode::S9)),
+    (7, b"100", Some(RuleCode::S9)),
+    (7, b"20.1234567", Some(RuleCode::S9)),
+    (7, b"20.", Some(RuleCode::S9)),
+    (7, b".5", Some(RuleCode::S9)),
+    (7, b"-1", Some(RuleCode::S9)),
+    (7, b"2x", Some(RuleCode::S9)),
+    (7, b"\xc8", Some(RuleCode::S9)),
+    // a band without a magnitude is kept
+    (7, b"", None),
+    // band
+    (8, b"", Some(RuleCode::S11)),
+    (8, b"\xc8", None),
+    // more fields than columns, though they are empty
+    (8, b"V|", Some(RuleCode::S10)),
+    (8, b"V|x", Some(RuleCode::S10)),
+    // several rules at once
+    (2, b"|\x7f|x", Some(RuleCode::S2)),
+    (3, b"x|400", Some(RuleCode::S5)),
+    (4, b"x|95", Some(RuleCode::S6)),
+    (5, b"x||100", Some(RuleCode::S7)),
+    (7, b"100||", Some(RuleCode::S9)),
+];
 
 #[test]
 fn breaks_the_first_rule(rt: HostRuntime) {
-    for (place, text, rule) in fields() {
+    for &(place, text, rule) in &FIELD_TEXTS {
         let found = only_rule(rt.alloc(), &batch_with(place, text));
         assert_eq!(rt; found, Some((3, rule)), "{text:?} in field {place}");
     }
 }
 
 /// Whole lines below the same columns, and the rule that each breaks.
-fn lines() -> [(&'static [u8], Option<RuleCode>); 9] {
-    [
-        (b"AAA2|CCD|703|2024-03-16T12:00:00Z|150.2|-5.5|Gaia3", None),
-        (
-            b" AAA2 |CCD |703|2024-03-16T12:00:00Z| 150.2 |-5.5|  Gaia3",
-            None,
-        ),
-        (
-            b"AAA2|CCD|703|2024-03-16T12:00:00Z|150.2|-5.5|Gaia3||V",
-            None,
-        ),
-        (
-            b"AAA2|CCD|703|2024-03-16T12:00:00Z|150.2|-5.5",
-            Some(RuleCode::S11),
-        ),
-        (b"AAA2", Some(RuleCode::S11)),
-        (b"AAA2||703|x|150.2|-5.5|Gaia3", Some(RuleCode::S5)),
-        (
-            b"AAA2||703|2024-03-16T12:00:00Z|150.2|-5.5|Gaia3|||",
-            Some(RuleCode::S10),
-        ),
-        (
-            b"ABCDEFGHI||703|2024-03-16T12:00:00Z|150.2|-5.5|Gaia3",
-            Some(RuleCode::S11),
-        ),
-        // a carriage return that no line feed follows belongs to the line
-        (
-            b"AAA2|CCD|703|2024-03-16T12:00:00Z|150.2|-5.5|Gaia3\r",
-            Some(RuleCode::S2),
-        ),
-    ]
-}
+const LINE_TEXTS: [(&[u8], Option<RuleCode>); 9] = [
+    (b"AAA2|CCD|703|2024-03-16T12:00:00Z|150.2|-5.5|Gaia3", None),
+    (
+        b" AAA2 |CCD |703|2024-03-16T12:00:00Z| 150.2 |-5.5|  Gaia3",
+        None,
+    ),
+    (
+        b"AAA2|CCD|703|2024-03-16T12:00:00Z|150.2|-5.5|Gaia3||V",
+        None,
+    ),
+    (
+        b"AAA2|CCD|703|2024-03-16T12:00:00Z|150.2|-5.5",
+        Some(RuleCode::S11),
+    ),
+    (b"AAA2", Some(RuleCode::S11)),
+    (b"AAA2||703|x|150.2|-5.5|Gaia3", Some(RuleCode::S5)),
+    (
+        b"AAA2||703|2024-03-16T12:00:00Z|150.2|-5.5|Gaia3|||",
+        Some(RuleCode::S10),
+    ),
+    (
+        b"ABCDEFGHI||703|2024-03-16T12:00:00Z|150.2|-5.5|Gaia3",
+        Some(RuleCode::S11),
+    ),
+    // a carriage return that no line feed follows belongs to the line
+    (
+        b"AAA2|CCD|703|2024-03-16T12:00:00Z|150.2|-5.5|Gaia3\r",
+        Some(RuleCode::S2),
+    ),
+];
 
 #[test]
 fn reads_lines_with_fewer_fields(rt: HostRuntime) {
-    for (line, rule) in lines() {
+    for &(line, rule) in &LINE_TEXTS {
         let found = only_rule(rt.alloc(), &[VERSION, COLUMNS, b"\n", line]);
         assert_eq!(rt; found, Some((3, rule)), "{line:?}");
     }
@@ -333,95 +329,93 @@ fn reads_the_fields(rt: HostRuntime) -> Result<(), Fail> {
 }
 
 /// Batches whose headers have a fault, which it is, and its line.
-fn faulty() -> [(&'static [u8], HeaderFault, u32); 32] {
-    [
-        (b"", HeaderFault::H1, 1),
-        (b"\n  \r\n\n", HeaderFault::H1, 1),
-        (b"# version=2010", HeaderFault::H1, 1),
-        (
-            b"\n  \n# version=2010\n# version=2017\n",
-            HeaderFault::H1,
-            3,
-        ),
-        (b" # version=2017\n", HeaderFault::H1, 1),
-        (b"# version = 2017\n", HeaderFault::H1, 1),
-        (b"# version=2017x\n", HeaderFault::H1, 1),
-        (b"# version=2017\r", HeaderFault::H1, 1),
-        (b"! mpcCode 703\n# version=2017\n", HeaderFault::H1, 1),
-        (b"ra|dec\n", HeaderFault::H1, 1),
-        (b"# version=2017", HeaderFault::H2, 1),
-        (b"#version=2017\r\n", HeaderFault::H2, 1),
-        (b"#   version=2017   \n", HeaderFault::H2, 1),
-        (
-            b"# version=2017\n# observatory\n! mpcCode 703",
-            HeaderFault::H2,
-            3,
-        ),
-        (
-            b"# version=2017\n# observatory\n! mpcCode 703\n",
-            HeaderFault::H2,
-            3,
-        ),
-        (
-            b"# version=2017\n\n! mpcCode 703\n   \n\n",
-            HeaderFault::H2,
-            5,
-        ),
-        (b"# version=2017\nra|dec\n# second\n", HeaderFault::H2, 3),
-        (
-            b"# version=2017\nra|dec\n# version=2017",
-            HeaderFault::H2,
-            3,
-        ),
-        (b"# version=2017\nstn|obsTime|deltaRA\n", HeaderFault::H3, 2),
-        (b"# version=2017\nra|DEC", HeaderFault::H3, 2),
-        (b"# version=2017\ndec|stn\n", HeaderFault::H3, 2),
-        (b"# version=2017\nra|dec|pos1\n", HeaderFault::H4, 2),
-        (b"# version=2017\nra|pos1|ra\n", HeaderFault::H3, 2),
-        (b"# version=2017\nra|dec|ra|pos1\n", HeaderFault::H4, 2),
-        (
-            b"# version=2017\ntrkSub|mode|stn|obsTime|ra|dec|astCat|mag|band|pos1\n",
-            HeaderFault::H4,
-            2,
-        ),
-        (
-            b"# version=2017\ntrkSub|mode|stn|obsTime|ra|dec|astCat|mag|band|ra\n",
-            HeaderFault::H5,
-            2,
-        ),
-        (
-            b"# version=2017\n\n! x\n ra | dec |x| ra\n",
-            HeaderFault::H5,
-            4,
-        ),
-        (
-            b"# version=2017\nra|dec|rmsRA|stn|remarks| rmsRA\n",
-            HeaderFault::H5,
-            2,
-        ),
-        (
-            b"# version=2017\nra|dec\nAAA1\n#\n! x\nra|dec|dec\n",
-            HeaderFault::H5,
-            6,
-        ),
-        // the first fault counts
-        (
-            b"# version=2017\nra\n# second\nra|dec|dec\n",
-            HeaderFault::H3,
-            2,
-        ),
-        (
-            b"# version=2017\nra|dec|dec\nAAA1\n# second\n",
-            HeaderFault::H5,
-            2,
-        ),
-        (b"# version=2010\nra|dec|dec\n", HeaderFault::H1, 1),
-    ]
-}
+const FAULTY: [(&[u8], HeaderFault, u32); 32] = [
+    (b"", HeaderFault::H1, 1),
+    (b"\n  \r\n\n", HeaderFault::H1, 1),
+    (b"# version=2010", HeaderFault::H1, 1),
+    (
+        b"\n  \n# version=2010\n# version=2017\n",
+        HeaderFault::H1,
+        3,
+    ),
+    (b" # version=2017\n", HeaderFault::H1, 1),
+    (b"# version = 2017\n", HeaderFault::H1, 1),
+    (b"# version=2017x\n", HeaderFault::H1, 1),
+    (b"# version=2017\r", HeaderFault::H1, 1),
+    (b"! mpcCode 703\n# version=2017\n", HeaderFault::H1, 1),
+    (b"ra|dec\n", HeaderFault::H1, 1),
+    (b"# version=2017", HeaderFault::H2, 1),
+    (b"#version=2017\r\n", HeaderFault::H2, 1),
+    (b"#   version=2017   \n", HeaderFault::H2, 1),
+    (
+        b"# version=2017\n# observatory\n! mpcCode 703",
+        HeaderFault::H2,
+        3,
+    ),
+    (
+        b"# version=2017\n# observatory\n! mpcCode 703\n",
+        HeaderFault::H2,
+        3,
+    ),
+    (
+        b"# version=2017\n\n! mpcCode 703\n   \n\n",
+        HeaderFault::H2,
+        5,
+    ),
+    (b"# version=2017\nra|dec\n# second\n", HeaderFault::H2, 3),
+    (
+        b"# version=2017\nra|dec\n# version=2017",
+        HeaderFault::H2,
+        3,
+    ),
+    (b"# version=2017\nstn|obsTime|deltaRA\n", HeaderFault::H3, 2),
+    (b"# version=2017\nra|DEC", HeaderFault::H3, 2),
+    (b"# version=2017\ndec|stn\n", HeaderFault::H3, 2),
+    (b"# version=2017\nra|dec|pos1\n", HeaderFault::H4, 2),
+    (b"# version=2017\nra|pos1|ra\n", HeaderFault::H3, 2),
+    (b"# version=2017\nra|dec|ra|pos1\n", HeaderFault::H4, 2),
+    (
+        b"# version=2017\ntrkSub|mode|stn|obsTime|ra|dec|astCat|mag|band|pos1\n",
+        HeaderFault::H4,
+        2,
+    ),
+    (
+        b"# version=2017\ntrkSub|mode|stn|obsTime|ra|dec|astCat|mag|band|ra\n",
+        HeaderFault::H5,
+        2,
+    ),
+    (
+        b"# version=2017\n\n! x\n ra | dec |x| ra\n",
+        HeaderFault::H5,
+        4,
+    ),
+    (
+        b"# version=2017\nra|dec|rmsRA|stn|remarks| rmsRA\n",
+        HeaderFault::H5,
+        2,
+    ),
+    (
+        b"# version=2017\nra|dec\nAAA1\n#\n! x\nra|dec|dec\n",
+        HeaderFault::H5,
+        6,
+    ),
+    // the first fault counts
+    (
+        b"# version=2017\nra\n# second\nra|dec|dec\n",
+        HeaderFault::H3,
+        2,
+    ),
+    (
+        b"# version=2017\nra|dec|dec\nAAA1\n# second\n",
+        HeaderFault::H5,
+        2,
+    ),
+    (b"# version=2010\nra|dec|dec\n", HeaderFault::H1, 1),
+];
 
 #[test]
 fn finds_the_first_fault(rt: HostRuntime) {
-    for (body, fault, line) in faulty() {
+    for &(body, fault, line) in &FAULTY {
         assert_eq!(rt;
             said(rt.alloc(), &[body]).err(),
             Some(PsvFault::Header { fault, line }),
@@ -431,34 +425,32 @@ fn finds_the_first_fault(rt: HostRuntime) {
 }
 
 /// Batches without a fault in their headers, and the numbers of their lines, 0 for none.
-fn sound() -> [(&'static [u8], [u32; 4]); 9] {
-    [
-        (BATCH, [5, 6, 7, 8]),
-        (b"# version=2017\nra|dec\n", [0, 0, 0, 0]),
-        (b"# version=2017\nra|dec", [0, 0, 0, 0]),
-        (
-            b"\n#version=2017\r\n\r\n! x\r\n ra || dec || \r\n! y\r\n \r\nAAA1\r\n",
-            [8, 0, 0, 0],
-        ),
-        (
-            b"# version=2017\ntrkSub|mode|stn|obsTime|ra|dec|astCat|mag|band|rmsRA\nAAA1",
-            [3, 0, 0, 0],
-        ),
-        (b"# version=2017\nra|dec\nAAA1\n!\n \nAAA1\n!", [3, 6, 0, 0]),
-        (
-            b"# version=2017\nra|dec\nAAA1\n# second\n# third\n! x\ndec|ra\nAAA1",
-            [3, 8, 0, 0],
-        ),
-        (
-            b"# version=2017\nra|dec\n version=2017\n # x\n",
-            [3, 4, 0, 0],
-        ),
-        (
-            b"# version=2017\nra|dec|Ra|RA|ra1|ra 1\nra|dec\n",
-            [3, 0, 0, 0],
-        ),
-    ]
-}
+const SOUND: [(&[u8], [u32; 4]); 9] = [
+    (BATCH, [5, 6, 7, 8]),
+    (b"# version=2017\nra|dec\n", [0, 0, 0, 0]),
+    (b"# version=2017\nra|dec", [0, 0, 0, 0]),
+    (
+        b"\n#version=2017\r\n\r\n! x\r\n ra || dec || \r\n! y\r\n \r\nAAA1\r\n",
+        [8, 0, 0, 0],
+    ),
+    (
+        b"# version=2017\ntrkSub|mode|stn|obsTime|ra|dec|astCat|mag|band|rmsRA\nAAA1",
+        [3, 0, 0, 0],
+    ),
+    (b"# version=2017\nra|dec\nAAA1\n!\n \nAAA1\n!", [3, 6, 0, 0]),
+    (
+        b"# version=2017\nra|dec\nAAA1\n# second\n# third\n! x\ndec|ra\nAAA1",
+        [3, 8, 0, 0],
+    ),
+    (
+        b"# version=2017\nra|dec\n version=2017\n # x\n",
+        [3, 4, 0, 0],
+    ),
+    (
+        b"# version=2017\nra|dec|Ra|RA|ra1|ra 1\nra|dec\n",
+        [3, 0, 0, 0],
+    ),
+];
 
 /// The numbers of the lines of a batch, 0 for none; none of them where it has a fault or more than four lines.
 fn numbers(said: &Result<Lines, PsvFault>) -> Option<[u32; 4]> {
@@ -480,7 +472,7 @@ fn number_at(lines: &Lines, place: u64) -> u32 {
 
 #[test]
 fn passes_over_headers_and_blank_lines(rt: HostRuntime) {
-    for (body, wanted) in sound() {
+    for &(body, wanted) in &SOUND {
         let found = numbers(&said(rt.alloc(), &[body]));
         assert_eq!(rt; found, Some(wanted), "{body:?}");
     }
@@ -532,14 +524,12 @@ fn is_same(one: &Result<Lines, PsvFault>, other: &Result<Lines, PsvFault>) -> bo
 }
 
 /// Batches that are fed in pieces: two whole ones, one that ends in a carriage return, one with a fault.
-fn fed_batches() -> [&'static [u8]; 4] {
-    [
-        BATCH,
-        TWO_HEADERS,
-        b"\r\n# version=2017\r\n! x\r\nra|dec\r\nAAA1\r",
-        b"# version=2017\nra\r\n# second",
-    ]
-}
+const FED_BATCHES: [&[u8]; 4] = [
+    BATCH,
+    TWO_HEADERS,
+    b"\r\n# version=2017\r\n! x\r\nra|dec\r\nAAA1\r",
+    b"# version=2017\nra\r\n# second",
+];
 
 /// Whether a batch says the same in pieces of this size as whole.
 fn is_same_in_pieces(alloc: Global, body: &[u8], size: usize) -> bool {
@@ -548,7 +538,7 @@ fn is_same_in_pieces(alloc: Global, body: &[u8], size: usize) -> bool {
 
 #[test]
 fn says_the_same_in_any_pieces(rt: HostRuntime) {
-    for body in fed_batches() {
+    for &body in &FED_BATCHES {
         for size in [1, 2, 3, 7] {
             let same = is_same_in_pieces(rt.alloc(), body, size);
             assert!(rt; same, "{body:?} in pieces of {size}");
@@ -558,7 +548,7 @@ fn says_the_same_in_any_pieces(rt: HostRuntime) {
 
 #[test]
 fn finds_the_first_fault_in_any_pieces(rt: HostRuntime) {
-    for (body, fault, line) in faulty() {
+    for &(body, fault, line) in &FAULTY {
         let fed = said_in_pieces(rt.alloc(), body, 3);
         assert_eq!(rt;
             fed.err(),
@@ -570,26 +560,24 @@ fn finds_the_first_fault_in_any_pieces(rt: HostRuntime) {
 
 /// The last line of a batch as it ends, its number and the rule that it breaks. A carriage return that no line feed
 /// follows belongs to its line, and is no byte of a text.
-fn endings() -> [(&'static [u8], Option<(u32, Option<RuleCode>)>); 4] {
-    [
-        (
-            b"AAA1|CCD|703|2024-03-15T23:59:59.999Z|150.0|-5.5|Gaia3",
-            Some((3, None)),
-        ),
-        (
-            b"AAA1|CCD|703|2024-03-15T23:59:59.999Z|150.0|-5.5|Gaia3\r\n",
-            Some((3, None)),
-        ),
-        (
-            b"AAA1|CCD|703|2024-03-15T23:59:59.999Z|150.0|-5.5|Gaia3\r",
-            Some((3, Some(RuleCode::S2))),
-        ),
-        (
-            b"AAA1|CCD|703|2024-03-15T23:59:59.999Z|150.0|-5.5|Gaia3\r\r\n",
-            Some((3, Some(RuleCode::S2))),
-        ),
-    ]
-}
+const ENDINGS: [(&[u8], Option<(u32, Option<RuleCode>)>); 4] = [
+    (
+        b"AAA1|CCD|703|2024-03-15T23:59:59.999Z|150.0|-5.5|Gaia3",
+        Some((3, None)),
+    ),
+    (
+        b"AAA1|CCD|703|2024-03-15T23:59:59.999Z|150.0|-5.5|Gaia3\r\n",
+        Some((3, None)),
+    ),
+    (
+        b"AAA1|CCD|703|2024-03-15T23:59:59.999Z|150.0|-5.5|Gaia3\r",
+        Some((3, Some(RuleCode::S2))),
+    ),
+    (
+        b"AAA1|CCD|703|2024-03-15T23:59:59.999Z|150.0|-5.5|Gaia3\r\r\n",
+        Some((3, Some(RuleCode::S2))),
+    ),
+];
 
 /// The number of the only line of a batch that ends so, fed in two pieces, the second of which has so many bytes, and the
 /// rule that the line breaks.
@@ -610,7 +598,7 @@ fn rule_cut_apart(alloc: Global, end: &[u8], last: usize) -> Option<(u32, Option
 
 #[test]
 fn cuts_a_line_end_apart(rt: HostRuntime) {
-    for (end, wanted) in endings() {
+    for &(end, wanted) in &ENDINGS {
         for last in 0..3 {
             let found = rule_cut_apart(rt.alloc(), end, last);
             assert_eq!(rt; found, wanted, "{end:?}, the last {last} bytes apart");

@@ -1,5 +1,5 @@
 -- The bytes that the formats' rules name.
-use Rattle.std.specs.Prelude.{ℕ}
+use Rattle.std.specs.Prelude.{ℕ, Bool, ◌&&◌, nat_le}
 
 -- a space, the only byte that counts as a blank
 abbrev pub blank : ℕ
@@ -31,3 +31,11 @@ vertical_bar = 124
 -- the asterisk that marks a discovery
 abbrev pub asterisk : ℕ
 asterisk = 42
+
+-- a printable character, a blank included
+abbrev pub is_printable : ℕ → Bool
+is_printable byte = nat_le 32 byte && nat_le byte 126
+
+-- a printable character other than a blank
+abbrev pub is_visible : ℕ → Bool
+is_visible byte = nat_le 33 byte && nat_le byte 126

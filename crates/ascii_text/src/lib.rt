@@ -1,8 +1,9 @@
 //! Text of bytes below 128, as the formats of minor planet astrometry have it: digits of a radix, numbers of a fixed
-//! width, decimals, blanks.
+//! width, decimals, blanks, printable characters.
 #![tactic(auto)]
 
 pub mod blanks;
+pub mod characters;
 pub mod digits;
 pub mod laws;
 pub mod numbers;

@@ -23,7 +23,8 @@ fn digit_front(radix: Radix, text: &[u8]) -> Option<(u64, &[u8])>
 }
 
 /// The number that the first `count` bytes spell as digits of the radix, and the text behind them; `None` where fewer
-/// bytes stand there, or one of them is no digit.
+/// bytes stand there, or one of them is no digit. The radix to the power of `count` is at most 2^63: at most 18 digits of
+/// the radix ten.
 pub fn digits_at(radix: Radix, count: usize, text: &[u8]) -> Option<(u64, &[u8])>
     requires { base radix ^ count ≤ 2 ^ 63 }
     ensures exact { option_map (λ x. (x.0, x.1.now)) result ≡ digits_at radix count text.now }
@@ -64,7 +65,9 @@ pub fn digit_run(text: &[u8]) -> usize
 /// The decimals of a number: how many there are, and their value.
 #[derive(Clone, Copy, Debug, PartialEq, Eq)]
 pub struct Decimals {
+    /// How many digits stand after the point; 0 where there is no point.
     pub count: usize,
+    /// The number that these digits spell, below 10 to the power of their count.
     pub value: u64,
 }
 
@@ -121,7 +124,7 @@ fn run_within(most: usize, text: &[u8]) -> Option<(Option<Decimals>, &[u8])>
 }
 
 /// The decimals at the front of a text of any length, and the text behind them, as `decimals_at` reads them; `None` in
-/// their place where they are more than `most`.
+/// their place where they are more than `most`, which is at most 18.
 #[tactic(auto, unfolding(crate::specs::Reading::decimals_at, crate::specs::Reading::decimals_within))]
 pub fn decimals_within(most: usize, text: &[u8]) -> Option<(Option<Decimals>, &[u8])>
     requires { most ≤ 18 }
@@ -136,7 +139,7 @@ pub fn decimals_within(most: usize, text: &[u8]) -> Option<(Option<Decimals>, &[
 }
 
 /// The number at the front, without leading zeros, and the text behind it: all the decimal digits that stand there.
-/// `None` where none stands there, where they are more than `most`, or where a zero leads others.
+/// `None` where none stands there, where they are more than `most`, or where a zero leads others. `most` is at most 18.
 #[tactic(auto, unfolding(crate::specs::Reading::number_at))]
 pub fn number_at(most: usize, text: &[u8]) -> Option<(u64, &[u8])>
     requires { most ≤ 18 }

@@ -21,7 +21,8 @@ use Rattle.obs_record.specs.Short.{kept_short}
 use Rattle.obs_record.specs.Sighting.{IsPrintable}
 use Rattle.col80_format.specs.declared.names.Names.{Names}
 use Rattle.col80_format.specs.declared.reading.Position.{Position}
-use Rattle.col80_format.specs.Columns.{columns, column, is_printable, coded}
+use Rattle.ascii_text.specs.Bytes.{is_printable}
+use Rattle.col80_format.specs.Columns.{columns, column, coded}
 use Rattle.obs_record.specs.Modes.{refused_modes}
 use Rattle.text_lines.specs.Steps.{◌>>=◌, or_breaks}
 use Rattle.col80_format.specs.Names.{AreNamesOf, names_in}

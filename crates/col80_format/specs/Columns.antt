@@ -1,5 +1,5 @@
 -- The columns of a line, counted from 1.
-use Rattle.std.specs.Prelude.{ℕ, ◌-◌, Bool, ◌&&◌, nat_le, ◌==◌, if◌then◌else◌, List, slice_index, slice_range}
+use Rattle.std.specs.Prelude.{ℕ, ◌-◌, ◌==◌, if◌then◌else◌, List, slice_index, slice_range}
 use Rattle.ascii_text.specs.Bytes.{blank}
 use Rattle.obs_record.specs.declared.sighting.Coded.{Coded}
 use Rattle.obs_record.specs.declared.sighting.Coded.TheVariants.{Nothing, Letter}
@@ -11,10 +11,6 @@ columns a b line = slice_range line (a - 1) b
 -- the byte of one column
 abbrev pub column : ℕ → List ℕ → ℕ
 column a line = slice_index line (a - 1)
-
--- a byte that is printed, a blank included
-abbrev pub is_printable : ℕ → Bool
-is_printable byte = nat_le 32 byte && nat_le byte 126
 
 -- what the letter in a column says: nothing where it is blank
 abbrev pub coded : ℕ → Coded

@@ -1,13 +1,12 @@
 //! The reading of a line.
 
 ghost use Rattle.std.specs.Prelude.{◌≡◌, ◌<◌, ◌==◌, length, Result, OnOk, IfOk, pos, neg_ℤ, ◌≤ℤ◌};
-ghost use Rattle.std.specs.List.{list_all};
 ghost use Rattle.angle_fixed.specs.Angles.{circle, quarter};
 ghost use Rattle.obs_time.specs.Instants.{IsInstantNs};
 ghost use Rattle.obs_record.specs.declared.rule.RuleCode.{RuleCode};
 ghost use Rattle.obs_record.specs.declared.sighting.Sighting.{Sighting};
 ghost use Rattle.obs_record.specs.Sighting.{IsSighting};
-ghost use Rattle.col80_format.specs.Columns.{is_printable, coded};
+ghost use Rattle.col80_format.specs.Columns.{coded};
 ghost use Rattle.col80_format.specs.Reading.{head_of, position_of, tail_of, observed, reading_of};
 ghost use Rattle.col80_format.specs.Rules.{IsReading};
 
@@ -15,6 +14,7 @@ use crate::magnitude::magnitude_in;
 use crate::names::{Names, names_in};
 use angle_fixed::{Dec, Ra, read_dms, read_hms};
 use ascii_text::blanks::are_blanks;
+use ascii_text::characters::are_printable;
 use obs_record::{Coded, RuleCode, Shape, Short, Sighting, is_refused_mode};
 use obs_time::{Instant, read_day_fraction};
 
@@ -28,13 +28,6 @@ pub(crate) struct Position {
     dec: Dec,
     arcseconds: u8,
     minus: bool,
-}
-
-/// Whether each byte is a printed character, or a blank.
-fn are_printable(line: &[u8]) -> bool
-    ensures { result ≡ list_all is_printable line.now }
-{
-    line.iter().all(|byte| 32 <= *byte && *byte <= 126)
 }
 
 /// What a letter says: nothing where it is blank.

@@ -8,7 +8,7 @@ pub enum TimeFault {
     Spelling,
     /// The calendar has no such date.
     NoSuchDate,
-    /// The year lies outside 1800 to 2199.
+    /// The year lies outside 1800 to 2199, the hour outside 0 to 23, or the minute or the second outside 0 to 59.
     Range,
     /// There are more decimals than are read.
     Decimals,

@@ -16,7 +16,7 @@ last_cell line piece cell None is none whole = rw is (cells-whole line piece who
 last_cell line piece cell (Some rest) is none whole = tt
 
 pub returns-clause-more : goal.returns-clause-more
-returns-clause-more c = more_cells c.args.line.now c.cut.result.0.now c.trimmed.result.now c.cut.result.1 c.trimmed.ensures.exact c.cut.ensures.first c.cut.ensures.parts
+returns-clause-more c = more_cells c.args.line.now c.cut_at_bar.result.0.now c.trimmed.result.now c.cut_at_bar.result.1 c.trimmed.ensures.exact c.cut_at_bar.ensures.first c.cut_at_bar.ensures.parts
 
 pub returns-clause-last : goal.returns-clause-last
-returns-clause-last c = last_cell c.args.line.now c.cut.result.0.now c.trimmed.result.now c.cut.result.1 c.trimmed.ensures.exact c.cut.ensures.first c.cut.ensures.whole
+returns-clause-last c = last_cell c.args.line.now c.cut_at_bar.result.0.now c.trimmed.result.now c.cut_at_bar.result.1 c.trimmed.ensures.exact c.cut_at_bar.ensures.first c.cut_at_bar.ensures.whole
