@@ -1,9 +1,10 @@
 -- What a fresh file, and a file that is only read, may be left as.
 use Rattle.std.proofs.Common.{◌≡◌, ◌≢◌, ◌↔◌, inl, inr, ⊎_elim, ℕ, ◌≤◌, List, [], ◌∷◌, length, refl, ap, subst, arith}
 use Rattle.std.proofs.lemmas.Bool.{cases_eq}
-use Rattle.std.specs.Prelude.{Result, Ok, IfOk, IfSome, IsSome, IsTrue, Bool, true, false}
+use Rattle.std.specs.Prelude.{Result, Ok, Err, IfOk, OnOk, IfSome, IsSome, IsTrue, Bool, true, false}
 use Rattle.std.specs.declared.option.Option.{Option}
 use Rattle.std.specs.declared.option.Option.TheVariants.{None, Some}
+use Rattle.disk_model.specs.Files.{written}
 use Rattle.disk_model.specs.Crashes.{Torn, After, Passes, EachSince, During}
 use Rattle.disk_model.specs.Moments.{during_one_more, during_weaker, images_after}
 use Rattle.obs_journal.specs.Parcels.{RawParcel}
@@ -49,6 +50,37 @@ damaged_there (Some file) end offset is_fresh not_so long fresh damaged = damage
 pub never_damaged : (known : Option (List ℕ)) (offset : ℕ) → IfSome known (λ file. IsDamagedAt file offset) → IsSome known → ((file : List ℕ) → known ≡ Some file → (ps : List RawParcel) × Spells file ps) → ⊥
 never_damaged None offset damaged some spells = cc
 never_damaged (Some file) offset damaged some spells = let list = spells file refl in damage_spells_nothing file offset list.0 damaged list.1
+
+-- what holds anyway holds of each result
+pub on_ok : {T E : Type 0} (result : Result T E) (P : Type 0) → P → OnOk result P
+on_ok (Ok value) P holds = holds
+on_ok (Err fault) P holds = tt
+
+-- a file that isn't fresh, as its reading says
+pub not_fresh : (known : Option (List ℕ)) (end : ℕ) (is_fresh : Bool) (P : Type 0) → is_fresh ≡ false → IfSome known (λ file. length file ≡ end) → IfSome known (λ file. length file ≡ end → (IsTrue is_fresh ↔ IsFresh file))
+    → IfSome known (λ file. IsFresh file → P)
+not_fresh None end is_fresh P not_so long fresh = tt
+not_fresh (Some file) end is_fresh P not_so long fresh = λ there. let so : is_fresh ≡ true = (fresh long).1 there in absurd (cc (so, not_so))
+
+-- one that is fresh, as its reading says
+pub surely_fresh : (known : Option (List ℕ)) (end : ℕ) (is_fresh : Bool) (P : Type 0) → is_fresh ≡ true → IfSome known (λ file. length file ≡ end) → IfSome known (λ file. length file ≡ end → (IsTrue is_fresh ↔ IsFresh file))
+    → IfSome known (λ file. (IsFresh file → ⊥) → P)
+surely_fresh None end is_fresh P so long fresh = tt
+surely_fresh (Some file) end is_fresh P so long fresh = λ other. absurd (other ((fresh long).0 so))
+
+pub each_known : (known : Option (List ℕ)) (P : List ℕ → Type 0) → ((file : List ℕ) → P file) → IfSome known P
+each_known None P all = tt
+each_known (Some file) P all = all file
+
+-- a fresh file with the closed gate 0 in it
+pub fresh_written : (known last now : Option (List ℕ)) → last ≡ known → IfSome last (λ file. now ≡ Some (written 0 (0 ∷ []) file)) → IfSome known (λ file. IsFresh file → now ≡ Some (0 ∷ []))
+fresh_written None last now same wrote = tt
+fresh_written (Some file) last now same wrote =
+    let said : now ≡ Some (written 0 (0 ∷ []) file) = subst (λ r. IfSome r (λ file. now ≡ Some (written 0 (0 ∷ []) file))) same wrote in
+    λ fresh. elim fresh [
+      | inl empty ↦ subst (λ f. now ≡ Some (written 0 (0 ∷ []) f)) empty said
+      | inr one ↦ subst (λ f. now ≡ Some (written 0 (0 ∷ []) f)) one said
+    ]
 
 module _ {D : Type 0} (reads : D → Option (List ℕ)) (leaves : D → List ℕ → Type 0) (moment : D → ℕ) (since : D → ℕ → List ℕ → Type 0)
     (counts_now : (disk : D) (t : ℕ) (image : List ℕ) → t ≤ moment disk → leaves disk image → since disk t image)

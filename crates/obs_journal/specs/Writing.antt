@@ -1,11 +1,17 @@
 -- A write that a sync follows.
-use Rattle.std.specs.Prelude.{◌≡◌, ℕ, List}
+use Rattle.std.specs.Prelude.{◌≡◌, ℕ, ◌-◌, List, [], ◌∷◌, ◌++◌}
 use Rattle.std.specs.declared.option.Option.{Option}
 use Rattle.std.specs.declared.option.Option.TheVariants.{Some}
 use Rattle.disk_model.specs.Files.{written}
+use Rattle.obs_journal.specs.Parcels.{RawParcel, parcel_bytes}
 
 -- the file with these bytes at this offset is safe: each image is what was read before, with the bytes
 abbrev pub IsSafe : {D : Type 0} (reads : D → Option (List ℕ)) (leaves : D → List ℕ → Type 0) (at : ℕ)
     (bytes : List ℕ) (old new : D) → Type 0
 IsSafe reads leaves at bytes old new =
     (image : List ℕ) → leaves new image → (file : List ℕ) × (reads old ≡ Some file) × (image ≡ written at bytes file)
+
+-- the file with a parcel behind the closed gate that ends at this position: the parcel stands there with the closed gate
+-- 0 after it, and its own gate is 1
+abbrev pub appended : RawParcel → ℕ → List ℕ → List ℕ
+appended parcel position file = written (position - 1) (1 ∷ []) (written position (parcel_bytes parcel ++ 0 ∷ []) file)

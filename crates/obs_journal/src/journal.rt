@@ -4,8 +4,9 @@ ghost use Rattle.std.specs.Prelude.{◌≡◌, ◌≢◌, ◌⊎◌, ◌↔◌, 
 ghost use Rattle.disk_model.specs.Counts.{Rises};
 ghost use Rattle.disk_model.specs.Crashes.{During};
 ghost use Rattle.obs_journal.specs.Parcels.{RawParcel, room};
-ghost use Rattle.obs_journal.specs.Files.{IsRow, Spells, IsDamagedAt};
+ghost use Rattle.obs_journal.specs.Files.{IsFresh, IsRow, Spells, IsDamagedAt};
 ghost use Rattle.obs_journal.specs.Journals.{StandsFor, IsUnwritten};
+ghost use Rattle.obs_journal.specs.Writing.{appended};
 ghost use Rattle.obs_journal.specs.Opening.{parcels_of, placed_from, disk_after, SpellsAlike};
 
 use crate::opening::recover;
@@ -91,6 +92,12 @@ impl<D: Disk> Journal<D> {
             IsSome (D.reads disk) →
             ((image : List ℕ) → D.leaves disk image → (parcels : List RawParcel) × Spells image parcels) → ⊥) }
 
+        // A fresh file gets the closed gate 0, and no other is written.
+        ensures fresh { IfOk result (λ opened. IfSome (D.reads disk) (λ file.
+            IsFresh file → D.reads opened.0.disk ≡ Some (0 ∷ []))) }
+        ensures kept { IfOk result (λ opened. IfSome (D.reads disk) (λ file. (IsFresh file → ⊥) →
+            IsUnwritten D.reads D.moment D.since disk opened.0.disk)) }
+
         // A crash at any moment of the call leaves what it could leave before, or the same parcels.
         ensures any_moment { During D.moment D.since disk (disk_after result) (SpellsAlike (D.reads disk)) }
         ensures unwritten { IfErr result (λ failed. failed.0 ≢ OpenFault.DiskFault →
@@ -141,6 +148,10 @@ impl<D: Disk> Journal<D> {
             StandsFor D.leaves self.old parcels None → StandsFor D.leaves self.new parcels None }
         ensures in_doubt { IsErrOf result AppendFault.InDoubt → (parcels : List RawParcel) →
             StandsFor D.leaves self.old parcels None → StandsFor D.leaves self.new parcels (Some parcel) }
+
+        // What is written: the parcel with the closed gate 0 after it, and the parcel's own gate 1.
+        ensures file { OnOk result (IfSome (D.reads self.old.disk) (λ file.
+            D.reads self.new.disk ≡ Some (appended parcel self.old.position file))) }
 
         // A crash at any moment of the call leaves the parcels from before it, with the new one or without.
         ensures any_moment { (parcels : List RawParcel) → StandsFor D.leaves self.old parcels None →

@@ -99,6 +99,11 @@ pub(crate) fn recover<D: Disk>(alloc: Global, disk: &mut D) -> Result<(Parcels, 
     ensures damaged { (offset : ℕ) → result ≡ Err (OpenFault.Damaged offset) →
         IfSome (D.reads disk.old) (λ file. IsDamagedAt file offset) }
 
+    ensures fresh { OnOk result (IfSome (D.reads disk.old) (λ file.
+        IsFresh file → D.reads disk.new ≡ Some (0 ∷ []))) }
+    ensures kept { OnOk result (IfSome (D.reads disk.old) (λ file. (IsFresh file → ⊥) →
+        IsUnwritten D.reads D.moment D.since disk.old disk.new)) }
+
     ensures any_moment { During D.moment D.since disk.old disk.new (SpellsAlike (D.reads disk.old)) }
     ensures unwritten { IsErr result → result ≢ Err OpenFault.DiskFault →
         IsUnwritten D.reads D.moment D.since disk.old disk.new }

@@ -2,3 +2,4 @@ mod NumberingLemmas
 mod TrackLemmas
 mod CountLemmas
 mod ChangeLemmas
+mod AddedLemmas

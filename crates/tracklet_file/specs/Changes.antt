@@ -1,6 +1,6 @@
 -- Lists of changes to the file, the newest first, from an empty file on; and what they say of an observation or a
 -- tracklet.
-use Rattle.std.specs.Prelude.{ℕ, Bool, false, ◌==◌, List, [], ◌∷◌, Option, None, IsTrue, if◌then◌else◌}
+use Rattle.std.specs.Prelude.{ℕ, Bool, true, false, ◌==◌, List, [], ◌∷◌, Option, None, IsTrue, if◌then◌else◌}
 use Rattle.std.specs.List.{list_any}
 use Rattle.packed_names.specs.declared.name.Designation.{Designation}
 use Rattle.obs_record.specs.declared.name.TrackName.{TrackName}
@@ -56,6 +56,27 @@ names_retracted k _ = false
 -- some change retracts observation k
 abbrev pub is_gone : List Change → ℕ → Bool
 is_gone changes k = list_any (names_retracted k) changes
+
+-- the observations as the changes brought them, whatever became of them
+abbrev pub brought : List Change → List Observation
+brought [] = []
+brought (Add track s entry ∷ past) = with_observation (brought past) track s entry
+brought (AddTrack name station home ∷ past) = brought past
+brought (Retract k ∷ past) = brought past
+brought (SetHome t home ∷ past) = brought past
+
+-- the tracklets as the changes brought them, with their first homes
+abbrev pub brought_tracklets : List Change → List Tracklet
+brought_tracklets [] = []
+brought_tracklets (AddTrack name station home ∷ past) = with_tracklet (brought_tracklets past) name station home
+brought_tracklets (Add track s entry ∷ past) = brought_tracklets past
+brought_tracklets (Retract k ∷ past) = brought_tracklets past
+brought_tracklets (SetHome t home ∷ past) = brought_tracklets past
+
+-- the change is a retraction
+abbrev pub is_retraction : Change → Bool
+is_retraction (Retract k) = true
+is_retraction _ = false
 
 -- what the last change that names tracklet t says of its home
 abbrev pub last_home : List Change → ℕ → Option Designation

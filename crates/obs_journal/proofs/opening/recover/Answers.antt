@@ -4,7 +4,7 @@ use Rattle.obs_journal.specs.Files.{IsFresh, IsRow, IsDamagedAt}
 use Rattle.obs_journal.specs.Opening.{parcels_of}
 use Rattle.obs_journal.proofs.Quiet.{unwritten_joined}
 use Rattle.obs_journal.proofs.Fronts.{each_ok}
-use Rattle.obs_journal.proofs.Recovery.{ok_at, damaged_there, row_known, during_fresh}
+use Rattle.obs_journal.proofs.Recovery.{ok_at, damaged_there, row_known, during_fresh, on_ok, not_fresh, surely_fresh, each_known, fresh_written}
 use Rattle.obs_journal.proofs.opening.recover.Goals as goal
 
 pub returns-then-not-branch-clause-rows : goal.returns-then-not-branch-clause-rows
@@ -32,3 +32,22 @@ returns-clause-any_moment g c =
     during_fresh g.D.Disk.reads g.D.Disk.leaves g.D.Disk.moment g.D.Disk.since g.met.D.Disk.counts_now g.met.D.Disk.only_now c.in_ok-end.end c.in_ok-is_fresh.field-0 c.if-not-branch.false c.in_ok-end.ensures.end c.in_ok-end.ensures.safe
     (subst (λ r. IfSome r (λ file. length file ≡ c.in_ok-end.end → (IsTrue c.in_ok-is_fresh.field-0 ↔ IsFresh file))) c.safe_end.ensures.unwritten.same c.in_ok-is_fresh.ensures.fresh)
     (unwritten_joined c.safe_end.ensures.unwritten c.is_fresh.ensures.unwritten) c.is_fresh.ensures.unwritten c.write_and_sync.ensures.time c.write_and_sync.ensures.images
+
+pub returns-then-not-branch-clause-fresh : goal.returns-then-not-branch-clause-fresh
+returns-then-not-branch-clause-fresh g c =
+    on_ok c.read_row.result _ (not_fresh (g.D.Disk.reads c.args.disk.now) c.in_ok-end.end c.in_ok-is_fresh.field-0 _ c.if-not-branch.true c.in_ok-end.ensures.end
+    (subst (λ r. IfSome r (λ file. length file ≡ c.in_ok-end.end → (IsTrue c.in_ok-is_fresh.field-0 ↔ IsFresh file))) c.safe_end.ensures.unwritten.same c.in_ok-is_fresh.ensures.fresh))
+
+pub returns-then-not-branch-clause-kept : goal.returns-then-not-branch-clause-kept
+returns-then-not-branch-clause-kept g c =
+    on_ok c.read_row.result _ (each_known (g.D.Disk.reads c.args.disk.now) _ (λ file other.
+    unwritten_joined (unwritten_joined c.safe_end.ensures.unwritten c.is_fresh.ensures.unwritten) c.read_row.ensures.unwritten))
+
+pub returns-clause-fresh : goal.returns-clause-fresh
+returns-clause-fresh g c =
+    fresh_written (g.D.Disk.reads c.args.disk.now) _ _ (unwritten_joined c.safe_end.ensures.unwritten c.is_fresh.ensures.unwritten).same c.in_ok-write_and_sync.ensures.wrote
+
+pub returns-clause-kept : goal.returns-clause-kept
+returns-clause-kept g c =
+    surely_fresh (g.D.Disk.reads c.args.disk.now) c.in_ok-end.end c.in_ok-is_fresh.field-0 _ c.if-not-branch.false c.in_ok-end.ensures.end
+    (subst (λ r. IfSome r (λ file. length file ≡ c.in_ok-end.end → (IsTrue c.in_ok-is_fresh.field-0 ↔ IsFresh file))) c.safe_end.ensures.unwritten.same c.in_ok-is_fresh.ensures.fresh)

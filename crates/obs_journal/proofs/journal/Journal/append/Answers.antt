@@ -2,6 +2,7 @@ use Rattle.std.proofs.Common.{◌≡◌, ◌+◌, ◌-◌, length, Some, ap, ari
 use Rattle.obs_journal.specs.Files.{row_length, IsRow}
 use Rattle.obs_journal.specs.Journals.{IsDoubtful}
 use Rattle.obs_journal.proofs.Steps.{each_now, rows_stay, are_staged, are_doubtful, are_more, during_stage, during_gate, position_more}
+use Rattle.obs_journal.proofs.Writes.{wrote_both}
 use Rattle.obs_journal.proofs.journal.Journal.append.Goals as goal
 
 pub returns-in_default-clause-untouched : goal.returns-in_default-clause-untouched
@@ -54,3 +55,6 @@ returns-clause-any_moment g c = rw (← c.self.view_is) (λ ps h.
     let half = are_staged g.D.Disk.reads g.D.Disk.leaves g.D.Disk.moment g.D.Disk.since g.met.D.Disk.as_read g.met.D.Disk.counts_now ps c.args.parcel c.self.inside.position c.bytes-2.result.now h.position c.bytes-2.ensures.bytes c.bytes.ensures.fits h.images c.in-Ok.ensures.safe in
     let doubtful = are_doubtful g.D.Disk.reads g.D.Disk.leaves g.D.Disk.moment g.D.Disk.since g.met.D.Disk.as_read g.met.D.Disk.counts_now ps c.args.parcel (c.self.inside.position - 1) gate half c.open_gate.ensures.images in
     during_gate g.D.Disk.reads g.D.Disk.leaves g.D.Disk.moment g.D.Disk.since g.met.D.Disk.as_read g.met.D.Disk.counts_now ps c.args.parcel (during_stage g.D.Disk.reads g.D.Disk.leaves g.D.Disk.moment g.D.Disk.since g.met.D.Disk.as_read g.met.D.Disk.counts_now ps c.args.parcel c.stage.ensures.time rows) c.open_gate.ensures.time doubtful)
+
+pub returns-clause-file : goal.returns-clause-file
+returns-clause-file g c = rw (← c.self.view_is) (wrote_both c.args.parcel c.self.inside.position c.bytes-2.result.now _ _ _ c.bytes-2.ensures.bytes c.in-Ok.ensures.wrote c.in-Ok-open_gate.ensures.wrote)
