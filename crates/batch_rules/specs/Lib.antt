@@ -1,5 +1,4 @@
 pub mod Groups
 pub mod KeyTests
 pub mod Numbers
-pub mod Rulings
 pub mod Memory

@@ -10,11 +10,8 @@ mod keys;
 mod names;
 mod numbers;
 mod rules;
-mod rulings;
 
-pub use act_model::Ruling;
 pub use judging::judge;
-pub use rulings::Rulings;
 
 #[cfg(test)]
 mod tests;
