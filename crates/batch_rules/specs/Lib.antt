@@ -1,4 +1,6 @@
 pub mod Groups
 pub mod KeyTests
+pub mod Places
+pub mod PlaceTests
 pub mod Numbers
 pub mod Memory
