@@ -111,3 +111,9 @@ module _ (found : GroupKey → Option Summary) (checked : List Line) (told : (s 
   rulings_told keys are =
       ap (λ (ks : List GroupKey). map (ruling_by found ks) checked) (are ∙ ap (λ (xs : List Sighting). map group_key (firsts_after [] xs)) same_accepted)
       ∙ map_same (ruling_by found (map group_key (firsts_of (passed_in checked)))) (ruling_among (passed_in checked)) checked same_ruling
+
+  -- and so many groups have an accepted line
+  pub groups_told : (keys : List GroupKey) → keys ≡ map group_key (firsts_after [] (accepted_by found (passed_in checked))) → length keys ≡ length (firsts_of (passed_in checked))
+  groups_told keys are =
+      ap (λ (ks : List GroupKey). length ks) are ∙ length-map (firsts_after [] (accepted_by found (passed_in checked))) group_key
+      ∙ ap (λ (xs : List Sighting). length (firsts_after [] xs)) same_accepted

@@ -8,5 +8,4 @@ mod Sorting
 mod Apart
 mod Firsts
 mod Rows
-mod Counted
 mod Beside

@@ -3,4 +3,5 @@ pub mod KeyTests
 pub mod Places
 pub mod PlaceTests
 pub mod Numbers
+pub mod Rulings
 pub mod Memory

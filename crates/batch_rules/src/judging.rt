@@ -1,19 +1,19 @@
 //! The rulings on the lines of a batch.
 
-ghost use Rattle.std.specs.Prelude.{◌≡◌, ◌++◌, ◌∷◌, [], if◌then◌else◌, is_none, map, IfOk, OnOk};
+ghost use Rattle.std.specs.Prelude.{◌≡◌, ◌++◌, ◌∷◌, [], if◌then◌else◌, is_none, map, length, IfOk, OnOk};
 ghost use Rattle.indexmap.specs.IndexMap.{get};
 ghost use Rattle.batch_rules.specs.declared.keys.GroupKey.{GroupKey as Key};
 ghost use Rattle.batch_rules.specs.KeyTests.{same_key};
 ghost use Rattle.batch_rules.specs.Groups.{group_key, fault_by, reading_by, accepted_by};
 ghost use Rattle.batch_rules.specs.Numbers.{number_by, ruling_by};
 ghost use Rattle.act_model.specs.BatchRules.{batch_rulings, groups_of};
-ghost use Rattle.act_model.specs.Ruling.{groups};
 
 use crate::checking::{checked_lines, passed_in};
 use crate::groups::{Summary, fault_by, summaries};
 use crate::keys::{GroupKey, group_key};
 use crate::numbers::firsts;
-use act_model::{Known, Ruling, Rulings};
+use crate::rulings::Rulings;
+use act_model::{Known, Ruling};
 use indexmap::{IndexMap, IndexSet};
 use item_list::{ItemList, NoMemory};
 use obs_record::{Line, Lines, RuleCode, Sighting};
@@ -120,6 +120,17 @@ fn rulings(
     Ok(list)
 }
 
+// How many groups there are. More than a number has are a want of memory: no memory holds so many.
+fn count(firsts: &IndexSet<GroupKey>) -> Result<u32, NoMemory>
+    ensures { IfOk result (λ count. count ≡ length firsts.now.keys) }
+{
+    let count = firsts.len();
+    if count > u32::MAX as usize {
+        return Err(AllocError);
+    }
+    Ok(count as u32)
+}
+
 /// The rulings on the lines of a batch that comes at this moment, by the office's tables and what the office knows: the
 /// first rule that each line breaks, and the group of each that breaks none.
 ///
@@ -134,15 +145,16 @@ pub fn judge<V: Known>(
     batch: &Lines,
 ) -> Result<Rulings, NoMemory>
     ensures rulings { IfOk result (λ judged.
-        judged ≡ batch_rulings (V.office known.now) tables.now moment batch.now) }
+        judged.list ≡ batch_rulings (V.office known.now) tables.now moment batch.now) }
     ensures groups { IfOk result (λ judged.
-        groups judged ≡ groups_of (V.office known.now) tables.now moment batch.now) }
+        judged.groups ≡ groups_of (V.office known.now) tables.now moment batch.now) }
 {
     let checked = checked_lines(alloc, tables, known, moment, batch.as_slice())?;
     let passed = passed_in(alloc, checked.as_slice())?;
     let summed = summaries(alloc, passed.as_slice())?;
     let accepted = accepted_among(alloc, &summed, passed.as_slice())?;
     let firsts = firsts(alloc, accepted.as_slice())?;
+    let groups = count(&firsts)?;
     let list = rulings(alloc, &summed, &firsts, checked.as_slice())?;
-    Ok(Rulings::of(list, tables, known, moment, batch))
+    Ok(Rulings { list, groups })
 }

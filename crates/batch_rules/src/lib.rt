@@ -11,8 +11,11 @@ mod names;
 mod numbers;
 mod places;
 mod rules;
+mod rulings;
 
+pub use act_model::Ruling;
 pub use judging::judge;
+pub use rulings::Rulings;
 
 #[cfg(test)]
 mod tests;

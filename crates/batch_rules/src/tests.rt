@@ -245,7 +245,7 @@ fn rules_at_their_edges(rt: HostRuntime) -> Result<(), Fail> {
 }
 
 // Groups that alternate, with a refused line before them.
-fn groups(alloc: Global, tables: &Tables) -> Result<(u64, [Option<u32>; 4]), NoMemory> {
+fn groups(alloc: Global, tables: &Tables) -> Result<(u32, [Option<u32>; 4]), NoMemory> {
     let rows = [
         (Who::Order(3), S703, NIGHT, 0, None),
         (Who::Order(2), S703, NIGHT, 1, None),
