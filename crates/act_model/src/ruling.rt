@@ -1,10 +1,8 @@
 //! Rulings on the lines of a batch.
 
 ghost use Rattle.std.specs.Prelude.{◌≡◌, ◌++◌, map, length, IfOk, OnOk, option_to_list};
-ghost use Rattle.act_model.specs.BatchRules.{batch_rulings};
 ghost use Rattle.act_model.specs.Ruling.{ruling_of, rulings_of, groups_to, groups, is_accepted, accepted_in, ruling_fault, faults_in};
 
-use crate::known::Known;
 use crate::reply::{Fault, Faults};
 use crate::rules::fault_of;
 use item_list::{ItemList, NoMemory};
@@ -41,20 +39,6 @@ impl Model for Rulings {
 }
 
 impl Rulings {
-    /// These rulings, where they are those of the rules on this batch.
-    pub fn of<V: Known>(
-        list: ItemList<Ruling>,
-        tables: &Tables,
-        known: &V,
-        moment: Instant,
-        batch: &Lines,
-    ) -> Rulings
-        requires { list ≡ batch_rulings (V.office known.now) tables.now moment batch.now }
-        ensures { result ≡ batch_rulings (V.office known.now) tables.now moment batch.now }
-    {
-        Rulings { list }
-    }
-
     /// All rulings, as a slice.
     pub fn as_slice(&self) -> &[Ruling]
         ensures { result.now ≡ self.now }
