@@ -8,3 +8,4 @@ mod Sorting
 mod Apart
 mod Firsts
 mod Rows
+mod Beside

@@ -39,12 +39,12 @@ fn checked_reading<V: Known>(
     }
 }
 
-fn push_passed(earlier: &mut Earlier, read: &Result<Sighting, RuleCode>) -> Result<(), NoMemory>
-    ensures { OnOk result (earlier.new ≡ with_passed read.now earlier.old) }
+fn with_passed(earlier: Earlier, read: &Result<Sighting, RuleCode>) -> Result<Earlier, NoMemory>
+    ensures { IfOk result (λ more. more ≡ with_passed read.now earlier) }
 {
     match read {
-        Ok(s) => earlier.push(*s),
-        Err(_) => Ok(()),
+        Ok(s) => earlier.with(*s),
+        Err(_) => Ok(earlier),
     }
 }
 
@@ -63,7 +63,7 @@ pub(crate) fn checked_lines<V: Known>(
     let mut checked = Vec::with_capacity(alloc, lines.len())?;
     for line in lines {
         let read = checked_reading(tables, known, moment, &earlier, &line.read);
-        push_passed(&mut earlier, &read)?;
+        earlier = with_passed(earlier, &read)?;
         checked.push(Line {
             number: line.number,
             read,

@@ -1,71 +1,41 @@
 //! The earlier lines of a batch that a line is judged beside.
 
-ghost use Rattle.std.specs.Prelude.{◌≡◌, ◌∷◌, [], OnOk};
+ghost use Rattle.std.specs.Prelude.{◌≡◌, ◌∷◌, [], IfOk};
 ghost use Rattle.std.specs.List.{list_any};
+ghost use Rattle.obs_record.specs.declared.rule.RuleCode.TheVariants.{B4, B5};
 ghost use Rattle.tracklet_file.specs.Observations.{is_at};
-ghost use Rattle.act_model.specs.BatchRules.{is_elsewhere, stands_elsewhere};
+ghost use Rattle.act_model.specs.Rows.{first_row};
+ghost use Rattle.act_model.specs.BatchRules.{stands_elsewhere};
 
-use crate::names::{same_text, same_track, track_name};
+use crate::places::{MomentKey, PlaceKey, moment_key, place_key};
+use indexmap::IndexSet;
 use item_list::NoMemory;
-use obs_record::Sighting;
+use obs_record::{RuleCode, Sighting};
 use std::alloc::Global;
 use std::marker::Model;
 
-/// Observations of earlier lines, the newest first.
+/// Observations of earlier lines, the newest first, found by their places and by their groups and times.
 #[derive(Drop)]
 pub(crate) struct Earlier {
     passed: Vec<Sighting>,
+    places: IndexSet<PlaceKey>,
+    moments: IndexSet<MomentKey>,
 }
 
 impl Model for Earlier {
-    ghost use Rattle.std.specs.Prelude.{List, reverse};
+    ghost use Rattle.std.specs.Prelude.{◌≡◌, List, reverse};
+    ghost use Rattle.indexmap.specs.IndexSet.{contains};
     ghost use Rattle.obs_record.specs.declared.sighting.Sighting.{Sighting};
+    ghost use Rattle.batch_rules.specs.Places.{place_key, moment_key};
+    ghost use Rattle.batch_rules.specs.PlaceTests.{same_place, same_moment, has_place, has_moment};
 
     ghost Value = { List Sighting };
 
     ghost view = { λ e. reverse e.passed.items };
-}
 
-// Whether the other observation has the station, the time and the position of this one.
-fn is_at(s: &Sighting, other: &Sighting) -> bool
-    ensures { result ≡ is_at s.now.station s.now.time s.now.ra s.now.dec other.now }
-{
-    same_text(other.station, s.station)
-        && other.time == s.time
-        && other.ra == s.ra
-        && other.dec == s.dec
-}
-
-// Whether the other observation has the station, the time and the name of this one, and another position.
-fn is_elsewhere(s: &Sighting, other: &Sighting) -> bool
-    ensures { result ≡ is_elsewhere s.now other.now }
-{
-    same_text(other.station, s.station)
-        && other.time == s.time
-        && same_track(track_name(other), track_name(s))
-        && !(other.ra == s.ra && other.dec == s.dec)
-}
-
-fn has_at(passed: &[Sighting], s: &Sighting) -> bool
-    ensures { result ≡ list_any (is_at s.now.station s.now.time s.now.ra s.now.dec) passed.now }
-{
-    for other in passed {
-        if is_at(s, other) {
-            return true;
-        }
-    }
-    false
-}
-
-fn has_other(passed: &[Sighting], s: &Sighting) -> bool
-    ensures { result ≡ stands_elsewhere passed.now s.now }
-{
-    for other in passed {
-        if is_elsewhere(s, other) {
-            return true;
-        }
-    }
-    false
+    ghost invariant = { λ e.
+        ((s : Sighting) → contains same_place e.places (place_key s) ≡ has_place (reverse e.passed.items) s)
+        × ((s : Sighting) → contains same_moment e.moments (moment_key s) ≡ has_moment (reverse e.passed.items) s) };
 }
 
 impl Earlier {
@@ -75,28 +45,44 @@ impl Earlier {
     {
         Earlier {
             passed: Vec::new(alloc),
+            places: IndexSet::new(alloc),
+            moments: IndexSet::new(alloc),
         }
     }
 
-    /// Whether one of them has the station, the time and the position of this one.
-    pub(crate) fn has(&self, s: &Sighting) -> bool
-        ensures { result ≡ list_any (is_at s.now.station s.now.time s.now.ra s.now.dec) self.now }
+    /// The rule that an observation breaks beside them: B4 where one of them has its station, time and position, B5
+    /// where one of them has its station, time and name, and another position.
+    pub(crate) fn broken_by(&self, s: &Sighting) -> Option<RuleCode>
+        ensures { result ≡ first_row
+            ((list_any (is_at s.now.station s.now.time s.now.ra s.now.dec) self.now, B4)
+            ∷ (stands_elsewhere self.now s.now, B5) ∷ []) }
     {
-        has_at(self.passed.as_slice(), s)
-    }
-
-    /// Whether one of them has the station, the time and the name of this one, and another position.
-    pub(crate) fn has_elsewhere(&self, s: &Sighting) -> bool
-        ensures { result ≡ stands_elsewhere self.now s.now }
-    {
-        has_other(self.passed.as_slice(), s)
+        if self.places.contains(&place_key(s)) {
+            return Some(RuleCode::B4);
+        }
+        // None of them has its position, so that one of its name at its time has another one.
+        if self.moments.contains(&moment_key(s)) {
+            return Some(RuleCode::B5);
+        }
+        None
     }
 
     /// One more, the newest.
-    pub(crate) fn push(&mut self, s: Sighting) -> Result<(), NoMemory>
-        ensures { OnOk result (self.new ≡ s ∷ self.old) }
+    pub(crate) fn with(self, s: Sighting) -> Result<Earlier, NoMemory>
+        ensures { IfOk result (λ more. more ≡ s ∷ self) }
     {
-        self.passed.push(s)?;
-        Ok(())
+        let Earlier {
+            mut passed,
+            mut places,
+            mut moments,
+        } = self;
+        places.insert(place_key(&s))?;
+        moments.insert(moment_key(&s))?;
+        passed.push(s)?;
+        Ok(Earlier {
+            passed,
+            places,
+            moments,
+        })
     }
 }

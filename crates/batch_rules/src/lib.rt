@@ -9,6 +9,7 @@ mod judging;
 mod keys;
 mod names;
 mod numbers;
+mod places;
 mod rules;
 mod rulings;
 

@@ -1,11 +1,12 @@
 //! The rules that a line may break by itself, and beside earlier lines.
 
-ghost use Rattle.std.specs.Prelude.{◌≡◌, not};
+ghost use Rattle.std.specs.Prelude.{◌≡◌, ◌∷◌, [], not};
+ghost use Rattle.obs_record.specs.declared.rule.RuleCode.TheVariants.{B4, B5};
 ghost use Rattle.obs_time.specs.Dates.{day_of};
 ghost use Rattle.obs_time.specs.Calendar.{year_of};
 ghost use Rattle.act_model.specs.Rows.{first_row};
 ghost use Rattle.act_model.specs.Ruling.{is_in_row, station_serving};
-ghost use Rattle.act_model.specs.BatchRules.{is_in_years, is_ungiven, names_ungiven, stands_already, object_of, are_two, is_of_two_objects, line_rules};
+ghost use Rattle.act_model.specs.BatchRules.{is_in_years, is_ungiven, names_ungiven, stands_already, stands_elsewhere, object_of, are_two, is_of_two_objects, line_rules};
 
 use crate::earlier::Earlier;
 use crate::names::{designation_of, number_of, same_designation};
@@ -87,10 +88,15 @@ fn names_ungiven<V: Known>(known: &V, s: &Sighting) -> bool
     is_ungiven(known, number_of(s)) || is_ungiven(known, designation_of(s))
 }
 
-fn stands_already<V: Known>(known: &V, earlier: &Earlier, s: &Sighting) -> bool
-    ensures { result ≡ stands_already (V.office known.now) earlier.now s.now }
+// The rule that an observation breaks beside a live one, or beside the earlier ones of its batch.
+fn broken_beside<V: Known>(known: &V, earlier: &Earlier, s: &Sighting) -> Option<RuleCode>
+    ensures { result ≡ first_row
+        ((stands_already (V.office known.now) earlier.now s.now, B4) ∷ (stands_elsewhere earlier.now s.now, B5) ∷ []) }
 {
-    known.has_live(s.station, s.time, s.ra, s.dec) || earlier.has(s)
+    if known.has_live(s.station, s.time, s.ra, s.dec) {
+        return Some(RuleCode::B4);
+    }
+    earlier.broken_by(s)
 }
 
 fn is_of_two_objects<V: Known>(known: &V, s: &Sighting) -> bool
@@ -135,11 +141,8 @@ pub(crate) fn line_fault<V: Known>(
     if names_ungiven(known, s) {
         return Some(RuleCode::B3);
     }
-    if stands_already(known, earlier, s) {
-        return Some(RuleCode::B4);
-    }
-    if earlier.has_elsewhere(s) {
-        return Some(RuleCode::B5);
+    if let Some(rule) = broken_beside(known, earlier, s) {
+        return Some(rule);
     }
     if is_of_two_objects(known, s) {
         return Some(RuleCode::B9);

@@ -1,0 +1,67 @@
+-- Keys of places and of moments tell which rules an observation breaks beside earlier ones.
+use Rattle.std.proofs.Common.{◌≡◌, ℕ, pos, Bool, true, false, not, ◌&&◌, ◌||◌, cond, List, [], ◌∷◌, Option, Some, None, refl, ap, sym, ◌∙◌, true≢false}
+use Rattle.std.specs.Prelude.{◌==◌}
+use Rattle.std.specs.List.{list_any}
+use Rattle.std.specs.Str.{bytes_eq}
+use Rattle.std.specs.Ordering.{int_eq}
+use Rattle.obs_record.specs.declared.sighting.Sighting.{Sighting}
+use Rattle.obs_record.specs.declared.rule.RuleCode.{RuleCode}
+use Rattle.obs_record.specs.declared.rule.RuleCode.TheVariants.{B4, B5}
+use Rattle.tracklet_file.specs.Observations.{same_station, is_at}
+use Rattle.act_model.specs.Rows.{first_row}
+use Rattle.act_model.specs.BatchRules.{name_of, same_track, same_group, is_elsewhere, stands_elsewhere}
+use Rattle.batch_rules.specs.Places.{place_key, moment_key}
+use Rattle.batch_rules.specs.PlaceTests.{same_place, same_moment, has_place, has_moment}
+use Rattle.batch_rules.proofs.Any.{IsIn, Each, each_in, any_same, none_in}
+use Rattle.batch_rules.proofs.KeyLemmas.{same_keys}
+
+both : (a b c : Bool) → a && (b && c) ≡ (a && b) && c
+both true b c = refl
+both false b c = refl
+
+same_at : (s other : Sighting) → same_place (place_key other) (place_key s) ≡ is_at s.station s.time s.ra s.dec other
+same_at s other =
+    both (other.station.len == s.station.len) (bytes_eq other.station.bytes s.station.bytes) (int_eq other.time s.time && ((other.ra == s.ra) && int_eq other.dec s.dec))
+
+places_told : (s : Sighting) (earlier : List Sighting) → has_place earlier s ≡ list_any (is_at s.station s.time s.ra s.dec) earlier
+places_told s earlier = any_same (λ other. same_place (place_key other) (place_key s)) (is_at s.station s.time s.ra s.dec) earlier (each_in _ earlier (λ other there. same_at s other))
+
+-- one that isn't at the place of another, and has its group and time, is elsewhere
+elsewhere : (named from then there : Bool) → from && (then && there) ≡ false → (named && from) && then ≡ from && (then && (named && not there))
+elsewhere true true true true none = absurd (true≢false none)
+elsewhere true true true false none = refl
+elsewhere true true false there none = refl
+elsewhere true false then there none = refl
+elsewhere false true true there none = refl
+elsewhere false true false there none = refl
+elsewhere false false then there none = refl
+
+moments_told : (s : Sighting) (earlier : List Sighting) → list_any (is_at s.station s.time s.ra s.dec) earlier ≡ false → has_moment earlier s ≡ stands_elsewhere earlier s
+moments_told s earlier none = any_same (λ other. same_moment (moment_key other) (moment_key s)) (is_elsewhere s) earlier (each_in _ earlier same)
+  where
+    same : (other : Sighting) → IsIn earlier other → same_moment (moment_key other) (moment_key s) ≡ is_elsewhere s other
+    same other there =
+        ap (λ (b : Bool). b && int_eq other.time s.time) (same_keys other s)
+        ∙ elsewhere (same_track (name_of other) (name_of s)) (same_station other.station s.station) (int_eq other.time s.time) ((other.ra == s.ra) && int_eq other.dec s.dec) (none_in (is_at s.station s.time s.ra s.dec) earlier none other there)
+
+-- the rules that are broken, by the keys
+pub broken_told : (s : Sighting) (earlier : List Sighting) (place moment : Bool) → place ≡ has_place earlier s → moment ≡ has_moment earlier s
+    → first_row ((place, B4) ∷ (moment, B5) ∷ []) ≡ first_row ((list_any (is_at s.station s.time s.ra s.dec) earlier, B4) ∷ (stands_elsewhere earlier s, B5) ∷ [])
+broken_told s earlier place moment placed timed =
+    ap (λ (b : Bool). cond b (Some B4) (cond moment (Some B5) None)) (placed ∙ places_told s earlier) ∙ by (list_any (is_at s.station s.time s.ra s.dec) earlier) refl
+  where
+    by : (b : Bool) → list_any (is_at s.station s.time s.ra s.dec) earlier ≡ b → cond b (Some B4) (cond moment (Some B5) None) ≡ cond b (Some B4) (cond (stands_elsewhere earlier s) (Some B5) None)
+    by true is = refl
+    by false is = ap (λ (b : Bool). cond b (Some B5) None) (timed ∙ moments_told s earlier is)
+
+-- the rules for a line after these two
+pub beside_rows : (already other : Bool) (broken rest : Option RuleCode) (rule : RuleCode) → broken ≡ cond already (Some B4) (cond other (Some B5) None) → broken ≡ Some rule
+    → Some rule ≡ cond already (Some B4) (cond other (Some B5) rest)
+beside_rows true other broken rest rule told is = sym is ∙ told
+beside_rows false true broken rest rule told is = sym is ∙ told
+beside_rows false false broken rest rule told is = absurd (cc)
+
+-- one more observation is found, or what was found before it
+pub more_told : (now same was here : Bool) → now ≡ cond same true was → was ≡ here → now ≡ same || here
+more_told now true was here told before = told
+more_told now false was here told before = told ∙ before
