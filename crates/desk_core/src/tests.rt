@@ -10,7 +10,7 @@ use obs_time::Instant;
 use std::alloc::Global;
 use std::test::Fail;
 
-/// Which answer `prepare` gave.
+/// Which answer `prepare` gave; a query's answer counts as refused.
 #[derive(Clone, Copy, PartialEq, Eq)]
 enum Kind {
     Kept,
@@ -52,9 +52,18 @@ const LONG_NAME: &str = concat!(
     "\",\"role\":\"observer\"}",
 );
 
-/// A line of 80 columns that breaks no rule.
-const LINE: &str =
-    "     P10abcd  C2024 03 15.12345 06 12 34.56 +23 45 01.2          19.5 V      703\n";
+/// Two lines of 80 columns that break no rule.
+const LINES: &str = concat!(
+    "     P10abcd  C2024 03 15.12345 06 12 34.56 +23 45 01.2          19.5 V      703\n",
+    "     P10abcd  C2024 03 15.13345 06 12 34.56 +23 45 01.2          19.5 V      703\n",
+);
+
+/// What stands before and behind the decimals of the day in a line of 80 columns.
+const BEFORE: &str = "     P10abce  C2024 03 15.";
+
+const BEHIND: &str = " 06 12 34.56 +23 45 01.2          19.5 V      703\n";
+
+const RETRACT: &str = "{\"observation\":1}";
 
 /// Eleven lines that are too short.
 const SHORT_LINES: &str = concat!(
@@ -96,7 +105,7 @@ const TWICE: &str = concat!(
 const OUT_OF_MEMORY: &str = "refused 17 NoMemory\n";
 
 /// The office is set up; a batch comes, is sent again, and its number is used for others; then refusals.
-const CASES: [Case; 17] = [
+const CASES: [Case; 21] = [
     Case {
         key: FOUNDER,
         number: 1,
@@ -141,17 +150,17 @@ const CASES: [Case; 17] = [
         key: OBSERVER,
         number: 1,
         verb: Verb::Submit80,
-        body: Some(LINE),
+        body: Some(LINES),
         kind: Kind::Ready,
-        text: "receipt 6\naccepted 1 refused 0\nline 1 obs 1\n",
+        text: "receipt 6\naccepted 2 refused 0\nline 1 obs 1 track 1\nline 2 obs 2 track 1\n",
     },
     Case {
         key: OBSERVER,
         number: 1,
         verb: Verb::Submit80,
-        body: Some(LINE),
+        body: Some(LINES),
         kind: Kind::Kept,
-        text: "receipt 6\naccepted 1 refused 0\nline 1 obs 1\n",
+        text: "receipt 6\naccepted 2 refused 0\nline 1 obs 1 track 1\nline 2 obs 2 track 1\n",
     },
     Case {
         key: OBSERVER,
@@ -229,9 +238,41 @@ const CASES: [Case; 17] = [
         key: OBSERVER,
         number: 0,
         verb: Verb::Unknown,
-        body: Some(LINE),
+        body: Some(LINES),
         kind: Kind::Refused,
         text: "refused 1 Unread verb\n",
+    },
+    Case {
+        key: b"observer-2",
+        number: 1,
+        verb: Verb::Retract,
+        body: Some(RETRACT),
+        kind: Kind::Refused,
+        text: "refused 4 Role\n",
+    },
+    Case {
+        key: OBSERVER,
+        number: 3,
+        verb: Verb::Retract,
+        body: Some(RETRACT),
+        kind: Kind::Ready,
+        text: "receipt 7\n",
+    },
+    Case {
+        key: OBSERVER,
+        number: 4,
+        verb: Verb::Retract,
+        body: Some(RETRACT),
+        kind: Kind::Refused,
+        text: "refused 11 AlreadyRetracted 1\n",
+    },
+    Case {
+        key: OBSERVER,
+        number: 0,
+        verb: Verb::Tally,
+        body: Some(""),
+        kind: Kind::Refused,
+        text: "entries 7\nisolated 1\nobjects 0\nretracted 1\naccepted 2\n",
     },
 ];
 
@@ -306,11 +347,25 @@ fn answers_each_kind(rt: HostRuntime) -> Result<(), Fail> {
     Ok(())
 }
 
-/// A batch of so many lines.
-fn batch(alloc: Global, count: usize) -> Result<Bytes, NoMemory> {
+/// A digit of a number.
+fn digit(number: u32) -> u8 {
+    (number % 10) as u8 + b'0'
+}
+
+/// A batch of so many lines, each a little later than the one before.
+fn batch(alloc: Global, count: u32) -> Result<Bytes, NoMemory> {
     let mut bytes = Bytes::new(alloc);
-    for _ in 0..count {
-        bytes.extend_from_slice(LINE.as_bytes())?;
+    for line in 0..count {
+        let decimals = [
+            b'2',
+            digit(line / 1_000),
+            digit(line / 100),
+            digit(line / 10),
+            digit(line),
+        ];
+        bytes.extend_from_slice(BEFORE.as_bytes())?;
+        bytes.extend_from_slice(&decimals)?;
+        bytes.extend_from_slice(BEHIND.as_bytes())?;
     }
     Ok(bytes)
 }
@@ -326,11 +381,11 @@ fn long_answer(alloc: Global, core: &mut Core, reading: Instant) -> Result<Reply
     Ok(asked(core, &request, reading).1)
 }
 
-/// Whether all 1,001 lines were accepted, behind the one that stands.
+/// Whether all 1,001 lines were accepted, behind the two that stand.
 fn is_long(text: &[u8]) -> bool {
     line_feeds(text) == 1_003
-        && text.starts_with(b"receipt 7\naccepted 1001 refused 0\nline 1 obs 2\n")
-        && text.ends_with(b"line 1000 obs 1001\nline 1001 obs 1002\n")
+        && text.starts_with(b"receipt 8\naccepted 1001 refused 0\nline 1 obs 3 track 2\n")
+        && text.ends_with(b"line 1000 obs 1002 track 2\nline 1001 obs 1003 track 2\n")
 }
 
 #[test]

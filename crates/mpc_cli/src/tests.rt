@@ -43,13 +43,13 @@ const CATALOGUE: &str = "{\"kind\":\"catalogue\",\"letter\":\"W\",\"word\":\"Gai
 const OBSERVER: &str = "{\"key\":\"observer-1\",\"name\":\"Ann\",\"role\":\"observer\"}";
 
 const BATCH_ANSWER: &str = concat!(
-    "200 84\n",
+    "200 116\n",
     "receipt 6\n",
     "accepted 4 refused 0\n",
-    "line 7 obs 1\n",
-    "line 8 obs 2\n",
-    "line 9 obs 3\n",
-    "line 10 obs 4\n",
+    "line 7 obs 1 track 1\n",
+    "line 8 obs 2 track 1\n",
+    "line 9 obs 3 track 1\n",
+    "line 10 obs 4 track 1\n",
 );
 
 /// Without rows no station is known.
@@ -64,7 +64,7 @@ const STRANGERS: &str = concat!(
 
 /// Lines of an unknown station, outside its days, on its first day, of an unknown band and of an
 /// unknown mode; lines that break two of these rules; a line under a designation; one without mode
-/// and band; and one of 79 bytes.
+/// and band, a quarter of an hour after the one of the first day; and one of 79 bytes.
 const RULES: &str = concat!(
     "     P10abce  C2024 03 15.12345 06 12 34.56 +23 45 01.2          19.5 V      568\n",
     "     P10abce  C1997 12 31.99999 06 12 34.56 +23 45 01.2          19.5 V      703\n",
@@ -75,29 +75,29 @@ const RULES: &str = concat!(
     "     P10abce  B2024 03 15.12345 06 12 34.56 +23 45 01.2          19.5 R      703\n",
     "     K24E00A  B2024 03 15.12345 06 12 34.56 +23 45 01.2          19.5 V      703\n",
     "     K24E00A  C2024 03 15.12345 06 12 34.56 +23 45 01.2          19.5 V      703\n",
-    "     P10abce   2024 03 15.12345 06 12 34.56 +23 45 01.2                      703\n",
+    "     P10abce   1998 01 01.01000 06 12 34.56 +23 45 01.2                      703\n",
     "     P10abce  C2024 03 15.12345 06 12 34.56 +23 45 01.2          19.5 V      70\n",
 );
 
 const RULES_ANSWER: &str = concat!(
-    "200 221\n",
+    "200 237\n",
     "receipt 7\n",
     "accepted 2 refused 9\n",
     "line 1 refused T1\n",
     "line 2 refused T2\n",
-    "line 3 obs 5\n",
+    "line 3 obs 5 track 2\n",
     "line 4 refused T4\n",
     "line 5 refused T5\n",
     "line 6 refused T1\n",
     "line 7 refused T4\n",
     "line 8 refused T5\n",
     "line 9 refused B3\n",
-    "line 10 obs 6\n",
+    "line 10 obs 6 track 2\n",
     "line 11 refused S1\n",
 );
 
 /// A batch of ADES: lines of an unknown catalogue, of a known one, of an unknown band, and of an unknown
-/// mode; then lines that break two of the rules.
+/// mode; then lines that break two of the rules, and one more of the accepted line's tracklet.
 const PSV: &str = concat!(
     "# version=2017\n",
     "# observatory\n",
@@ -110,19 +110,21 @@ const PSV: &str = concat!(
     "AAA1|VID|703|2024-03-16T00:20:00Z|150.0|-5.5|Gaia2|20.1|R\n",
     "AAA1|CCD|568|2024-03-16T00:20:00Z|150.0|-5.5|Gaia2|20.1|R\n",
     "AAA1|VID|703|2024-03-16T00:20:00Z|150.0|-5.5|Gaia3|20.1|R\n",
+    "AAA1|CCD|703|2024-03-16T00:30:00Z|150.01|-5.5|Gaia3|20.3|V\n",
 );
 
 const PSV_ANSWER: &str = concat!(
-    "200 154\n",
+    "200 184\n",
     "receipt 8\n",
-    "accepted 1 refused 6\n",
+    "accepted 2 refused 6\n",
     "line 5 refused T3\n",
-    "line 6 obs 7\n",
+    "line 6 obs 7 track 3\n",
     "line 7 refused T4\n",
     "line 8 refused T5\n",
     "line 9 refused T3\n",
     "line 10 refused T1\n",
     "line 11 refused T4\n",
+    "line 12 obs 8 track 3\n",
 );
 
 /// A batch of ADES whose one line is out of range, and one without the columns that it must have.
@@ -319,7 +321,7 @@ const REFUSALS: [Exchange; 14] = [
 /// Batches of ADES and what is refused of them, and names of observers.
 const ADES: [Exchange; 7] = [
     Exchange {
-        head: "observer-1 3 submitpsv 482\n",
+        head: "observer-1 3 submitpsv 541\n",
         body: PSV,
         answer: PSV_ANSWER,
         entries: 8,
@@ -362,8 +364,216 @@ const ADES: [Exchange; 7] = [
     },
 ];
 
-/// How many frames the session has: the office is set up, batches come, and refusals.
-const FRAMES: usize = 31;
+/// The observer's first batch under a further number: its observations are there already.
+const AGAIN_ANSWER: &str = concat!(
+    "422 90\n",
+    "refused 7 NoLine\n",
+    "line 7 refused B4\n",
+    "line 8 refused B4\n",
+    "line 9 refused B4\n",
+    "line 10 refused B4\n",
+);
+
+/// Two lines of a name that are 25 hours apart, two in which the declination changes by 2 degrees in an hour, and a
+/// single one.
+const GROUPS: &str = concat!(
+    "     BBBBBB1  C2024 03 15.00000 06 12 34.56 +23 45 01.2          19.5 V      703\n",
+    "     BBBBBB1  C2024 03 16.04167 06 12 34.56 +23 45 01.2          19.5 V      703\n",
+    "     BBBBBB2  C2024 03 15.00000 06 12 34.56 +10 00 00.0          19.5 V      703\n",
+    "     BBBBBB2  C2024 03 15.04166 06 12 34.56 +12 00 00.0          19.5 V      703\n",
+    "     BBBBBB3  C2024 03 15.00000 06 12 34.56 +30 00 00.0          19.5 V      703\n",
+);
+
+const GROUPS_ANSWER: &str = concat!(
+    "422 107\n",
+    "refused 7 NoLine\n",
+    "line 1 refused B6\n",
+    "line 2 refused B7\n",
+    "line 3 refused B8\n",
+    "line 4 refused B8\n",
+    "line 5 refused B6\n",
+);
+
+/// The first observation of the observer's first batch, after it was retracted, and a new one of the same name.
+const ONCE_MORE: &str = concat!(
+    "     P10abcd  C2024 03 15.12345 06 12 34.56 +23 45 01.2          19.5 V      703\n",
+    "     P10abcd  C2024 03 15.16345 06 12 34.56 +23 45 16.4          19.5 V      703\n",
+);
+
+const ONCE_MORE_ANSWER: &str = concat!(
+    "200 75\n",
+    "receipt 12\n",
+    "accepted 2 refused 0\n",
+    "line 1 obs 9 track 4\n",
+    "line 2 obs 10 track 4\n",
+);
+
+const RETRACT_1: &str = "{\"observation\":1}";
+
+const RETRACT_2: &str = "{\"observation\":2}";
+
+const RETRACT_9: &str = "{\"observation\":9}";
+
+/// Tallies: before retractions, after one, and at the end.
+const FIRST_TALLY: &str = concat!(
+    "200 54\n",
+    "entries 9\n",
+    "isolated 8\n",
+    "objects 0\n",
+    "retracted 0\n",
+    "accepted 8\n",
+);
+
+const SECOND_TALLY: &str = concat!(
+    "200 55\n",
+    "entries 10\n",
+    "isolated 7\n",
+    "objects 0\n",
+    "retracted 1\n",
+    "accepted 8\n",
+);
+
+const LAST_TALLY: &str = concat!(
+    "200 56\n",
+    "entries 12\n",
+    "isolated 8\n",
+    "objects 0\n",
+    "retracted 2\n",
+    "accepted 10\n",
+);
+
+/// Rules beside the observations that are there, retractions, and queries.
+const PLACES: [Exchange; 21] = [
+    Exchange {
+        head: "observer-1 0 tally 0\n",
+        body: "",
+        answer: FIRST_TALLY,
+        entries: 9,
+    },
+    Exchange {
+        head: "observer-1 4 submit80 411\n",
+        body: BATCH,
+        answer: AGAIN_ANSWER,
+        entries: 9,
+    },
+    Exchange {
+        head: "observer-1 4 submit80 405\n",
+        body: GROUPS,
+        answer: GROUPS_ANSWER,
+        entries: 9,
+    },
+    Exchange {
+        head: "observer-2 1 retract 17\n",
+        body: RETRACT_1,
+        answer: ROLE,
+        entries: 9,
+    },
+    Exchange {
+        head: "observer-2 1 retract 17\n",
+        body: RETRACT_9,
+        answer: "404 37\nrefused 5 UnknownThing observation 9\n",
+        entries: 9,
+    },
+    Exchange {
+        head: "observer-1 5 retract 17\n",
+        body: RETRACT_1,
+        answer: "200 11\nreceipt 10\n",
+        entries: 10,
+    },
+    Exchange {
+        head: "observer-1 0 tally 0\n",
+        body: "",
+        answer: SECOND_TALLY,
+        entries: 10,
+    },
+    Exchange {
+        head: "observer-1 6 retract 17\n",
+        body: RETRACT_1,
+        answer: "409 30\nrefused 11 AlreadyRetracted 1\n",
+        entries: 10,
+    },
+    Exchange {
+        head: "observer-1 5 retract 17\n",
+        body: RETRACT_1,
+        answer: "200 11\nreceipt 10\n",
+        entries: 10,
+    },
+    Exchange {
+        head: "observer-1 6 retract 2\n",
+        body: "{}",
+        answer: "400 22\nrefused 1 Unread body\n",
+        entries: 10,
+    },
+    Exchange {
+        head: "+founder-1 7 retract 17\n",
+        body: RETRACT_2,
+        answer: "200 11\nreceipt 11\n",
+        entries: 11,
+    },
+    Exchange {
+        head: "observer-1 0 receipt 1\n",
+        body: "1",
+        answer: BATCH_ANSWER,
+        entries: 11,
+    },
+    Exchange {
+        head: "observer-1 0 receipt 1\n",
+        body: "9",
+        answer: "404 33\nrefused 5 UnknownThing receipt 9\n",
+        entries: 11,
+    },
+    Exchange {
+        head: "observer-2 0 receipt 1\n",
+        body: "1",
+        answer: "404 33\nrefused 5 UnknownThing receipt 1\n",
+        entries: 11,
+    },
+    Exchange {
+        head: "observer-1 0 receipt 2\n",
+        body: "01",
+        answer: "400 22\nrefused 1 Unread body\n",
+        entries: 11,
+    },
+    Exchange {
+        head: "observer-1 0 receipt 1\n",
+        body: "0",
+        answer: "400 22\nrefused 1 Unread body\n",
+        entries: 11,
+    },
+    Exchange {
+        head: "observer-1 0 tally 1\n",
+        body: "x",
+        answer: "400 22\nrefused 1 Unread body\n",
+        entries: 11,
+    },
+    Exchange {
+        head: "observer-1 3 tally 0\n",
+        body: "",
+        answer: "400 24\nrefused 1 Unread number\n",
+        entries: 11,
+    },
+    Exchange {
+        head: "nobody-here 0 tally 0\n",
+        body: "",
+        answer: "401 21\nrefused 2 UnknownKey\n",
+        entries: 11,
+    },
+    Exchange {
+        head: "observer-1 8 submit80 162\n",
+        body: ONCE_MORE,
+        answer: ONCE_MORE_ANSWER,
+        entries: 12,
+    },
+    Exchange {
+        head: "observer-1 0 tally 0\n",
+        body: "",
+        answer: LAST_TALLY,
+        entries: 12,
+    },
+];
+
+/// How many frames the session has: the office is set up, batches come, refusals, retractions and queries.
+const FRAMES: usize = 52;
 
 /// The frame at a place of the session, and its answer.
 fn exchange_at(place: usize) -> Option<Exchange> {
@@ -376,7 +586,10 @@ fn exchange_at(place: usize) -> Option<Exchange> {
     if place < 24 {
         return REFUSALS.get(place.saturating_sub(10)).copied();
     }
-    ADES.get(place.saturating_sub(24)).copied()
+    if place < 31 {
+        return ADES.get(place.saturating_sub(24)).copied();
+    }
+    PLACES.get(place.saturating_sub(31)).copied()
 }
 
 fn put<R: Abort>(rt: &R, bytes: &mut Vec<u8>, text: &str) {
@@ -769,7 +982,7 @@ fn batch_text<R: Abort>(rt: &R, alloc: Global, lines: u64) -> Vec<u8> {
         put_number(rt, alloc, &mut text, line.saturating_add(1));
         put(rt, &mut text, " obs ");
         put_number(rt, alloc, &mut text, line.saturating_add(1));
-        put(rt, &mut text, "\n");
+        put(rt, &mut text, " track 1\n");
     }
     text
 }
