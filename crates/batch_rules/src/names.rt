@@ -1,18 +1,10 @@
 //! The names that observations go by.
 
 ghost use Rattle.std.specs.Prelude.{◌≡◌};
-ghost use Rattle.tracklet_file.specs.Observations.{same_station};
-ghost use Rattle.act_model.specs.BatchRules.{name_of, same_designation, same_track, number_of, designation_of};
+ghost use Rattle.act_model.specs.BatchRules.{name_of, same_designation, number_of, designation_of};
 
 use obs_record::{Short, Sighting, TrackName};
 use packed_names::{Designation, Name};
-
-/// Whether two short texts are the same.
-pub(crate) fn same_text(one: Short, other: Short) -> bool
-    ensures { result ≡ same_station one other }
-{
-    one == other
-}
 
 /// Whether two designations are the same.
 pub(crate) fn same_designation(one: Designation, other: Designation) -> bool
@@ -31,21 +23,8 @@ pub(crate) fn same_designation(one: Designation, other: Designation) -> bool
     }
 }
 
-/// Whether two observations that go by these names go by the same one.
-pub(crate) fn same_track(one: TrackName, other: TrackName) -> bool
-    ensures { result ≡ same_track one other }
-{
-    match (one, other) {
-        (TrackName::Number(one), TrackName::Number(other)) => one.0 == other.0,
-        (TrackName::Designation(one), TrackName::Designation(other)) => {
-            same_designation(one, other)
-        }
-        (TrackName::Sub(one), TrackName::Sub(other)) => same_text(one, other),
-        _ => false,
-    }
-}
-
-/// The name that an observation goes by: its number, else its designation, else its temporary designation, of which one is there.
+/// The name that an observation goes by: its number, else its designation, else its temporary designation, of which
+/// one is there.
 pub(crate) fn track_name(s: &Sighting) -> TrackName
     ensures { result ≡ name_of s.now }
 {

@@ -136,7 +136,7 @@ fn tables(alloc: Global) -> Result<Tables, NoMemory> {
     Ok(tables)
 }
 
-// Whether the lines break the rules beside them, in a batch that comes a day and an hour after midnight.
+// Whether the lines break the rules beside them, in a batch that comes at this moment.
 fn breaks(alloc: Global, tables: &Tables, moment: Instant, rows: &[Row]) -> Result<bool, NoMemory> {
     let batch = lines(alloc, rows)?;
     let rulings = judge(alloc, tables, &Office, moment, &batch)?;
