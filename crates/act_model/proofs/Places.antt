@@ -1,6 +1,6 @@
 -- Each observation stands in one place.
 use Rattle.std.proofs.Common.{◌≡◌, ℕ, ◌+◌, List, [], ◌∷◌, ◌++◌, length, Bool, true, false, cond, Option, Some, None, Result, Ok, Err, refl, sym, ap, suc, ◌∙◌, arith}
-use Rattle.std.specs.Prelude.{not, ◌&&◌, ◌==◌, nat_le, count_by, is_ok, is_some, is_none}
+use Rattle.std.specs.Prelude.{not, ◌&&◌, ◌==◌, count_by, is_ok, is_some, is_none}
 use Rattle.std.proofs.lemmas.Bool.Decides.{nat_tests}
 use Rattle.std.proofs.Math.Numerals.{add-one}
 use Rattle.std.proofs.lemmas.List.Sums.{sum_by-append, sum_by-cons}
@@ -16,11 +16,10 @@ use Rattle.act_model.specs.declared.entry.Entry.{Entry}
 use Rattle.act_model.specs.declared.taken.Placed.{Placed}
 use Rattle.act_model.specs.declared.taken.Taken.{Taken}
 use Rattle.act_model.specs.Deeds.{deeds}
-use Rattle.act_model.specs.Holdings.{Holdings, with_found, with_batch, with_deed, holdings, numbers_where, retracted_of, isolated_of, homed_of}
+use Rattle.act_model.specs.Holdings.{Holdings, with_found, with_batch, holdings, numbers_where, retracted_of, isolated_of, homed_of}
 use Rattle.act_model.specs.Observations.{observations}
-use Rattle.act_model.specs.Places.{times, is_accepted_number, EachStandsOnce, Counts, OnePlace, added_by}
+use Rattle.act_model.specs.Places.{times, is_accepted_number, EachStandsOnce, OnePlace, added_by}
 use Rattle.act_model.specs.Taken.{accepted_in, is_accepted}
-use Rattle.act_model.specs.Tallies.{tally}
 
 -- ---- counting
 

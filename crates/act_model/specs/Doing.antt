@@ -1,5 +1,5 @@
 -- What an act does after the deeds before it, or the first refusal that it meets, in groups over the values that they ask.
-use Rattle.std.specs.Prelude.{ℕ, ℤ, Bool, not, nat_le, ◌==◌, List, [], ◌∷◌, length, is_some, is_none, Result, Ok, Err}
+use Rattle.std.specs.Prelude.{ℕ, ℤ, Bool, not, nat_le, ◌==◌, List, [], ◌∷◌, length, is_some, is_none, Result, Ok}
 use Rattle.act_bodies.specs.declared.enrol.Rank.{Rank}
 use Rattle.act_bodies.specs.declared.key.Key.{Key}
 use Rattle.obs_record.specs.declared.line.Line.{Line}

@@ -1,5 +1,5 @@
 -- The observations and tracklets that the office has, and in which place each observation stands.
-use Rattle.std.specs.Prelude.{ℕ, ◌==◌, Bool, if◌then◌else◌, List, [], ◌∷◌, ◌++◌, length, Result, Ok, Err}
+use Rattle.std.specs.Prelude.{ℕ, ◌==◌, Bool, if◌then◌else◌, List, [], ◌∷◌, ◌++◌, Result, Ok, Err}
 use Rattle.obs_record.specs.declared.rule.RuleCode.{RuleCode}
 use Rattle.tracklet_file.specs.declared.observation.Observation.{Observation}
 use Rattle.tracklet_file.specs.declared.tracklet.Tracklet.{Tracklet}

@@ -1,5 +1,5 @@
 -- Keys of places and of moments tell which rules an observation breaks beside earlier ones.
-use Rattle.std.proofs.Common.{◌≡◌, ℕ, pos, Bool, true, false, not, ◌&&◌, ◌||◌, cond, List, [], ◌∷◌, Option, Some, None, refl, ap, sym, ◌∙◌, true≢false}
+use Rattle.std.proofs.Common.{◌≡◌, Bool, true, false, not, ◌&&◌, ◌||◌, cond, List, [], ◌∷◌, Option, Some, None, refl, ap, sym, ◌∙◌, true≢false}
 use Rattle.std.specs.Prelude.{◌==◌}
 use Rattle.std.specs.List.{list_any}
 use Rattle.std.specs.Str.{bytes_eq}
@@ -9,10 +9,10 @@ use Rattle.obs_record.specs.declared.rule.RuleCode.{RuleCode}
 use Rattle.obs_record.specs.declared.rule.RuleCode.TheVariants.{B4, B5}
 use Rattle.tracklet_file.specs.Observations.{same_station, is_at}
 use Rattle.act_model.specs.Rows.{first_row}
-use Rattle.act_model.specs.BatchRules.{name_of, same_track, same_group, is_elsewhere, stands_elsewhere}
+use Rattle.act_model.specs.BatchRules.{name_of, same_track, is_elsewhere, stands_elsewhere}
 use Rattle.batch_rules.specs.Places.{place_key, moment_key}
 use Rattle.batch_rules.specs.PlaceTests.{same_place, same_moment, has_place, has_moment}
-use Rattle.batch_rules.proofs.Any.{IsIn, Each, each_in, any_same, none_in}
+use Rattle.batch_rules.proofs.Any.{IsIn, each_in, any_same, none_in}
 use Rattle.batch_rules.proofs.KeyLemmas.{same_keys}
 
 both : (a b c : Bool) → a && (b && c) ≡ (a && b) && c

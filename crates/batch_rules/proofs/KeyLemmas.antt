@@ -1,5 +1,5 @@
 -- Keys of groups are the same where the groups are.
-use Rattle.std.proofs.Common.{◌≡◌, ℕ, Bool, true, false, ◌&&◌, refl, ap, sym, ◌∙◌}
+use Rattle.std.proofs.Common.{◌≡◌, Bool, ◌&&◌, refl, ap}
 use Rattle.obs_record.specs.declared.sighting.Sighting.{Sighting}
 use Rattle.obs_record.specs.declared.name.TrackName.{TrackName}
 use Rattle.obs_record.specs.declared.name.TrackName.TheVariants as tracks

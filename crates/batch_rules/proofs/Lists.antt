@@ -1,10 +1,10 @@
 -- Filters of lists, and lists that fall in time.
-use Rattle.std.proofs.Common.{◌≡◌, ℕ, ◌+◌, ◌<◌, ◌≤◌, ℤ, ◌<ℤ◌, ◌≤ℤ◌, Bool, true, false, not, ◌&&◌, ◌||◌, cond, List, [], ◌∷◌, length, filter, refl, ap, sym, ◌∙◌, inl, inr, true≢false, lit≤, arith}
-use Rattle.std.specs.Prelude.{◌⊎◌, count_by, int_lt}
+use Rattle.std.proofs.Common.{◌≡◌, Bool, true, false, ◌&&◌, ◌||◌, cond, List, [], ◌∷◌, length, filter, refl, ap, sym, ◌∙◌, inl, inr}
+use Rattle.std.specs.Prelude.{int_lt}
 use Rattle.std.specs.List.{list_any}
 use Rattle.std.specs.List.Sorted.{IsPermutation}
 use Rattle.std.proofs.lemmas.List.Sorted.{list_any-IsPermutation, sum_by-IsPermutation}
-use Rattle.std.proofs.lemmas.List.Sums.{sum_by-cons, length-filter}
+use Rattle.std.proofs.lemmas.List.Sums.{length-filter}
 use Rattle.obs_record.specs.declared.sighting.Sighting.{Sighting}
 use Rattle.act_model.specs.BatchRules.{is_too_fast}
 use Rattle.batch_rules.proofs.Any.{IsIn, Each, any_same}

@@ -1,10 +1,9 @@
 -- The rules of groups at their edges, computed.
-use Rattle.std.proofs.Common.{◌≡◌, ℕ, ◌+◌, ◌*◌, ℤ, pos, List, [], ◌∷◌, replicate, Option, Some, None, refl}
+use Rattle.std.proofs.Common.{◌≡◌, ℕ, ◌+◌, ◌*◌, pos, [], ◌∷◌, replicate, Some, None, refl}
 use Rattle.obs_record.specs.declared.short.Short.{Short}
 use Rattle.obs_record.specs.declared.sighting.Coded.TheVariants.{Nothing}
 use Rattle.obs_record.specs.declared.sighting.Shape.TheVariants.{Psv}
 use Rattle.obs_record.specs.declared.sighting.Sighting.{Sighting}
-use Rattle.obs_record.specs.declared.rule.RuleCode.{RuleCode}
 use Rattle.obs_record.specs.declared.rule.RuleCode.TheVariants.{B6, B7, B8}
 use Rattle.act_model.specs.BatchRules.{group_fault, fastest_a_day}
 use Rattle.obs_time.specs.Instants.{nanos_of_a_day}

@@ -1,11 +1,10 @@
 -- What a group's lines in the order of time say is what the rules say of the batch in its own order.
-use Rattle.std.proofs.Common.{◌≡◌, ℕ, ◌+◌, ◌<◌, ◌≤◌, ℤ, pos, ◌+ℤ◌, ◌<ℤ◌, ◌≤ℤ◌, Bool, true, false, not, ◌&&◌, ◌||◌, cond, List, [], ◌∷◌, length, filter, Option, Some, None, refl, ap, sym, subst, ◌∙◌, inl, inr, true≢false, arith}
-use Rattle.std.specs.Prelude.{◌⊎◌, count_by, nat_lt, int_lt}
+use Rattle.std.proofs.Common.{◌≡◌, ℕ, ℤ, pos, ◌+ℤ◌, ◌≤ℤ◌, Bool, true, false, not, ◌&&◌, cond, List, [], ◌∷◌, length, filter, Some, None, refl, ap, sym, subst, ◌∙◌, true≢false, arith}
+use Rattle.std.specs.Prelude.{nat_lt, int_lt}
 use Rattle.std.specs.List.{list_any}
 use Rattle.std.specs.List.Sorted.{IsPermutation}
 use Rattle.std.specs.Ordering.{int_eq}
 use Rattle.std.proofs.lemmas.Int.{ints}
-use Rattle.std.proofs.lemmas.Bool.{and_parts}
 use Rattle.std.proofs.lemmas.Bool.Decides.{Decides-int_eq}
 use Rattle.std.proofs.Math.Bool.{and-true}
 use Rattle.std.proofs.lemmas.List.{nil_from_length}
@@ -13,7 +12,6 @@ use Rattle.std.proofs.lemmas.List.Sums.{sum_by-cons}
 use Rattle.std.proofs.lemmas.List.Sorted.{list_any-IsPermutation}
 use Rattle.obs_time.specs.Instants.{nanos_of_a_day}
 use Rattle.obs_record.specs.declared.sighting.Sighting.{Sighting}
-use Rattle.obs_record.specs.declared.rule.RuleCode.{RuleCode}
 use Rattle.obs_record.specs.declared.rule.RuleCode.TheVariants.{B6, B7, B8}
 use Rattle.act_model.specs.BatchRules.{name_of}
 use Rattle.act_model.specs.Rows.{first_row}
@@ -21,11 +19,11 @@ use Rattle.act_model.specs.BatchRules.{same_group, is_sub, is_late, is_late_afte
 use Rattle.batch_rules.specs.contracts.keys.GroupKeyEq.TheImpl.Laws.{laws-law}
 use Rattle.batch_rules.specs.declared.groups.Summary.{Summary}
 use Rattle.batch_rules.specs.Groups.{group_key, with_later, summary, fault_by, AreApart}
-use Rattle.batch_rules.proofs.Any.{IsIn, Each, each_in, in_any, any_in, any_same, counts_fewer}
-use Rattle.batch_rules.proofs.Fast.{any_fast, lt_true, neighbours_or_any, both_pass}
+use Rattle.batch_rules.proofs.Any.{IsIn, Each, each_in, any_same, counts_fewer}
+use Rattle.batch_rules.proofs.Fast.{any_fast, neighbours_or_any, both_pass}
 use Rattle.batch_rules.proofs.KeyLemmas.{same_keys}
 use Rattle.batch_rules.proofs.Lists.{each_at, in_filter, each_always, filter_same, filter_twice, any_filter, length-filter_moved, any_fast_moved, IsDescending}
-use Rattle.batch_rules.proofs.Summaries.{within_day, Says, says_all}
+use Rattle.batch_rules.proofs.Summaries.{Says, says_all}
 
 -- ---- groups
 

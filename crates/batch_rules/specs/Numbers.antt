@@ -1,5 +1,5 @@
 -- Rulings by what was found of groups.
-use Rattle.std.specs.Prelude.{ℕ, List, Option, Some, None, unwrap_or, position, Result, Ok, Err}
+use Rattle.std.specs.Prelude.{ℕ, List, Option, None, unwrap_or, position, Result, Ok}
 use Rattle.obs_record.specs.declared.line.Line.{Line}
 use Rattle.obs_record.specs.declared.sighting.Sighting.{Sighting}
 use Rattle.obs_record.specs.declared.rule.RuleCode.{RuleCode}

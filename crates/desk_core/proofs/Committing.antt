@@ -1,21 +1,20 @@
 -- What stands with an entry once it is added.
-use Rattle.std.proofs.Common.{◌≡◌, ℕ, ◌+◌, ◌-◌, ◌<◌, ◌≤◌, List, [], ◌∷◌, ◌++◌, length, Option, refl, sym, ap, subst, ◌∙◌, arith, suc}
+use Rattle.std.proofs.Common.{◌≡◌, ℕ, ◌+◌, ◌-◌, ◌<◌, ◌≤◌, List, [], ◌∷◌, ◌++◌, length, refl, sym, ap, subst, ◌∙◌, arith, suc}
 use Rattle.std.specs.Prelude.{reverse, unwrap_or}
 use Rattle.std.proofs.lemmas.List.{reverse-append}
 use Rattle.station_tables.specs.Rows.{TableRows}
-use Rattle.tracklet_file.specs.Numbering.{next_number}
 use Rattle.act_model.specs.declared.deed.Deed.{Deed}
 use Rattle.act_model.specs.declared.entry.Entry.{Entry}
 use Rattle.act_model.specs.declared.roster.Member.{Member}
 use Rattle.act_model.specs.declared.roster.TheConstants.{CALLERS}
-use Rattle.act_model.specs.Deeds.{deed_of, deeds}
+use Rattle.act_model.specs.Deeds.{deeds}
 use Rattle.act_model.specs.History.{next_receipt}
 use Rattle.act_model.specs.Holdings.{Holdings, with_deed, holdings}
 use Rattle.act_model.specs.OfficeTables.{tables_of}
 use Rattle.act_model.specs.Replies.{entry_answer}
 use Rattle.act_model.specs.Roster.{members, with_enrolled}
 use Rattle.desk_core.specs.declared.filed.Filed.{Filed}
-use Rattle.desk_core.specs.Filed.{entries_of, history_of, AreAnswered}
+use Rattle.desk_core.specs.Filed.{history_of, AreAnswered}
 use Rattle.act_model.specs.Places.{added_by}
 use Rattle.desk_core.specs.Office.{Ready, IsReadyAt, UsesRoom}
 use Rattle.desk_core.proofs.FiledLemmas.{history_of-push}

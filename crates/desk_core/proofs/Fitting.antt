@@ -1,5 +1,5 @@
 -- What is done where nothing refuses it fits the deeds before it.
-use Rattle.std.proofs.Common.{◌≡◌, ℕ, ℤ, ◌+◌, ◌<◌, ◌≤ℤ◌, List, length, Bool, true, false, cond, Option, Some, None, Result, Ok, Err, refl, sym, ap, subst, ◌∙◌, inl, inr, arith}
+use Rattle.std.proofs.Common.{◌≡◌, ℕ, ℤ, ◌<◌, ◌≤ℤ◌, List, Bool, true, false, cond, Option, Some, None, Result, Ok, Err, refl, sym, ap, subst, ◌∙◌, inl, arith}
 use Rattle.std.specs.Prelude.{not, nat_le, IfOk, IsTrue}
 use Rattle.std.proofs.lemmas.Bool.Decides.{nat_tests}
 use Rattle.obs_record.specs.declared.short.Short.{Short}
@@ -10,17 +10,15 @@ use Rattle.tracklet_file.specs.Observations.{is_live}
 use Rattle.act_bodies.specs.declared.enrol.Rank.{Rank}
 use Rattle.act_bodies.specs.declared.key.Key.{Key}
 use Rattle.act_model.specs.declared.deed.Deed.{Deed}
-use Rattle.act_model.specs.declared.deed.Deed.TheVariants.{Enrolled, Stationed, Coded, Submitted, Retracted}
+use Rattle.act_model.specs.declared.deed.Deed.TheVariants.{Enrolled, Stationed, Coded, Retracted}
 use Rattle.act_model.specs.declared.reply.Refusal.{Refusal}
-use Rattle.act_model.specs.declared.reply.Refusal.TheVariants.{UnknownThing, AlreadyRetracted, AlreadyThere, RosterFull}
 use Rattle.act_model.specs.declared.roster.TheConstants.{CALLERS}
-use Rattle.act_model.specs.declared.taken.Taken.{Taken}
 use Rattle.act_model.specs.Rows.{first_row, unless, IsDue}
 use Rattle.act_model.specs.Roster.{members, next_caller}
 use Rattle.act_model.specs.OfficeTables.{tables_of}
 use Rattle.act_model.specs.Holdings.{holdings}
 use Rattle.act_model.specs.Doing.{enrol_rows, row_rows, retract_rows}
-use Rattle.desk_core.specs.Office.{Fits, AreTracked}
+use Rattle.desk_core.specs.Office.{Fits}
 
 -- what is due is the answer
 pub due_is : (due result : Result Deed Refusal) → due ≡ result → IsDue due result

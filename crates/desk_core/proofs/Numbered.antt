@@ -1,6 +1,6 @@
 -- Items that are numbered from 1, the newest first.
-use Rattle.std.proofs.Common.{◌≡◌, ℕ, ◌+◌, ◌≤◌, Bool, true, false, cond, List, [], ◌∷◌, length, Option, Some, None, refl, sym, ap, ◌∙◌, arith}
-use Rattle.std.specs.Prelude.{map, reverse, IsSome, option_map, ◌==◌}
+use Rattle.std.proofs.Common.{◌≡◌, ℕ, ◌+◌, ◌≤◌, Bool, true, false, cond, List, [], ◌∷◌, length, Some, refl, ap, ◌∙◌, arith}
+use Rattle.std.specs.Prelude.{map, IsSome, option_map, ◌==◌}
 use Rattle.std.proofs.lemmas.Bool.Decides.{nat_tests}
 use Rattle.std.proofs.lemmas.List.{length-map}
 use Rattle.tracklet_file.specs.Numbering.{next_number, numbered}

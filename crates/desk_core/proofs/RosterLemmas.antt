@@ -1,8 +1,7 @@
 -- The roster in the order of enrolment, and with its newest caller first.
-use Rattle.std.proofs.Common.{◌≡◌, ℕ, ◌+◌, ◌-◌, ◌<◌, ◌≤◌, Bool, true, false, cond, List, [], ◌∷◌, ◌++◌, length, get_or, take, Option, Some, None, suc, refl, ap, sym, ◌∙◌, inl, inr, arith}
-use Rattle.std.specs.Prelude.{reverse, ◌⊎◌, ◌==◌}
-use Rattle.std.proofs.lemmas.List.{take_more, reverse-append, length-reverse, length-take, get_or-reverse}
-use Rattle.std.proofs.lemmas.Bool.Decides.{nat_tests}
+use Rattle.std.proofs.Common.{◌≡◌, ℕ, ◌+◌, ◌-◌, ◌<◌, ◌≤◌, Bool, true, cond, List, [], ◌∷◌, length, get_or, take, Some, ap, sym, ◌∙◌, arith}
+use Rattle.std.specs.Prelude.{reverse}
+use Rattle.std.proofs.lemmas.List.{take_more, reverse-append, length-reverse, length-take}
 use Rattle.act_bodies.specs.declared.key.Key.{Key}
 use Rattle.act_bodies.specs.Keys.{same_key}
 use Rattle.act_model.specs.declared.roster.Member.{Member}

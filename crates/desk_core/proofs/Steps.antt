@@ -1,7 +1,5 @@
 -- What becomes of a request, question by question.
-use Rattle.std.proofs.Common.{◌≡◌, ℕ, ℤ, Bool, true, false, cond, List, ◌∷◌, length, ◌<◌, Option, Some, None, Result, Ok, Err, refl, sym, ap, subst, ◌∙◌, inl, inr, arith}
-use Rattle.std.specs.Prelude.{◌⊎◌, ◌+◌, nat_le}
-use Rattle.std.proofs.lemmas.Bool.Decides.{nat_tests}
+use Rattle.std.proofs.Common.{◌≡◌, ℕ, ℤ, Bool, true, false, cond, List, length, ◌<◌, Option, Some, None, Result, Ok, Err, refl, sym, ap, subst, ◌∙◌, inl, inr, arith}
 use Rattle.act_bodies.specs.declared.key.Key.{Key}
 use Rattle.act_model.specs.declared.deed.Deed.{Deed}
 use Rattle.act_model.specs.declared.deed.Deed.TheVariants.{Enrolled, Stationed, Coded, Submitted, Retracted, Nothing}
@@ -9,14 +7,12 @@ use Rattle.act_model.specs.declared.entry.Entry.{Entry}
 use Rattle.act_model.specs.declared.heard.Heard.{Heard}
 use Rattle.act_model.specs.declared.reply.Refusal.{Refusal}
 use Rattle.act_model.specs.declared.reply.Refusal.TheVariants.{NoMemory}
-use Rattle.act_model.specs.declared.reply.Reply.{Reply}
 use Rattle.act_model.specs.declared.reply.Reply.TheVariants.{Done, Refused}
 use Rattle.act_model.specs.declared.request.Body.{Body}
 use Rattle.act_model.specs.declared.request.Body.TheVariants.{NoRoom}
 use Rattle.act_model.specs.declared.request.Request.{Request}
-use Rattle.act_model.specs.declared.roster.Member.{Member}
 use Rattle.act_model.specs.declared.roster.TheConstants.{CALLERS}
-use Rattle.act_model.specs.Rows.{first_row, unless, ◌>>=◌, IsDue}
+use Rattle.act_model.specs.Rows.{◌>>=◌, IsDue}
 use Rattle.act_model.specs.Requests.{is_act}
 use Rattle.act_model.specs.Roster.{members, with_enrolled}
 use Rattle.act_model.specs.Deeds.{deeds}
@@ -24,7 +20,7 @@ use Rattle.act_model.specs.History.{Kept, kept, next_moment}
 use Rattle.act_model.specs.Hearing.{bytes_in, hear}
 use Rattle.act_model.specs.Refusals.{work_out}
 use Rattle.act_model.specs.Turns.{Answers}
-use Rattle.act_model.specs.Step.{Outcome, Refuses, Keeps, Tells, Adds, outcome, unless_unheard, heard_step, act_step, query_step, query_in, told, tells, unless_kept, unless_refused, new_entry, step, after}
+use Rattle.act_model.specs.Step.{Outcome, Refuses, Tells, Adds, outcome, unless_unheard, heard_step, act_step, query_step, query_in, told, tells, unless_kept, unless_refused, new_entry, step, after}
 use Rattle.desk_core.specs.Office.{Room, Fits}
 use Rattle.desk_core.specs.Preparing.{IsRefused, Prepares, IsPrepared, IsTold}
 use Rattle.desk_core.specs.declared.prepared.Prep.{Prep}

@@ -1,5 +1,5 @@
 -- The lines of a batch as they are taken in.
-use Rattle.std.proofs.Common.{◌≡◌, ℕ, ◌≤◌, List, [], ◌∷◌, ◌++◌, length, drop, sym, ap, subst, ◌∙◌, refl}
+use Rattle.std.proofs.Common.{◌≡◌, ℕ, List, [], ◌∷◌, ◌++◌, sym, ap, ◌∙◌, refl}
 use Rattle.std.proofs.lemmas.List.{append-nil}
 use Rattle.obs_record.specs.declared.line.Line.{Line}
 use Rattle.act_model.specs.declared.ruling.Ruling.{Ruling}

@@ -1,5 +1,5 @@
 -- What a deed asks of the file of observations and tracklets.
-use Rattle.std.specs.Prelude.{ℕ, List, length, if◌then◌else◌, IsTrue}
+use Rattle.std.specs.Prelude.{ℕ, length, if◌then◌else◌, IsTrue}
 use Rattle.tracklet_file.specs.Contents.{Contents}
 use Rattle.tracklet_file.specs.Observations.{is_live}
 use Rattle.act_model.specs.declared.deed.Deed.{Deed}

@@ -1,15 +1,13 @@
 -- How a turn answers what becomes of a request.
-use Rattle.std.proofs.Common.{◌≡◌, ℤ, List, [], ◌∷◌, ℕ, refl, sym, ap, ◌∙◌, inl, inr}
-use Rattle.std.specs.Prelude.{◌⊎◌}
+use Rattle.std.proofs.Common.{◌≡◌, ℤ, List, ◌∷◌, ℕ, refl, sym, ap, ◌∙◌, inl, inr}
 use Rattle.act_bodies.specs.declared.key.Key.{Key}
 use Rattle.act_model.specs.declared.request.Request.{Request}
 use Rattle.act_model.specs.declared.entry.Entry.{Entry}
 use Rattle.act_model.specs.declared.reply.Refusal.{Refusal}
-use Rattle.act_model.specs.declared.reply.Refusal.TheVariants.{NoMemory}
 use Rattle.act_model.specs.declared.reply.Reply.{Reply}
 use Rattle.act_model.specs.declared.reply.Reply.TheVariants.{Done, Refused}
 use Rattle.act_model.specs.Replies.{entry_answer}
-use Rattle.act_model.specs.Step.{Outcome, Refuses, Keeps, Adds, outcome, after, step}
+use Rattle.act_model.specs.Step.{Keeps, Adds, outcome, after, step}
 use Rattle.act_model.specs.Turns.{Answers}
 use Rattle.desk_core.specs.Preparing.{IsRefused}
 

@@ -1,5 +1,5 @@
 -- A whole session without a fault is served to its end.
-use Rattle.std.proofs.Common.{◌≡◌, ℕ, List, [], ◌++◌, length, Option, Some, refl, sym, ap, subst, ◌∙◌, arith}
+use Rattle.std.proofs.Common.{◌≡◌, ℕ, List, [], ◌++◌, length, Option, Some, refl, ap, subst, ◌∙◌, arith}
 use Rattle.std.specs.Prelude.{IfSome}
 use Rattle.desk_frames.specs.Frames.{Frame, IsSession}
 use Rattle.act_bodies.specs.declared.key.Key.{Key}

@@ -1,12 +1,12 @@
 -- How far a run has come, step by step, and what its ends leave.
-use Rattle.std.proofs.Common.{◌≡◌, ℕ, ◌+◌, ◌-◌, ◌^◌, ◌<◌, ◌≤◌, min, List, [], ◌∷◌, ◌++◌, length, take, Option, Some, None, Ok, Err, refl, sym, ap, subst, ◌∙◌, arith, inl, inr, lit<}
+use Rattle.std.proofs.Common.{◌≡◌, ℕ, ◌+◌, ◌-◌, ◌^◌, ◌<◌, ◌≤◌, min, List, [], ◌∷◌, ◌++◌, length, take, Option, Some, None, Ok, Err, refl, sym, ap, subst, ◌∙◌, arith, inl, inr}
 use Rattle.std.specs.Prelude.{IfSome}
 use Rattle.std.specs.Io.KnownBytes.{Consumes, Appends, IsAtEnd}
 use Rattle.std.proofs.KnownBytes.{Consumes-nil, Appends-nil, Appends-trans, Appends-kept, Keeps-refl}
 use Rattle.desk_io.specs.Reads.{Passes, Comes, Comes-nil, Comes-trans, Comes-weaker}
 use Rattle.std.proofs.lemmas.List.{append-nil, length-append}
 use Rattle.desk_io.specs.declared.outside.Failed.{Failed}
-use Rattle.desk_frames.specs.Frames.{Frame, IsFrame, framed, NoFrame, NeverFrame, IsSession, reached}
+use Rattle.desk_frames.specs.Frames.{Frame, framed, NoFrame, NeverFrame, IsSession, reached}
 use Rattle.frame_reader.specs.declared.frame.ReadFrame.{ReadFrame}
 use Rattle.frame_reader.specs.Reading.{AwaitsFrame}
 use Rattle.frame_reader.specs.Frames.{IsFrameRead, NoFrameComes}

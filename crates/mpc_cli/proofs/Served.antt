@@ -1,20 +1,16 @@
 -- How turns follow one another.
-use Rattle.std.proofs.Common.{◌≡◌, true, false, ℕ, ◌+◌, ℤ, pos, List, [], ◌∷◌, ◌++◌, length, Option, Some, None, refl, sym, ap, subst, ◌∙◌, add-zero, zero-add, inl, inr, arith}
-use Rattle.std.specs.Prelude.{IfSome, option_to_list, unwrap_or}
+use Rattle.std.proofs.Common.{◌≡◌, true, false, ℕ, ◌+◌, ℤ, pos, List, [], ◌∷◌, ◌++◌, Option, Some, None, refl, sym, ap, subst, ◌∙◌}
+use Rattle.std.specs.Prelude.{IfSome, option_to_list}
 use Rattle.std.specs.List.{AllByRecursion, cons_option}
 use Rattle.std.proofs.lemmas.List.Elements.{filter_map-append}
 use Rattle.std.proofs.lemmas.Grind.{flat_map-append}
-use Rattle.std.proofs.lemmas.List.{append-nil, map-append, length-append}
+use Rattle.std.proofs.lemmas.List.{append-nil, map-append}
 use Rattle.desk_frames.specs.Frames.{Frame, IsFrame, framed}
 use Rattle.act_bodies.specs.declared.key.Key.{Key}
-use Rattle.act_model.specs.declared.request.Verb.{Verb}
 use Rattle.act_model.specs.declared.request.Request.{Request}
 use Rattle.act_model.specs.declared.entry.Entry.{Entry}
-use Rattle.act_model.specs.declared.reply.Refusal.{Refusal}
-use Rattle.act_model.specs.declared.reply.Refusal.TheVariants.{NoMemory}
 use Rattle.act_model.specs.declared.reply.Reply.{Reply}
-use Rattle.act_model.specs.declared.reply.Reply.TheVariants.{Refused}
-use Rattle.act_model.specs.Turns.{Turn, TakesReading, Answers, IsTurn, Conduct, request_of, readings_of, written_reply, written}
+use Rattle.act_model.specs.Turns.{Turn, Answers, request_of, readings_of, written_reply, written}
 use Rattle.act_model.specs.Requests.{is_act}
 use Rattle.obs_time.specs.Instants.{IsInstantNs}
 use Rattle.mpc_cli.specs.Serving.{ClockState, Gives, TakesTurn, Served}

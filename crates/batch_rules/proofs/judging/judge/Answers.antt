@@ -1,9 +1,7 @@
 use Rattle.std.proofs.Common.{◌≡◌, List, [], length, map, Option, ap, sym, subst, ◌∙◌}
-use Rattle.std.specs.Prelude.{IfOk}
 use Rattle.indexmap.specs.IndexMap.{get}
 use Rattle.obs_record.specs.declared.line.Line.{Line}
 use Rattle.obs_record.specs.declared.sighting.Sighting.{Sighting}
-use Rattle.act_model.specs.declared.ruling.Ruling.{Ruling}
 use Rattle.act_model.specs.BatchRules.{group_fault, firsts_after, firsts_of, checked_lines, passed_in, rulings_among, batch_rulings}
 use Rattle.batch_rules.specs.declared.keys.GroupKey.{GroupKey}
 use Rattle.batch_rules.specs.declared.groups.Summary.{Summary}

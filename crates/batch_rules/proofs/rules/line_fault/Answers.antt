@@ -1,4 +1,4 @@
-use Rattle.std.proofs.Common.{◌≡◌, ◌∷◌, [], cond, Some, rules, arith}
+use Rattle.std.proofs.Common.{◌∷◌, [], rules, arith}
 use Rattle.obs_record.specs.declared.rule.RuleCode.TheVariants.{B9}
 use Rattle.act_model.specs.Rows.{first_row}
 use Rattle.act_model.specs.BatchRules.{stands_already, stands_elsewhere, is_of_two_objects}

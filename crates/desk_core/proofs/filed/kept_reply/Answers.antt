@@ -1,5 +1,5 @@
 use Rattle.std.proofs.Common.{sym, ◌∙◌}
-use Rattle.desk_core.proofs.Kept.{kept_again, kept_other}
+use Rattle.desk_core.proofs.Kept.{kept_again}
 use Rattle.desk_core.proofs.filed.kept_reply.Goals as goal
 
 pub returns : goal.returns

@@ -1,4 +1,3 @@
-use Rattle.std.proofs.Common.{arith}
 use Rattle.desk_core.proofs.Numbered.{there}
 use Rattle.desk_core.proofs.holding.begin.Goals as goal
 

@@ -1,4 +1,4 @@
-use Rattle.std.proofs.Common.{sym, ◌∙◌, arith}
+use Rattle.std.proofs.Common.{sym, ◌∙◌}
 use Rattle.desk_core.proofs.RosterLemmas.{enrolled_here}
 use Rattle.desk_core.proofs.roster.enrolled_as.Goals as goal
 

@@ -1,4 +1,4 @@
-use Rattle.std.proofs.Common.{refl, ◌∙◌, arith}
+use Rattle.std.proofs.Common.{refl, ◌∙◌}
 use Rattle.mpc_cli.proofs.Laws.{RunLaws}
 use Rattle.mpc_cli.proofs.Progress.{progress_start, progress_more, step_for, ends_over, ends_no_more, ends_reading, ends_writing}
 use Rattle.mpc_cli.proofs.serving.serve.Goals as goal

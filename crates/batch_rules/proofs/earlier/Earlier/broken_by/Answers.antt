@@ -1,4 +1,4 @@
-use Rattle.std.proofs.Common.{◌≡◌, Bool, true, false, List, ap, sym, ◌∙◌}
+use Rattle.std.proofs.Common.{true, false, List, ap, sym, ◌∙◌}
 use Rattle.indexmap.specs.IndexSet.{contains}
 use Rattle.obs_record.specs.declared.sighting.Sighting.{Sighting}
 use Rattle.batch_rules.specs.declared.places.PlaceKey.{PlaceKey}

@@ -1,8 +1,8 @@
-use Rattle.std.proofs.Common.{ap, sym, ◌∙◌, Some, None}
+use Rattle.std.proofs.Common.{ap, sym, ◌∙◌, Some}
 use Rattle.act_model.specs.declared.reply.Reply.{Reply}
 use Rattle.act_model.specs.History.{next_moment}
 use Rattle.act_model.specs.Step.{Keeps}
-use Rattle.desk_core.proofs.Steps.{kept_step, new_step, kept_by, prepared_as}
+use Rattle.desk_core.proofs.Steps.{kept_step, kept_by}
 use Rattle.desk_core.proofs.office.Core.prepare_heard.Goals as goal
 
 pub returns-in-Some-clause-answer : goal.returns-in-Some-clause-answer

@@ -1,11 +1,10 @@
-use Rattle.std.proofs.Common.{◌≡◌, ℕ, List, Ok, sym, inl, ap, ◌∙◌}
+use Rattle.std.proofs.Common.{◌≡◌, List, Ok, sym, inl, ap, ◌∙◌}
 use Rattle.act_model.specs.declared.entry.Entry.{Entry}
 use Rattle.act_model.specs.declared.query.Query.TheVariants as query
 use Rattle.act_model.specs.History.{Kept, kept}
 use Rattle.act_model.specs.Replies.{entry_answer}
 use Rattle.act_model.specs.Step.{told}
 use Rattle.desk_core.specs.Filed.{IsFiledAt}
-use Rattle.desk_core.proofs.Steps.{kept_by}
 use Rattle.desk_core.proofs.Telling.{if_made, receipt_found, receipt_none}
 use Rattle.desk_core.proofs.office.Core.receipt.Goals as goal
 

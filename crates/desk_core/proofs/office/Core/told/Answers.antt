@@ -1,9 +1,9 @@
-use Rattle.std.proofs.Common.{◌≡◌, ℕ, List, Ok, Result, ◌∙◌, ap, sym, subst}
+use Rattle.std.proofs.Common.{◌≡◌, Ok, ◌∙◌, ap, sym, subst}
 use Rattle.act_model.specs.declared.query.Query.{Query}
 use Rattle.act_model.specs.declared.query.Query.TheVariants as query
 use Rattle.act_model.specs.Rows.{IsDue}
 use Rattle.act_model.specs.Step.{told}
-use Rattle.act_model.specs.Tallies.{tally, tally_text}
+use Rattle.act_model.specs.Tallies.{tally_text}
 use Rattle.desk_core.proofs.Telling.{if_made, tally_told}
 use Rattle.desk_core.proofs.office.Core.told.Goals as goal
 
