@@ -72,7 +72,7 @@ module _ (tracklets : List Tracklet) (k : ℕ) where
       ap (λ (n : ℕ). n + (times k (numbers_where (is_isolated tracklets) (newest ∷ older)) + times k (numbers_where (is_homed tracklets) (newest ∷ older)))) r
       ∙ ap (λ (n : ℕ). (times k (numbers_where is_retracted older) + once_if (is_retracted newest && (next_number older == k))) + (n + times k (numbers_where (is_homed tracklets) (newest ∷ older)))) i
       ∙ ap (λ (n : ℕ). (times k (numbers_where is_retracted older) + once_if (is_retracted newest && (next_number older == k)))
-          + ((times k (numbers_where (is_isolated tracklets) older) + once_if (is_isolated tracklets newest && (next_number older == k))) + n)) h
+      + ((times k (numbers_where (is_isolated tracklets) older) + once_if (is_isolated tracklets newest && (next_number older == k))) + n)) h
       ∙ regroup (times k (numbers_where is_retracted older)) (times k (numbers_where (is_isolated tracklets) older)) (times k (numbers_where (is_homed tracklets) older)) _ _ _
       ∙ ap (λ (n : ℕ). standing older + n) three
       ∙ ap (λ (n : ℕ). n + once_if (next_number older == k)) before

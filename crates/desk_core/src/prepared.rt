@@ -30,12 +30,7 @@ impl Model for Prepared {
 
 impl Prepared {
     /// An act that is filed so, with a second copy of its answer.
-    pub(crate) fn new(
-        filed: Filed,
-        answer: Bytes,
-        deed: Deed,
-        tables: Option<Tables>,
-    ) -> Prepared
+    pub(crate) fn new(filed: Filed, answer: Bytes, deed: Deed, tables: Option<Tables>) -> Prepared
         requires { filed.answer ≡ answer }
         ensures entry { result.entry ≡ filed.entry }
         ensures answer { result.answer ≡ answer }

@@ -20,9 +20,7 @@ use crate::filed::{Filed, find, kept_reply, next_moment};
 use crate::hearing::{bytes_in, hear};
 use crate::office::Core;
 use crate::prepared::{Prep, Prepared};
-use act_model::{
-    Deed, Entry, Heard, Refusal, Request, batch_answer, enrol_answer, receipt_answer,
-};
+use act_model::{Deed, Entry, Heard, Refusal, Request, batch_answer, enrol_answer, receipt_answer};
 use item_list::{Bytes, NoMemory};
 use obs_time::Instant;
 use station_tables::Tables;
@@ -54,7 +52,12 @@ impl Core {
     }
 
     /// What is heard of a request with these bytes.
-    pub(crate) fn hear(&self, alloc: Global, request: &Request, bytes: &[u8]) -> Result<Heard, Refusal>
+    pub(crate) fn hear(
+        &self,
+        alloc: Global,
+        request: &Request,
+        bytes: &[u8],
+    ) -> Result<Heard, Refusal>
         requires short { length bytes.now ≤ BODY_BYTES }
         ensures due { IsDue (hear self.now.founder (members (deeds self.now.history)) request.now bytes.now) result }
         ensures verb { IfOk result (λ heard. heard.verb ≡ request.now.verb) }

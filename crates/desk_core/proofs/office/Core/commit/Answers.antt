@@ -23,14 +23,14 @@ invariant_of-self c =
     let a = c.into_parts-filed.ensures.kept in
     let roster = c.enrol.ensures.roster ∙ ap (λ (d : Deed). with_enrolled d (reverse c.self.inside.members.items)) c.into_parts-filed.ensures.deed in
     rw c.push_reserved.ensures.items (
-        answered items f ready at e a c.self.invariant.0,
-        members_are items f ready at e a c.self.inside.members.items c.enrol.new.members.items roster c.self.invariant.1,
-        members_within items f ready at e a c.self.inside.members.items (vec_len c.enrol.new.members) (c.enrol.ensures.count ∙ ap (λ (d : Deed). length (with_enrolled d (reverse c.self.inside.members.items))) c.into_parts-filed.ensures.deed) c.self.invariant.1,
-        tables_are items f ready at e a c.self.inside.tables c.replace.new.tables (c.replace.ensures ∙ ap (λ (t : Option TableRows). unwrap_or t c.self.inside.tables) c.into_parts-filed.ensures.tables) c.self.invariant.3,
-        held_are items f ready at e a c.next_receipt-receipt.result (held_in c.self.inside.file) (held_in c.hold.new.file)
-            (c.hold.ensures.held ∙ ap (λ (d : Deed). with_deed c.next_receipt-receipt.result d (held_in c.self.inside.file)) c.into_parts-filed.ensures.deed)
-            (c.next_receipt-receipt.ensures ∙ ap next_receipt back)
-            c.self.invariant.4,
+      answered items f ready at e a c.self.invariant.0,
+      members_are items f ready at e a c.self.inside.members.items c.enrol.new.members.items roster c.self.invariant.1,
+      members_within items f ready at e a c.self.inside.members.items (vec_len c.enrol.new.members) (c.enrol.ensures.count ∙ ap (λ (d : Deed). length (with_enrolled d (reverse c.self.inside.members.items))) c.into_parts-filed.ensures.deed) c.self.invariant.1,
+      tables_are items f ready at e a c.self.inside.tables c.replace.new.tables (c.replace.ensures ∙ ap (λ (t : Option TableRows). unwrap_or t c.self.inside.tables) c.into_parts-filed.ensures.tables) c.self.invariant.3,
+      held_are items f ready at e a c.next_receipt-receipt.result (held_in c.self.inside.file) (held_in c.hold.new.file)
+          (c.hold.ensures.held ∙ ap (λ (d : Deed). with_deed c.next_receipt-receipt.result d (held_in c.self.inside.file)) c.into_parts-filed.ensures.deed)
+          (c.next_receipt-receipt.ensures ∙ ap next_receipt back)
+          c.self.invariant.4,
     )
 
 pub returns-clause-used : goal.returns-clause-used
@@ -39,14 +39,14 @@ returns-clause-used c =
     let file = c.self.inside.file in
     let held = c.hold.new.file in
     subst (λ (r : Room). UsesRoom c.args.prepared.deed r (record {
-        entries = vec_capacity c.push_reserved.new.self - vec_len c.push_reserved.new.self;
-        callers = vec_capacity c.enrol.new.members - vec_len c.enrol.new.members;
-        observations = held.observation_room;
-        tracklets = held.tracklet_room;
+      entries = vec_capacity c.push_reserved.new.self - vec_len c.push_reserved.new.self;
+      callers = vec_capacity c.enrol.new.members - vec_len c.enrol.new.members;
+      observations = held.observation_room;
+      tracklets = held.tracklet_room;
     })) (ap (λ (o : Office). o.spare) c.self.view_is)
     (used c.args.prepared.deed (vec_capacity c.self.inside.filed) (vec_capacity c.push_reserved.new.self) (vec_len c.self.inside.filed) (vec_len c.push_reserved.new.self)
-        (vec_capacity c.self.inside.members) (vec_capacity c.enrol.new.members) (vec_len c.self.inside.members) (vec_len c.enrol.new.members)
-        file.observation_room held.observation_room file.tracklet_room held.tracklet_room
-        c.push_reserved.ensures.capacity c.enrol.ensures.room c.push_reserved.ensures.len c.enrol.ensures.no_fewer c.enrol.ensures.one_more
-        (subst (λ (d : Deed). file.observation_room ≤ held.observation_room + added_by d) deed c.hold.ensures.observations)
-        (subst (λ (d : Deed). file.tracklet_room ≤ held.tracklet_room + added_by d) deed c.hold.ensures.tracklets))
+    (vec_capacity c.self.inside.members) (vec_capacity c.enrol.new.members) (vec_len c.self.inside.members) (vec_len c.enrol.new.members)
+    file.observation_room held.observation_room file.tracklet_room held.tracklet_room
+    c.push_reserved.ensures.capacity c.enrol.ensures.room c.push_reserved.ensures.len c.enrol.ensures.no_fewer c.enrol.ensures.one_more
+    (subst (λ (d : Deed). file.observation_room ≤ held.observation_room + added_by d) deed c.hold.ensures.observations)
+    (subst (λ (d : Deed). file.tracklet_room ≤ held.tracklet_room + added_by d) deed c.hold.ensures.tracklets))

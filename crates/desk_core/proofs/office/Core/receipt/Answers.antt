@@ -14,10 +14,10 @@ returns-in-Some c =
     let found = c.in-Some.ensures.found in
     c.text_or_refusal.ensures (told past c.args.caller (query.Receipt c.args.number))
     (if_made c.kept_answer.result
-        (λ text. (k : Kept) → IsFiledAt c.filed-filed.result.now c.in-Some.place k → text ≡ entry_answer k.before k.entry)
-        (λ text. told past c.args.caller (query.Receipt c.args.number) ≡ Ok text)
-        (λ text given. receipt_found past c.args.caller c.args.number found.0 text (sym (ap (λ (h : List Entry). kept h c.args.caller c.args.number) c.filed-filed.ensures.history) ∙ found.1) (given found.0 found.2))
-        c.kept_answer.ensures)
+    (λ text. (k : Kept) → IsFiledAt c.filed-filed.result.now c.in-Some.place k → text ≡ entry_answer k.before k.entry)
+    (λ text. told past c.args.caller (query.Receipt c.args.number) ≡ Ok text)
+    (λ text given. receipt_found past c.args.caller c.args.number found.0 text (sym (ap (λ (h : List Entry). kept h c.args.caller c.args.number) c.filed-filed.ensures.history) ∙ found.1) (given found.0 found.2))
+    c.kept_answer.ensures)
 
 pub returns-in-None : goal.returns-in-None
 returns-in-None c =

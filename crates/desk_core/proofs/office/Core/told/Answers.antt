@@ -13,5 +13,5 @@ returns-in-Tally c =
     subst (λ (q : Query). IsDue (told past c.args.caller q) c.text_or_refusal.result) (sym c.in-Tally.is)
     (c.text_or_refusal.ensures (told past c.args.caller query.Tally)
     (if_made c.tally_answer.result (λ text. text ≡ tally_text c.tally.result) (λ text. told past c.args.caller query.Tally ≡ Ok text)
-        (λ text is. tally_told past c.args.caller 0 text (is ∙ ap tally_text c.tally.ensures))
-        c.tally_answer.ensures))
+    (λ text is. tally_told past c.args.caller 0 text (is ∙ ap tally_text c.tally.ensures))
+    c.tally_answer.ensures))
