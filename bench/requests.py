@@ -1,6 +1,6 @@
 #!/usr/bin/env python3
-"""Makes two sessions and runs the built program on each: one of the office's setup and 20,000 small requests, batches of two
-lines each; and one in which the founder enters 400 stations, and the lines of 16 batches name each of them in turn. Prints the
+"""Makes two sessions and runs the built program on each: one of the office's setup and 10,000 small requests, batches of two
+lines each; and one in which the founder enters 400 stations, and the lines of 4 batches name each of them in turn. Prints the
 seconds, the requests and megabytes a second and the peak memory, the best of three runs, and checks that each line was accepted.
 
 Build the program first: (cd crates/mpc_cli && rt run -- run --key +founder-1 </dev/null). Then: python3 bench/requests.py
@@ -11,9 +11,9 @@ import tempfile
 
 from session import LINES, PROGRAM, SETUP, columns, run
 
-SMALL = 20_000
+SMALL = 10_000
 STATIONS = [f"{letter}{number:02}" for letter in "BCDE" for number in range(100)]
-BATCHES = 16
+BATCHES = 4
 
 
 def framed(key, number, verb, body):
@@ -25,7 +25,8 @@ def small(out):
     for place, (verb, body) in enumerate(SETUP):
         out.write(framed("+founder-1", place + 1, verb, body))
     for request in range(SMALL):
-        body = columns(request % 100, request % 10_000) + columns(request % 100, (request + 1) % 10_000)
+        frame, first = request // 4_900, 2 * (request % 4_900)
+        body = columns(frame, first) + columns(frame, first + 1)
         out.write(framed("observer-1", request + 1, "submit80", body))
     return len(SETUP) + SMALL, 2 * SMALL
 
@@ -40,7 +41,7 @@ def stations(out):
     for batch in range(BATCHES):
         lines = []
         for number in range(LINES):
-            code = STATIONS[(number * 131 + batch) % len(STATIONS)]
+            code = STATIONS[(number // 2 * 131 + batch) % len(STATIONS)]
             lines.append(columns(batch, number)[:77] + code + "\n")
         out.write(framed("observer-1", batch + 1, "submit80", "".join(lines)))
     return len(acts) + BATCHES, BATCHES * LINES

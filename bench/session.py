@@ -1,7 +1,10 @@
 #!/usr/bin/env python3
-"""Makes two sessions, each of the office's setup and 64 frames of good lines: one of 80-column lines, about 0.8 MB a frame,
+"""Makes two sessions, each of the office's setup and some frames of good lines: one of 80-column lines, about 0.8 MB a frame,
 and one of ADES in PSV form, about 0.6 MB a frame. Runs the built program on each, and prints its megabytes per second and its
 peak memory beside those of `wc -l` and `sha256sum` on the same file in the same run.
+
+Two lines each are of one name and one night, so that each line is accepted. The office searches plain lists of its observations,
+so the frames are no more than it carries in some ten seconds: FRAMES, or the first argument.
 
 Build the program first: (cd crates/mpc_cli && rt run -- run --key +founder-1 </dev/null). Then: python3 bench/session.py
 """
@@ -12,7 +15,7 @@ import sys
 import tempfile
 import time
 
-FRAMES = 64
+FRAMES = int(sys.argv[1]) if len(sys.argv) > 1 and sys.argv[1].isdigit() else 6
 LINES = 9876  # 81 bytes each with the line feed: 0.8 MB
 PROGRAM = os.path.join(os.path.dirname(os.path.abspath(__file__)), "../crates/mpc_cli/out/mpc_cli")
 
@@ -28,13 +31,14 @@ HEADER = "# version=2017\ntrkSub|mode|stn|obsTime|ra|dec|astCat|mag|band\n"
 
 
 def columns(frame, number):
-    day = 1 + number % 28
+    pair = number // 2
+    day = 1 + pair % 28
     fraction = (number * 7919 + frame) % 100000
     seconds = number % 60
     minutes = (number // 60) % 60
     arc = (number * 31 + frame) % 100
     text = (
-        f"     W{frame:02}{number:04}  C2024 03 {day:02}.{fraction:05} "
+        f"     W{frame:02}{pair:04}  C2024 03 {day:02}.{fraction:05} "
         f"06 {minutes:02} {seconds:02}.{arc:02} +23 {minutes:02} {seconds:02}.{arc % 10} "
         f"         19.{arc % 10} V      703"
     )
@@ -43,13 +47,15 @@ def columns(frame, number):
 
 
 def fields(frame, number):
-    day = 1 + number % 28
+    pair = number // 2
+    day = 1 + pair % 28
     seconds = number % 60
     minutes = (number // 60) % 60
     units = (number * 7919 + frame) % 1000000
+    height = (pair * 7919 + frame) % 1000000
     return (
-        f"W{frame:02}{number:04}|CCD|703|2024-03-{day:02}T06:{minutes:02}:{seconds:02}Z"
-        f"|93.{units:06}|+23.{units:06}|Gaia3|19.{number % 10}|V\n"
+        f"W{frame:02}{pair:04}|CCD|703|2024-03-{day:02}T06:{minutes:02}:{seconds:02}Z"
+        f"|93.{units:06}|+23.{height:06}|Gaia3|19.{number % 10}|V\n"
     )
 
 
