@@ -4,7 +4,10 @@ and one of ADES in PSV form, about 0.6 MB a frame. Runs the built program on eac
 peak memory beside those of `wc -l` and `sha256sum` on the same file in the same run.
 
 Two lines each are of one name and one night, so that each line is accepted. The office searches plain lists of its observations,
-so the frames are no more than it carries in some ten seconds: FRAMES, or the first argument.
+so the frames are no more than it carries in some ten seconds: 4, or the first argument.
+
+With the argument `strangers` the station isn't entered, and 64 frames come: each line is read, judged and refused as T1, so that the
+time is that of reading, judging and answering alone.
 
 Build the program first: (cd crates/mpc_cli && rt run -- run --key +founder-1 </dev/null). Then: python3 bench/session.py
 """
@@ -15,7 +18,8 @@ import sys
 import tempfile
 import time
 
-FRAMES = int(sys.argv[1]) if len(sys.argv) > 1 and sys.argv[1].isdigit() else 6
+STRANGERS = "strangers" in sys.argv[1:]
+FRAMES = 64 if STRANGERS else int(sys.argv[1]) if len(sys.argv) > 1 and sys.argv[1].isdigit() else 4
 LINES = 9876  # 81 bytes each with the line feed: 0.8 MB
 PROGRAM = os.path.join(os.path.dirname(os.path.abspath(__file__)), "../crates/mpc_cli/out/mpc_cli")
 
@@ -62,7 +66,8 @@ def fields(frame, number):
 def make(path, verb):
     with open(path, "w", newline="") as out:
         for place, (act, body) in enumerate(SETUP):
-            out.write(f"+founder-1 {place + 1} {act} {len(body)}\n{body}")
+            if not (STRANGERS and act == "station"):
+                out.write(f"+founder-1 {place + 1} {act} {len(body)}\n{body}")
         for frame in range(FRAMES):
             if verb == "submit80":
                 body = "".join(columns(frame, number) for number in range(LINES))
@@ -94,9 +99,9 @@ def measure(path, verb):
         name = os.path.basename(words[0])
         print(f"{name:10} {size / 1e6 / seconds:8.1f} MB/s   peak {peak / 1e3:7.1f} MB, {peak * 1024 / size:.2f} bytes a byte")
         if name == "mpc_cli":
-            accepted = text.count(b" obs ")
-            if accepted != FRAMES * LINES:
-                sys.exit(f"{accepted} lines were accepted, not {FRAMES * LINES}")
+            answered = text.count(b" refused T1\n" if STRANGERS else b" obs ")
+            if answered != FRAMES * LINES:
+                sys.exit(f"{answered} lines were answered so, not {FRAMES * LINES}")
 
 
 def main():
