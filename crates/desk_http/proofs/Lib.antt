@@ -1,0 +1,5 @@
+pub mod Cuts
+pub mod Fields
+pub mod Messages
+pub mod Scans
+pub mod Fronts

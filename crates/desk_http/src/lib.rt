@@ -1,0 +1,25 @@
+//! HTTP requests out of a source of bytes, and answers into a sink.
+//!
+//! A source gives its bytes in whatever pieces it likes. A `Wire` takes the messages that they make, one
+//! after the other, through one buffer; `write_reply` writes the answer to one.
+#![tactic(auto)]
+
+mod head;
+pub mod laws;
+mod route;
+mod scan;
+
+pub use head::{Front, HeadParts, read_head};
+pub use route::Asked;
+
+/// The most bytes that a head has, with the empty lines in front of it.
+pub const HEAD_BYTES: usize = 8_192;
+
+/// The most fields that a head has.
+pub const HEAD_FIELDS: usize = 32;
+
+/// The most digits that a Content-Length has.
+pub const LENGTH_DIGITS: usize = 10;
+
+/// The most digits that the number of an act has.
+pub const NUMBER_DIGITS: usize = 18;
