@@ -12,7 +12,7 @@ use Rattle.desk_http.specs.Heads.{said_of, said_by, fields_of, IsHead, NeverMess
 use Rattle.desk_http.proofs.Messages.{never_bad, never_long}
 
 -- a head has bytes
-some_bytes : (h : RequestHead) → IsRequestHead h → 0 < length (print_request h)
+pub some_bytes : (h : RequestHead) → IsRequestHead h → 0 < length (print_request h)
 some_bytes h good =
     let lines : List ℕ = print_end h.line_end ++ (print_section h.fields h.last ++ []) in
     let target : List ℕ = h.target ++ 32 ∷ (print_version h.minor ++ lines) in

@@ -5,12 +5,18 @@
 #![tactic(auto)]
 
 mod head;
+mod heard;
 pub mod laws;
+mod replies;
 mod route;
 mod scan;
+mod wire;
 
 pub use head::{Front, HeadParts, read_head};
+pub use heard::Heard;
+pub use replies::{SendFault, write_reply};
 pub use route::Asked;
+pub use wire::Wire;
 
 /// The most bytes that a head has, with the empty lines in front of it.
 pub const HEAD_BYTES: usize = 8_192;
@@ -23,3 +29,6 @@ pub const LENGTH_DIGITS: usize = 10;
 
 /// The most digits that the number of an act has.
 pub const NUMBER_DIGITS: usize = 18;
+
+/// How many bytes are read ahead at most: the size of a wire's buffer.
+pub const BUFFER_BYTES: usize = 65_536;
