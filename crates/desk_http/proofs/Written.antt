@@ -26,5 +26,29 @@ module _ (old new : Option (List ℕ)) (head text answer : List ℕ) (joined : a
       (length head + n, omega (arith, part.1, ap length joined, length-append head text), subst (Appends old new) (sym same) (Appends-trans old mid new head (take n text) before part.2))
 
 -- what follows a text that was put behind another
-pub put_behind : (new old text rest : List ℕ) → new ≡ old ++ text → new ++ rest ≡ old ++ (text ++ rest)
+put_behind : (new old text rest : List ℕ) → new ≡ old ++ text → new ++ rest ≡ old ++ (text ++ rest)
 put_behind new old text rest same = ap (λ (t : List ℕ). t ++ rest) same ∙ append_assoc old text rest
+
+-- nine texts, put one behind the other
+pub nine_put : (h0 h1 h2 h3 h4 h5 h6 h7 h8 h9 a b c d e f g h i : List ℕ) → h0 ≡ []
+    → h1 ≡ h0 ++ a
+    → h2 ≡ h1 ++ b
+    → h3 ≡ h2 ++ c
+    → h4 ≡ h3 ++ d
+    → h5 ≡ h4 ++ e
+    → h6 ≡ h5 ++ f
+    → h7 ≡ h6 ++ g
+    → h8 ≡ h7 ++ h
+    → h9 ≡ h8 ++ i
+    → h9 ≡ a ++ (b ++ (c ++ (d ++ (e ++ (f ++ (g ++ (h ++ i)))))))
+nine_put h0 h1 h2 h3 h4 h5 h6 h7 h8 h9 a b c d e f g h i none e1 e2 e3 e4 e5 e6 e7 e8 e9 =
+    e9
+    ∙ put_behind h8 h7 h (i) e8
+    ∙ put_behind h7 h6 g (h ++ i) e7
+    ∙ put_behind h6 h5 f (g ++ (h ++ i)) e6
+    ∙ put_behind h5 h4 e (f ++ (g ++ (h ++ i))) e5
+    ∙ put_behind h4 h3 d (e ++ (f ++ (g ++ (h ++ i)))) e4
+    ∙ put_behind h3 h2 c (d ++ (e ++ (f ++ (g ++ (h ++ i))))) e3
+    ∙ put_behind h2 h1 b (c ++ (d ++ (e ++ (f ++ (g ++ (h ++ i)))))) e2
+    ∙ put_behind h1 h0 a (b ++ (c ++ (d ++ (e ++ (f ++ (g ++ (h ++ i))))))) e1
+    ∙ ap (λ (t : List ℕ). t ++ (a ++ (b ++ (c ++ (d ++ (e ++ (f ++ (g ++ (h ++ i))))))))) none
