@@ -111,9 +111,9 @@ one_stream bytes (m ∷ ms) [] x y a b = absurd (b.1 m a.0 (subst (λ (t : List 
 one_stream bytes (m ∷ ms) (n ∷ ns) x y a b =
     let same = one_message bytes m n a.0 b.0 a.1 b.1 in
     let after = behind_one n.parts.closes a.0 ms ns x y
-        (subst (λ (closes : Bool). Behind closes ((ms ≡ []) × (a.0 ≡ x)) (IsStream a.0 ms x)) (ap (λ (k : Message). k.parts.closes) same.0) a.2)
-        (subst (λ (middle : List ℕ). Behind n.parts.closes ((ns ≡ []) × (middle ≡ y)) (IsStream middle ns y)) (sym same.1) b.2)
-        (λ p q. one_stream a.0 ms ns x y p q) in
+    (subst (λ (closes : Bool). Behind closes ((ms ≡ []) × (a.0 ≡ x)) (IsStream a.0 ms x)) (ap (λ (k : Message). k.parts.closes) same.0) a.2)
+    (subst (λ (middle : List ℕ). Behind n.parts.closes ((ns ≡ []) × (middle ≡ y)) (IsStream middle ns y)) (sym same.1) b.2)
+    (λ p q. one_stream a.0 ms ns x y p q) in
     (λ i. same.0 i ∷ after.0 i, after.1)
   where
     behind_one : (closes : Bool) (middle : List ℕ) (ms ns : List Message) (x y : List ℕ)

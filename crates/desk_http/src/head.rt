@@ -124,7 +124,10 @@ fn is_uncoded(bytes: &[u8], headers: &[HeaderSpan]) -> bool
     requires { All (IsHeaderWithin (length bytes.now)) headers.now }
     ensures { result ≡ is_some (uncoded (values_named (codes "transfer-encoding") (map (header_bytes bytes.now) headers.now))) }
 {
-    matches!(&field_named(bytes, headers, b"transfer-encoding"), Named::Absent)
+    matches!(
+        &field_named(bytes, headers, b"transfer-encoding"),
+        Named::Absent
+    )
 }
 
 // Whether a part of Connection is `close`.

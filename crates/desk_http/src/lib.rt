@@ -10,6 +10,8 @@ pub mod laws;
 mod replies;
 mod route;
 mod scan;
+#[cfg(test)]
+mod tests;
 mod wire;
 
 pub use head::{Front, HeadParts, read_head};

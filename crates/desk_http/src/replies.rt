@@ -129,7 +129,12 @@ fn send<K: Sink>(sink: &mut K, status: u16, text: &[u8], last: bool) -> Result<(
 ///
 /// The sink failed, and took a front of the answer and not all of it; or memory was refused, and nothing
 /// was written.
-pub fn write_reply<K: Sink>(alloc: Global, sink: &mut K, reply: &Reply, last: bool) -> Result<(), SendFault>
+pub fn write_reply<K: Sink>(
+    alloc: Global,
+    sink: &mut K,
+    reply: &Reply,
+    last: bool,
+) -> Result<(), SendFault>
     ensures sent { IsSent (K.taken sink.old) (K.taken sink.new) (answer_of reply.now last) result }
     // It is `WriteFault` where the sink failed in this call, and another answer where it didn't.
     ensures faults { CountsSent (K.faults sink.old) (K.faults sink.new) result }
@@ -144,7 +149,12 @@ pub fn write_reply<K: Sink>(alloc: Global, sink: &mut K, reply: &Reply, last: bo
 }
 
 // The answer of a refusal.
-fn write_refusal<K: Sink>(alloc: Global, sink: &mut K, refusal: &Refusal, last: bool) -> Result<(), SendFault>
+fn write_refusal<K: Sink>(
+    alloc: Global,
+    sink: &mut K,
+    refusal: &Refusal,
+    last: bool,
+) -> Result<(), SendFault>
     ensures sent { IsSent (K.taken sink.old) (K.taken sink.new) (answer_text (refusal_status refusal.now) (refusal_text refusal.now) last) result }
     ensures faults { CountsSent (K.faults sink.old) (K.faults sink.new) result }
     ensures memory { IfWanting (Reply.Refused refusal.now) result }
