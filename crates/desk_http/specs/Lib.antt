@@ -1,0 +1,7 @@
+pub mod Scans
+pub mod Heads
+pub mod Fronts
+pub mod Reading
+pub mod Answers
+pub mod ReplyTexts
+pub mod Sent
