@@ -1,6 +1,6 @@
 //! Short texts that take no memory of their own.
 
-ghost use Rattle.std.specs.Prelude.{◌≤◌, length};
+ghost use Rattle.std.specs.Prelude.{◌≡◌, ◌≤◌, List, ℕ, length};
 
 /// The text of a name, of at most 13 bytes.
 #[derive(Clone, Copy, Debug, PartialEq, Eq)]
@@ -26,5 +26,13 @@ impl Label {
             len: text.len() as u8,
             bytes,
         }
+    }
+
+    /// The text of the label.
+    pub fn as_slice(&self) -> &[u8]
+        requires { self.now.len ≤ 13 }
+        ensures { (text : List ℕ) → IsLabelOf text self.now → result.now ≡ text }
+    {
+        &self.bytes[..self.len as usize]
     }
 }

@@ -35,7 +35,7 @@ pub use label::Label;
 pub use name::{Designation, Name, NameFault, is_name};
 pub use number::Number;
 pub use packed::{pack, unpack};
-pub use printed::{print, read, read_half};
+pub use printed::{print, print_half, read, read_half};
 pub use provisional::{Provisional, limit};
 pub use survey::Survey;
 

@@ -4,7 +4,7 @@ ghost use Rattle.std.specs.Prelude.{◌≡◌, ◌↔◌, IfOk};
 ghost use Rattle.packed_names.specs.Judging.{is_in_range, is_half_month, judge, answered};
 ghost use Rattle.packed_names.specs.Labels.{IsLabelOf};
 ghost use Rattle.packed_names.specs.Ranges.{IsName, IsHalfMonth};
-ghost use Rattle.packed_names.specs.Printed.{printed_text, IsPrintedAs, HasPrintedShape, IsPrintedName, IsHalfPrintedAs, HasPrintedHalfShape, IsPrintedHalf};
+ghost use Rattle.packed_names.specs.Printed.{printed_text, half_text, IsPrintedAs, HasPrintedShape, IsPrintedName, IsHalfPrintedAs, HasPrintedHalfShape, IsPrintedHalf};
 ghost use Rattle.packed_names.specs.PrintedReading.{printed_in, half_in};
 ghost use Rattle.packed_names.specs.declared.name.Designation.TheVariants as designations;
 ghost use Rattle.packed_names.specs.declared.name.Name.TheVariants as names;
@@ -15,7 +15,7 @@ use crate::name::{Designation, Name, NameFault, is_half_month, judged};
 use crate::number::Number;
 use crate::survey::Survey;
 use reading::{half_in, number_in, provisional_in, survey_in};
-use writing::{number_text, provisional_text, survey_text};
+use writing::{half_text, number_text, provisional_text, survey_text};
 
 mod reading;
 mod writing;
@@ -116,4 +116,12 @@ pub fn print(name: Name) -> Label
         Name::Designation(Designation::Survey(survey, number)) => survey_text(survey, number),
     };
     Label::of(text.as_slice())
+}
+
+/// The printed form of a half-month, which is in range: the year, a blank and the letter, as `2024 E`.
+pub fn print_half(half: HalfMonth) -> Label
+    requires { IsHalfMonth half }
+    ensures { IsLabelOf (half_text half) result }
+{
+    Label::of(half_text(half).as_slice())
 }

@@ -26,7 +26,7 @@ pub(crate) fn number_text(number: u32) -> ArrayVec<u8, 13>
 
 /// The year and the letter of a half-month.
 #[tactic(auto, unfolding(crate::specs::Printed::half_text))]
-fn half_text(half: HalfMonth) -> ArrayVec<u8, 13>
+pub(crate) fn half_text(half: HalfMonth) -> ArrayVec<u8, 13>
     requires { FitsPrintedHalf half }
     ensures text { result.items ≡ half_text half }
     ensures len { array_vec_len result ≡ 6 }
