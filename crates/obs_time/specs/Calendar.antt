@@ -1,5 +1,5 @@
 -- The date of a day number, and the half-month that it lies in.
-use Rattle.std.specs.Prelude.{ℕ, zero, suc, ◌+◌, ◌-◌, ◌*◌, ◌&&◌, nat_le, if◌then◌else◌, Option, Some, None, ℤ, ◌-ℤ◌, unsigned_abs}
+use Rattle.std.specs.Prelude.{ℕ, zero, suc, ◌+◌, ◌-◌, ◌*◌, ◌<◌, ◌≤◌, ◌&&◌, nat_le, if◌then◌else◌, Option, Some, None, ℤ, ◌-ℤ◌, unsigned_abs}
 use Rattle.std.specs.Int.Signed.{le_z}
 use Rattle.obs_time.specs.Dates.{day_number, day_of}
 use Rattle.obs_time.specs.DateText.{WrittenDate}
@@ -26,12 +26,19 @@ date_of_day day = record {
   day = unsigned_abs (day -ℤ day_number (year_of day) (month_of day) 1) + 1;
 }
 
--- the year and the half-month of a date, as the Minor Planet Center's designations have them: 0 for 1 to 15 January, 1
--- for the rest of January, and so on to 23; nothing outside the years 1925 to 2099
+-- the half-month of a date, as the Minor Planet Center's designations have them: 0 for 1 to 15 January, 1 for the rest of
+-- January, and so on to 23
+abbrev pub half_index : WrittenDate → ℕ
+half_index date = 2 * (date.month - 1) + (if nat_le date.day 15 then 0 else 1)
+
+-- the year and the half-month of a date; nothing outside the years 1925 to 2099
 unfoldable pub half_of : WrittenDate → Option (ℕ × ℕ)
-half_of date =
-    if nat_le 1925 date.year && nat_le date.year 2099 then Some (date.year, 2 * (date.month - 1) + (if nat_le date.day 15 then 0 else 1)) else None
+half_of date = if nat_le 1925 date.year && nat_le date.year 2099 then Some (date.year, half_index date) else None
 
 -- the half-month that a moment lies in
 unfoldable pub half_month_of : ℤ → Option (ℕ × ℕ)
 half_month_of t = half_of (date_of_day (day_of t))
+
+-- a year that has half-months, and one of its half-months
+abbrev pub IsHalf : ℕ × ℕ → Type 0
+IsHalf half = (1925 ≤ half.0) × (half.0 ≤ 2099) × (half.1 < 24)

@@ -1,9 +1,9 @@
 //! Half-months, after which provisional designations are named.
 
-ghost use Rattle.std.specs.Prelude.{◌≡◌, ◌≤◌};
+ghost use Rattle.std.specs.Prelude.{◌≡◌, ◌≤◌, IfSome};
 ghost use Rattle.obs_time.specs.declared.civil.Civil.{Civil};
 ghost use Rattle.obs_time.specs.Dates.{IsCivilOf};
-ghost use Rattle.obs_time.specs.Calendar.{half_of, half_month_of};
+ghost use Rattle.obs_time.specs.Calendar.{half_of, half_month_of, IsHalf};
 ghost use Rattle.obs_time.specs.Written.{date_part};
 
 use crate::{Civil, Instant, civil_of};
@@ -23,6 +23,7 @@ const LAST_DAY_OF_FIRST_HALF: u8 = 15;
 pub fn half_month(t: Instant) -> Option<(u16, u8)>
     ensures exact { result ≡ half_month_of t }
     ensures half { (civil : Civil) → IsCivilOf t civil → result ≡ half_of (date_part civil) }
+    ensures range { IfSome result IsHalf }
 {
     half_of(civil_of(t))
 }
@@ -31,7 +32,8 @@ pub fn half_month(t: Instant) -> Option<(u16, u8)>
 #[tactic(auto, unfolding(crate::specs::Calendar::half_of))]
 fn half_of(civil: Civil) -> Option<(u16, u8)>
     requires { (1 ≤ civil.month) × (civil.month ≤ 12) }
-    ensures { result ≡ half_of (date_part civil) }
+    ensures half { result ≡ half_of (date_part civil) }
+    ensures range { IfSome result IsHalf }
 {
     if civil.year < FIRST_YEAR || civil.year > LAST_YEAR {
         return None;
