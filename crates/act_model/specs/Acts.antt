@@ -1,16 +1,24 @@
 -- The act that a request asks for. It is a function of the verb and the body alone.
-use Rattle.std.specs.Prelude.{ℕ, List, Option, Some, None, Result, Ok, Err, ◌≤ℤ◌}
+use Rattle.std.specs.Prelude.{ℕ, ◌≤◌, List, length, Option, Some, None, Result, Ok, Err, ◌≤ℤ◌}
+use Rattle.packed_names.specs.Ranges.{IsNumber}
 use Rattle.act_bodies.specs.declared.enrol.Enrol.{Enrol as EnrolBody}
 use Rattle.act_bodies.specs.declared.station.Station.{Station as StationBody}
 use Rattle.act_bodies.specs.declared.code.Code.{Code as CodeBody}
+use Rattle.act_bodies.specs.declared.designate.Designate.{Designate as DesignateBody}
+use Rattle.act_bodies.specs.declared.attribute.Attribute.{Attribute as AttributeBody}
+use Rattle.act_bodies.specs.declared.release.Release.{Release as ReleaseBody}
+use Rattle.act_bodies.specs.declared.identify.Identify.{Identify as IdentifyBody}
+use Rattle.act_bodies.specs.declared.separate.Separate.{Separate as SeparateBody}
+use Rattle.act_bodies.specs.declared.verdict.Verdict.{Verdict as VerdictBody}
+use Rattle.act_bodies.specs.declared.number.Number.{Number as NumberBody}
 use Rattle.act_bodies.specs.declared.retract.Retract.{Retract as RetractBody}
-use Rattle.act_bodies.specs.Bodies.{enrol_of, station_of, code_of, retract_of}
+use Rattle.act_bodies.specs.Bodies.{enrol_of, station_of, code_of, designate_of, attribute_of, release_of, identify_of, separate_of, verdict_of, number_of_body, retract_of}
 use Rattle.obs_record.specs.declared.line.Line.{Line}
 use Rattle.obs_record.specs.declared.rule.HeaderFault.{HeaderFault}
 use Rattle.col80_format.specs.Batch.{lines_of}
 use Rattle.ades_psv.specs.Batch.{psv_lines_of}
 use Rattle.act_model.specs.declared.request.Verb.{Verb}
-use Rattle.act_model.specs.declared.request.Verb.TheVariants.{Enrol, Station, Code, Submit80, SubmitPsv, Retract, Receipt, Tally, Unknown}
+use Rattle.act_model.specs.declared.request.Verb.TheVariants.{Enrol, Station, Code, Submit80, SubmitPsv, Designate, Attribute, Release, Identify, Separate, Verdict, Number, Retract, Receipt, Tally, Unknown}
 use Rattle.act_model.specs.declared.act.Act.{Act}
 use Rattle.act_model.specs.declared.act.Act.TheVariants as act
 use Rattle.act_model.specs.declared.heard.Asked.{Asked}
@@ -32,6 +40,27 @@ station_act body = act.Station body.code body.name body.from body.to
 abbrev pub code_act : CodeBody → Act
 code_act body = act.Code body.kind body.letter body.word
 
+abbrev pub designate_act : DesignateBody → Act
+designate_act body = act.Designate body.tracklets
+
+abbrev pub attribute_act : AttributeBody → Act
+attribute_act body = act.Attribute body.tracklet body.to
+
+abbrev pub release_act : ReleaseBody → Act
+release_act body = act.Release body.tracklet
+
+abbrev pub identify_act : IdentifyBody → Act
+identify_act body = act.Identify body.principal body.secondary
+
+abbrev pub separate_act : SeparateBody → Act
+separate_act body = act.Separate body.secondary
+
+abbrev pub verdict_act : VerdictBody → Act
+verdict_act body = act.Verdict body.object body.u body.oppositions
+
+abbrev pub number_act : NumberBody → Act
+number_act body = act.Number body.first body.most
+
 abbrev pub retract_act : RetractBody → Act
 retract_act body = act.Retract body.observation
 
@@ -48,21 +77,27 @@ act_of Station body = read_as station_act (station_of body)
 act_of Code body = read_as code_act (code_of body)
 act_of Submit80 body = Ok (act.Submit80 (lines_of body))
 act_of SubmitPsv body = psv_act (psv_lines_of body)
+act_of Designate body = read_as designate_act (designate_of body)
+act_of Attribute body = read_as attribute_act (attribute_of body)
+act_of Release body = read_as release_act (release_of body)
+act_of Identify body = read_as identify_act (identify_of body)
+act_of Separate body = read_as separate_act (separate_of body)
+act_of Verdict body = read_as verdict_act (verdict_of body)
+act_of Number body = read_as number_act (number_of_body body)
 act_of Retract body = read_as retract_act (retract_of body)
 act_of Receipt body = Err Unread
 act_of Tally body = Err Unread
 act_of Unknown body = Err Unread
 
--- a station's last day isn't before its first
-abbrev pub IsForward : Act → Type 0
-IsForward (act.Enrol key name role) = Unit {0}
-IsForward (act.Station code name from to) = from ≤ℤ to
-IsForward (act.Code kind letter word) = Unit {0}
-IsForward (act.Submit80 lines) = Unit {0}
-IsForward (act.SubmitPsv lines) = Unit {0}
-IsForward (act.Retract observation) = Unit {0}
+-- What reading a body makes sure of: a station's last day isn't before its first; the tracklets that are to become an
+-- object are one at least, and at most 100; and so many numbers are asked for, from a number that can be given.
+abbrev pub IsRead : Act → Type 0
+IsRead (act.Station code name from to) = from ≤ℤ to
+IsRead (act.Designate tracklets) = (1 ≤ length tracklets) × (length tracklets ≤ 100)
+IsRead (act.Number first most) = IsNumber first × (1 ≤ most) × (most ≤ 1000)
+IsRead _ = Unit {0}
 
-abbrev pub IsForwardAsked : Asked → Type 0
-IsForwardAsked (asked.Act act) = IsForward act
-IsForwardAsked (asked.Header fault line) = Unit {0}
-IsForwardAsked (asked.Query query) = Unit {0}
+abbrev pub IsReadAsked : Asked → Type 0
+IsReadAsked (asked.Act act) = IsRead act
+IsReadAsked (asked.Header fault line) = Unit {0}
+IsReadAsked (asked.Query query) = Unit {0}

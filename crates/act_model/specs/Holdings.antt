@@ -1,13 +1,15 @@
 -- The observations and tracklets that the office has, and in which place each observation stands.
-use Rattle.std.specs.Prelude.{ℕ, ◌==◌, Bool, if◌then◌else◌, List, [], ◌∷◌, ◌++◌, Result, Ok, Err}
+use Rattle.std.specs.Prelude.{ℕ, ◌==◌, Bool, if◌then◌else◌, List, [], ◌∷◌, ◌++◌, Option, Some, None, Result, Ok, Err}
+use Rattle.packed_names.specs.declared.name.Designation.{Designation}
+use Rattle.packed_names.specs.declared.name.Designation.TheVariants.{Provisional}
 use Rattle.obs_record.specs.declared.rule.RuleCode.{RuleCode}
 use Rattle.tracklet_file.specs.declared.observation.Observation.{Observation}
 use Rattle.tracklet_file.specs.declared.tracklet.Tracklet.{Tracklet}
 use Rattle.tracklet_file.specs.Numbering.{next_number}
 use Rattle.tracklet_file.specs.Observations.{with_observation, with_retraction}
-use Rattle.tracklet_file.specs.Tracklets.{with_tracklet, is_retracted, is_isolated, is_homed}
+use Rattle.tracklet_file.specs.Tracklets.{with_tracklet, with_home, is_retracted, is_isolated, is_homed}
 use Rattle.act_model.specs.declared.deed.Deed.{Deed}
-use Rattle.act_model.specs.declared.deed.Deed.TheVariants.{Submitted, Retracted}
+use Rattle.act_model.specs.declared.deed.Deed.TheVariants.{Submitted, Designated, Attributed, Released, Retracted}
 use Rattle.act_model.specs.declared.taken.Placed.{Placed}
 use Rattle.act_model.specs.declared.taken.Taken.{Taken}
 use Rattle.act_model.specs.BatchRules.{name_of}
@@ -43,10 +45,21 @@ abbrev pub with_batch : ℕ → List Taken → Holdings → Holdings
 with_batch receipt [] held = held
 with_batch receipt (taken ∷ lines) held = with_batch receipt lines (with_found receipt taken.found held)
 
--- a batch adds its accepted lines, a retraction retracts its observation, and no other deed changes any
+-- tracklets that get a home, one after the other
+abbrev pub with_homes : List Tracklet → List ℕ → Option Designation → List Tracklet
+with_homes tracklets [] home = tracklets
+with_homes tracklets (t ∷ more) home = with_homes (with_home tracklets t home) more home
+
+-- A batch adds its accepted lines, and a retraction retracts its observation. Tracklets that become an object have its
+-- designation as home, one that is added to an object has the named one, and one that is released has none. No other deed
+-- changes any.
 abbrev pub with_deed : ℕ → Deed → Holdings → Holdings
 with_deed receipt (Submitted lines) held = with_batch receipt lines held
 with_deed receipt (Retracted k) held = record held { observations = with_retraction held.observations k }
+with_deed receipt (Designated tracklets given discovery) held =
+    record held { tracklets = with_homes held.tracklets tracklets (Some (Provisional given)) }
+with_deed receipt (Attributed t to) held = record held { tracklets = with_home held.tracklets t (Some to) }
+with_deed receipt (Released t) held = record held { tracklets = with_home held.tracklets t None }
 with_deed receipt _ held = held
 
 -- what the office holds after these deeds

@@ -7,6 +7,10 @@ pub mod Known
 pub mod BatchRules
 pub mod Taken
 pub mod Holdings
+pub mod Designations
+pub mod Discoveries
+pub mod Verdicts
+pub mod Numbers
 pub mod Knowing
 pub mod Roster
 pub mod OfficeTables

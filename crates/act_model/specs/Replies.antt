@@ -1,14 +1,16 @@
 -- What the office answers to an act that it accepted, and the text and status of every reply.
 use Rattle.std.specs.Prelude.{ℕ, ◌+◌, List, [], ◌∷◌, ◌++◌, flat_map, codes, decimal, Result, Ok, Err}
+use Rattle.std.specs.Fmt.{signed_decimal}
+use Rattle.packed_names.specs.declared.name.Designation.TheVariants.{Provisional}
 use Rattle.obs_record.specs.declared.rule.RuleCode.{RuleCode}
 use Rattle.act_model.specs.declared.deed.Deed.{Deed}
-use Rattle.act_model.specs.declared.deed.Deed.TheVariants.{Enrolled, Submitted}
+use Rattle.act_model.specs.declared.deed.Deed.TheVariants.{Enrolled, Submitted, Designated, Numbered}
 use Rattle.act_model.specs.declared.entry.Entry.{Entry}
 use Rattle.act_model.specs.declared.reply.Excess.TheVariants as excess
 use Rattle.act_model.specs.declared.reply.Fault.{Fault}
 use Rattle.act_model.specs.declared.reply.Part.TheVariants as part
 use Rattle.act_model.specs.declared.reply.Refusal.{Refusal}
-use Rattle.act_model.specs.declared.reply.Refusal.TheVariants.{TooLarge, Unread, UnknownKey, OtherRequest, Role, UnknownThing, Header, NoLine, AlreadyRetracted, AlreadyThere, RosterFull, NoMemory}
+use Rattle.act_model.specs.declared.reply.Refusal.TheVariants.{TooLarge, Unread, UnknownKey, OtherRequest, Role, UnknownThing, Header, NoLine, NotIsolated, NotHomed, Empty, OneNight, HalfMonthFull, NotPrincipal, SameObject, BothNumbered, NumberedSecondary, NotSecondary, AlreadyRetracted, NotNext, NoneEligible, NumbersFull, AlreadyThere, RosterFull, NoMemory}
 use Rattle.act_model.specs.declared.reply.Reply.{Reply}
 use Rattle.act_model.specs.declared.reply.Reply.TheVariants.{Done, Refused}
 use Rattle.act_model.specs.declared.reply.Text.{Text}
@@ -21,7 +23,7 @@ use Rattle.act_model.specs.Roster.{members, next_caller}
 use Rattle.act_model.specs.History.{next_receipt}
 use Rattle.act_model.specs.Taken.{accepted_in, refused_in}
 use Rattle.act_model.specs.Observations.{observations}
-use Rattle.act_model.specs.Texts.{line_of, header_name, receipt_line, caller_line, counts_line, accepted_line, refused_line}
+use Rattle.act_model.specs.Texts.{line_of, header_name, receipt_line, caller_line, counts_line, accepted_line, refused_line, designation_text, half_month_text, object_line, number_lines}
 
 -- the answer to a line that was taken in so, where so many observations came before it
 abbrev pub line_answer : ℕ → ℕ → Result Placed RuleCode → List ℕ
@@ -48,6 +50,8 @@ batch_answer receipt before lines =
 abbrev pub deed_answer : ℕ → List Deed → Deed → List ℕ
 deed_answer receipt past (Submitted lines) = batch_answer receipt (observations past) lines
 deed_answer receipt past (Enrolled member) = receipt_line receipt ++ caller_line (next_caller (members past))
+deed_answer receipt past (Designated tracklets given discovery) = receipt_line receipt ++ object_line (Provisional given)
+deed_answer receipt past (Numbered pairs) = receipt_line receipt ++ number_lines pairs
 deed_answer receipt past _ = receipt_line receipt
 
 -- the answer to an entry, worked out at the history before it
@@ -69,11 +73,28 @@ refusal_text UnknownKey = line_of (codes "refused 2 UnknownKey")
 refusal_text (OtherRequest receipt) = line_of (codes "refused 3 OtherRequest receipt " ++ decimal receipt)
 refusal_text Role = line_of (codes "refused 4 Role")
 refusal_text (UnknownThing (thing.Observation k)) = line_of (codes "refused 5 UnknownThing observation " ++ decimal k)
+refusal_text (UnknownThing (thing.Tracklet t)) = line_of (codes "refused 5 UnknownThing tracklet " ++ decimal t)
+refusal_text (UnknownThing (thing.Designation d)) =
+    line_of (codes "refused 5 UnknownThing designation " ++ designation_text d)
 refusal_text (UnknownThing (thing.Receipt number)) = line_of (codes "refused 5 UnknownThing receipt " ++ decimal number)
 refusal_text (Header fault line) =
     line_of (codes "refused 6 Header " ++ header_name fault ++ codes " line " ++ decimal line)
 refusal_text (NoLine faults) = line_of (codes "refused 7 NoLine") ++ fault_lines faults
+refusal_text (NotIsolated t) = line_of (codes "refused 8 NotIsolated " ++ decimal t)
+refusal_text (NotHomed t) = line_of (codes "refused 8 NotHomed " ++ decimal t)
+refusal_text (Empty t) = line_of (codes "refused 8 Empty " ++ decimal t)
+refusal_text (OneNight time) = line_of (codes "refused 8 OneNight " ++ signed_decimal time)
+refusal_text (HalfMonthFull half limit) =
+    line_of (codes "refused 9 HalfMonthFull " ++ half_month_text half ++ codes " " ++ decimal limit)
+refusal_text (NotPrincipal d) = line_of (codes "refused 10 NotPrincipal " ++ designation_text d)
+refusal_text SameObject = line_of (codes "refused 10 SameObject")
+refusal_text BothNumbered = line_of (codes "refused 10 BothNumbered")
+refusal_text NumberedSecondary = line_of (codes "refused 10 NumberedSecondary")
+refusal_text (NotSecondary d) = line_of (codes "refused 10 NotSecondary " ++ designation_text d)
 refusal_text (AlreadyRetracted k) = line_of (codes "refused 11 AlreadyRetracted " ++ decimal k)
+refusal_text (NotNext next) = line_of (codes "refused 12 NotNext " ++ decimal next)
+refusal_text NoneEligible = line_of (codes "refused 12 NoneEligible")
+refusal_text NumbersFull = line_of (codes "refused 12 NumbersFull")
 refusal_text AlreadyThere = line_of (codes "refused 13 AlreadyThere")
 refusal_text RosterFull = line_of (codes "refused 13 RosterFull")
 refusal_text NoMemory = line_of (codes "refused 17 NoMemory")
@@ -96,7 +117,20 @@ refusal_status Role = 403
 refusal_status (UnknownThing thing) = 404
 refusal_status (Header fault line) = 422
 refusal_status (NoLine faults) = 422
+refusal_status (NotIsolated t) = 409
+refusal_status (NotHomed t) = 409
+refusal_status (Empty t) = 409
+refusal_status (OneNight time) = 409
+refusal_status (HalfMonthFull half limit) = 409
+refusal_status (NotPrincipal d) = 409
+refusal_status SameObject = 409
+refusal_status BothNumbered = 409
+refusal_status NumberedSecondary = 409
+refusal_status (NotSecondary d) = 409
 refusal_status (AlreadyRetracted k) = 409
+refusal_status (NotNext next) = 409
+refusal_status NoneEligible = 409
+refusal_status NumbersFull = 409
 refusal_status AlreadyThere = 409
 refusal_status RosterFull = 409
 refusal_status NoMemory = 507

@@ -1,7 +1,7 @@
 -- Requests: their verbs and their bodies.
 use Rattle.std.specs.Prelude.{ℕ, ◌==◌, Bool, true, false, bytes_eq, codes, if◌then◌else◌, List, length, nat_lt, count_by}
 use Rattle.act_model.specs.declared.request.Verb.{Verb}
-use Rattle.act_model.specs.declared.request.Verb.TheVariants.{Enrol, Station, Code, Submit80, SubmitPsv, Retract, Receipt, Tally, Unknown}
+use Rattle.act_model.specs.declared.request.Verb.TheVariants.{Enrol, Station, Code, Submit80, SubmitPsv, Designate, Attribute, Release, Identify, Separate, Verdict, Number, Retract, Receipt, Tally, Unknown}
 use Rattle.act_model.specs.declared.request.Body.{Body}
 use Rattle.act_model.specs.declared.request.Body.TheVariants.{Whole, TooLong}
 use Rattle.act_model.specs.declared.request.TheConstants.{BODY_BYTES}
@@ -14,10 +14,17 @@ verb_of word =
     else (if bytes_eq word (codes "code") then Code
     else (if bytes_eq word (codes "submit80") then Submit80
     else (if bytes_eq word (codes "submitpsv") then SubmitPsv
+    else (if bytes_eq word (codes "designate") then Designate
+    else (if bytes_eq word (codes "attribute") then Attribute
+    else (if bytes_eq word (codes "release") then Release
+    else (if bytes_eq word (codes "identify") then Identify
+    else (if bytes_eq word (codes "separate") then Separate
+    else (if bytes_eq word (codes "verdict") then Verdict
+    else (if bytes_eq word (codes "number") then Number
     else (if bytes_eq word (codes "retract") then Retract
     else (if bytes_eq word (codes "receipt") then Receipt
     else (if bytes_eq word (codes "tally") then Tally
-    else Unknown)))))))
+    else Unknown))))))))))))))
 
 -- a verb that names nothing
 abbrev pub is_unknown : Verb → Bool
@@ -26,6 +33,13 @@ is_unknown Station = false
 is_unknown Code = false
 is_unknown Submit80 = false
 is_unknown SubmitPsv = false
+is_unknown Designate = false
+is_unknown Attribute = false
+is_unknown Release = false
+is_unknown Identify = false
+is_unknown Separate = false
+is_unknown Verdict = false
+is_unknown Number = false
 is_unknown Retract = false
 is_unknown Receipt = false
 is_unknown Tally = false
@@ -38,6 +52,13 @@ is_act Station = true
 is_act Code = true
 is_act Submit80 = true
 is_act SubmitPsv = true
+is_act Designate = true
+is_act Attribute = true
+is_act Release = true
+is_act Identify = true
+is_act Separate = true
+is_act Verdict = true
+is_act Number = true
 is_act Retract = true
 is_act Receipt = false
 is_act Tally = false
@@ -50,6 +71,13 @@ is_officers Station = true
 is_officers Code = true
 is_officers Submit80 = false
 is_officers SubmitPsv = false
+is_officers Designate = true
+is_officers Attribute = true
+is_officers Release = true
+is_officers Identify = true
+is_officers Separate = true
+is_officers Verdict = true
+is_officers Number = true
 is_officers Retract = false
 is_officers Receipt = false
 is_officers Tally = false
@@ -62,6 +90,13 @@ verb_code Station = 2
 verb_code Code = 3
 verb_code Submit80 = 4
 verb_code SubmitPsv = 5
+verb_code Designate = 6
+verb_code Attribute = 7
+verb_code Release = 8
+verb_code Identify = 9
+verb_code Separate = 10
+verb_code Verdict = 11
+verb_code Number = 12
 verb_code Retract = 13
 verb_code Receipt = 0
 verb_code Tally = 0

@@ -1,5 +1,12 @@
 -- The lines of which answers are made. Each ends in a line feed.
-use Rattle.std.specs.Prelude.{ℕ, List, [], ◌∷◌, ◌++◌, codes, decimal}
+use Rattle.std.specs.Prelude.{ℕ, if◌then◌else◌, List, [], ◌∷◌, ◌++◌, flat_map, codes, decimal}
+use Rattle.packed_names.specs.declared.half_month.HalfMonth.{HalfMonth}
+use Rattle.packed_names.specs.declared.name.Designation.{Designation}
+use Rattle.packed_names.specs.declared.name.Name.TheVariants as names
+use Rattle.packed_names.specs.Judging.{is_in_range, is_half_month}
+use Rattle.packed_names.specs.Packed.{packed_text}
+use Rattle.packed_names.specs.Printed.{printed_text, half_text}
+use Rattle.numbering_core.specs.declared.numbering.Numbering.{Numbering}
 use Rattle.obs_record.specs.declared.rule.RuleCode.{RuleCode}
 use Rattle.obs_record.specs.declared.rule.HeaderFault.{HeaderFault}
 use Rattle.obs_record.specs.declared.rule.HeaderFault.TheVariants.{H1, H2, H3, H4, H5}
@@ -40,3 +47,27 @@ count_line name count = line_of (name ++ decimal count)
 -- `line N refused S1`: the rule that the line broke first
 abbrev pub refused_line : ℕ → RuleCode → List ℕ
 refused_line number rule = line_of (codes "line " ++ decimal number ++ codes " refused " ++ rule_name rule)
+
+-- ---- names
+
+-- the printed and the packed form of a designation; none of a value that is no designation
+abbrev pub designation_text : Designation → List ℕ
+designation_text d = if is_in_range (names.Designation d) then printed_text (names.Designation d) else []
+
+abbrev pub packed_designation : Designation → List ℕ
+packed_designation d = if is_in_range (names.Designation d) then packed_text (names.Designation d) else []
+
+-- the printed form of a half-month; none of a value that is no half-month
+abbrev pub half_month_text : HalfMonth → List ℕ
+half_month_text half = if is_half_month half then half_text half else []
+
+-- `object D Q`: the designation that was given to an object, printed and packed
+abbrev pub object_line : Designation → List ℕ
+object_line d = line_of (codes "object " ++ designation_text d ++ codes " " ++ packed_designation d)
+
+-- `number N D`: the number that was given to an object
+abbrev pub number_line : Numbering → List ℕ
+number_line n = line_of (codes "number " ++ decimal n.number.0 ++ codes " " ++ designation_text n.designation)
+
+abbrev pub number_lines : List Numbering → List ℕ
+number_lines numbered = flat_map number_line numbered

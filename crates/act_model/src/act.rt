@@ -1,13 +1,18 @@
 ghost use Rattle.std.specs.Prelude.{◌≡◌, ℕ, ◌<◌, length, Ok, Err, IfOk};
 ghost use Rattle.obs_record.specs.declared.rule.HeaderFault.{HeaderFault};
-ghost use Rattle.act_model.specs.Acts.{act_of, IsForward};
+ghost use Rattle.act_model.specs.Acts.{act_of, IsRead};
 
 use crate::request::Verb;
-use act_bodies::{BodyFault, Key, Rank, read_code, read_enrol, read_retract, read_station};
+use act_bodies::{
+    BodyFault, Ids, Key, Rank, read_attribute, read_code, read_designate, read_enrol,
+    read_identify, read_number, read_release, read_retract, read_separate, read_station,
+    read_verdict,
+};
 use ades_psv::{PsvFault, read_psv};
 use col80_format::split_batch;
 use item_list::Bytes;
 use obs_record::{HeaderFault, Lines, Short};
+use packed_names::Designation;
 use station_tables::Kind;
 use std::alloc::Global;
 
@@ -48,6 +53,42 @@ pub enum Act {
     Submit80(Lines),
     /// The same of a batch of ADES 2017 in its PSV form.
     SubmitPsv(Lines),
+    /// To make these tracklets an object with a new designation. They are 1 to 100 different ones.
+    Designate(Ids),
+    /// To add a tracklet to an object.
+    Attribute {
+        /// The tracklet's number.
+        tracklet: u64,
+        /// A designation of the object.
+        to: Designation,
+    },
+    /// To take the tracklet with this number out of its object.
+    Release(u64),
+    /// To make two objects one.
+    Identify {
+        /// The designation by which both will be known.
+        principal: Designation,
+        /// The designation of the other object.
+        secondary: Designation,
+    },
+    /// To make this secondary designation an object of its own again.
+    Separate(Designation),
+    /// To enter how well an object's orbit is known.
+    Verdict {
+        /// The principal designation of the object.
+        object: Designation,
+        /// The uncertainty parameter U of the Minor Planet Center, 0 to 9, the smaller the better.
+        u: u8,
+        /// At how many oppositions the object was observed, 1 to 255.
+        oppositions: u8,
+    },
+    /// To number objects whose orbits are known well.
+    Number {
+        /// The first number to be given, 1 to 15,396,335.
+        first: u32,
+        /// How many numbers are to be given at most, 1 to 1,000.
+        most: u32,
+    },
     /// To retract the observation with this number, for good.
     Retract(u64),
 }
@@ -83,7 +124,7 @@ fn read_enrolment(alloc: Global, body: &[u8]) -> Result<Act, ActFault>
     ensures act { IfOk result (λ act. act_of Verb.Enrol body.now ≡ Ok act) }
     ensures unread { result ≡ Err ActFault.Unread → act_of Verb.Enrol body.now ≡ Err ActFault.Unread }
     ensures plain { (fault : HeaderFault) (line : ℕ) → result ≡ Err (ActFault.Header fault line) → ⊥ }
-    ensures forward { IfOk result IsForward }
+    ensures read { IfOk result IsRead }
 {
     match read_enrol(alloc, body) {
         Ok(enrol) => Ok(Act::Enrol {
@@ -100,7 +141,7 @@ fn read_station_row(alloc: Global, body: &[u8]) -> Result<Act, ActFault>
     ensures act { IfOk result (λ act. act_of Verb.Station body.now ≡ Ok act) }
     ensures unread { result ≡ Err ActFault.Unread → act_of Verb.Station body.now ≡ Err ActFault.Unread }
     ensures plain { (fault : HeaderFault) (line : ℕ) → result ≡ Err (ActFault.Header fault line) → ⊥ }
-    ensures forward { IfOk result IsForward }
+    ensures read { IfOk result IsRead }
 {
     match read_station(alloc, body) {
         Ok(station) => {
@@ -121,7 +162,7 @@ fn read_code_row(alloc: Global, body: &[u8]) -> Result<Act, ActFault>
     ensures act { IfOk result (λ act. act_of Verb.Code body.now ≡ Ok act) }
     ensures unread { result ≡ Err ActFault.Unread → act_of Verb.Code body.now ≡ Err ActFault.Unread }
     ensures plain { (fault : HeaderFault) (line : ℕ) → result ≡ Err (ActFault.Header fault line) → ⊥ }
-    ensures forward { IfOk result IsForward }
+    ensures read { IfOk result IsRead }
 {
     match read_code(alloc, body) {
         Ok(code) => Ok(Act::Code {
@@ -134,11 +175,115 @@ fn read_code_row(alloc: Global, body: &[u8]) -> Result<Act, ActFault>
 }
 
 #[tactic(auto, unfolding(crate::specs::Acts::act_of))]
+fn read_designation(alloc: Global, body: &[u8]) -> Result<Act, ActFault>
+    ensures act { IfOk result (λ act. act_of Verb.Designate body.now ≡ Ok act) }
+    ensures unread { result ≡ Err ActFault.Unread → act_of Verb.Designate body.now ≡ Err ActFault.Unread }
+    ensures plain { (fault : HeaderFault) (line : ℕ) → result ≡ Err (ActFault.Header fault line) → ⊥ }
+    ensures read { IfOk result IsRead }
+{
+    match read_designate(alloc, body) {
+        Ok(designate) => Ok(Act::Designate(designate.tracklets)),
+        Err(fault) => Err(unread_body(fault)),
+    }
+}
+
+#[tactic(auto, unfolding(crate::specs::Acts::act_of))]
+fn read_attribution(alloc: Global, body: &[u8]) -> Result<Act, ActFault>
+    ensures act { IfOk result (λ act. act_of Verb.Attribute body.now ≡ Ok act) }
+    ensures unread { result ≡ Err ActFault.Unread → act_of Verb.Attribute body.now ≡ Err ActFault.Unread }
+    ensures plain { (fault : HeaderFault) (line : ℕ) → result ≡ Err (ActFault.Header fault line) → ⊥ }
+    ensures read { IfOk result IsRead }
+{
+    match read_attribute(alloc, body) {
+        Ok(attribute) => Ok(Act::Attribute {
+            tracklet: attribute.tracklet,
+            to: attribute.to,
+        }),
+        Err(fault) => Err(unread_body(fault)),
+    }
+}
+
+#[tactic(auto, unfolding(crate::specs::Acts::act_of))]
+fn read_releasing(alloc: Global, body: &[u8]) -> Result<Act, ActFault>
+    ensures act { IfOk result (λ act. act_of Verb.Release body.now ≡ Ok act) }
+    ensures unread { result ≡ Err ActFault.Unread → act_of Verb.Release body.now ≡ Err ActFault.Unread }
+    ensures plain { (fault : HeaderFault) (line : ℕ) → result ≡ Err (ActFault.Header fault line) → ⊥ }
+    ensures read { IfOk result IsRead }
+{
+    match read_release(alloc, body) {
+        Ok(release) => Ok(Act::Release(release.tracklet)),
+        Err(fault) => Err(unread_body(fault)),
+    }
+}
+
+#[tactic(auto, unfolding(crate::specs::Acts::act_of))]
+fn read_identification(alloc: Global, body: &[u8]) -> Result<Act, ActFault>
+    ensures act { IfOk result (λ act. act_of Verb.Identify body.now ≡ Ok act) }
+    ensures unread { result ≡ Err ActFault.Unread → act_of Verb.Identify body.now ≡ Err ActFault.Unread }
+    ensures plain { (fault : HeaderFault) (line : ℕ) → result ≡ Err (ActFault.Header fault line) → ⊥ }
+    ensures read { IfOk result IsRead }
+{
+    match read_identify(alloc, body) {
+        Ok(identify) => Ok(Act::Identify {
+            principal: identify.principal,
+            secondary: identify.secondary,
+        }),
+        Err(fault) => Err(unread_body(fault)),
+    }
+}
+
+#[tactic(auto, unfolding(crate::specs::Acts::act_of))]
+fn read_separation(alloc: Global, body: &[u8]) -> Result<Act, ActFault>
+    ensures act { IfOk result (λ act. act_of Verb.Separate body.now ≡ Ok act) }
+    ensures unread { result ≡ Err ActFault.Unread → act_of Verb.Separate body.now ≡ Err ActFault.Unread }
+    ensures plain { (fault : HeaderFault) (line : ℕ) → result ≡ Err (ActFault.Header fault line) → ⊥ }
+    ensures read { IfOk result IsRead }
+{
+    match read_separate(alloc, body) {
+        Ok(separate) => Ok(Act::Separate(separate.secondary)),
+        Err(fault) => Err(unread_body(fault)),
+    }
+}
+
+#[tactic(auto, unfolding(crate::specs::Acts::act_of))]
+fn read_judgement(alloc: Global, body: &[u8]) -> Result<Act, ActFault>
+    ensures act { IfOk result (λ act. act_of Verb.Verdict body.now ≡ Ok act) }
+    ensures unread { result ≡ Err ActFault.Unread → act_of Verb.Verdict body.now ≡ Err ActFault.Unread }
+    ensures plain { (fault : HeaderFault) (line : ℕ) → result ≡ Err (ActFault.Header fault line) → ⊥ }
+    ensures read { IfOk result IsRead }
+{
+    match read_verdict(alloc, body) {
+        Ok(verdict) => Ok(Act::Verdict {
+            object: verdict.object,
+            u: verdict.u,
+            oppositions: verdict.oppositions,
+        }),
+        Err(fault) => Err(unread_body(fault)),
+    }
+}
+
+#[tactic(auto, unfolding(crate::specs::Acts::act_of))]
+fn read_numbering(alloc: Global, body: &[u8]) -> Result<Act, ActFault>
+    ensures act { IfOk result (λ act. act_of Verb.Number body.now ≡ Ok act) }
+    ensures unread { result ≡ Err ActFault.Unread → act_of Verb.Number body.now ≡ Err ActFault.Unread }
+    ensures plain { (fault : HeaderFault) (line : ℕ) → result ≡ Err (ActFault.Header fault line) → ⊥ }
+    ensures read { IfOk result IsRead }
+{
+    match read_number(alloc, body) {
+        Ok(number) => Ok(Act::Number {
+            first: number.first,
+            most: number.most,
+        }),
+        Err(fault) => Err(unread_body(fault)),
+    }
+}
+
+#[tactic(auto, unfolding(crate::specs::Acts::act_of))]
 fn read_retraction(alloc: Global, body: &[u8]) -> Result<Act, ActFault>
     ensures act { IfOk result (λ act. act_of Verb.Retract body.now ≡ Ok act) }
     ensures unread { result ≡ Err ActFault.Unread → act_of Verb.Retract body.now ≡ Err ActFault.Unread }
     ensures plain { (fault : HeaderFault) (line : ℕ) → result ≡ Err (ActFault.Header fault line) → ⊥ }
-    ensures forward { IfOk result IsForward }
+    ensures read { IfOk result IsRead }
 {
     match read_retract(alloc, body) {
         Ok(retract) => Ok(Act::Retract(retract.observation)),
@@ -153,7 +298,7 @@ fn read_psv_batch(alloc: Global, body: &[u8]) -> Result<Act, ActFault>
     ensures readable { result ≡ Err ActFault.Unread → act_of Verb.SubmitPsv body.now ≡ Err ActFault.Unread }
     ensures header { (fault : HeaderFault) (line : ℕ) →
         result ≡ Err (ActFault.Header fault line) → act_of Verb.SubmitPsv body.now ≡ Err (ActFault.Header fault line) }
-    ensures forward { IfOk result IsForward }
+    ensures read { IfOk result IsRead }
 {
     match read_psv(alloc, body) {
         Ok(lines) => Ok(Act::SubmitPsv(lines)),
@@ -176,7 +321,7 @@ pub fn read_act(alloc: Global, verb: Verb, body: &[u8]) -> Result<Act, ActFault>
     ensures unread { result ≡ Err ActFault.Unread → act_of verb body.now ≡ Err ActFault.Unread }
     ensures header { (fault : HeaderFault) (line : ℕ) →
         result ≡ Err (ActFault.Header fault line) → act_of verb body.now ≡ Err (ActFault.Header fault line) }
-    ensures forward { IfOk result IsForward }
+    ensures read { IfOk result IsRead }
 {
     match verb {
         Verb::Enrol => read_enrolment(alloc, body),
@@ -187,6 +332,13 @@ pub fn read_act(alloc: Global, verb: Verb, body: &[u8]) -> Result<Act, ActFault>
             Err(_) => Err(ActFault::NoMemory),
         },
         Verb::SubmitPsv => read_psv_batch(alloc, body),
+        Verb::Designate => read_designation(alloc, body),
+        Verb::Attribute => read_attribution(alloc, body),
+        Verb::Release => read_releasing(alloc, body),
+        Verb::Identify => read_identification(alloc, body),
+        Verb::Separate => read_separation(alloc, body),
+        Verb::Verdict => read_judgement(alloc, body),
+        Verb::Number => read_numbering(alloc, body),
         Verb::Retract => read_retraction(alloc, body),
         Verb::Receipt | Verb::Tally | Verb::Unknown => Err(ActFault::Unread),
     }

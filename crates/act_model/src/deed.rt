@@ -1,7 +1,10 @@
 use crate::roster::Member;
 use crate::taken::Taken;
+use act_bodies::Ids;
 use item_list::ItemList;
+use numbering_core::Numbering;
 use obs_record::Short;
+use packed_names::{Designation, Provisional};
 use station_tables::Kind;
 
 /// What an act does where it stands in the history, with all that was worked out there.
@@ -29,6 +32,44 @@ pub enum Deed {
     },
     /// It takes in a batch. These are its observation lines, each with what became of it.
     Submitted(ItemList<Taken>),
+    /// It makes tracklets an object, and gives it a designation.
+    Designated {
+        /// The numbers of the tracklets.
+        tracklets: Ids,
+        /// The designation, the next one of the half-month in which the object was discovered.
+        given: Provisional,
+        /// The number of the observation by which it was discovered.
+        discovery: u64,
+    },
+    /// It adds a tracklet to an object.
+    Attributed {
+        /// The tracklet's number.
+        tracklet: u64,
+        /// A designation of the object.
+        to: Designation,
+    },
+    /// It takes this tracklet out of its object.
+    Released(u64),
+    /// It makes two objects one.
+    Identified {
+        /// The designation by which both are known from then on.
+        principal: Designation,
+        /// The designation by which the other one was known.
+        secondary: Designation,
+    },
+    /// It makes this secondary designation an object of its own again.
+    Separated(Designation),
+    /// It enters how well an object's orbit is known.
+    Judged {
+        /// The principal designation of the object.
+        principal: Designation,
+        /// The uncertainty parameter U of the Minor Planet Center, 0 to 9.
+        u: u8,
+        /// At how many oppositions the object was observed.
+        oppositions: u8,
+    },
+    /// It gives numbers to objects, in their order.
+    Numbered(ItemList<Numbering>),
     /// It retracts this observation, for good.
     Retracted(u64),
     /// It does nothing: what it asks can't be read, or is refused. No history that the office comes to has such an

@@ -2,7 +2,7 @@
 
 ghost use Rattle.std.specs.Prelude.{◌≡◌, true, ◌<◌, length, IfOk};
 ghost use Rattle.act_model.specs.Rows.{IsDue};
-ghost use Rattle.act_model.specs.Acts.{act_of, IsForwardAsked};
+ghost use Rattle.act_model.specs.Acts.{act_of, IsReadAsked};
 ghost use Rattle.act_model.specs.Hearing.{asked_in, asked_of};
 ghost use Rattle.act_model.specs.Queries.{query_of};
 ghost use Rattle.act_model.specs.Requests.{is_act};
@@ -48,7 +48,7 @@ pub struct Heard {
 fn read_asked_act(alloc: Global, verb: Verb, body: &[u8]) -> Result<Asked, Refusal>
     requires { length body.now < 4_294_967_295 }
     ensures due { IsDue (asked_in (act_of verb body.now)) result }
-    ensures forward { IfOk result IsForwardAsked }
+    ensures read { IfOk result IsReadAsked }
 {
     match read_act(alloc, verb, body) {
         Ok(act) => Ok(Asked::Act(act)),
@@ -66,7 +66,7 @@ fn read_asked_act(alloc: Global, verb: Verb, body: &[u8]) -> Result<Asked, Refus
 pub fn read_asked(alloc: Global, verb: Verb, body: &[u8]) -> Result<Asked, Refusal>
     requires { length body.now < 4_294_967_295 }
     ensures due { IsDue (asked_of verb body.now) result }
-    ensures forward { IfOk result IsForwardAsked }
+    ensures read { IfOk result IsReadAsked }
 {
     if verb.is_act() {
         return read_asked_act(alloc, verb, body);

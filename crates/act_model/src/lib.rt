@@ -17,12 +17,13 @@ mod reply;
 mod request;
 mod roster;
 mod ruling;
+mod seen;
 mod taken;
 mod tally;
 mod texts;
 
 pub use act::{Act, ActFault, read_act};
-pub use act_bodies::{Key, Rank};
+pub use act_bodies::{Ids, Key, Rank};
 pub use deed::Deed;
 pub use entry::Entry;
 pub use heard::{Asked, Heard, read_asked};
@@ -35,6 +36,7 @@ pub use reply::{
 pub use request::{BODY_BYTES, BODY_LINES, Body, Request, Verb, is_resend, line_feeds, read_verb};
 pub use roster::{CALLERS, Caller, Member};
 pub use ruling::Ruling;
+pub use seen::Seen;
 pub use taken::{Placed, Taken, accepted_in, faults_in, name_of};
 pub use tally::{Tally, tally_answer};
-pub use texts::{batch_answer, enrol_answer, receipt_answer};
+pub use texts::{batch_answer, enrol_answer, numbers_answer, object_answer, receipt_answer};

@@ -1,6 +1,7 @@
-ghost use Rattle.std.specs.Prelude.{◌≡◌, ◌++◌, ◌≤◌, IfOk, IfErr, IfSome, IfNone, List, length, decimal};
+ghost use Rattle.std.specs.Prelude.{◌≡◌, ◌+◌, ◌++◌, ◌≤◌, IfOk, IfErr, IfSome, IfNone, List, length, decimal};
 ghost use Rattle.act_model.specs.declared.reply.Fault.{Fault};
-ghost use Rattle.act_model.specs.Texts.{line_of, header_name};
+ghost use Rattle.arrayvec.specs.ArrayVec.{array_vec_len};
+ghost use Rattle.act_model.specs.Texts.{line_of, header_name, designation_text, half_month_text};
 ghost use Rattle.act_model.specs.Replies.{status_of, text_of, text_bytes, refusal_text, refusal_status, fault_lines};
 
 use crate::texts::push_fault_lines;
@@ -8,6 +9,7 @@ use arrayvec::ArrayVec;
 use item_list::{Bytes, ItemList, NoMemory};
 use itoa::Buffer;
 use obs_record::{HeaderFault, RuleCode};
+use packed_names::{Designation, HalfMonth, Name, is_half_month, is_name, print, print_half};
 use std::alloc::Global;
 
 /// The most bytes that the line of a refusal has.
@@ -38,6 +40,10 @@ pub enum Excess {
 pub enum Thing {
     /// The observation with this number.
     Observation(u64),
+    /// The tracklet with this number.
+    Tracklet(u64),
+    /// This designation, which the office didn't give.
+    Designation(Designation),
     /// An act of the caller's with this number.
     Receipt(u64),
 }
@@ -81,8 +87,39 @@ pub enum Refusal {
     },
     /// No line of the batch is accepted. These are its faults.
     NoLine(Faults),
+    /// The tracklet with this number is in an object already.
+    NotIsolated(u64),
+    /// The tracklet with this number is in no object.
+    NotHomed(u64),
+    /// The tracklet with this number has no live observation.
+    Empty(u64),
+    /// From the earliest to the latest live observation of the tracklets it is this many nanoseconds, less than 12 hours.
+    OneNight(i64),
+    /// All designations of the half-month in which the object was discovered were given.
+    HalfMonthFull {
+        /// The half-month.
+        half: HalfMonth,
+        /// How many designations it has.
+        limit: u32,
+    },
+    /// This designation isn't the principal one of its object.
+    NotPrincipal(Designation),
+    /// Both designations are the same.
+    SameObject,
+    /// Both objects have numbers.
+    BothNumbered,
+    /// The object that is to lose its own designation has a number, and the other one has none.
+    NumberedSecondary,
+    /// This designation is the principal one of its object.
+    NotSecondary(Designation),
     /// The observation with this number is retracted already.
     AlreadyRetracted(u64),
+    /// This is the number that comes next.
+    NotNext(u32),
+    /// No object can be numbered: none without a number has a live observation and a good verdict that is in force.
+    NoneEligible,
+    /// The last number that is needed is over 15,396,335.
+    NumbersFull,
     /// The key is on the roster, the station's days overlap with those of a row, or the letter or word
     /// is in a row.
     AlreadyThere,
@@ -113,7 +150,20 @@ pub fn refusal_status(refusal: &Refusal) -> u16
         Refusal::UnknownThing(_) => 404,
         Refusal::Header { .. } | Refusal::NoLine(_) => 422,
         Refusal::OtherRequest { .. }
+        | Refusal::NotIsolated(_)
+        | Refusal::NotHomed(_)
+        | Refusal::Empty(_)
+        | Refusal::OneNight(_)
+        | Refusal::HalfMonthFull { .. }
+        | Refusal::NotPrincipal(_)
+        | Refusal::SameObject
+        | Refusal::BothNumbered
+        | Refusal::NumberedSecondary
+        | Refusal::NotSecondary(_)
         | Refusal::AlreadyRetracted(_)
+        | Refusal::NotNext(_)
+        | Refusal::NoneEligible
+        | Refusal::NumbersFull
         | Refusal::AlreadyThere
         | Refusal::RosterFull => 409,
         Refusal::NoMemory => 507,
@@ -123,8 +173,8 @@ pub fn refusal_status(refusal: &Refusal) -> u16
 /// The status of a reply, as HTTP numbers them (RFC 9110, and RFC 4918 where memory was refused): 200 for
 /// a request that was done, 400 for one that can't be read, 401 for a key that nobody has, 403 for an
 /// observer who asks what officers may, 404 for a thing that isn't there, 409 for a number that was used and for
-/// what is there or retracted already, 413 for a body that is too large, 422 for a batch with a fault of its headers or without a line that
-/// is accepted, and 507 where memory was refused.
+/// what the office's state doesn't allow, 413 for a body that is too large, 422 for a batch with a fault of its headers or
+/// without a line that is accepted, and 507 where memory was refused.
 pub fn status(reply: &Reply) -> u16
     ensures { result ≡ status_of reply.now }
 {
@@ -153,6 +203,69 @@ fn numbered_line(words: &[u8], number: u64) -> ArrayVec<u8, REFUSAL_BYTES>
     let mut line = ArrayVec::new();
     line.try_extend_from_slice(words).unwrap();
     line.try_extend_from_slice(buffer.format(number).as_bytes())
+        .unwrap();
+    line.push(b'\n');
+    line
+}
+
+// The printed form of a designation, and no text for a value that is none.
+fn put_designation(line: &mut ArrayVec<u8, REFUSAL_BYTES>, d: Designation)
+    requires { array_vec_len line.old ≤ 50 }
+    ensures text { line.new.items ≡ line.old.items ++ designation_text d }
+    ensures len { array_vec_len line.new ≤ array_vec_len line.old + 13 }
+{
+    let name = Name::Designation(d);
+    if is_name(name) {
+        line.try_extend_from_slice(print(name).as_slice()).unwrap();
+    }
+}
+
+// The printed form of a half-month, and no text for a value that is none.
+fn put_half_month(line: &mut ArrayVec<u8, REFUSAL_BYTES>, half: HalfMonth)
+    requires { array_vec_len line.old ≤ 30 }
+    ensures text { line.new.items ≡ line.old.items ++ half_month_text half }
+    ensures len { array_vec_len line.new ≤ array_vec_len line.old + 13 }
+{
+    if is_half_month(half) {
+        line.try_extend_from_slice(print_half(half).as_slice())
+            .unwrap();
+    }
+}
+
+// The words, a designation after them, and the line feed.
+fn named_line(words: &[u8], d: Designation) -> ArrayVec<u8, REFUSAL_BYTES>
+    requires { length words.now ≤ 40 }
+    ensures { result.items ≡ line_of (words.now ++ designation_text d) }
+{
+    let mut line = ArrayVec::new();
+    line.try_extend_from_slice(words).unwrap();
+    put_designation(&mut line, d);
+    line.push(b'\n');
+    line
+}
+
+fn night_line(time: i64) -> ArrayVec<u8, REFUSAL_BYTES>
+    ensures { result.items ≡ refusal_text (Refusal.OneNight time) }
+{
+    let mut buffer = Buffer::new();
+    let mut line = ArrayVec::new();
+    line.try_extend_from_slice(b"refused 8 OneNight ").unwrap();
+    line.try_extend_from_slice(buffer.format(time).as_bytes())
+        .unwrap();
+    line.push(b'\n');
+    line
+}
+
+fn full_line(half: HalfMonth, limit: u32) -> ArrayVec<u8, REFUSAL_BYTES>
+    ensures { result.items ≡ refusal_text (Refusal.HalfMonthFull half limit) }
+{
+    let mut buffer = Buffer::new();
+    let mut line = ArrayVec::new();
+    line.try_extend_from_slice(b"refused 9 HalfMonthFull ")
+        .unwrap();
+    put_half_month(&mut line, half);
+    line.push(b' ');
+    line.try_extend_from_slice(buffer.format(u64::from(limit)).as_bytes())
         .unwrap();
     line.push(b'\n');
     line
@@ -209,6 +322,8 @@ fn unknown_line(thing: Thing) -> ArrayVec<u8, REFUSAL_BYTES>
 {
     match thing {
         Thing::Observation(k) => numbered_line(b"refused 5 UnknownThing observation ", k),
+        Thing::Tracklet(t) => numbered_line(b"refused 5 UnknownThing tracklet ", t),
+        Thing::Designation(d) => named_line(b"refused 5 UnknownThing designation ", d),
         Thing::Receipt(number) => numbered_line(b"refused 5 UnknownThing receipt ", number),
     }
 }
@@ -231,7 +346,20 @@ pub fn refusal_line(refusal: &Refusal) -> Option<ArrayVec<u8, REFUSAL_BYTES>>
         Refusal::UnknownThing(thing) => Some(unknown_line(*thing)),
         Refusal::Header { fault, line } => Some(header_line(*fault, *line)),
         Refusal::NoLine(_) => None,
+        Refusal::NotIsolated(t) => Some(numbered_line(b"refused 8 NotIsolated ", *t)),
+        Refusal::NotHomed(t) => Some(numbered_line(b"refused 8 NotHomed ", *t)),
+        Refusal::Empty(t) => Some(numbered_line(b"refused 8 Empty ", *t)),
+        Refusal::OneNight(time) => Some(night_line(*time)),
+        Refusal::HalfMonthFull { half, limit } => Some(full_line(*half, *limit)),
+        Refusal::NotPrincipal(d) => Some(named_line(b"refused 10 NotPrincipal ", *d)),
+        Refusal::SameObject => Some(line_in_place(b"refused 10 SameObject")),
+        Refusal::BothNumbered => Some(line_in_place(b"refused 10 BothNumbered")),
+        Refusal::NumberedSecondary => Some(line_in_place(b"refused 10 NumberedSecondary")),
+        Refusal::NotSecondary(d) => Some(named_line(b"refused 10 NotSecondary ", *d)),
         Refusal::AlreadyRetracted(k) => Some(numbered_line(b"refused 11 AlreadyRetracted ", *k)),
+        Refusal::NotNext(next) => Some(numbered_line(b"refused 12 NotNext ", u64::from(*next))),
+        Refusal::NoneEligible => Some(line_in_place(b"refused 12 NoneEligible")),
+        Refusal::NumbersFull => Some(line_in_place(b"refused 12 NumbersFull")),
         Refusal::AlreadyThere => Some(line_in_place(b"refused 13 AlreadyThere")),
         Refusal::RosterFull => Some(line_in_place(b"refused 13 RosterFull")),
         Refusal::NoMemory => Some(line_in_place(b"refused 17 NoMemory")),

@@ -25,6 +25,20 @@ pub enum Verb {
     Submit80,
     /// To take in a batch of ADES in PSV form, by the word `submitpsv`. It is an act.
     SubmitPsv,
+    /// To make tracklets an object with a new designation, by the word `designate`. It is an act of officers.
+    Designate,
+    /// To add a tracklet to an object, by the word `attribute`. It is an act of officers.
+    Attribute,
+    /// To take a tracklet out of its object, by the word `release`. It is an act of officers.
+    Release,
+    /// To make two objects one, by the word `identify`. It is an act of officers.
+    Identify,
+    /// To make a secondary designation an object of its own again, by the word `separate`. It is an act of officers.
+    Separate,
+    /// To enter how well an object's orbit is known, by the word `verdict`. It is an act of officers.
+    Verdict,
+    /// To number objects whose orbits are known well, by the word `number`. It is an act of officers.
+    Number,
     /// To retract an observation, by the word `retract`. It is an act.
     Retract,
     /// To ask for the answer of an earlier act, by the word `receipt`. It is a query.
@@ -54,7 +68,24 @@ impl Verb {
     pub fn is_officers(self) -> bool
         ensures { result ≡ is_officers self }
     {
-        matches!(self, Verb::Enrol | Verb::Station | Verb::Code)
+        match self {
+            Verb::Enrol
+            | Verb::Station
+            | Verb::Code
+            | Verb::Designate
+            | Verb::Attribute
+            | Verb::Release
+            | Verb::Identify
+            | Verb::Separate
+            | Verb::Verdict
+            | Verb::Number => true,
+            Verb::Submit80
+            | Verb::SubmitPsv
+            | Verb::Retract
+            | Verb::Receipt
+            | Verb::Tally
+            | Verb::Unknown => false,
+        }
     }
 
     /// The number of the verb of an act, 1 to 13, and 0 for no act.
@@ -67,6 +98,13 @@ impl Verb {
             Verb::Code => 3,
             Verb::Submit80 => 4,
             Verb::SubmitPsv => 5,
+            Verb::Designate => 6,
+            Verb::Attribute => 7,
+            Verb::Release => 8,
+            Verb::Identify => 9,
+            Verb::Separate => 10,
+            Verb::Verdict => 11,
+            Verb::Number => 12,
             Verb::Retract => 13,
             Verb::Receipt | Verb::Tally | Verb::Unknown => 0,
         }
@@ -87,6 +125,20 @@ pub fn read_verb(word: &[u8]) -> Verb
         Verb::Submit80
     } else if word == b"submitpsv".as_slice() {
         Verb::SubmitPsv
+    } else if word == b"designate".as_slice() {
+        Verb::Designate
+    } else if word == b"attribute".as_slice() {
+        Verb::Attribute
+    } else if word == b"release".as_slice() {
+        Verb::Release
+    } else if word == b"identify".as_slice() {
+        Verb::Identify
+    } else if word == b"separate".as_slice() {
+        Verb::Separate
+    } else if word == b"verdict".as_slice() {
+        Verb::Verdict
+    } else if word == b"number".as_slice() {
+        Verb::Number
     } else if word == b"retract".as_slice() {
         Verb::Retract
     } else if word == b"receipt".as_slice() {

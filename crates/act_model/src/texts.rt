@@ -2,14 +2,16 @@
 
 ghost use Rattle.std.specs.Prelude.{◌≡◌, ◌+◌, ◌-◌, ◌<◌, ◌≤◌, ◌^◌, ◌++◌, ◌∷◌, [], length, decimal, codes, OnOk, IfOk};
 ghost use Rattle.act_model.specs.Taken.{accepted_in, refused_in};
-ghost use Rattle.act_model.specs.Texts.{receipt_line, caller_line, counts_line, accepted_line, count_line, refused_line};
+ghost use Rattle.act_model.specs.Texts.{receipt_line, caller_line, counts_line, accepted_line, count_line, refused_line, designation_text, packed_designation, object_line, number_line, number_lines};
 ghost use Rattle.act_model.specs.Replies.{line_answer, line_answers, observations_with, batch_answer, fault_lines};
 
 use crate::reply::Fault;
 use crate::taken::{Taken, accepted_in};
 use item_list::{Bytes, NoMemory};
 use itoa::Buffer;
+use numbering_core::Numbering;
 use obs_record::RuleCode;
+use packed_names::{Designation, Name, is_name, pack, print};
 use std::alloc::Global;
 
 fn push_decimal(out: &mut Bytes, n: u64) -> Result<(), NoMemory>
@@ -154,6 +156,83 @@ pub fn enrol_answer(alloc: Global, receipt: u64, caller: u64) -> Result<Bytes, N
     let mut out = Bytes::new(alloc);
     push_receipt_line(&mut out, receipt)?;
     push_caller_line(&mut out, caller)?;
+    Ok(out)
+}
+
+// The printed form of a designation, and no text for a value that is none.
+fn push_designation(out: &mut Bytes, d: Designation) -> Result<(), NoMemory>
+    ensures { OnOk result (out.new ≡ out.old ++ designation_text d) }
+{
+    let name = Name::Designation(d);
+    if is_name(name) {
+        return out.extend_from_slice(print(name).as_slice());
+    }
+    Ok(())
+}
+
+// The packed form of a designation, and no text for a value that is none.
+fn push_packed(out: &mut Bytes, d: Designation) -> Result<(), NoMemory>
+    ensures { OnOk result (out.new ≡ out.old ++ packed_designation d) }
+{
+    let name = Name::Designation(d);
+    if is_name(name) {
+        return out.extend_from_slice(pack(name).as_slice());
+    }
+    Ok(())
+}
+
+fn push_object_line(out: &mut Bytes, d: Designation) -> Result<(), NoMemory>
+    ensures { OnOk result (out.new ≡ out.old ++ object_line d) }
+{
+    out.extend_from_slice(b"object ")?;
+    push_designation(out, d)?;
+    out.push(b' ')?;
+    push_packed(out, d)?;
+    out.push(b'\n')
+}
+
+fn push_number_line(out: &mut Bytes, n: Numbering) -> Result<(), NoMemory>
+    ensures { OnOk result (out.new ≡ out.old ++ number_line n) }
+{
+    out.extend_from_slice(b"number ")?;
+    push_decimal(out, u64::from(n.number.0))?;
+    out.push(b' ')?;
+    push_designation(out, n.designation)?;
+    out.push(b'\n')
+}
+
+fn push_number_lines(out: &mut Bytes, numbered: &[Numbering]) -> Result<(), NoMemory>
+    ensures { OnOk result (out.new ≡ out.old ++ number_lines numbered.now) }
+{
+    for n in numbered {
+        push_number_line(out, *n)?;
+    }
+    Ok(())
+}
+
+/// The answer to an act by which an object got this designation and that became the entry with this receipt: the receipt,
+/// and the designation in its printed and its packed form. Err where there was no memory for the text.
+pub fn object_answer(alloc: Global, receipt: u64, d: Designation) -> Result<Bytes, NoMemory>
+    ensures { IfOk result (λ text. text ≡ receipt_line receipt ++ object_line d) }
+{
+    let mut out = Bytes::new(alloc);
+    push_receipt_line(&mut out, receipt)?;
+    push_object_line(&mut out, d)?;
+    Ok(out)
+}
+
+/// The answer to an act by which objects got these numbers and that became the entry with this receipt: the receipt, and a
+/// line for each object. Err where there was no memory for the text.
+pub fn numbers_answer(
+    alloc: Global,
+    receipt: u64,
+    numbered: &[Numbering],
+) -> Result<Bytes, NoMemory>
+    ensures { IfOk result (λ text. text ≡ receipt_line receipt ++ number_lines numbered.now) }
+{
+    let mut out = Bytes::new(alloc);
+    push_receipt_line(&mut out, receipt)?;
+    push_number_lines(&mut out, numbered)?;
     Ok(out)
 }
 

@@ -32,7 +32,7 @@ mod survey;
 
 pub use half_month::HalfMonth;
 pub use label::Label;
-pub use name::{Designation, Name, NameFault, is_name};
+pub use name::{Designation, Name, NameFault, is_half_month, is_name};
 pub use number::Number;
 pub use packed::{pack, unpack};
 pub use printed::{print, print_half, read, read_half};

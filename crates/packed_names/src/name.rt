@@ -40,7 +40,7 @@ pub enum NameFault {
 }
 
 /// Whether the year and the index are those of a half-month.
-pub(crate) fn is_half_month(half: HalfMonth) -> bool
+pub fn is_half_month(half: HalfMonth) -> bool
     ensures test { result ≡ is_half_month half }
     ensures half { IsTrue result ↔ IsHalfMonth half }
 {
