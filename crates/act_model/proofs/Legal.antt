@@ -1,9 +1,10 @@
 -- What the step adds is legal, and what follows for legal histories.
 use Rattle.std.proofs.Common.{◌≡◌, ℕ, ℤ, pos, List, [], ◌∷◌, ◌++◌, length, Bool, true, false, cond, Option, Some, None, Result, Ok, Err, refl, sym, ap, subst, ◌∙◌, append_assoc, inl, inr, arith}
-use Rattle.std.specs.Prelude.{unwrap_or, int_lt, bytes_eq, ◌==◌, ◌&&◌}
+use Rattle.std.specs.Prelude.{take, unwrap_or, int_lt, bytes_eq, ◌==◌, ◌&&◌}
 use Rattle.std.proofs.lemmas.Int.{ints}
 use Rattle.std.proofs.lemmas.Bool.Decides.{nat_tests}
 use Rattle.std.proofs.lemmas.Slice.Eq.{bytes_eq-Decides}
+use Rattle.designate_core.specs.Takes.{next_in}
 use Rattle.obs_time.specs.Instants.{IsInstantNs}
 use Rattle.obs_record.specs.declared.line.Line.{Line}
 use Rattle.obs_record.specs.declared.rule.HeaderFault.{HeaderFault}
@@ -12,8 +13,15 @@ use Rattle.act_bodies.specs.declared.enrol.Enrol.{Enrol as EnrolBody}
 use Rattle.act_bodies.specs.declared.station.Station.{Station as StationBody}
 use Rattle.act_bodies.specs.declared.key.Key.{Key}
 use Rattle.act_bodies.specs.declared.enrol.Rank.{Rank}
+use Rattle.act_bodies.specs.declared.designate.Designate.{Designate as DesignateBody}
+use Rattle.act_bodies.specs.declared.attribute.Attribute.{Attribute as AttributeBody}
+use Rattle.act_bodies.specs.declared.release.Release.{Release as ReleaseBody}
+use Rattle.act_bodies.specs.declared.identify.Identify.{Identify as IdentifyBody}
+use Rattle.act_bodies.specs.declared.separate.Separate.{Separate as SeparateBody}
+use Rattle.act_bodies.specs.declared.verdict.Verdict.{Verdict as VerdictBody}
+use Rattle.act_bodies.specs.declared.number.Number.{Number as NumberBody}
 use Rattle.act_bodies.specs.declared.retract.Retract.{Retract as RetractBody}
-use Rattle.act_bodies.specs.Bodies.{enrol_of, station_of, code_of, retract_of}
+use Rattle.act_bodies.specs.Bodies.{enrol_of, station_of, code_of, designate_of, attribute_of, release_of, identify_of, separate_of, verdict_of, number_of_body, retract_of}
 use Rattle.act_bodies.specs.Keys.{key_text, begins_with_plus}
 use Rattle.station_tables.specs.Stations.{overlaps}
 use Rattle.station_tables.specs.Codes.{has_code}
@@ -22,7 +30,7 @@ use Rattle.ades_psv.specs.Batch.{psv_lines_of}
 use Rattle.act_model.specs.declared.act.Act.{Act}
 use Rattle.act_model.specs.declared.act.Act.TheVariants as act
 use Rattle.act_model.specs.declared.deed.Deed.{Deed}
-use Rattle.act_model.specs.declared.deed.Deed.TheVariants.{Enrolled, Stationed, Coded, Submitted, Retracted, Nothing}
+use Rattle.act_model.specs.declared.deed.Deed.TheVariants.{Enrolled, Stationed, Coded, Submitted, Designated, Attributed, Released, Identified, Separated, Judged, Numbered, Retracted, Nothing}
 use Rattle.act_model.specs.declared.entry.Entry.{Entry}
 use Rattle.act_model.specs.declared.reply.Refusal.{Refusal}
 use Rattle.act_model.specs.declared.reply.Refusal.TheVariants.{OtherRequest}
@@ -30,14 +38,18 @@ use Rattle.act_model.specs.declared.reply.Reply.{Reply}
 use Rattle.act_model.specs.declared.reply.Reply.TheVariants.{Done, Refused}
 use Rattle.act_model.specs.declared.request.Request.{Request}
 use Rattle.act_model.specs.declared.request.Verb.{Verb}
-use Rattle.act_model.specs.declared.request.Verb.TheVariants.{Enrol, Station, Code, Submit80, SubmitPsv, Retract, Receipt, Tally, Unknown}
+use Rattle.act_model.specs.declared.request.Verb.TheVariants.{Enrol, Station, Code, Submit80, SubmitPsv, Designate, Attribute, Release, Identify, Separate, Verdict, Number, Retract, Receipt, Tally, Unknown}
 use Rattle.act_model.specs.declared.roster.Caller.{Caller}
+use Rattle.act_model.specs.declared.seen.Seen.{Seen}
 use Rattle.act_model.specs.declared.roster.Member.{Member}
 use Rattle.act_model.specs.Requests.{verb_code, is_act}
-use Rattle.act_model.specs.Acts.{read_as, enrol_act, station_act, code_act, retract_act, psv_act, act_of}
+use Rattle.act_model.specs.Acts.{read_as, enrol_act, station_act, code_act, designate_act, attribute_act, release_act, identify_act, separate_act, verdict_act, number_act, retract_act, psv_act, act_of}
 use Rattle.act_model.specs.OfficeTables.{tables_of}
 use Rattle.act_model.specs.Holdings.{holdings}
-use Rattle.act_model.specs.Doing.{enrol_rows, row_rows, batch_rows, retract_rows, taken_after, does}
+use Rattle.act_model.specs.Designations.{takes_of, links_of}
+use Rattle.act_model.specs.Discoveries.{seen_in, earliest, span, half_of}
+use Rattle.act_model.specs.Numbers.{numbers_of, numbered_from}
+use Rattle.act_model.specs.Doing.{enrol_rows, row_rows, batch_rows, designate_rows, object_rows, attribute_rows, release_rows, identify_rows, separate_rows, verdict_rows, number_rows, retract_rows, designates_seen, eligible_after, taken_after, does}
 use Rattle.act_model.specs.Roster.{members, with_enrolled, caller_of, key_at}
 use Rattle.act_model.specs.Deeds.{unless_refused_deed, done_if_read, deed_of, deeds}
 use Rattle.act_model.specs.History.{Kept, kept, next_moment, next_receipt, is_numbered, IsUnused, EachNumberOnce}
@@ -50,6 +62,7 @@ use Rattle.act_model.specs.Turns.{Turn, TakesReading, Answers, IsTurn, Conduct}
 use Rattle.act_model.specs.Conducts.{Extends}
 use Rattle.act_model.specs.Legal.{entry_request, IsAdded, IsLegal}
 use Rattle.act_model.proofs.Callers.{ArePlain, caller_again, caller_stays, caller_under}
+use Rattle.act_model.proofs.Designating.{designated}
 use Rattle.act_model.proofs.Conducts.{ok_is, Added, adds, adds_again, keeps, step_is, Makes, step_makes, conduct_more}
 use Rattle.act_model.proofs.Hearing.{hears, hear_again, whole_again, number_some, worked, deed_is}
 
@@ -278,6 +291,15 @@ module _ (founder : Key) (past : List Deed) (moment : ℤ) (key : Key) (caller :
   deed_keeps_callers (act.Code kind letter word) deed is = by_deed (first_row (row_rows (has_code (tables_of past).codes kind letter word))) (Coded kind letter word) deed found is
   deed_keeps_callers (act.Submit80 lines) deed is = by_deed (first_row (batch_rows (taken_after past moment lines))) (Submitted (taken_after past moment lines)) deed found is
   deed_keeps_callers (act.SubmitPsv lines) deed is = by_deed (first_row (batch_rows (taken_after past moment lines))) (Submitted (taken_after past moment lines)) deed found is
+  deed_keeps_callers (act.Designate tracklets) deed is =
+      let d = designated (holdings past) (takes_of past) tracklets deed is in
+      subst keeps_caller d.deed_is found
+  deed_keeps_callers (act.Attribute t to) deed is = by_deed (first_row (attribute_rows (holdings past) (links_of past) t to)) (Attributed t to) deed found is
+  deed_keeps_callers (act.Release t) deed is = by_deed (first_row (release_rows (holdings past) t)) (Released t) deed found is
+  deed_keeps_callers (act.Identify p s) deed is = by_deed (first_row (identify_rows (links_of past) (numbers_of past) p s)) (Identified p s) deed found is
+  deed_keeps_callers (act.Separate s) deed is = by_deed (first_row (separate_rows (links_of past) s)) (Separated s) deed found is
+  deed_keeps_callers (act.Verdict d u oppositions) deed is = by_deed (first_row (verdict_rows (links_of past) d)) (Judged d u oppositions) deed found is
+  deed_keeps_callers (act.Number first most) deed is = by_deed (first_row (number_rows (numbers_of past) first most (eligible_after past))) (Numbered (numbered_from first (take most (eligible_after past)))) deed found is
   deed_keeps_callers (act.Retract k) deed is = by_deed (first_row (retract_rows (holdings past).observations k)) (Retracted k) deed found is
 
 module _ (founder : Key) where
@@ -403,6 +425,49 @@ module _ (plain : Plain) (past : List Deed) (moment : ℤ) where
   retraction_plain (Some retract) = plain_unless (first_row (retract_rows (holdings past).observations retract.observation)) (Retracted retract.observation) tt
   retraction_plain None = tt
 
+  plain_designation : (tracklets : List ℕ) → is_plain_act (act.Designate tracklets)
+  unfolding does
+  plain_designation tracklets = by (first_row (designate_rows (holdings past) tracklets)) (seen_in (holdings past).observations tracklets)
+    where
+      by : (o : Option Refusal) (seen : List Seen) → IsPlain (unless_refused_deed (unless o (designates_seen (takes_of past) tracklets seen)))
+      by (Some r) seen = tt
+      by None [] = tt
+      by None (first ∷ more) = plain_unless (first_row (object_rows (takes_of past) (span first more) (half_of (earliest first more).time))) (Designated tracklets (next_in (half_of (earliest first more).time) (takes_of past)) (earliest first more).number) tt
+
+  designation_plain : (read : Option DesignateBody) → IsPlain (done_if_read past moment (read_as designate_act read))
+  designation_plain (Some body) = plain_designation body.tracklets
+  designation_plain None = tt
+
+  attribution_plain : (read : Option AttributeBody) → IsPlain (done_if_read past moment (read_as attribute_act read))
+  unfolding does
+  attribution_plain (Some body) = plain_unless (first_row (attribute_rows (holdings past) (links_of past) body.tracklet body.to)) (Attributed body.tracklet body.to) tt
+  attribution_plain None = tt
+
+  release_plain : (read : Option ReleaseBody) → IsPlain (done_if_read past moment (read_as release_act read))
+  unfolding does
+  release_plain (Some body) = plain_unless (first_row (release_rows (holdings past) body.tracklet)) (Released body.tracklet) tt
+  release_plain None = tt
+
+  identification_plain : (read : Option IdentifyBody) → IsPlain (done_if_read past moment (read_as identify_act read))
+  unfolding does
+  identification_plain (Some body) = plain_unless (first_row (identify_rows (links_of past) (numbers_of past) body.principal body.secondary)) (Identified body.principal body.secondary) tt
+  identification_plain None = tt
+
+  separation_plain : (read : Option SeparateBody) → IsPlain (done_if_read past moment (read_as separate_act read))
+  unfolding does
+  separation_plain (Some body) = plain_unless (first_row (separate_rows (links_of past) body.secondary)) (Separated body.secondary) tt
+  separation_plain None = tt
+
+  verdict_plain : (read : Option VerdictBody) → IsPlain (done_if_read past moment (read_as verdict_act read))
+  unfolding does
+  verdict_plain (Some body) = plain_unless (first_row (verdict_rows (links_of past) body.object)) (Judged body.object body.u body.oppositions) tt
+  verdict_plain None = tt
+
+  numbering_plain : (read : Option NumberBody) → IsPlain (done_if_read past moment (read_as number_act read))
+  unfolding does
+  numbering_plain (Some body) = plain_unless (first_row (number_rows (numbers_of past) body.first body.most (eligible_after past))) (Numbered (numbered_from body.first (take body.most (eligible_after past)))) tt
+  numbering_plain None = tt
+
   act_plain : (verb : Verb) (body : List ℕ) → IsPlain (done_if_read past moment (act_of verb body))
   unfolding act_of
   act_plain Enrol body = enrolment_plain body (enrol_of body) refl
@@ -410,6 +475,13 @@ module _ (plain : Plain) (past : List Deed) (moment : ℤ) where
   act_plain Code body = code_plain (code_of body)
   act_plain Submit80 body = submit_plain (lines_of body)
   act_plain SubmitPsv body = psv_plain (psv_lines_of body)
+  act_plain Designate body = designation_plain (designate_of body)
+  act_plain Attribute body = attribution_plain (attribute_of body)
+  act_plain Release body = release_plain (release_of body)
+  act_plain Identify body = identification_plain (identify_of body)
+  act_plain Separate body = separation_plain (separate_of body)
+  act_plain Verdict body = verdict_plain (verdict_of body)
+  act_plain Number body = numbering_plain (number_of_body body)
   act_plain Retract body = retraction_plain (retract_of body)
   act_plain Receipt body = tt
   act_plain Tally body = tt
@@ -420,6 +492,13 @@ with_plain (Enrolled member) enrolled plain others = (plain, others)
 with_plain (Stationed code from to) enrolled plain others = others
 with_plain (Coded kind letter word) enrolled plain others = others
 with_plain (Submitted lines) enrolled plain others = others
+with_plain (Designated tracklets given discovery) enrolled plain others = others
+with_plain (Attributed t to) enrolled plain others = others
+with_plain (Released t) enrolled plain others = others
+with_plain (Identified p s) enrolled plain others = others
+with_plain (Separated s) enrolled plain others = others
+with_plain (Judged p u oppositions) enrolled plain others = others
+with_plain (Numbered pairs) enrolled plain others = others
 with_plain (Retracted k) enrolled plain others = others
 with_plain Nothing enrolled plain others = others
 

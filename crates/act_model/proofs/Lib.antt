@@ -3,3 +3,4 @@ pub mod Callers
 pub mod Hearing
 pub mod Legal
 pub mod Places
+mod Designating
