@@ -17,7 +17,9 @@ pub mod OfficeTables
 pub mod Observations
 pub mod Hearing
 pub mod Doing
+pub mod Fitting
 pub mod Deeds
+pub mod Unbroken
 pub mod History
 pub mod Texts
 pub mod Tallies
