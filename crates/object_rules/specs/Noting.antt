@@ -1,0 +1,74 @@
+-- What a deed asks of the files that it changes.
+use Rattle.std.specs.Prelude.{◌≡◌, ◌≢◌, ◌<◌, ℕ, List, ◌++◌, length, reverse, Option, Some, None}
+use Rattle.std.specs.Option.{option_and_then}
+use Rattle.packed_names.specs.declared.name.Designation.{Designation}
+use Rattle.packed_names.specs.declared.name.Designation.TheVariants.{Provisional}
+use Rattle.packed_names.specs.Ranges.{IsHalfMonth, limit_of}
+use Rattle.designate_core.specs.Takes.{Take, given_in}
+use Rattle.identify_core.specs.declared.link.Link.{Link}
+use Rattle.identify_core.specs.Principals.{principal_of, IsPrincipal}
+use Rattle.numbering_core.specs.declared.numbering.Numbering.{Numbering}
+use Rattle.numbering_core.specs.Numbers.{IsUnbroken}
+use Rattle.tracklet_file.specs.declared.tracklet.Tracklet.{Tracklet}
+use Rattle.tracklet_file.specs.Observations.{track_of}
+use Rattle.tracklet_file.specs.Contents.{Contents}
+use Rattle.tracklet_file.specs.Tracklets.{IsTracklet, home_of, with_home}
+use Rattle.act_model.specs.declared.deed.Deed.{Deed}
+use Rattle.act_model.specs.declared.deed.Deed.TheVariants.{Designated, Attributed, Released, Identified, Separated, Judged, Numbered}
+use Rattle.act_model.specs.Holdings.{Holdings, with_homes}
+use Rattle.act_model.specs.Fitting.{AreTracklets}
+
+-- the half-month has one designation more
+abbrev pub TakesDeed : List Take → Deed → Type 0
+TakesDeed takes (Designated tracklets given discovery) =
+    IsHalfMonth given.half × (given_in given.half takes < limit_of given.half)
+TakesDeed takes _ = Unit {0}
+
+-- a designation that is given is new, those that are identified are two principals, and what is separated is none
+abbrev pub LinksDeed : List Link → Deed → Type 0
+LinksDeed links (Designated tracklets given discovery) = principal_of links (Provisional given) ≡ None
+LinksDeed links (Identified p s) = IsPrincipal links p × IsPrincipal links s × (p ≢ s)
+LinksDeed links (Separated s) = ¬ IsPrincipal links s
+LinksDeed links _ = Unit {0}
+
+-- what is released is there
+abbrev pub TouchesDeed : List Tracklet → Deed → Type 0
+TouchesDeed tracklets (Released t) = IsTracklet tracklets t
+TouchesDeed tracklets _ = Unit {0}
+
+-- the numbers go on with those that were given
+abbrev pub NumbersDeed : List Numbering → Deed → Type 0
+NumbersDeed numbered (Numbered pairs) = IsUnbroken (reverse pairs ++ numbered)
+NumbersDeed numbered _ = Unit {0}
+
+-- the tracklets that get a home, or lose it, are there
+abbrev pub HomesDeed : List Tracklet → Deed → Type 0
+HomesDeed tracklets (Designated ts given discovery) = AreTracklets tracklets ts
+HomesDeed tracklets (Attributed t to) = IsTracklet tracklets t
+HomesDeed tracklets (Released t) = IsTracklet tracklets t
+HomesDeed tracklets _ = Unit {0}
+
+-- how many entries of the register a deed may add
+abbrev pub registered_by : Deed → ℕ
+registered_by (Judged p u oppositions) = 1
+registered_by (Numbered pairs) = length pairs
+registered_by _ = 0
+
+-- what a file of observations and tracklets holds
+abbrev pub held_in : Contents → Holdings
+held_in file = record { observations = file.observations; tracklets = file.tracklets }
+
+-- the principal of the object that a tracklet is in, as links have it
+abbrev pub object_in : Contents → List Link → ℕ → Option Designation
+object_in file links t = option_and_then (principal_of links) (home_of file.tracklets t)
+
+-- that of the object that an observation's tracklet is in
+abbrev pub object_of_seen_in : Contents → List Link → ℕ → Option Designation
+object_of_seen_in file links k = option_and_then (object_in file links) (track_of file.observations k)
+
+-- the tracklets with a deed that gives homes or takes one
+abbrev pub with_deed_homes : List Tracklet → Deed → List Tracklet
+with_deed_homes tracklets (Designated ts given discovery) = with_homes tracklets ts (Some (Provisional given))
+with_deed_homes tracklets (Attributed t to) = with_home tracklets t (Some to)
+with_deed_homes tracklets (Released t) = with_home tracklets t None
+with_deed_homes tracklets _ = tracklets

@@ -1,0 +1,216 @@
+//! What the acts on tracklets and objects do, or the first refusals that they meet.
+
+ghost use Rattle.std.specs.Prelude.{◌≡◌, map, Ok};
+ghost use Rattle.act_model.specs.Rows.{first_row, unless, IsDue};
+ghost use Rattle.act_model.specs.Holdings.{holdings};
+ghost use Rattle.act_model.specs.Designations.{takes_of, links_of};
+ghost use Rattle.act_model.specs.Numbers.{numbers_of};
+ghost use Rattle.act_model.specs.Doing.{tracklet_row, identify_rows, designates, designates_seen, attributes, releases, identifies, separates, judges};
+ghost use Rattle.object_rules.specs.Seeing.{AreOfYears};
+
+use crate::asking::{home, is_given, is_numbered, is_principal, is_same, is_there};
+use crate::discovering::{earliest, half_of, latest};
+use crate::ledger::Ledger;
+use crate::seeing::{free_seen, free_track};
+use act_model::{Deed, Ids, Part, Refusal, Seen, Thing};
+use item_list::ItemList;
+use packed_names::{Designation, limit};
+use std::alloc::Global;
+
+/// Half a day, in nanoseconds.
+const HALF_A_DAY: i64 = 43_200_000_000_000;
+
+/// The first of these tracklets that isn't there.
+fn unknown_tracklet<L: Ledger>(office: &L, tracklets: &[u64]) -> Option<Refusal>
+    ensures { result ≡ first_row (map (tracklet_row (holdings (L.deeds office.now)).tracklets) tracklets.now) }
+{
+    for t in tracklets {
+        if !is_there(office, *t) {
+            return Some(Refusal::UnknownThing(Thing::Tracklet(*t)));
+        }
+    }
+    None
+}
+
+/// The object that these tracklets become, where these are their live observations.
+fn designates_seen<L: Ledger>(office: &L, tracklets: Ids, seen: &[Seen]) -> Result<Deed, Refusal>
+    requires years { AreOfYears seen.now }
+    ensures due { IsDue (designates_seen (takes_of (L.deeds office.now)) tracklets seen.now) result }
+{
+    let Some((first, more)) = seen.split_first() else {
+        return Err(Refusal::Unread(Part::Body));
+    };
+    let discovery = earliest(first, more);
+    let last = latest(first, more);
+    if last.time.ns() < discovery.time.ns() + HALF_A_DAY {
+        return Err(Refusal::OneNight(last.time.ns() - discovery.time.ns()));
+    }
+    let half = half_of(discovery.time);
+    match office.rows().next(half) {
+        Some(given) => Ok(Deed::Designated {
+            tracklets,
+            given,
+            discovery: discovery.number,
+        }),
+        None => Err(Refusal::HalfMonthFull {
+            half,
+            limit: limit(half),
+        }),
+    }
+}
+
+/// Tracklets become an object, and get the next designation of the half-month in which its earliest live observation was
+/// made.
+///
+/// # Errors
+///
+/// The first refusal that holds: a tracklet isn't there; then, tracklet by tracklet, it is in an object, or has no live
+/// observation; the observations span less than 12 hours; the half-month has no designation left. `NoMemory` where memory
+/// was refused.
+pub fn designates<L: Ledger>(office: &L, alloc: Global, tracklets: Ids) -> Result<Deed, Refusal>
+    ensures due { IsDue
+        (designates (holdings (L.deeds office.now)) (takes_of (L.deeds office.now)) tracklets) result }
+{
+    if let Some(refusal) = unknown_tracklet(office, tracklets.as_slice()) {
+        return Err(refusal);
+    }
+    match free_seen(office, alloc, tracklets.as_slice()) {
+        Ok(seen) => designates_seen(office, tracklets, seen.as_slice()),
+        Err(refusal) => Err(refusal),
+    }
+}
+
+/// A tracklet comes into an object.
+///
+/// # Errors
+///
+/// The first refusal that holds: the tracklet, or the designation, isn't there; the tracklet is in an object, or has no
+/// live observation. `NoMemory` where memory was refused.
+pub fn attributes<L: Ledger>(
+    office: &L,
+    alloc: Global,
+    t: u64,
+    to: Designation,
+) -> Result<Deed, Refusal>
+    ensures due { IsDue
+        (attributes (holdings (L.deeds office.now)) (links_of (L.deeds office.now)) t to) result }
+{
+    if !is_there(office, t) {
+        return Err(Refusal::UnknownThing(Thing::Tracklet(t)));
+    }
+    if !is_given(office, to) {
+        return Err(Refusal::UnknownThing(Thing::Designation(to)));
+    }
+    let mut seen = ItemList::new(alloc);
+    match free_track(office, &mut seen, t) {
+        Ok(()) => Ok(Deed::Attributed { tracklet: t, to }),
+        Err(refusal) => Err(refusal),
+    }
+}
+
+/// A tracklet comes out of its object.
+///
+/// # Errors
+///
+/// The first refusal that holds: the tracklet isn't there; it is in no object.
+pub fn releases<L: Ledger>(office: &L, t: u64) -> Result<Deed, Refusal>
+    ensures due { IsDue (releases (holdings (L.deeds office.now)) t) result }
+{
+    if !is_there(office, t) {
+        return Err(Refusal::UnknownThing(Thing::Tracklet(t)));
+    }
+    if home(office, t).is_none() {
+        return Err(Refusal::NotHomed(t));
+    }
+    Ok(Deed::Released(t))
+}
+
+/// The refusal of an identification.
+fn identify_refusal<L: Ledger>(office: &L, p: Designation, s: Designation) -> Option<Refusal>
+    ensures { result ≡ first_row (identify_rows (links_of (L.deeds office.now)) (numbers_of (L.deeds office.now)) p s) }
+{
+    if !is_given(office, p) {
+        return Some(Refusal::UnknownThing(Thing::Designation(p)));
+    }
+    if !is_given(office, s) {
+        return Some(Refusal::UnknownThing(Thing::Designation(s)));
+    }
+    if !is_principal(office, p) {
+        return Some(Refusal::NotPrincipal(p));
+    }
+    if !is_principal(office, s) {
+        return Some(Refusal::NotPrincipal(s));
+    }
+    if is_same(p, s) {
+        return Some(Refusal::SameObject);
+    }
+    if is_numbered(office, s) {
+        return Some(if is_numbered(office, p) {
+            Refusal::BothNumbered
+        } else {
+            Refusal::NumberedSecondary
+        });
+    }
+    None
+}
+
+/// Two objects become one, which is known by the principal designation.
+///
+/// # Errors
+///
+/// The first refusal that holds: a designation isn't there; one isn't its own principal; both are the same; both have
+/// numbers; the secondary alone has one.
+pub fn identifies<L: Ledger>(office: &L, p: Designation, s: Designation) -> Result<Deed, Refusal>
+    ensures due { IsDue (identifies (links_of (L.deeds office.now)) (numbers_of (L.deeds office.now)) p s) result }
+{
+    match identify_refusal(office, p, s) {
+        Some(refusal) => Err(refusal),
+        None => Ok(Deed::Identified {
+            principal: p,
+            secondary: s,
+        }),
+    }
+}
+
+/// A secondary designation becomes an object of its own again.
+///
+/// # Errors
+///
+/// The first refusal that holds: the designation isn't there; it is its own principal.
+pub fn separates<L: Ledger>(office: &L, s: Designation) -> Result<Deed, Refusal>
+    ensures due { IsDue (separates (links_of (L.deeds office.now)) s) result }
+{
+    if !is_given(office, s) {
+        return Err(Refusal::UnknownThing(Thing::Designation(s)));
+    }
+    if is_principal(office, s) {
+        return Err(Refusal::NotSecondary(s));
+    }
+    Ok(Deed::Separated(s))
+}
+
+/// A verdict is entered on an object.
+///
+/// # Errors
+///
+/// The first refusal that holds: the designation isn't there; it isn't its own principal.
+pub fn judges<L: Ledger>(
+    office: &L,
+    d: Designation,
+    u: u8,
+    oppositions: u8,
+) -> Result<Deed, Refusal>
+    ensures due { IsDue (judges (links_of (L.deeds office.now)) d u oppositions) result }
+{
+    if !is_given(office, d) {
+        return Err(Refusal::UnknownThing(Thing::Designation(d)));
+    }
+    if !is_principal(office, d) {
+        return Err(Refusal::NotPrincipal(d));
+    }
+    Ok(Deed::Judged {
+        principal: d,
+        u,
+        oppositions,
+    })
+}

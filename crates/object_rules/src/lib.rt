@@ -1,0 +1,19 @@
+//! The rules of the acts on tracklets, objects and numbers, over any office: what such an act does, or the first refusal
+//! that it meets; and what its deed changes in the rows of designations, in the links and in the register.
+//!
+//! An office is whatever lends its file, its rows, its links and its register as the trait [`Ledger`] asks.
+#![tactic(auto)]
+
+mod acting;
+mod asking;
+mod discovering;
+mod ledger;
+mod noting;
+mod numbering;
+mod seeing;
+
+pub use acting::{attributes, designates, identifies, judges, releases, separates};
+pub use asking::{number_named, principal_of, stands_for};
+pub use ledger::Ledger;
+pub use noting::{home_tracklets, link, note_verdicts, registered_by, take};
+pub use numbering::numbers;
