@@ -23,7 +23,7 @@ later e d ds among = (suc among.0, omega (arith, among.1), among.2)
 nothing : (d : Designation) → Contains [] d → ⊥
 nothing d among = omega (arith, among.1)
 
-before_at : (d e : Designation) (ds : List Designation) → IsBefore d ds → Contains ds e → designation_cmp d e ≡ Less
+pub before_at : (d e : Designation) (ds : List Designation) → IsBefore d ds → Contains ds e → designation_cmp d e ≡ Less
 before_at d e [] before among = absurd (nothing e among)
 before_at d e (x ∷ ds) before among =
     elim (first_or_later x ds e among) [
