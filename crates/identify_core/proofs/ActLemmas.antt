@@ -5,9 +5,9 @@ use Rattle.std.proofs.lemmas.Bool.{cases_Bool, false_from_ne_true}
 use Rattle.packed_names.specs.declared.name.Designation.{Designation}
 use Rattle.packed_names.specs.Order.{designation_cmp}
 use Rattle.identify_core.specs.declared.link.Link.{Link}
-use Rattle.identify_core.specs.Acts.{principal_after, is_principal_of}
+use Rattle.identify_core.specs.Acts.{LinkAct, principal_after, is_principal_of}
 use Rattle.identify_core.specs.Acts.LinkAct.{Given, Joined, Parted}
-use Rattle.identify_core.specs.Principals.{principal_of, IsPrincipal, ChangedBy}
+use Rattle.identify_core.specs.Principals.{principal_of}
 use Rattle.identify_core.specs.Walks.{has_member, has_principal, relabelled, parted}
 use Rattle.identify_core.proofs.OrderLemmas.{designation_same, designation_itself}
 use Rattle.identify_core.proofs.LinkLemmas.{EachOnce, linked, principal_of-here, principal_of-past, count-here, count-past, count_from_none, some_same}
@@ -116,23 +116,30 @@ principals_parted s d (link ∷ links) =
           ∙ ap (principal_after (Parted s) d) (sym (principal_of-past d link links past))
     ]
 
--- each principal is its own
-abbrev pub AreOwn : List Link → Type 0
-AreOwn links = (d p : Designation) → principal_of links d ≡ Some p → IsPrincipal links p
+-- each principal is its own, where a function gives the principals
+abbrev pub Own : (Designation → Option Designation) → Type 0
+Own f = (d p : Designation) → f d ≡ Some p → f p ≡ Some p
 
-pub own_given : (given : Designation) (old new : List Link) → ChangedBy (Given given) old new → AreOwn old → AreOwn new
+abbrev pub AreOwn : List Link → Type 0
+AreOwn links = Own (principal_of links)
+
+-- the principals after an act are those that it gives
+abbrev pub Follows : LinkAct → (Designation → Option Designation) → (Designation → Option Designation) → Type 0
+Follows act old new = (d : Designation) → new d ≡ principal_after act d (old d)
+
+pub own_given : (given : Designation) (old new : Designation → Option Designation) → Follows (Given given) old new → Own old → Own new
 own_given given old new follows own d p some =
     elim (cases_Bool (eq_by_cmp designation_cmp given d)) [
       | inl same ↦
-          let p_is : given ≡ p = some_same given p (sym (chosen (eq_by_cmp designation_cmp given d) (Some given) (principal_of old d) same) ∙ sym (follows d) ∙ some) in
-          let own_now : IsPrincipal new given = follows given ∙ chosen (eq_by_cmp designation_cmp given given) (Some given) (principal_of old given) (designation_itself given) in
-          subst (IsPrincipal new) p_is own_now
+          let p_is : given ≡ p = some_same given p (sym (chosen (eq_by_cmp designation_cmp given d) (Some given) (old d) same) ∙ sym (follows d) ∙ some) in
+          let own_now : new given ≡ Some given = follows given ∙ chosen (eq_by_cmp designation_cmp given given) (Some given) (old given) (designation_itself given) in
+          subst (λ (x : Designation). new x ≡ Some x) p_is own_now
       | inr apart ↦
-          let before : principal_of old d ≡ Some p = sym (other (eq_by_cmp designation_cmp given d) (Some given) (principal_of old d) apart) ∙ sym (follows d) ∙ some in
+          let before : old d ≡ Some p = sym (other (eq_by_cmp designation_cmp given d) (Some given) (old d) apart) ∙ sym (follows d) ∙ some in
           elim (cases_Bool (eq_by_cmp designation_cmp given p)) [
             | inl same_p ↦
-                follows p ∙ chosen (eq_by_cmp designation_cmp given p) (Some given) (principal_of old p) same_p ∙ ap Some (designation_same given p same_p)
-            | inr apart_p ↦ follows p ∙ other (eq_by_cmp designation_cmp given p) (Some given) (principal_of old p) apart_p ∙ own d p before
+                follows p ∙ chosen (eq_by_cmp designation_cmp given p) (Some given) (old p) same_p ∙ ap Some (designation_same given p same_p)
+            | inr apart_p ↦ follows p ∙ other (eq_by_cmp designation_cmp given p) (Some given) (old p) apart_p ∙ own d p before
           ]
     ]
 
@@ -141,40 +148,40 @@ pub principal_is : (s : Designation) (before : Option Designation) → is_princi
 principal_is s None h = absurd (cc)
 principal_is s (Some q) h = ap Some (designation_same q s h)
 
-pub own_joined : (p s : Designation) (old new : List Link) → IsPrincipal old p → p ≢ s → ChangedBy (Joined p s) old new → AreOwn old → AreOwn new
+pub own_joined : (p s : Designation) (old new : Designation → Option Designation) → old p ≡ Some p → p ≢ s → Follows (Joined p s) old new → Own old → Own new
 own_joined p s old new principal two follows own d q some =
-    elim (cases_Bool (is_principal_of s (principal_of old d))) [
+    elim (cases_Bool (is_principal_of s (old d))) [
       | inl moved ↦
-          let q_is : p ≡ q = some_same p q (sym (chosen (is_principal_of s (principal_of old d)) (Some p) (principal_of old d) moved) ∙ sym (follows d) ∙ some) in
-          let stays : is_principal_of s (principal_of old p) ≡ false =
-          false_from_ne_true (is_principal_of s (principal_of old p)) (λ h. two (some_same p s (sym principal ∙ principal_is s (principal_of old p) h))) in
-          let own_now : IsPrincipal new p = follows p ∙ other (is_principal_of s (principal_of old p)) (Some p) (principal_of old p) stays ∙ principal in
-          subst (IsPrincipal new) q_is own_now
+          let q_is : p ≡ q = some_same p q (sym (chosen (is_principal_of s (old d)) (Some p) (old d) moved) ∙ sym (follows d) ∙ some) in
+          let stays : is_principal_of s (old p) ≡ false =
+          false_from_ne_true (is_principal_of s (old p)) (λ h. two (some_same p s (sym principal ∙ principal_is s (old p) h))) in
+          let own_now : new p ≡ Some p = follows p ∙ other (is_principal_of s (old p)) (Some p) (old p) stays ∙ principal in
+          subst (λ (x : Designation). new x ≡ Some x) q_is own_now
       | inr stayed ↦
-          let before : principal_of old d ≡ Some q = sym (other (is_principal_of s (principal_of old d)) (Some p) (principal_of old d) stayed) ∙ sym (follows d) ∙ some in
-          let its_own : principal_of old q ≡ Some q = own d q before in
-          let same : is_principal_of s (principal_of old q) ≡ is_principal_of s (principal_of old d) = ap (is_principal_of s) (its_own ∙ sym before) in
-          follows q ∙ other (is_principal_of s (principal_of old q)) (Some p) (principal_of old q) (same ∙ stayed) ∙ its_own
+          let before : old d ≡ Some q = sym (other (is_principal_of s (old d)) (Some p) (old d) stayed) ∙ sym (follows d) ∙ some in
+          let its_own : old q ≡ Some q = own d q before in
+          let same : is_principal_of s (old q) ≡ is_principal_of s (old d) = ap (is_principal_of s) (its_own ∙ sym before) in
+          follows q ∙ other (is_principal_of s (old q)) (Some p) (old q) (same ∙ stayed) ∙ its_own
     ]
 
 mapped_is : (s q : Designation) (before : Option Designation) → option_map (λ (_ : Designation). s) before ≡ Some q → s ≡ q
 mapped_is s q None h = absurd (cc)
 mapped_is s q (Some x) h = some_same s q h
 
-pub own_parted : (s : Designation) (old new : List Link) → (¬ IsPrincipal old s) → ChangedBy (Parted s) old new → AreOwn old → AreOwn new
+pub own_parted : (s : Designation) (old new : Designation → Option Designation) → (¬ (old s ≡ Some s)) → Follows (Parted s) old new → Own old → Own new
 own_parted s old new secondary follows own d q some =
     elim (cases_Bool (eq_by_cmp designation_cmp d s)) [
       | inl same ↦
-          let alone : option_map (λ (_ : Designation). s) (principal_of old d) ≡ Some q =
-          sym (chosen (eq_by_cmp designation_cmp d s) (option_map (λ (_ : Designation). s) (principal_of old d)) (principal_of old d) same) ∙ sym (follows d) ∙ some in
-          let q_is : s ≡ q = mapped_is s q (principal_of old d) alone in
+          let alone : option_map (λ (_ : Designation). s) (old d) ≡ Some q =
+          sym (chosen (eq_by_cmp designation_cmp d s) (option_map (λ (_ : Designation). s) (old d)) (old d) same) ∙ sym (follows d) ∙ some in
+          let q_is : s ≡ q = mapped_is s q (old d) alone in
           let d_is : d ≡ s = designation_same d s same in
-          subst (λ (x : Designation). principal_of new x ≡ Some q) (d_is ∙ q_is) some
+          subst (λ (x : Designation). new x ≡ Some q) (d_is ∙ q_is) some
       | inr apart ↦
-          let before : principal_of old d ≡ Some q =
-          sym (other (eq_by_cmp designation_cmp d s) (option_map (λ (_ : Designation). s) (principal_of old d)) (principal_of old d) apart) ∙ sym (follows d) ∙ some in
-          let its_own : principal_of old q ≡ Some q = own d q before in
+          let before : old d ≡ Some q =
+          sym (other (eq_by_cmp designation_cmp d s) (option_map (λ (_ : Designation). s) (old d)) (old d) apart) ∙ sym (follows d) ∙ some in
+          let its_own : old q ≡ Some q = own d q before in
           let not_s : eq_by_cmp designation_cmp q s ≡ false =
-          false_from_ne_true (eq_by_cmp designation_cmp q s) (λ h. secondary (subst (IsPrincipal old) (designation_same q s h) its_own)) in
-          follows q ∙ other (eq_by_cmp designation_cmp q s) (option_map (λ (_ : Designation). s) (principal_of old q)) (principal_of old q) not_s ∙ its_own
+          false_from_ne_true (eq_by_cmp designation_cmp q s) (λ h. secondary (subst (λ (x : Designation). old x ≡ Some x) (designation_same q s h) its_own)) in
+          follows q ∙ other (eq_by_cmp designation_cmp q s) (option_map (λ (_ : Designation). s) (old q)) (old q) not_s ∙ its_own
     ]

@@ -40,7 +40,7 @@ links_given d old links are absent links_is =
     (are_links (linked d d ∷ old) (with_link d old) (to_front d old)
     (sorted_from (with_link d old) (rising_insert (linked d d) old absent (rising old are.sorted are.once)))
     (once_given d old absent are.once)
-    (own_given d old (with_link d old) (follows_given d old (with_link d old) are absent refl) are.own))
+    (own_given d (principal_of old) (principal_of (with_link d old)) (follows_given d old (with_link d old) are absent refl) are.own))
 
 pub follows_joined : (p s : Designation) (old changed links : List Link) → AreLinks old → changed ≡ map (relabelled p s) old → IsPermutation changed links → ChangedBy (Joined p s) old links
 follows_joined p s old changed links are changed_is moved d =
@@ -52,7 +52,7 @@ pub links_joined : (p s : Designation) (old changed links : List Link) → AreLi
     → IsSorted (derived_links.ghosts).cmp links → AreLinks links
 links_joined p s old changed links are principal two changed_is moved sorted =
     are_links changed links moved (sorted_by links sorted) (subst EachOnce (sym changed_is) (once_joined p s old are.once))
-    (own_joined p s old links principal two (follows_joined p s old changed links are changed_is moved) are.own)
+    (own_joined p s (principal_of old) (principal_of links) principal two (follows_joined p s old changed links are changed_is moved) are.own)
 
 pub follows_parted : (s : Designation) (old changed links : List Link) → AreLinks old → changed ≡ map (parted s) old → IsPermutation changed links → ChangedBy (Parted s) old links
 follows_parted s old changed links are changed_is moved d =
@@ -64,4 +64,4 @@ pub links_parted : (s : Designation) (old changed links : List Link) → AreLink
     → IsSorted (derived_links.ghosts).cmp links → AreLinks links
 links_parted s old changed links are secondary changed_is moved sorted =
     are_links changed links moved (sorted_by links sorted) (subst EachOnce (sym changed_is) (once_parted s old are.once))
-    (own_parted s old links secondary (follows_parted s old changed links are changed_is moved) are.own)
+    (own_parted s (principal_of old) (principal_of links) secondary (follows_parted s old changed links are changed_is moved) are.own)

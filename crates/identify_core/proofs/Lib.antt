@@ -6,3 +6,4 @@ mod RunLemmas
 mod ChangeLemmas
 mod OrderedLemmas
 mod PlaceLemmas
+mod OwnLemmas

@@ -1,5 +1,5 @@
 -- Designations in their order.
-use Rattle.std.proofs.Common.{◌≡◌, suc, Bool, true, cond, List, [], ◌∷◌, Option, Some, None, option_map, refl, ap, sym, subst, ◌∙◌, ◌⊎◌, inl, inr, arith}
+use Rattle.std.proofs.Common.{◌≡◌, suc, Bool, true, false, cond, List, [], ◌∷◌, Option, Some, None, option_map, IsSome, ◌↔◌, refl, ap, sym, subst, ◌∙◌, ◌⊎◌, inl, inr, arith}
 use Rattle.std.specs.declared.cmp.Ordering.{Ordering}
 use Rattle.std.specs.declared.cmp.Ordering.TheVariants.{Less, Equal, Greater}
 use Rattle.std.specs.List.{Contains, filter}
@@ -7,7 +7,7 @@ use Rattle.std.specs.Ordering.{is_eq, eq_by_cmp, match_ordering, ordering_revers
 use Rattle.std.proofs.lemmas.Bool.{cases_Bool}
 use Rattle.packed_names.specs.declared.name.Designation.{Designation}
 use Rattle.packed_names.specs.Order.{designation_cmp}
-use Rattle.identify_core.specs.Acts.{LinkAct, is_principal_of, principal, placed, given_in_order, members}
+use Rattle.identify_core.specs.Acts.{LinkAct, is_principal_of, principal_after, principal, placed, given_in_order, members}
 use Rattle.identify_core.specs.Acts.LinkAct.{Given, Joined, Parted}
 use Rattle.identify_core.specs.Principals.{IsBefore, IsAscending}
 use Rattle.identify_core.proofs.OrderLemmas.{designation_same, designation_itself, designation_total}
@@ -23,7 +23,7 @@ later e d ds among = (suc among.0, omega (arith, among.1), among.2)
 nothing : (d : Designation) → Contains [] d → ⊥
 nothing d among = omega (arith, among.1)
 
-before_at : (d e : Designation) (ds : List Designation) → IsBefore d ds → Contains ds e → designation_cmp d e ≡ Less
+pub before_at : (d e : Designation) (ds : List Designation) → IsBefore d ds → Contains ds e → designation_cmp d e ≡ Less
 before_at d e [] before among = absurd (nothing e among)
 before_at d e (x ∷ ds) before among =
     elim (first_or_later x ds e among) [
@@ -224,3 +224,63 @@ in_members acts p d some =
 
 pub from_members : (acts : List LinkAct) (p d : Designation) → Contains (members acts p) d → principal acts d ≡ Some p
 from_members acts p d among = principal_is p (principal acts d) (passes_filter (λ e. is_principal_of p (principal acts e)) (given_in_order acts) d among)
+
+given_is : (e d : Designation) (before : Option Designation) → e ≡ d → IsSome (cond (eq_by_cmp designation_cmp e d) (Some e) before)
+given_is e d before same =
+    let itself : eq_by_cmp designation_cmp e d ≡ true = subst (λ (x : Designation). eq_by_cmp designation_cmp e x ≡ true) same (designation_itself e) in
+    subst (λ (b : Bool). IsSome (cond b (Some e) before)) (sym itself) refl
+
+either_some : (b : Bool) (x : Designation) (before : Option Designation) → IsSome before → IsSome (cond b (Some x) before)
+either_some true x before some = refl
+either_some false x before some = some
+
+pub still_given : (act : LinkAct) (d : Designation) (before : Option Designation) → IsSome before → IsSome (principal_after act d before)
+still_given (Given e) d before some = either_some (eq_by_cmp designation_cmp e d) e before some
+still_given (Joined p s) d before some = either_some (is_principal_of s before) p before some
+still_given (Parted s) d None some = absurd (cc)
+still_given (Parted s) d (Some p) some = either_some (eq_by_cmp designation_cmp d s) s (Some p) some
+
+-- what stands in a list with d put in its place is d, or stood there
+from_placed : (d : Designation) (ds : List Designation) (e : Designation) → Contains (placed d ds) e → (d ≡ e) ⊎ Contains ds e
+from_placed d [] e among = first_or_later d [] e among
+from_placed d (x ∷ ds) e among =
+    let o = designation_cmp d x in
+    let C : List Designation → Type 0 = λ ls. Contains ls e in
+    elim (compared o) [
+      | inl c ↦ first_or_later d (x ∷ ds) e (subst C (chosen o Less (d ∷ x ∷ ds) (x ∷ ds) (x ∷ placed d ds) c) among)
+      | inr rest ↦
+          elim rest [
+            | inl c ↦ inr (subst C (chosen o Equal (d ∷ x ∷ ds) (x ∷ ds) (x ∷ placed d ds) c) among)
+            | inr c ↦
+                elim (first_or_later x (placed d ds) e (subst C (chosen o Greater (d ∷ x ∷ ds) (x ∷ ds) (x ∷ placed d ds) c) among)) [
+                  | inl here ↦ inr (subst (Contains (x ∷ ds)) here (first x ds))
+                  | inr there ↦ elim (from_placed d ds e there) [ inl at ↦ inl at | inr old ↦ inr (later x e ds old) ]
+                ]
+          ]
+    ]
+
+pub given_only : (acts : List LinkAct) (d : Designation) → Contains (given_in_order acts) d → IsSome (principal acts d)
+given_only [] d among = absurd (nothing d among)
+given_only (Given e ∷ past) d among =
+    elim (from_placed e (given_in_order past) d among) [
+      | inl here ↦ given_is e d (principal past d) here
+      | inr old ↦ still_given (Given e) d (principal past d) (given_only past d old)
+    ]
+given_only (Joined p s ∷ past) d among = still_given (Joined p s) d (principal past d) (given_only past d among)
+given_only (Parted s ∷ past) d among = still_given (Parted s) d (principal past d) (given_only past d among)
+
+given_some : (acts : List LinkAct) (d : Designation) (o : Option Designation) → principal acts d ≡ o → IsSome o → Contains (given_in_order acts) d
+given_some acts d None is some = absurd (cc)
+given_some acts d (Some p) is some = given_if acts d p is
+
+pub given_iff : (acts : List LinkAct) (d : Designation) → Contains (given_in_order acts) d ↔ IsSome (principal acts d)
+given_iff acts d = (given_only acts d, given_some acts d (principal acts d) refl)
+
+-- ---- principals
+
+pub in_principals : (acts : List LinkAct) (d : Designation) → principal acts d ≡ Some d → Contains (filter (λ e. is_principal_of e (principal acts e)) (given_in_order acts)) d
+in_principals acts d own =
+    contains_filter (λ e. is_principal_of e (principal acts e)) (given_in_order acts) d (ap (is_principal_of d) own ∙ designation_itself d) (given_if acts d d own)
+
+pub from_principals : (acts : List LinkAct) (d : Designation) → Contains (filter (λ e. is_principal_of e (principal acts e)) (given_in_order acts)) d → principal acts d ≡ Some d
+from_principals acts d among = principal_is d (principal acts d) (passes_filter (λ e. is_principal_of e (principal acts e)) (given_in_order acts) d among)

@@ -73,7 +73,7 @@ filter-no : (p : Designation) (link : Link) (links : List Link) → has_principa
 filter-no p link links apart = ap (λ (b : Bool). cond b (link ∷ filter (has_principal p) links) (filter (has_principal p) links)) apart
 
 -- how the first of two orders stands where both together are Less
-first_less : (o q : Ordering) → ordering_then o q ≡ Less → (o ≡ Less) ⊎ ((o ≡ Equal) × (q ≡ Less))
+pub first_less : (o q : Ordering) → ordering_then o q ≡ Less → (o ≡ Less) ⊎ ((o ≡ Equal) × (q ≡ Less))
 first_less Less q h = inl refl
 first_less Equal q h = inr (refl, h)
 first_less Greater q h = absurd (cc)
@@ -174,11 +174,11 @@ among d p (link ∷ links) some =
           ]
     ]
 
-tail_once : (d : Designation) (link : Link) (links : List Link) → count_by (has_member d) (link ∷ links) ≤ 1 → count_by (has_member d) links ≤ 1
+pub tail_once : (d : Designation) (link : Link) (links : List Link) → count_by (has_member d) (link ∷ links) ≤ 1 → count_by (has_member d) links ≤ 1
 tail_once d link links once = let more = count-more d link links in omega (arith, once, more)
 
 -- a link that is found behind another one has another member
-behind_first : (d p : Designation) (link : Link) (links : List Link) → count_by (has_member d) (link ∷ links) ≤ 1 → principal_of links d ≡ Some p → principal_of (link ∷ links) d ≡ Some p
+pub behind_first : (d p : Designation) (link : Link) (links : List Link) → count_by (has_member d) (link ∷ links) ≤ 1 → principal_of links d ≡ Some p → principal_of (link ∷ links) d ≡ Some p
 behind_first d p link links once rest =
     elim (cases_Bool (has_member d link)) [
       | inl same ↦ let count = count-here d link links same in let counted = counted_from_some d p links rest in absurd (omega (arith, count, counted, once))

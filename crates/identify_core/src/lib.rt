@@ -9,9 +9,13 @@
 //! links.add(d);
 //! links.join(principal, secondary);
 //! for link in links.members(principal) {}
+//! for link in links.as_slice() {
+//!     if link.is_own() {}
+//! }
 //! ```
 #![tactic(auto)]
 
+pub mod laws;
 mod link;
 mod links;
 mod walk;

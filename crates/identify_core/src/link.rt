@@ -1,3 +1,7 @@
+ghost use Rattle.std.specs.Prelude.{◌≡◌};
+ghost use Rattle.identify_core.specs.Principals.{is_own};
+
+use crate::walk;
 use packed_names::Designation;
 
 /// A designation that was given, and the principal designation of its object.
@@ -9,4 +13,13 @@ pub struct Link {
     pub principal: Designation,
     /// The designation.
     pub member: Designation,
+}
+
+impl Link {
+    /// Whether the member is its own principal.
+    pub fn is_own(self) -> bool
+        ensures { result ≡ is_own self }
+    {
+        walk::is_same(self.member, self.principal)
+    }
 }

@@ -1,11 +1,11 @@
 //! The links of all designations.
 
 ghost use Rattle.std.specs.Prelude.{◌≡◌, ◌≢◌, ◌↔◌, ◌+◌, ◌≤◌, List, [], ◌∷◌, map, All, Some, None, IfSome, IfOk};
-ghost use Rattle.std.specs.List.{Contains};
+ghost use Rattle.std.specs.List.{Contains, filter};
 ghost use Rattle.packed_names.specs.declared.name.Designation.{Designation};
-ghost use Rattle.identify_core.specs.Acts.{LinkAct, members};
+ghost use Rattle.identify_core.specs.Acts.{LinkAct, is_principal_of, principal, given_in_order, members};
 ghost use Rattle.identify_core.specs.Acts.LinkAct.{Given, Joined, Parted};
-ghost use Rattle.identify_core.specs.Principals.{principal_of, IsPrincipal, IsAscending, ChangedBy, StandFor};
+ghost use Rattle.identify_core.specs.Principals.{principal_of, IsPrincipal, own_members, IsAscending, ChangedBy, StandFor};
 
 use crate::link::Link;
 use crate::walk;
@@ -103,6 +103,17 @@ impl Links {
             → StandFor self.now.links acts → map (λ link. link.member) result.now ≡ members acts p }
     {
         walk::run_of(self.links.as_slice(), p)
+    }
+
+    /// The links of all designations, in the order of their principals, and for one principal in the order of its
+    /// members. Those that are their own principals (`Link::is_own`) are the principals, in the order of designations.
+    pub fn as_slice(&self) -> &[Link]
+        ensures links { result.now ≡ self.now.links }
+        ensures order { IsAscending (own_members result.now) }
+        ensures principals { (acts : List LinkAct) → StandFor self.now.links acts →
+            own_members result.now ≡ filter (λ d. is_principal_of d (principal acts d)) (given_in_order acts) }
+    {
+        self.links.as_slice()
     }
 
     /// Identifies the object of the principal `s` with that of the principal `p`: every designation whose principal was

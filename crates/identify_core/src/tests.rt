@@ -77,6 +77,20 @@ fn members(links: &Links, principal: u32) -> u32 {
     digits
 }
 
+// The orders of all principals, in the order of the links, as the digits of a number.
+fn principals(links: &Links) -> u32 {
+    let mut digits: u32 = 0;
+    for link in links.as_slice() {
+        if !link.is_own() {
+            continue;
+        }
+        if let Designation::Provisional(member) = link.member {
+            digits = digits.wrapping_mul(10).wrapping_add(member.order);
+        }
+    }
+    digits
+}
+
 #[test]
 fn identified_and_separated(rt: HostRuntime) -> Result<(), Fail> {
     let mut links = Links::new(rt.alloc())?;
@@ -84,13 +98,16 @@ fn identified_and_separated(rt: HostRuntime) -> Result<(), Fail> {
         assert!(rt; added(&mut links, order)?);
     }
     assert!(rt; !added(&mut links, 2)?);
+    assert_eq!(rt; principals(&links), 123);
     assert!(rt; joined(&mut links, 2, 3));
+    assert_eq!(rt; principals(&links), 12);
     assert_eq!(rt; (members(&links, 1), members(&links, 2)), (1, 23));
     assert!(rt; joined(&mut links, 1, 2));
     assert_eq!(rt; (members(&links, 1), members(&links, 2)), (123, 0));
     assert_eq!(rt; members(&links, 3), 0);
     assert!(rt; parted(&mut links, 2));
     assert_eq!(rt; (members(&links, 1), members(&links, 2)), (13, 2));
+    assert_eq!(rt; (principals(&links), links.as_slice().len()), (12, 3));
     assert!(rt; !joined(&mut links, 1, 3));
     assert!(rt; !joined(&mut links, 1, 1));
     assert!(rt; !parted(&mut links, 2));

@@ -11,7 +11,7 @@ use crate::link::Link;
 use packed_names::Designation;
 
 /// Whether two designations are the same.
-fn is_same(one: Designation, other: Designation) -> bool
+pub fn is_same(one: Designation, other: Designation) -> bool
     ensures { result ≡ eq_by_cmp designation_cmp one other }
 {
     one == other
