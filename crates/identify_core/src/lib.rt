@@ -12,6 +12,7 @@
 //! ```
 #![tactic(auto)]
 
+pub mod laws;
 mod link;
 mod links;
 mod walk;
