@@ -4,3 +4,4 @@ pub mod EnrolLaws
 pub mod StationLaws
 pub mod WholesLaws
 pub mod DesignateLaws
+pub mod NumberLaws

@@ -1,11 +1,18 @@
 //! Laws of bodies, each the contract of a function that does nothing.
 
 ghost use Rattle.std.specs.Prelude.{◌≡◌, false, ℕ, List, Some};
+ghost use Rattle.packed_names.specs.Ranges.{IsNumber};
 ghost use Rattle.act_bodies.specs.declared.enrol.Enrol.{Enrol};
-ghost use Rattle.act_bodies.specs.Bodies.{enrol_of};
+ghost use Rattle.act_bodies.specs.declared.number.Number.{Number};
+ghost use Rattle.act_bodies.specs.Bodies.{enrol_of, number_of_body};
 ghost use Rattle.act_bodies.specs.Keys.{key_text, begins_with_plus};
 
 /// The key of a caller whom a body enrols begins with no plus, so it is never the founding officer's.
 pub fn enrol_keys_are_plain()
     ensures { (bytes : List ℕ) (enrol : Enrol) → enrol_of bytes ≡ Some enrol → begins_with_plus (key_text enrol.key) ≡ false }
+{}
+
+/// The first number for which a body asks is one that a minor planet can have.
+pub fn first_numbers_are_numbers()
+    ensures { (bytes : List ℕ) (number : Number) → number_of_body bytes ≡ Some number → IsNumber number.first }
 {}

@@ -270,7 +270,7 @@ first_false true x rest none = absurd cc
 first_false false x rest none = refl
 
 -- the deed is the one that is done where nothing refuses it
-same_deed : (o : Option Refusal) (done deed : Deed) → unless o (Ok done) ≡ Ok deed → (o ≡ None) × (done ≡ deed)
+pub same_deed : (o : Option Refusal) (done deed : Deed) → unless o (Ok done) ≡ Ok deed → (o ≡ None) × (done ≡ deed)
 same_deed None done deed is = (refl, ok_is done deed is)
 same_deed (Some r) done deed is = absurd cc
 

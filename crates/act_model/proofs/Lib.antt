@@ -4,3 +4,6 @@ pub mod Hearing
 pub mod Legal
 pub mod Places
 mod Designating
+mod RowLemmas
+mod DeedCases
+mod Years

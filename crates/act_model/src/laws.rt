@@ -23,6 +23,10 @@ ghost use Rattle.act_model.specs.Step.{new_entry, step};
 ghost use Rattle.act_model.specs.Turns.{Turn, Answers, IsTurn, Conduct};
 ghost use Rattle.act_model.specs.Conducts.{Extends, HadMemory, IsStepped};
 ghost use Rattle.act_model.specs.Legal.{IsLegal};
+ghost use Rattle.tracklet_file.specs.declared.observation.Observation.{Observation};
+ghost use Rattle.tracklet_file.specs.Numbering.{numbered};
+ghost use Rattle.act_model.specs.BatchRules.{is_in_years};
+ghost use Rattle.act_model.specs.Holdings.{holdings};
 ghost use Rattle.act_model.specs.Observations.{observations};
 ghost use Rattle.act_model.specs.Places.{OnePlace, added_by};
 
@@ -152,4 +156,10 @@ pub fn one_place()
 /// An act adds to the accepted observations its own accepted lines, and takes none away.
 pub fn acts_add_their_lines()
     ensures { (past : List Deed) (deed : Deed) → observations (deed ∷ past) ≡ observations past + added_by deed }
+{}
+
+/// Each accepted observation is of a year that designations have, retracted ones included.
+pub fn observed_years()
+    ensures { (history : List Entry) (k : ℕ) (o : Observation) →
+        numbered (holdings (deeds history)).observations k ≡ Some o → is_in_years o.sighting ≡ true }
 {}

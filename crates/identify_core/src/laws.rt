@@ -32,3 +32,11 @@ pub fn each_principal_once()
 pub fn equal_is_same()
     ensures { (d e : Designation) → (eq_by_cmp designation_cmp d e ≡ true) ↔ (d ≡ e) }
 {}
+
+/// The designations that were given stand in their order, each once. Designations are the same exactly where they
+/// compare equal.
+pub fn given_ascend()
+    ensures ascending { (acts : List LinkAct) → IsAscending (given_in_order acts) }
+    ensures same { (one other : Designation) → eq_by_cmp designation_cmp one other ≡ true → one ≡ other }
+    ensures itself { (d : Designation) → eq_by_cmp designation_cmp d d ≡ true }
+{}
