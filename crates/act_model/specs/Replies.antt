@@ -1,5 +1,5 @@
 -- What the office answers to an act that it accepted, and the text and status of every reply.
-use Rattle.std.specs.Prelude.{ℕ, ◌+◌, List, [], ◌∷◌, ◌++◌, flat_map, codes, decimal, Result, Ok, Err}
+use Rattle.std.specs.Prelude.{ℕ, ◌+◌, true, false, List, [], ◌∷◌, ◌++◌, flat_map, codes, decimal, Result, Ok, Err}
 use Rattle.std.specs.Fmt.{signed_decimal}
 use Rattle.packed_names.specs.declared.name.Designation.TheVariants.{Provisional}
 use Rattle.obs_record.specs.declared.rule.RuleCode.{RuleCode}
@@ -10,7 +10,7 @@ use Rattle.act_model.specs.declared.reply.Excess.TheVariants as excess
 use Rattle.act_model.specs.declared.reply.Fault.{Fault}
 use Rattle.act_model.specs.declared.reply.Part.TheVariants as part
 use Rattle.act_model.specs.declared.reply.Refusal.{Refusal}
-use Rattle.act_model.specs.declared.reply.Refusal.TheVariants.{TooLarge, Unread, UnknownKey, OtherRequest, Role, UnknownThing, Header, NoLine, NotIsolated, NotHomed, Empty, OneNight, HalfMonthFull, NotPrincipal, SameObject, BothNumbered, NumberedSecondary, NotSecondary, AlreadyRetracted, NotNext, NoneEligible, NumbersFull, AlreadyThere, RosterFull, NoMemory}
+use Rattle.act_model.specs.declared.reply.Refusal.TheVariants.{TooLarge, Unread, UnknownKey, OtherRequest, Role, UnknownThing, Header, NoLine, NotIsolated, NotHomed, Empty, OneNight, HalfMonthFull, NotPrincipal, SameObject, BothNumbered, NumberedSecondary, NotSecondary, AlreadyRetracted, NotNext, NoneEligible, NumbersFull, AlreadyThere, RosterFull, JournalFull, DiskFault, NoMemory}
 use Rattle.act_model.specs.declared.reply.Reply.{Reply}
 use Rattle.act_model.specs.declared.reply.Reply.TheVariants.{Done, Refused}
 use Rattle.act_model.specs.declared.reply.Text.{Text}
@@ -97,6 +97,10 @@ refusal_text NoneEligible = line_of (codes "refused 12 NoneEligible")
 refusal_text NumbersFull = line_of (codes "refused 12 NumbersFull")
 refusal_text AlreadyThere = line_of (codes "refused 13 AlreadyThere")
 refusal_text RosterFull = line_of (codes "refused 13 RosterFull")
+refusal_text (JournalFull used more limit) =
+    line_of (codes "refused 15 JournalFull used " ++ decimal used ++ codes " more " ++ decimal more ++ codes " limit " ++ decimal limit)
+refusal_text (DiskFault false) = line_of (codes "refused 16 DiskFault untouched")
+refusal_text (DiskFault true) = line_of (codes "refused 16 DiskFault doubt")
 refusal_text NoMemory = line_of (codes "refused 17 NoMemory")
 
 abbrev pub text_of : Reply → List ℕ
@@ -133,6 +137,8 @@ refusal_status NoneEligible = 409
 refusal_status NumbersFull = 409
 refusal_status AlreadyThere = 409
 refusal_status RosterFull = 409
+refusal_status (JournalFull used more limit) = 409
+refusal_status (DiskFault doubt) = 503
 refusal_status NoMemory = 507
 
 abbrev pub status_of : Reply → ℕ

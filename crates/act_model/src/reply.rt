@@ -13,7 +13,7 @@ use packed_names::{Designation, HalfMonth, Name, is_half_month, is_name, print, 
 use std::alloc::Global;
 
 /// The most bytes that the line of a refusal has.
-pub const REFUSAL_BYTES: usize = 64;
+pub const REFUSAL_BYTES: usize = 104;
 
 /// What of a request could not be read.
 #[derive(Clone, Copy, Debug, PartialEq, Eq)]
@@ -125,6 +125,21 @@ pub enum Refusal {
     AlreadyThere,
     /// The roster has all the callers that it may have.
     RosterFull,
+    /// The journal has no room for the act's entry.
+    JournalFull {
+        /// How many bytes the journal has.
+        used: u64,
+        /// How many more the entry would take.
+        more: u64,
+        /// How many it may have.
+        limit: u64,
+    },
+    /// The disk failed, and the act wasn't done; or it is in doubt, and may or may not be kept. The same
+    /// request, sent again, settles it.
+    DiskFault {
+        /// Whether this call left the act in doubt.
+        doubt: bool,
+    },
     /// Memory was refused. The same request may be done when it is sent again.
     NoMemory,
 }
@@ -165,7 +180,9 @@ pub fn refusal_status(refusal: &Refusal) -> u16
         | Refusal::NoneEligible
         | Refusal::NumbersFull
         | Refusal::AlreadyThere
-        | Refusal::RosterFull => 409,
+        | Refusal::RosterFull
+        | Refusal::JournalFull { .. } => 409,
+        Refusal::DiskFault { .. } => 503,
         Refusal::NoMemory => 507,
     }
 }
@@ -173,8 +190,9 @@ pub fn refusal_status(refusal: &Refusal) -> u16
 /// The status of a reply, as HTTP numbers them (RFC 9110, and RFC 4918 where memory was refused): 200 for
 /// a request that was done, 400 for one that can't be read, 401 for a key that nobody has, 403 for an
 /// observer who asks what officers may, 404 for a thing that isn't there, 409 for a number that was used and for
-/// what the office's state doesn't allow, 413 for a body that is too large, 422 for a batch with a fault of its headers or
-/// without a line that is accepted, and 507 where memory was refused.
+/// what the office's state doesn't allow or the journal has no room for, 413 for a body that is too large, 422 for a batch
+/// with a fault of its headers or without a line that is accepted, 503 where the disk failed, and 507 where memory was
+/// refused.
 pub fn status(reply: &Reply) -> u16
     ensures { result ≡ status_of reply.now }
 {
@@ -256,7 +274,7 @@ fn night_line(time: i64) -> ArrayVec<u8, REFUSAL_BYTES>
     line
 }
 
-fn full_line(half: HalfMonth, limit: u32) -> ArrayVec<u8, REFUSAL_BYTES>
+fn half_month_line(half: HalfMonth, limit: u32) -> ArrayVec<u8, REFUSAL_BYTES>
     ensures { result.items ≡ refusal_text (Refusal.HalfMonthFull half limit) }
 {
     let mut buffer = Buffer::new();
@@ -307,6 +325,35 @@ fn header_line(fault: HeaderFault, number: u32) -> ArrayVec<u8, REFUSAL_BYTES>
     line
 }
 
+fn full_line(used: u64, more: u64, limit: u64) -> ArrayVec<u8, REFUSAL_BYTES>
+    ensures { result.items ≡ refusal_text (Refusal.JournalFull used more limit) }
+{
+    let mut buffer = Buffer::new();
+    let mut line = ArrayVec::new();
+    line.try_extend_from_slice(b"refused 15 JournalFull used ")
+        .unwrap();
+    line.try_extend_from_slice(buffer.format(used).as_bytes())
+        .unwrap();
+    line.try_extend_from_slice(b" more ").unwrap();
+    line.try_extend_from_slice(buffer.format(more).as_bytes())
+        .unwrap();
+    line.try_extend_from_slice(b" limit ").unwrap();
+    line.try_extend_from_slice(buffer.format(limit).as_bytes())
+        .unwrap();
+    line.push(b'\n');
+    line
+}
+
+fn disk_fault_line(doubt: bool) -> ArrayVec<u8, REFUSAL_BYTES>
+    ensures { result.items ≡ refusal_text (Refusal.DiskFault doubt) }
+{
+    if doubt {
+        line_in_place(b"refused 16 DiskFault doubt")
+    } else {
+        line_in_place(b"refused 16 DiskFault untouched")
+    }
+}
+
 fn unread_line(part: Part) -> ArrayVec<u8, REFUSAL_BYTES>
     ensures { result.items ≡ refusal_text (Refusal.Unread part) }
 {
@@ -350,7 +397,7 @@ pub fn refusal_line(refusal: &Refusal) -> Option<ArrayVec<u8, REFUSAL_BYTES>>
         Refusal::NotHomed(t) => Some(numbered_line(b"refused 8 NotHomed ", *t)),
         Refusal::Empty(t) => Some(numbered_line(b"refused 8 Empty ", *t)),
         Refusal::OneNight(time) => Some(night_line(*time)),
-        Refusal::HalfMonthFull { half, limit } => Some(full_line(*half, *limit)),
+        Refusal::HalfMonthFull { half, limit } => Some(half_month_line(*half, *limit)),
         Refusal::NotPrincipal(d) => Some(named_line(b"refused 10 NotPrincipal ", *d)),
         Refusal::SameObject => Some(line_in_place(b"refused 10 SameObject")),
         Refusal::BothNumbered => Some(line_in_place(b"refused 10 BothNumbered")),
@@ -362,6 +409,8 @@ pub fn refusal_line(refusal: &Refusal) -> Option<ArrayVec<u8, REFUSAL_BYTES>>
         Refusal::NumbersFull => Some(line_in_place(b"refused 12 NumbersFull")),
         Refusal::AlreadyThere => Some(line_in_place(b"refused 13 AlreadyThere")),
         Refusal::RosterFull => Some(line_in_place(b"refused 13 RosterFull")),
+        Refusal::JournalFull { used, more, limit } => Some(full_line(*used, *more, *limit)),
+        Refusal::DiskFault { doubt } => Some(disk_fault_line(*doubt)),
         Refusal::NoMemory => Some(line_in_place(b"refused 17 NoMemory")),
     }
 }
