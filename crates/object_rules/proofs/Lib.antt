@@ -1,0 +1,4 @@
+mod Rows
+mod Seen
+mod Numbers
+mod Homes

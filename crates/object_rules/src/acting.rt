@@ -1,11 +1,11 @@
 //! What the acts on tracklets and objects do, or the first refusals that they meet.
 
-ghost use Rattle.std.specs.Prelude.{◌≡◌, map, Ok};
+ghost use Rattle.std.specs.Prelude.{◌≡◌, ◌≤ℤ◌, ◌-ℤ◌, pos, int_lt, if◌then◌else◌, map, Some, None, Ok};
 ghost use Rattle.act_model.specs.Rows.{first_row, unless, IsDue};
 ghost use Rattle.act_model.specs.Holdings.{holdings};
 ghost use Rattle.act_model.specs.Designations.{takes_of, links_of};
 ghost use Rattle.act_model.specs.Numbers.{numbers_of};
-ghost use Rattle.act_model.specs.Doing.{tracklet_row, identify_rows, designates, designates_seen, attributes, releases, identifies, separates, judges};
+ghost use Rattle.act_model.specs.Doing.{tracklet_row, identify_rows, designates, designates_seen, attributes, releases, identifies, separates, judges, half_a_day};
 ghost use Rattle.object_rules.specs.Seeing.{AreOfYears};
 
 use crate::asking::{home, is_given, is_numbered, is_principal, is_same, is_there};
@@ -14,6 +14,7 @@ use crate::ledger::Ledger;
 use crate::seeing::{free_seen, free_track};
 use act_model::{Deed, Ids, Part, Refusal, Seen, Thing};
 use item_list::ItemList;
+use obs_time::Instant;
 use packed_names::{Designation, limit};
 use std::alloc::Global;
 
@@ -32,6 +33,18 @@ fn unknown_tracklet<L: Ledger>(office: &L, tracklets: &[u64]) -> Option<Refusal>
     None
 }
 
+/// How many nanoseconds it is from one moment to another, where that is less than 12 hours.
+fn night_between(from: Instant, to: Instant) -> Option<i64>
+    requires { from ≤ℤ to }
+    ensures { result ≡ if int_lt (to -ℤ from) (pos half_a_day) then Some (to -ℤ from) else None }
+{
+    if to.ns() < from.ns() + HALF_A_DAY {
+        Some(to.ns() - from.ns())
+    } else {
+        None
+    }
+}
+
 /// The object that these tracklets become, where these are their live observations.
 fn designates_seen<L: Ledger>(office: &L, tracklets: Ids, seen: &[Seen]) -> Result<Deed, Refusal>
     requires years { AreOfYears seen.now }
@@ -42,8 +55,8 @@ fn designates_seen<L: Ledger>(office: &L, tracklets: Ids, seen: &[Seen]) -> Resu
     };
     let discovery = earliest(first, more);
     let last = latest(first, more);
-    if last.time.ns() < discovery.time.ns() + HALF_A_DAY {
-        return Err(Refusal::OneNight(last.time.ns() - discovery.time.ns()));
+    if let Some(time) = night_between(discovery.time, last.time) {
+        return Err(Refusal::OneNight(time));
     }
     let half = half_of(discovery.time);
     match office.rows().next(half) {

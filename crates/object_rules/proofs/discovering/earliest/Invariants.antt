@@ -7,7 +7,7 @@ use Rattle.object_rules.proofs.discovering.earliest.Given as goal
 abbrev pub invariant-loop-next : goal.invariant-loop-next
 invariant-loop-next l =
     record {
-      earliest_is : earliest l.found.now (drop l.next-index l.more) ≡ earliest l.fn.first.now l.fn.more.now;
-      found_years : IsTrue (is_of_years l.found.now.time);
+      earliest_is : earliest l.found (drop l.next-index l.more) ≡ earliest l.first l.more;
+      found_years : IsTrue (is_of_years l.found.time);
       left_years : AreOfYears (drop l.next-index l.more);
     }

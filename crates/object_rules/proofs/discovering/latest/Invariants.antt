@@ -4,4 +4,4 @@ use Rattle.object_rules.proofs.discovering.latest.Given as goal
 
 -- the latest so far and of what is left is that of all
 abbrev pub invariant-loop-next : goal.invariant-loop-next
-invariant-loop-next l = latest l.found.now (drop l.next-index l.more) ≡ latest l.fn.first.now l.fn.more.now
+invariant-loop-next l = latest l.found (drop l.next-index l.more) ≡ latest l.first l.more
