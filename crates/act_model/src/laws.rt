@@ -25,7 +25,11 @@ ghost use Rattle.act_model.specs.Conducts.{Extends, HadMemory, IsStepped};
 ghost use Rattle.act_model.specs.Legal.{IsLegal};
 ghost use Rattle.tracklet_file.specs.declared.observation.Observation.{Observation};
 ghost use Rattle.tracklet_file.specs.Numbering.{numbered};
+ghost use Rattle.act_model.specs.declared.act.Act.{Act};
+ghost use Rattle.act_model.specs.Acts.{IsRead};
 ghost use Rattle.act_model.specs.BatchRules.{is_in_years};
+ghost use Rattle.act_model.specs.Doing.{does};
+ghost use Rattle.act_model.specs.Fitting.{FitsObjects};
 ghost use Rattle.act_model.specs.Holdings.{holdings};
 ghost use Rattle.act_model.specs.Observations.{observations};
 ghost use Rattle.act_model.specs.Places.{OnePlace, added_by};
@@ -163,3 +167,13 @@ pub fn observed_years()
     ensures { (history : List Entry) (k : ℕ) (o : Observation) →
         numbered (holdings (deeds history)).observations k ≡ Some o → is_in_years o.sighting ≡ true }
 {}
+
+/// An act that is done fits what was done before: what it names is there, a designation that it gives is the next one of
+/// its half-month and wasn't given, and numbers that it gives go on from the last one, each to an object without one.
+pub fn acts_fit()
+    ensures { (history : List Entry) (moment : ℤ) (act : Act) (deed : Deed) →
+        IsRead act → does (deeds history) moment act ≡ Ok deed → FitsObjects (deeds history) deed }
+{
+    act_bodies::laws::first_numbers_are_numbers();
+    identify_core::laws::given_ascend();
+}
