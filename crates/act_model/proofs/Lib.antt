@@ -11,3 +11,4 @@ mod Given
 mod Halves
 mod Numbered
 mod Fits
+mod Rows

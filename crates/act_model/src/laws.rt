@@ -30,6 +30,7 @@ ghost use Rattle.act_model.specs.Acts.{IsRead};
 ghost use Rattle.act_model.specs.BatchRules.{is_in_years};
 ghost use Rattle.act_model.specs.Doing.{does};
 ghost use Rattle.act_model.specs.Fitting.{FitsObjects};
+ghost use Rattle.act_model.specs.Unbroken.{UnbrokenRows, UnbrokenNumbers};
 ghost use Rattle.act_model.specs.Holdings.{holdings};
 ghost use Rattle.act_model.specs.Observations.{observations};
 ghost use Rattle.act_model.specs.Places.{OnePlace, added_by};
@@ -176,4 +177,21 @@ pub fn acts_fit()
 {
     act_bodies::laws::first_numbers_are_numbers();
     identify_core::laws::given_ascend();
+}
+
+/// In each half-month the designations that were given have the orders 1, 2, 3 and so on, in the order in which they
+/// were given, and at most the half-month's limit. No designation was given twice.
+pub fn unbroken_rows()
+    ensures { (history : List Entry) → UnbrokenRows history }
+{
+    designate_core::laws::unbroken_rows();
+}
+
+/// Numbers run without a gap from the first one. No number was given twice, and no designation was numbered twice.
+pub fn unbroken_numbers()
+    ensures { (history : List Entry) → UnbrokenNumbers history }
+{
+    act_bodies::laws::first_numbers_are_numbers();
+    identify_core::laws::given_ascend();
+    numbering_core::laws::unbroken_numbers();
 }
