@@ -169,8 +169,8 @@ pub fn observed_years()
         numbered (holdings (deeds history)).observations k ≡ Some o → is_in_years o.sighting ≡ true }
 {}
 
-/// An act that is done fits what was done before: what it names is there, a designation that it gives is the next one of
-/// its half-month and wasn't given, and numbers that it gives go on from the last one, each to an object without one.
+/// An act that is done fits what was done before: what it names is there, a designation that it gives is the next one
+/// of its half-month and wasn't given, and numbers that it gives go on from the last one, each to an object without one.
 pub fn acts_fit()
     ensures { (history : List Entry) (moment : ℤ) (act : Act) (deed : Deed) →
         IsRead act → does (deeds history) moment act ≡ Ok deed → FitsObjects (deeds history) deed }
