@@ -7,3 +7,8 @@ mod Designating
 mod RowLemmas
 mod DeedCases
 mod Years
+mod Given
+mod Halves
+mod Numbered
+mod Fits
+mod Rows

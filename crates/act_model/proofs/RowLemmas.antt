@@ -22,3 +22,7 @@ behind_off (row ∷ rows) others off = behind_off rows others off.1
 pub not_off : (b : Bool) → not b ≡ false → b ≡ true
 not_off true is = refl
 not_off false is = absurd cc
+
+pub before_off : {A : Type 0} (rows others : List (Bool × A)) → AreOff (rows ++ others) → AreOff rows
+before_off [] others off = tt
+before_off (row ∷ rows) others off = (off.0, before_off rows others off.1)

@@ -26,7 +26,12 @@ ghost use Rattle.act_model.specs.Conducts.{Extends, HadMemory, HadNoFault, NoDis
 ghost use Rattle.act_model.specs.Legal.{IsLegal};
 ghost use Rattle.tracklet_file.specs.declared.observation.Observation.{Observation};
 ghost use Rattle.tracklet_file.specs.Numbering.{numbered};
+ghost use Rattle.act_model.specs.declared.act.Act.{Act};
+ghost use Rattle.act_model.specs.Acts.{IsRead};
 ghost use Rattle.act_model.specs.BatchRules.{is_in_years};
+ghost use Rattle.act_model.specs.Doing.{does};
+ghost use Rattle.act_model.specs.Fitting.{FitsObjects};
+ghost use Rattle.act_model.specs.Unbroken.{UnbrokenRows, UnbrokenNumbers};
 ghost use Rattle.act_model.specs.Holdings.{holdings};
 ghost use Rattle.act_model.specs.Observations.{observations};
 ghost use Rattle.act_model.specs.Places.{OnePlace, added_by};
@@ -197,3 +202,30 @@ pub fn observed_years()
     ensures { (history : List Entry) (k : ℕ) (o : Observation) →
         numbered (holdings (deeds history)).observations k ≡ Some o → is_in_years o.sighting ≡ true }
 {}
+
+/// An act that is done fits what was done before: what it names is there, a designation that it gives is the next one
+/// of its half-month and wasn't given, and numbers that it gives go on from the last one, each to an object without one.
+pub fn acts_fit()
+    ensures { (history : List Entry) (moment : ℤ) (act : Act) (deed : Deed) →
+        IsRead act → does (deeds history) moment act ≡ Ok deed → FitsObjects (deeds history) deed }
+{
+    act_bodies::laws::first_numbers_are_numbers();
+    identify_core::laws::given_ascend();
+}
+
+/// In each half-month the designations that were given have the orders 1, 2, 3 and so on, in the order in which they
+/// were given, and at most the half-month's limit. No designation was given twice.
+pub fn unbroken_rows()
+    ensures { (history : List Entry) → UnbrokenRows history }
+{
+    designate_core::laws::unbroken_rows();
+}
+
+/// Numbers run without a gap from the first one. No number was given twice, and no designation was numbered twice.
+pub fn unbroken_numbers()
+    ensures { (history : List Entry) → UnbrokenNumbers history }
+{
+    act_bodies::laws::first_numbers_are_numbers();
+    identify_core::laws::given_ascend();
+    numbering_core::laws::unbroken_numbers();
+}
