@@ -1,4 +1,4 @@
-mod Rows
-mod Seen
-mod Numbers
-mod Homes
+mod RowLemmas
+mod SeenLemmas
+mod NumberLemmas
+mod HomeLemmas

@@ -1,6 +1,6 @@
 //! By which observation an object is discovered, and in which half-month.
 
-ghost use Rattle.std.specs.Prelude.{◌≡◌, IsTrue};
+ghost use Rattle.std.specs.Prelude.{◌≡◌, ◌≤ℤ◌, IsTrue};
 ghost use Rattle.packed_names.specs.Ranges.{IsHalfMonth};
 ghost use Rattle.act_model.specs.Discoveries.{is_sooner, sooner, later, earliest, latest, half_of};
 ghost use Rattle.object_rules.specs.Seeing.{is_of_years, AreOfYears};
@@ -17,13 +17,15 @@ fn is_sooner(one: &Seen, other: &Seen) -> bool
 }
 
 fn sooner<'s>(one: &'s Seen, other: &'s Seen) -> &'s Seen
-    ensures { result.now ≡ sooner one.now other.now }
+    ensures sooner { result.now ≡ sooner one.now other.now }
+    ensures before { result.now.time ≤ℤ one.now.time }
 {
     if is_sooner(other, one) { other } else { one }
 }
 
 fn later<'s>(one: &'s Seen, other: &'s Seen) -> &'s Seen
-    ensures { result.now ≡ later one.now other.now }
+    ensures later { result.now ≡ later one.now other.now }
+    ensures after { one.now.time ≤ℤ result.now.time }
 {
     if one.time < other.time { other } else { one }
 }
@@ -33,6 +35,7 @@ pub(crate) fn earliest<'s>(first: &'s Seen, more: &'s [Seen]) -> &'s Seen
     requires first { IsTrue (is_of_years first.now.time) }
     requires more { AreOfYears more.now }
     ensures earliest { result.now ≡ earliest first.now more.now }
+    ensures before { result.now.time ≤ℤ first.now.time }
     ensures years { IsTrue (is_of_years result.now.time) }
 {
     let mut found = first;
@@ -44,7 +47,8 @@ pub(crate) fn earliest<'s>(first: &'s Seen, more: &'s [Seen]) -> &'s Seen
 
 /// The latest of an observation and of further ones.
 pub(crate) fn latest<'s>(first: &'s Seen, more: &'s [Seen]) -> &'s Seen
-    ensures { result.now ≡ latest first.now more.now }
+    ensures latest { result.now ≡ latest first.now more.now }
+    ensures after { first.now.time ≤ℤ result.now.time }
 {
     let mut found = first;
     for next in more {

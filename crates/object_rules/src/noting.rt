@@ -91,7 +91,7 @@ fn void(register: &mut Register, object: Option<Designation>)
 }
 
 /// Gives tracklets a home, one after the other.
-#[tactic(auto, using(crate::proofs::Homes::stay_there))]
+#[tactic(auto, using(crate::proofs::HomeLemmas::stay_there))]
 fn home_all(file: &mut TrackletFile, tracklets: &[u64], home: Option<Designation>)
     requires there { AreTracklets file.old.tracklets tracklets.now }
     ensures homes { file.new.tracklets ≡ with_homes file.old.tracklets tracklets.now home }

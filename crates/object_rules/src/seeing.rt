@@ -34,7 +34,7 @@ fn seen_at(file: &TrackletFile, k: u64) -> Option<Seen>
 }
 
 /// Adds the live observations of a tracklet, in the order of their numbers.
-#[tactic(auto, using(crate::proofs::Seen::of_years_more))]
+#[tactic(auto, using(crate::proofs::SeenLemmas::of_years_more))]
 pub(crate) fn push_seen(
     file: &TrackletFile,
     seen: &mut ItemList<Seen>,

@@ -7,5 +7,5 @@ use Rattle.object_rules.proofs.acting.unknown_tracklet.Given as goal
 -- the first refusal among what is left is that of all
 abbrev pub invariant-loop-t : goal.invariant-loop-t
 invariant-loop-t g l =
-    first_row (map (tracklet_row (holdings (g.Ledger.deeds l.office)).tracklets) (drop l.t-index l.tracklets))
-    ≡ first_row (map (tracklet_row (holdings (g.Ledger.deeds l.office)).tracklets) l.tracklets)
+    first_row (map (tracklet_row (holdings (g.L.Ledger.deeds l.office)).tracklets) (drop l.t-index l.tracklets))
+    ≡ first_row (map (tracklet_row (holdings (g.L.Ledger.deeds l.office)).tracklets) l.tracklets)

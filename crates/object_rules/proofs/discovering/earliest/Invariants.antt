@@ -1,4 +1,4 @@
-use Rattle.std.proofs.Common.{◌≡◌, IsTrue, drop}
+use Rattle.std.proofs.Common.{◌≡◌, ◌≤ℤ◌, IsTrue, drop}
 use Rattle.act_model.specs.Discoveries.{earliest}
 use Rattle.object_rules.specs.Seeing.{is_of_years, AreOfYears}
 use Rattle.object_rules.proofs.discovering.earliest.Given as goal
@@ -8,6 +8,7 @@ abbrev pub invariant-loop-next : goal.invariant-loop-next
 invariant-loop-next l =
     record {
       earliest_is : earliest l.found (drop l.next-index l.more) ≡ earliest l.first l.more;
+      before : l.found.time ≤ℤ l.first.time;
       found_years : IsTrue (is_of_years l.found.time);
       left_years : AreOfYears (drop l.next-index l.more);
     }

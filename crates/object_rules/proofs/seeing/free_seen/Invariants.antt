@@ -10,9 +10,9 @@ use Rattle.object_rules.proofs.seeing.free_seen.Given as goal
 abbrev pub invariant-loop-t : goal.invariant-loop-t
 invariant-loop-t g l =
     record {
-      refusal : first_row (flat_map (free_rows (holdings (g.Ledger.deeds l.office))) (drop l.t-index l.tracklets))
-        ≡ first_row (flat_map (free_rows (holdings (g.Ledger.deeds l.office))) l.tracklets);
-      seen : l.seen ++ seen_in (holdings (g.Ledger.deeds l.office)).observations (drop l.t-index l.tracklets)
-        ≡ seen_in (holdings (g.Ledger.deeds l.office)).observations l.tracklets;
+      refusal : first_row (flat_map (free_rows (holdings (g.L.Ledger.deeds l.office))) (drop l.t-index l.tracklets))
+        ≡ first_row (flat_map (free_rows (holdings (g.L.Ledger.deeds l.office))) l.tracklets);
+      seen : l.seen ++ seen_in (holdings (g.L.Ledger.deeds l.office)).observations (drop l.t-index l.tracklets)
+        ≡ seen_in (holdings (g.L.Ledger.deeds l.office)).observations l.tracklets;
       years : AreOfYears l.seen;
     }

@@ -18,21 +18,21 @@ length_changed change (newest ∷ older) k = by (k == next_number older) (length
 -- an item that is there stays there when one of them is changed
 pub stays_there : {A : Type 0} (change : A → A) (items : List A) (number k : ℕ) → IsSome (numbered items k) → IsSome (numbered (changed_at change items number) k)
 stays_there change [] number k is = is
-stays_there change (newest ∷ older) number k is = by (number == next_number older)
+stays_there change (newest ∷ older) number k is = by (stays_there change older number k) (number == next_number older)
   where
     same : (c : Bool) → IsSome (cond c (Some newest) (numbered older k)) → IsSome (cond c (Some (change newest)) (numbered older k))
     same true is = refl
     same false is = is
 
-    other : (c : Bool) → IsSome (cond c (Some newest) (numbered older k)) → IsSome (cond c (Some newest) (numbered (changed_at change older number) k))
-    other true is = refl
-    other false is = stays_there change older number k is
+    other : (IsSome (numbered older k) → IsSome (numbered (changed_at change older number) k)) → (c : Bool) → IsSome (cond c (Some newest) (numbered older k)) → IsSome (cond c (Some newest) (numbered (changed_at change older number) k))
+    other rest true is = refl
+    other rest false is = rest is
 
-    by : (b : Bool) → IsSome (numbered (cond b (change newest ∷ older) (newest ∷ changed_at change older number)) k)
-    by true = same (k == next_number older) is
-    by false =
+    by : (IsSome (numbered older k) → IsSome (numbered (changed_at change older number) k)) → (b : Bool) → IsSome (numbered (cond b (change newest ∷ older) (newest ∷ changed_at change older number)) k)
+    by rest true = same (k == next_number older) is
+    by rest false =
         subst (λ (n : ℕ). IsSome (cond (k == n + 1) (Some newest) (numbered (changed_at change older number) k)))
-        (sym (length_changed change older number)) (other (k == next_number older) is)
+        (sym (length_changed change older number)) (other rest (k == next_number older) is)
 
 pub stay_there : (tracklets : List Tracklet) (t : ℕ) (home : Option Designation) (ts : List ℕ) → AreTracklets tracklets ts → AreTracklets (with_home tracklets t home) ts
 stay_there tracklets t home [] are = tt
