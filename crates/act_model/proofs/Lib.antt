@@ -4,3 +4,5 @@ pub mod Hearing
 pub mod Legal
 pub mod Places
 mod Designating
+mod Homes
+mod Objects
