@@ -1,6 +1,6 @@
 -- What stands in every history: the homes of tracklets and what was numbered were given, and principals are their own.
-use Rattle.std.proofs.Common.{◌≡◌, ◌≢◌, ◌↔◌, ℕ, ◌+◌, ℤ, List, [], ◌∷◌, ◌++◌, All, Bool, true, false, cond, count_by, filter, Option, Some, None, option_map, IfSome, IsTrue, Result, Ok, Err, refl, sym, ap, subst, ◌∙◌}
-use Rattle.std.specs.Prelude.{not, ◌&&◌, ◌==◌, is_some, is_none, reverse, take, option_and_then}
+use Rattle.std.proofs.Common.{◌≡◌, ◌≢◌, ◌↔◌, ℕ, ◌+◌, ℤ, List, [], ◌∷◌, All, Bool, true, false, cond, Option, Some, None, option_map, IfSome, IsTrue, Result, Ok, Err, refl, ap, subst, ◌∙◌}
+use Rattle.std.specs.Prelude.{not, ◌&&◌, ◌==◌, is_some, reverse, take, option_and_then}
 use Rattle.std.specs.Ordering.{eq_by_cmp}
 use Rattle.std.proofs.lemmas.List.Elements.{All-nil, All-cons, All-head, All-tail, All-append, All-take, All-filter, All-weaker, filter_passes}
 use Rattle.std.proofs.lemmas.List.Sorted.{All-permutation, IsPermutation-reverse}
@@ -56,17 +56,17 @@ use Rattle.act_model.specs.declared.taken.Taken.{Taken}
 use Rattle.act_model.specs.Acts.{read_as, enrol_act, station_act, code_act, designate_act, attribute_act, release_act, identify_act, separate_act, verdict_act, number_act, retract_act, psv_act, act_of}
 use Rattle.act_model.specs.BatchRules.{name_of, batch_rulings}
 use Rattle.act_model.specs.Deeds.{unless_refused_deed, done_if_read, deed_of, deeds}
-use Rattle.act_model.specs.Designations.{links_of, is_given, is_principal, principals, stands, takes_of}
+use Rattle.act_model.specs.Designations.{links_of, is_given, is_principal, principals, takes_of}
 use Rattle.act_model.specs.Discoveries.{seen_in, earliest, span, half_of}
 use Rattle.act_model.specs.Doing.{does, designation_row, enrol_rows, row_rows, batch_rows, retract_rows, designate_rows, object_rows, attribute_rows, release_rows, identify_rows, separate_rows, verdict_rows, number_rows, free_rows, is_numbered, eligible_after, taken_after, designates_seen}
 use Rattle.act_model.specs.Holdings.{Holdings, holdings, with_begun, with_found, with_batch, with_homes}
 use Rattle.act_model.specs.Known.{KnownOffice}
 use Rattle.act_model.specs.Knowing.{stands_for, known_of}
-use Rattle.act_model.specs.Numbers.{numbers_of, numbered_from, is_eligible, eligible}
+use Rattle.act_model.specs.Numbers.{numbers_of, numbered_from, is_eligible}
 use Rattle.act_model.specs.OfficeTables.{tables_of}
 use Rattle.act_model.specs.Roster.{members}
 use Rattle.act_model.specs.Rows.{first_row, unless}
-use Rattle.act_model.specs.Taken.{first_home, found_in, taken_line, taken_lines, tracks_with, track_of_group}
+use Rattle.act_model.specs.Taken.{first_home, found_in, taken_lines, tracks_with, track_of_group}
 use Rattle.act_model.specs.Verdicts.{verdicts_of}
 
 -- ---- what other crates say
@@ -265,7 +265,7 @@ module _ (equal : EqualIsSame) (stay : StayOwn) where
       let new : LinkAct = Given (Provisional given) in
       record {
         homes = homes_changed (new ∷ acts) (holdings past).tracklets tracklets (Some (Provisional given)) (still_homes new acts (holdings past).tracklets s.homes)
-        (new_given (Provisional given) acts);
+            (new_given (Provisional given) acts);
         numbers = still_numbers new acts (numbers_of past) s.numbers;
         own = stay new acts tt s.own;
       }

@@ -1,5 +1,5 @@
 -- The objects together have the live observations of the tracklets with a home, each once.
-use Rattle.std.proofs.Common.{◌≡◌, ℕ, ◌+◌, ◌*◌, List, [], ◌∷◌, ◌++◌, length, Bool, true, false, cond, count_by, Option, Some, None, IsTrue, refl, sym, ap, subst, ◌∙◌, arith}
+use Rattle.std.proofs.Common.{◌≡◌, ℕ, ◌+◌, ◌*◌, List, [], ◌∷◌, ◌++◌, Bool, true, false, cond, count_by, Option, Some, None, IsTrue, refl, sym, ap, ◌∙◌, arith}
 use Rattle.std.specs.Prelude.{◌&&◌, is_some, flat_map, filter, option_and_then}
 use Rattle.std.specs.Ordering.{eq_by_cmp}
 use Rattle.std.proofs.lemmas.List.Sums.{sum_by-cons}
@@ -19,7 +19,7 @@ use Rattle.act_model.specs.Verdicts.{object_of_track}
 abbrev pub PrincipalOnce : Type 0
 PrincipalOnce =
     (acts : List LinkAct) (p : Designation) → principal acts p ≡ Some p →
-    count_by (eq_by_cmp designation_cmp p) (filter (λ d. is_principal_of d (principal acts d)) (given_in_order acts)) ≡ 1
+    count_by (eq_by_cmp designation_cmp p) (principals acts) ≡ 1
 
 abbrev once_if : Bool → ℕ
 once_if b = cond b 1 0

@@ -43,15 +43,15 @@ pub record Counts (held : Holdings) (acts : List LinkAct) (t : Tally) : Type 0 w
   pub retracted : t.retracted ≡ length (retracted_of held)
   pub accepted : t.isolated + t.objects + t.retracted ≡ t.accepted
 
--- Each accepted observation stands in exactly one place, so that no two objects share one. The home of each tracklet is a
--- designation that the office gave, and each principal designation is its own.
+-- Each accepted observation stands in exactly one place, so that no two objects share one. The home of each tracklet is
+-- a designation that the office gave, and each principal designation is its own.
 pub record OnePlace (history : List Entry) : Type 0 where
   pub once : EachStandsOnce (holdings (deeds history)) (links_of (deeds history))
   pub counts : Counts (holdings (deeds history)) (links_of (deeds history)) (tally history)
   pub homes : (t : ℕ) (d : Designation) →
-    home_of (holdings (deeds history)).tracklets t ≡ Some d → IsTrue (is_given (links_of (deeds history)) d)
+      home_of (holdings (deeds history)).tracklets t ≡ Some d → IsTrue (is_given (links_of (deeds history)) d)
   pub own : (d p : Designation) →
-    principal (links_of (deeds history)) d ≡ Some p → principal (links_of (deeds history)) p ≡ Some p
+      principal (links_of (deeds history)) d ≡ Some p → principal (links_of (deeds history)) p ≡ Some p
 
 -- how many observations a deed adds
 abbrev pub added_by : Deed → ℕ

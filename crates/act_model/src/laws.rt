@@ -142,8 +142,8 @@ pub fn kept_replies_stay()
         IsLegal founder later → Extends (entry ∷ past) later → step founder later request again ≡ (Done text, later) }
 {}
 
-/// Each accepted observation stands in exactly one place: isolated, in an object, or retracted. The home of a tracklet is
-/// a designation that the office gave, and a principal designation is its own.
+/// Each accepted observation stands in exactly one place: isolated, in one object, or retracted. The home of a
+/// tracklet is a designation that the office gave, and a principal designation is its own.
 pub fn one_place()
     ensures { (history : List Entry) → OnePlace history }
 {
