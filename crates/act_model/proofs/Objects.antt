@@ -1,11 +1,11 @@
 -- The objects together have the live observations of the tracklets with a home, each once.
 use Rattle.std.proofs.Common.{◌≡◌, ℕ, ◌+◌, ◌*◌, List, [], ◌∷◌, ◌++◌, Bool, true, false, cond, count_by, Option, Some, None, IsTrue, refl, sym, ap, ◌∙◌, arith}
-use Rattle.std.specs.Prelude.{◌&&◌, is_some, flat_map, filter, option_and_then}
+use Rattle.std.specs.Prelude.{◌&&◌, is_some, flat_map, option_and_then}
 use Rattle.std.specs.Ordering.{eq_by_cmp}
 use Rattle.std.proofs.lemmas.List.Sums.{sum_by-cons}
 use Rattle.packed_names.specs.declared.name.Designation.{Designation}
 use Rattle.packed_names.specs.Order.{designation_cmp}
-use Rattle.identify_core.specs.Acts.{LinkAct, principal, is_principal_of, given_in_order}
+use Rattle.identify_core.specs.Acts.{LinkAct, principal, is_principal_of}
 use Rattle.identify_core.specs.Principals.{AreTheirOwn}
 use Rattle.tracklet_file.specs.declared.observation.Observation.{Observation}
 use Rattle.tracklet_file.specs.Numbering.{next_number}
