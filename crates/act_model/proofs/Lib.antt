@@ -12,3 +12,5 @@ mod Halves
 mod Numbered
 mod Fits
 mod Rows
+mod Homes
+mod Objects

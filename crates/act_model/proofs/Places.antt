@@ -1,11 +1,12 @@
 -- Each observation stands in one place.
-use Rattle.std.proofs.Common.{◌≡◌, ℕ, ◌+◌, List, [], ◌∷◌, ◌++◌, length, Bool, true, false, cond, Option, Some, None, Result, Ok, Err, refl, sym, ap, suc, ◌∙◌, arith}
+use Rattle.std.proofs.Common.{◌≡◌, ℕ, ◌+◌, List, [], ◌∷◌, ◌++◌, length, Bool, true, false, cond, Option, Some, None, Result, Ok, Err, refl, sym, ap, suc, ◌∙◌, arith, length-append}
 use Rattle.std.specs.Prelude.{not, ◌&&◌, ◌==◌, count_by, is_ok, is_some, is_none}
 use Rattle.std.proofs.lemmas.Bool.Decides.{nat_tests}
 use Rattle.std.proofs.Math.Numerals.{add-one}
 use Rattle.std.proofs.lemmas.List.Sums.{sum_by-append, sum_by-cons}
 use Rattle.obs_record.specs.declared.rule.RuleCode.{RuleCode}
 use Rattle.packed_names.specs.declared.name.Designation.{Designation}
+use Rattle.identify_core.specs.Acts.{LinkAct}
 use Rattle.tracklet_file.specs.declared.observation.Observation.{Observation}
 use Rattle.tracklet_file.specs.declared.tracklet.Tracklet.{Tracklet}
 use Rattle.tracklet_file.specs.Numbering.{next_number, changed_at}
@@ -16,10 +17,13 @@ use Rattle.act_model.specs.declared.entry.Entry.{Entry}
 use Rattle.act_model.specs.declared.taken.Placed.{Placed}
 use Rattle.act_model.specs.declared.taken.Taken.{Taken}
 use Rattle.act_model.specs.Deeds.{deeds}
+use Rattle.act_model.specs.Designations.{links_of}
 use Rattle.act_model.specs.Holdings.{Holdings, with_found, with_batch, holdings, numbers_where, retracted_of, isolated_of, homed_of}
 use Rattle.act_model.specs.Observations.{observations}
-use Rattle.act_model.specs.Places.{times, is_accepted_number, EachStandsOnce, OnePlace, added_by}
+use Rattle.act_model.specs.Places.{times, is_accepted_number, objects_of, OnePlace, added_by}
 use Rattle.act_model.specs.Taken.{accepted_in, is_accepted}
+use Rattle.act_model.proofs.Homes.{EqualIsSame, StayOwn, home_given, sound}
+use Rattle.act_model.proofs.Objects.{PrincipalOnce, objects_measure}
 
 -- ---- counting
 
@@ -79,10 +83,12 @@ module _ (tracklets : List Tracklet) (k : ℕ) where
       ∙ sym more
       ∙ ap (λ (n : ℕ). once_if (is_accepted_number n k)) (rw add-one refl)
 
-each_once : (held : Holdings) → EachStandsOnce held
-each_once held k =
-    times_more k (retracted_of held) (isolated_of held ++ homed_of held)
-    ∙ ap (λ (n : ℕ). times k (retracted_of held) + n) (times_more k (isolated_of held) (homed_of held))
+each_once : (held : Holdings) (acts : List LinkAct) (k : ℕ) → times k (objects_of held acts) ≡ times k (homed_of held)
+    → times k (retracted_of held ++ (isolated_of held ++ objects_of held acts)) ≡ once_if (is_accepted_number (length held.observations) k)
+each_once held acts k same =
+    times_more k (retracted_of held) (isolated_of held ++ objects_of held acts)
+    ∙ ap (λ (n : ℕ). times k (retracted_of held) + n) (times_more k (isolated_of held) (objects_of held acts))
+    ∙ ap (λ (n : ℕ). times k (retracted_of held) + (times k (isolated_of held) + n)) same
     ∙ stands held.tracklets k held.observations
 
 -- ---- counts
@@ -106,17 +112,23 @@ counted p (newest ∷ older) =
 abbrev pub AddsUp : Type 0
 AddsUp = (tracklets : List Tracklet) (obs : List Observation) → isolated_in tracklets obs + homed_in tracklets obs + retracted_in obs ≡ length obs
 
-pub one_place : AddsUp → (history : List Entry) → OnePlace history
-one_place adds_up history =
+pub one_place : AddsUp → EqualIsSame → StayOwn → PrincipalOnce → (history : List Entry) → OnePlace history
+one_place adds_up equal stay principal_once history =
     let held = holdings (deeds history) in
+    let acts = links_of (deeds history) in
+    let s = sound equal stay history in
+    let given = λ (t : ℕ) (d : Designation) (is : home_of held.tracklets t ≡ Some d). home_given acts held.tracklets t d s.homes is in
+    let objects = objects_measure principal_once held acts s.own given in
     record {
-      once = each_once held;
+      once = λ k. each_once held acts k (objects (times k) refl (times_more k));
       counts = record {
         isolated = counted (is_isolated held.tracklets) held.observations;
-        objects = counted (is_homed held.tracklets) held.observations;
+        objects = counted (is_homed held.tracklets) held.observations ∙ sym (objects length refl length-append);
         retracted = counted is_retracted held.observations;
         accepted = adds_up held.tracklets held.observations;
       };
+      homes = given;
+      own = s.own;
     }
 
 -- ---- what deeds add

@@ -185,11 +185,15 @@ pub fn kept_replies_stay()
         step founder other later request again ≡ (Done text, later) }
 {}
 
-/// Each accepted observation stands in exactly one place: isolated, in an object, or retracted.
+/// Each accepted observation stands in exactly one place: isolated, in one object, or retracted. The home of a
+/// tracklet is a designation that the office gave, and a principal designation is its own.
 pub fn one_place()
     ensures { (history : List Entry) → OnePlace history }
 {
     tracklet_file::laws::one_place();
+    identify_core::laws::equal_is_same();
+    identify_core::laws::principals_stay_own();
+    identify_core::laws::each_principal_once();
 }
 
 /// An act adds to the accepted observations its own accepted lines, and takes none away.

@@ -7,7 +7,7 @@ use Rattle.std.specs.Ordering.{is_eq, eq_by_cmp, match_ordering, ordering_revers
 use Rattle.std.proofs.lemmas.Bool.{cases_Bool}
 use Rattle.packed_names.specs.declared.name.Designation.{Designation}
 use Rattle.packed_names.specs.Order.{designation_cmp}
-use Rattle.identify_core.specs.Acts.{LinkAct, is_principal_of, principal_after, principal, placed, given_in_order, members}
+use Rattle.identify_core.specs.Acts.{LinkAct, is_principal_of, principal_after, principal, placed, given_in_order, members, principals}
 use Rattle.identify_core.specs.Acts.LinkAct.{Given, Joined, Parted}
 use Rattle.identify_core.specs.Principals.{IsBefore, IsAscending}
 use Rattle.identify_core.proofs.OrderLemmas.{designation_same, designation_itself, designation_total}
@@ -278,9 +278,9 @@ given_iff acts d = (given_only acts d, given_some acts d (principal acts d) refl
 
 -- ---- principals
 
-pub in_principals : (acts : List LinkAct) (d : Designation) → principal acts d ≡ Some d → Contains (filter (λ e. is_principal_of e (principal acts e)) (given_in_order acts)) d
+pub in_principals : (acts : List LinkAct) (d : Designation) → principal acts d ≡ Some d → Contains (principals acts) d
 in_principals acts d own =
     contains_filter (λ e. is_principal_of e (principal acts e)) (given_in_order acts) d (ap (is_principal_of d) own ∙ designation_itself d) (given_if acts d d own)
 
-pub from_principals : (acts : List LinkAct) (d : Designation) → Contains (filter (λ e. is_principal_of e (principal acts e)) (given_in_order acts)) d → principal acts d ≡ Some d
+pub from_principals : (acts : List LinkAct) (d : Designation) → Contains (principals acts) d → principal acts d ≡ Some d
 from_principals acts d among = principal_is d (principal acts d) (passes_filter (λ e. is_principal_of e (principal acts e)) (given_in_order acts) d among)

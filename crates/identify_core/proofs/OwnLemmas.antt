@@ -8,7 +8,7 @@ use Rattle.std.proofs.lemmas.List.Sums.{sum_by-cons}
 use Rattle.packed_names.specs.declared.name.Designation.{Designation}
 use Rattle.packed_names.specs.Order.{designation_cmp}
 use Rattle.identify_core.specs.declared.link.Link.{Link}
-use Rattle.identify_core.specs.Acts.{LinkAct, is_principal_of, principal, given_in_order}
+use Rattle.identify_core.specs.Acts.{LinkAct, is_principal_of, principal, given_in_order, principals}
 use Rattle.identify_core.specs.Acts.LinkAct.{Given, Joined, Parted}
 use Rattle.identify_core.specs.Principals.{principal_of, is_own, own_members, IsBefore, IsAscending, FitsLinks, AreTheirOwn}
 use Rattle.identify_core.specs.Walks.{has_member, link_cmp}
@@ -130,10 +130,10 @@ counted_once d (e ∷ ds) up among =
     ]
 
 pub principal_once : (acts : List LinkAct) (p : Designation) → principal acts p ≡ Some p
-    → count_by (eq_by_cmp designation_cmp p) (filter (λ d. is_principal_of d (principal acts d)) (given_in_order acts)) ≡ 1
+    → count_by (eq_by_cmp designation_cmp p) (principals acts) ≡ 1
 principal_once acts p own =
     let is_principal = λ (d : Designation). is_principal_of d (principal acts d) in
-    counted_once p (filter is_principal (given_in_order acts)) (ascending_filter is_principal (given_in_order acts) (ascending_given acts)) (in_principals acts p own)
+    counted_once p (principals acts) (ascending_filter is_principal (given_in_order acts) (ascending_given acts)) (in_principals acts p own)
 
 pub equal_same : (d e : Designation) → (eq_by_cmp designation_cmp d e ≡ true) ↔ (d ≡ e)
 equal_same d e = (designation_same d e, λ same. subst (λ (x : Designation). eq_by_cmp designation_cmp d x ≡ true) same (designation_itself d))

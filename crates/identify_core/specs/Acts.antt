@@ -43,3 +43,7 @@ given_in_order (Parted s ∷ past) = given_in_order past
 -- the designations whose principal is p, in their order
 abbrev pub members : List LinkAct → Designation → List Designation
 members acts p = filter (λ d. is_principal_of p (principal acts d)) (given_in_order acts)
+
+-- the designations that are their own principals, in their order
+abbrev pub principals : List LinkAct → List Designation
+principals acts = filter (λ d. is_principal_of d (principal acts d)) (given_in_order acts)

@@ -1,11 +1,11 @@
 //! Laws of the acts on links. The contract of each function is the law, for all lists of acts.
 
-ghost use Rattle.std.specs.Prelude.{◌≡◌, ◌↔◌, true, List, ◌∷◌, count_by, filter, Some, IsSome};
+ghost use Rattle.std.specs.Prelude.{◌≡◌, ◌↔◌, true, List, ◌∷◌, count_by, Some, IsSome};
 ghost use Rattle.std.specs.List.{Contains};
 ghost use Rattle.std.specs.Ordering.{eq_by_cmp};
 ghost use Rattle.packed_names.specs.declared.name.Designation.{Designation};
 ghost use Rattle.packed_names.specs.Order.{designation_cmp};
-ghost use Rattle.identify_core.specs.Acts.{LinkAct, is_principal_of, principal, given_in_order};
+ghost use Rattle.identify_core.specs.Acts.{LinkAct, principal, given_in_order, principals};
 ghost use Rattle.identify_core.specs.Principals.{IsAscending, FitsLinks, AreTheirOwn};
 
 /// The designations that were given stand in their order, each of them once and no other.
@@ -24,8 +24,7 @@ pub fn principals_stay_own()
 /// Of the principals in their order, each is there once.
 pub fn each_principal_once()
     ensures { (acts : List LinkAct) (p : Designation) → principal acts p ≡ Some p →
-        count_by (eq_by_cmp designation_cmp p) (filter (λ d. is_principal_of d (principal acts d)) (given_in_order acts))
-        ≡ 1 }
+        count_by (eq_by_cmp designation_cmp p) (principals acts) ≡ 1 }
 {}
 
 /// Designations compare as equal exactly where they are the same.

@@ -1,11 +1,12 @@
 //! The links of all designations.
 
 ghost use Rattle.std.specs.Prelude.{◌≡◌, ◌≢◌, ◌↔◌, ◌+◌, ◌≤◌, List, [], ◌∷◌, map, All, Some, None, IfSome, IfOk};
-ghost use Rattle.std.specs.List.{Contains, filter};
+ghost use Rattle.std.specs.List.{Contains};
 ghost use Rattle.packed_names.specs.declared.name.Designation.{Designation};
-ghost use Rattle.identify_core.specs.Acts.{LinkAct, is_principal_of, principal, given_in_order, members};
+ghost use Rattle.identify_core.specs.Acts.{LinkAct, members, principals};
 ghost use Rattle.identify_core.specs.Acts.LinkAct.{Given, Joined, Parted};
-ghost use Rattle.identify_core.specs.Principals.{principal_of, IsPrincipal, own_members, IsAscending, ChangedBy, StandFor};
+ghost use Rattle.identify_core.specs.Principals.{principal_of, IsPrincipal, own_members, IsAscending};
+ghost use Rattle.identify_core.specs.Principals.{ChangedBy, StandFor};
 
 use crate::link::Link;
 use crate::walk;
@@ -110,8 +111,8 @@ impl Links {
     pub fn as_slice(&self) -> &[Link]
         ensures links { result.now ≡ self.now.links }
         ensures order { IsAscending (own_members result.now) }
-        ensures principals { (acts : List LinkAct) → StandFor self.now.links acts →
-            own_members result.now ≡ filter (λ d. is_principal_of d (principal acts d)) (given_in_order acts) }
+        ensures principals { (acts : List LinkAct)
+            → StandFor self.now.links acts → own_members result.now ≡ principals acts }
     {
         self.links.as_slice()
     }

@@ -1,8 +1,7 @@
 use Rattle.std.proofs.Common.{◌≡◌, List, ap, sym, subst, ◌∙◌}
-use Rattle.std.specs.List.{filter}
 use Rattle.packed_names.specs.declared.name.Designation.{Designation}
 use Rattle.identify_core.specs.declared.link.Link.{Link}
-use Rattle.identify_core.specs.Acts.{LinkAct, is_principal_of, principal, given_in_order}
+use Rattle.identify_core.specs.Acts.{LinkAct, is_principal_of, principal, given_in_order, principals}
 use Rattle.identify_core.specs.Principals.{LinksValue, own_members, IsAscending, StandFor}
 use Rattle.identify_core.specs.Walks.{AreLinks}
 use Rattle.identify_core.proofs.OrderedLemmas.{in_order_once, ascending_given, ascending_filter, in_principals, from_principals}
@@ -11,10 +10,10 @@ use Rattle.identify_core.proofs.RunLemmas.{rising}
 use Rattle.identify_core.proofs.links.Links.as_slice.Goals as goal
 
 -- the links that are their own principals are the principals of the acts
-principals_are : (links : List Link) (acts : List LinkAct) → AreLinks links → StandFor links acts → own_members links ≡ filter (λ d. is_principal_of d (principal acts d)) (given_in_order acts)
+principals_are : (links : List Link) (acts : List LinkAct) → AreLinks links → StandFor links acts → own_members links ≡ principals acts
 principals_are links acts are stand =
     let is_principal = λ (d : Designation). is_principal_of d (principal acts d) in
-    in_order_once (own_members links) (filter is_principal (given_in_order acts))
+    in_order_once (own_members links) (principals acts)
     (own_ascending links (rising links are.sorted are.once))
     (ascending_filter is_principal (given_in_order acts) (ascending_given acts))
     (λ d among. in_principals acts d (sym (stand d) ∙ own_from d links (are.once d) among))
