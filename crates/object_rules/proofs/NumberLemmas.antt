@@ -1,6 +1,6 @@
 -- Numbers that go on with those that were given.
-use Rattle.std.proofs.Common.{◌≡◌, List, [], ◌∷◌, ◌++◌, reverse, refl, sym, ap, subst, ◌∙◌, append_assoc}
-use Rattle.std.proofs.lemmas.List.{reverse-append}
+use Rattle.std.proofs.Common.{◌≡◌, ℕ, ◌+◌, ◌<◌, List, [], ◌∷◌, ◌++◌, length, reverse, drop, get_or, ap, subst, ◌∙◌, append_assoc}
+use Rattle.std.proofs.lemmas.List.{reverse-append, drop_more}
 use Rattle.numbering_core.specs.declared.numbering.Numbering.{Numbering}
 use Rattle.numbering_core.specs.Numbers.{IsUnbroken}
 
@@ -15,3 +15,8 @@ number_first n more numbered = ap (λ (ns : List Numbering). ns ++ numbered) (re
 -- the first of those that are to be given goes on with those that were given
 pub first_goes_on : (n : Numbering) (more numbered : List Numbering) → IsUnbroken (reverse (n ∷ more) ++ numbered) → IsUnbroken (n ∷ numbered)
 first_goes_on n more numbered is = unbroken_rest (reverse more) (n ∷ numbered) (subst IsUnbroken (number_first n more numbered) is)
+
+-- the next one of those that are left
+pub next_goes_on : (pairs numbered : List Numbering) (i : ℕ) (any : Numbering) → i < length pairs → IsUnbroken (reverse (drop i pairs) ++ numbered) → IsUnbroken (get_or pairs i any ∷ numbered)
+next_goes_on pairs numbered i any within is =
+    first_goes_on (get_or pairs i any) (drop (i + 1) pairs) numbered (subst (λ (ns : List Numbering). IsUnbroken (reverse ns ++ numbered)) (drop_more pairs i any within) is)

@@ -7,3 +7,23 @@ use Rattle.object_rules.specs.Seeing.{is_of_years, AreOfYears}
 pub of_years_more : (seen : List Seen) (one : Seen) → AreOfYears seen → IsTrue (is_of_years one.time) → AreOfYears (seen ++ one ∷ [])
 of_years_more [] one are is = (is, tt)
 of_years_more (first ∷ more) one (first_is, are) is = (first_is, of_years_more more one are is)
+
+-- ---- the observations of a tracklet, from one of them on
+
+-- the first of them is where all of them begin
+pub chain_first : (observations : List Observation) (t : ℕ) (first : Option ℕ) → first ≡ first_of observations t
+    → IfSome first (λ k. observations_of observations t ≡ k ∷ later_of_track observations t k) → chain_from observations t first ≡ observations_of observations t
+chain_first observations t None is rest = sym (none_first (observations_of observations t) (sym is))
+chain_first observations t (Some k) is rest = sym rest
+
+-- after one of them the later ones are left
+pub chain_next : (observations : List Observation) (t k : ℕ) (next : Option ℕ) → track_of observations k ≡ Some t → next ≡ next_of observations k
+    → IfSome next (λ n. IsFollowedBy observations k n) → chain_from observations t next ≡ later_of_track observations t k
+chain_next observations t k None own is rest =
+    sym (none_first (later_of_track observations t k) (sym (is ∙ ap (option_and_then (λ (u : ℕ). slice_get (later_of_track observations u k) 0)) own)))
+chain_next observations t k (Some n) own is rest = sym (rest t own)
+
+-- what is seen with one more of them
+pub seen_more : (see : ℕ → Option Seen) (seen all : List Seen) (k : ℕ) (rest chain : List ℕ) → chain ≡ rest → seen ++ filter_map see (k ∷ rest) ≡ all
+    → seen ++ (option_to_list (see k) ++ filter_map see chain) ≡ all
+seen_more see seen all k rest chain same is = is
