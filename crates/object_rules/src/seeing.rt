@@ -1,6 +1,7 @@
 //! The live observations of tracklets.
 
 ghost use Rattle.std.specs.Prelude.{◌≡◌, ◌++◌, ◌∷◌, [], Ok, OnOk, IfOk, IfSome, IsTrue, flat_map};
+ghost use Rattle.std.specs.Option.{option_to_list};
 ghost use Rattle.act_model.specs.Rows.{first_row, unless, IsDue};
 ghost use Rattle.act_model.specs.Holdings.{holdings};
 ghost use Rattle.act_model.specs.Discoveries.{seen_at, seen_of, seen_in};
@@ -33,8 +34,21 @@ fn seen_at(file: &TrackletFile, k: u64) -> Option<Seen>
     }
 }
 
-/// Adds the live observations of a tracklet, in the order of their numbers.
+/// Adds an observation, where there is one.
 #[tactic(auto, using(crate::proofs::SeenLemmas::of_years_more))]
+fn push_one(seen: &mut ItemList<Seen>, one: Option<Seen>) -> Result<(), NoMemory>
+    requires before { AreOfYears seen.old }
+    requires one { IfSome one (λ one. IsTrue (is_of_years one.time)) }
+    ensures seen { OnOk result (seen.new ≡ seen.old ++ option_to_list one) }
+    ensures years { OnOk result (AreOfYears seen.new) }
+{
+    match one {
+        Some(one) => seen.push(one),
+        None => Ok(()),
+    }
+}
+
+/// Adds the live observations of a tracklet, in the order of their numbers.
 pub(crate) fn push_seen(
     file: &TrackletFile,
     seen: &mut ItemList<Seen>,
@@ -47,9 +61,7 @@ pub(crate) fn push_seen(
 {
     let mut next = file.first_of(t);
     while let Some(k) = next {
-        if let Some(one) = seen_at(file, k) {
-            seen.push(one)?;
-        }
+        push_one(seen, seen_at(file, k))?;
         next = file.next_of(k);
     }
     Ok(())

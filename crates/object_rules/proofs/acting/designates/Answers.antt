@@ -1,0 +1,40 @@
+use Rattle.std.proofs.Common.{◌≡◌, List, Option, Some, None, Result, Ok, Err, map, ◌∙◌, sym, ap, subst, inl, ◌⊎◌}
+use Rattle.std.specs.Prelude.{flat_map}
+use Rattle.act_model.specs.declared.reply.Refusal.TheVariants.{NoMemory}
+use Rattle.act_model.specs.Designations.{takes_of}
+use Rattle.act_model.specs.Discoveries.{seen_in}
+use Rattle.act_model.specs.Doing.{tracklet_row, free_rows, designates_seen}
+use Rattle.act_model.specs.Holdings.{holdings}
+use Rattle.act_model.specs.Rows.{first_row, unless, IsDue}
+use Rattle.object_rules.proofs.RowLemmas.{unknown_due, seen_due, refused_either}
+use Rattle.object_rules.proofs.acting.designates.Goals as goal
+
+pub returns-in-Some : goal.returns-in-Some
+returns-in-Some g c =
+    let held = holdings (g.L.Ledger.deeds c.args.office.now) in
+    record {
+      due = inl (unknown_due held (takes_of (g.L.Ledger.deeds c.args.office.now)) c.args.tracklets c.in-Some.refusal
+        (sym (c.unknown_tracklet.ensures ∙ ap (λ (x : List _). first_row (map (tracklet_row held.tracklets) x)) c.as_slice.ensures) ∙ c.in-Some.is));
+    }
+
+pub returns-in-Ok : goal.returns-in-Ok
+returns-in-Ok g c =
+    let past = g.L.Ledger.deeds c.args.office.now in
+    let held = holdings past in
+    let ts = c.args.tracklets in
+    record {
+      due = seen_due held (takes_of past) ts c.in-Ok.seen c.designates_seen.result
+        (sym (c.unknown_tracklet.ensures ∙ ap (λ (x : List _). first_row (map (tracklet_row held.tracklets) x)) c.as_slice.ensures) ∙ c.in_default.is)
+        (subst (λ (x : List _). unless (first_row (flat_map (free_rows held) x)) (Ok (seen_in held.observations x)) ≡ Ok c.in-Ok.seen) c.as_slice-2.ensures c.in-Ok.ensures.due)
+        (subst (λ (x : List _). IsDue (designates_seen (takes_of past) ts x) c.designates_seen.result) c.as_slice-in-Ok.ensures c.designates_seen.ensures.due);
+    }
+
+pub returns-in-Err : goal.returns-in-Err
+returns-in-Err g c =
+    let past = g.L.Ledger.deeds c.args.office.now in
+    let held = holdings past in
+    record {
+      due = refused_either held (takes_of past) c.args.tracklets c.in-Err.refusal
+        (sym (c.unknown_tracklet.ensures ∙ ap (λ (x : List _). first_row (map (tracklet_row held.tracklets) x)) c.as_slice.ensures) ∙ c.in_default.is)
+        (subst (λ (x : List _). (unless (first_row (flat_map (free_rows held) x)) (Ok (seen_in held.observations x)) ≡ Err c.in-Err.refusal) ⊎ (c.in-Err.refusal ≡ NoMemory)) c.as_slice-2.ensures c.in-Err.ensures.due);
+    }
