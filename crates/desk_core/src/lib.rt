@@ -12,11 +12,13 @@ mod office;
 mod prepared;
 mod preparing;
 mod refusals;
+mod replaying;
 mod roster;
 mod taking;
 
 pub use office::Core;
 pub use prepared::{Prep, Prepared};
+pub use replaying::ReplayFault;
 
 #[cfg(test)]
 mod tests;

@@ -13,7 +13,7 @@ ghost use Rattle.act_model.specs.Hearing.{asked_of, hear};
 ghost use Rattle.act_model.specs.Refusals.{work_out};
 ghost use Rattle.act_model.specs.Replies.{deed_answer};
 ghost use Rattle.act_model.specs.Step.{outcome, act_step, unless_refused, new_entry};
-ghost use Rattle.desk_core.specs.Office.{IsReadyAt, IsRoomFor, Fits};
+ghost use Rattle.desk_core.specs.Office.{IsOfAct, IsReadyAt, IsRoomFor, Fits};
 ghost use Rattle.desk_core.specs.Preparing.{IsPrepared};
 
 use crate::filed::{Filed, find, kept_reply, next_moment};
@@ -75,6 +75,8 @@ impl Core {
         bytes: &[u8],
         reading: Instant,
     ) -> Result<Prep, Refusal>
+        requires act { is_act heard.verb ≡ true }
+        requires short { length bytes.now ≤ BODY_BYTES }
         requires asked { asked_of heard.verb bytes.now ≡ Ok heard.asked }
         requires forward { IsForwardAsked heard.asked }
         ensures answer { IsPrepared self.old.history
@@ -101,6 +103,8 @@ impl Core {
         bytes: &[u8],
         moment: Instant,
     ) -> Result<Prep, Refusal>
+        requires act { is_act heard.verb ≡ true }
+        requires short { length bytes.now ≤ BODY_BYTES }
         requires asked { asked_of heard.verb bytes.now ≡ Ok heard.asked }
         requires forward { IsForwardAsked heard.asked }
         ensures answer { IsPrepared self.old.history
@@ -135,6 +139,7 @@ impl Core {
 
     /// An entry that does this deed, with its answer, the tables with it, and room for it.
     fn ready(&mut self, alloc: Global, entry: Entry, deed: Deed) -> Result<Prepared, NoMemory>
+        requires act { IsOfAct entry }
         requires deed { deed_of (deeds self.old.history) entry ≡ deed }
         requires fits { Fits (deeds self.old.history) deed }
         ensures entry { IfOk result (λ ready. ready.entry ≡ entry) }
