@@ -1,5 +1,5 @@
 -- What is heard of a request, and what is worked out for it.
-use Rattle.std.proofs.Common.{◌≡◌, ℕ, ℤ, List, Bool, true, false, cond, Option, Some, None, Result, Ok, Err, refl, sym, ap, subst, ◌∙◌}
+use Rattle.std.proofs.Common.{◌≡◌, ℕ, ℤ, List, Bool, true, false, cond, Option, Some, None, Result, Ok, Err, sym, ap, subst, ◌∙◌}
 use Rattle.act_bodies.specs.declared.key.Key.{Key}
 use Rattle.act_model.specs.declared.act.Act.{Act}
 use Rattle.act_model.specs.declared.act.ActFault.{ActFault}
@@ -29,13 +29,9 @@ use Rattle.act_model.specs.Refusals.{role_rows, act_in, work_out}
 use Rattle.act_model.specs.Roster.{caller_of}
 use Rattle.act_model.specs.Rows.{first_row, unless, ◌>>=◌}
 use Rattle.act_model.specs.Step.{new_entry}
-use Rattle.act_model.proofs.Conducts.{bound, ok_is}
+use Rattle.act_model.proofs.Conducts.{bound, unless_ok, ok_is}
 
 -- ---- questions that found something
-
-unless_ok : {A : Type 0} (o : Option Refusal) (goes_on : Result A Refusal) (a : A) → unless o goes_on ≡ Ok a → (o ≡ None) × (goes_on ≡ Ok a)
-unless_ok (Some r) goes_on a is = absurd cc
-unless_ok None goes_on a is = (refl, is)
 
 -- the bytes of a body that was whole are those of the whole body
 pub whole_again : (body : Body) (bytes : List ℕ) → bytes_in body ≡ Ok bytes → bytes_in (Whole bytes) ≡ Ok bytes

@@ -24,6 +24,7 @@ use Rattle.act_model.specs.declared.act.Act.TheVariants as act
 use Rattle.act_model.specs.declared.deed.Deed.{Deed}
 use Rattle.act_model.specs.declared.deed.Deed.TheVariants.{Enrolled, Stationed, Coded, Submitted, Retracted, Nothing}
 use Rattle.act_model.specs.declared.entry.Entry.{Entry}
+use Rattle.act_model.specs.declared.keeper.OfficeState.{OfficeState}
 use Rattle.act_model.specs.declared.reply.Refusal.{Refusal}
 use Rattle.act_model.specs.declared.reply.Refusal.TheVariants.{OtherRequest}
 use Rattle.act_model.specs.declared.reply.Reply.{Reply}
@@ -46,11 +47,11 @@ use Rattle.act_model.specs.Refusals.{work_out}
 use Rattle.act_model.specs.Rows.{first_row, unless}
 use Rattle.act_model.specs.Replies.{entry_answer}
 use Rattle.act_model.specs.Step.{Outcome, Adds, step, outcome, after, new_entry, kept_reply}
-use Rattle.act_model.specs.Turns.{Turn, TakesReading, Answers, IsTurn, Conduct}
-use Rattle.act_model.specs.Conducts.{Extends}
+use Rattle.act_model.specs.Turns.{Turn, TakesReading, Answers, at_rest, Takes, IsTurn, Conduct}
+use Rattle.act_model.specs.Conducts.{Extends, EitherWay, Makes}
 use Rattle.act_model.specs.Legal.{entry_request, IsAdded, IsLegal}
 use Rattle.act_model.proofs.Callers.{ArePlain, caller_again, caller_stays, caller_under}
-use Rattle.act_model.proofs.Conducts.{ok_is, Added, adds, adds_again, keeps, step_is, Makes, step_makes, conduct_more}
+use Rattle.act_model.proofs.Conducts.{ok_is, Added, adds, adds_again, keeps, step_is, step_makes, conduct_more, conduct_holds}
 use Rattle.act_model.proofs.Hearing.{hears, hear_again, whole_again, number_some, worked, deed_is}
 
 -- ---- moments
@@ -81,15 +82,6 @@ next_instant : (founder : Key) (past : List Entry) (reading : ℤ) → IsLegal f
 next_instant founder [] reading legal instant = instant
 next_instant founder (last ∷ past) reading legal instant = either_instant (int_lt reading last.moment) last.moment reading legal.0.0 instant
 
--- 1970 is one of the years from 1800 to 2199
-start_instant : IsInstantNs (pos 0)
-start_instant = (omega (arith, ints), omega (arith, ints))
-
--- the reading of a turn, or 0 where it took none
-taken_instant : (verb : Verb) (reading : Option ℤ) → TakesReading verb reading → IsInstantNs (unwrap_or reading (pos 0))
-taken_instant verb (Some reading) takes = takes.1
-taken_instant verb None takes = start_instant
-
 -- ---- entries that were added
 
 -- a history isn't longer than itself
@@ -106,14 +98,14 @@ unfolding head_or
 head_is e f past is = ap (head_or e) is
 
 -- an entry is added for whoever is heard to ask the same, at the same moment
-module _ (founder : Key) (past : List Entry) (q : Request) (t : ℤ) (e : Entry) (a : Added founder past q t e) where
+module _ (founder : Key) (limit : Option ℕ) (past : List Entry) (q : Request) (t : ℤ) (e : Entry) (a : Added founder limit past q t e) where
   added_for : (founder' : Key) (q' : Request) (t' : ℤ) → bytes_in q'.body ≡ Ok a.bytes → q'.verb ≡ a.heard.verb → q'.number ≡ Some a.heard.number → caller_of founder' (members (deeds past)) q'.key ≡ Some a.heard.caller
-      → next_moment past t' ≡ next_moment past t → outcome founder' past q' t' ≡ Adds e
+      → next_moment past t' ≡ next_moment past t → outcome founder' None past q' t' ≡ Adds e
   added_for founder' q' t' body verb number caller moment =
       let h = hears founder (members (deeds past)) q a.bytes a.heard a.hears in
       let again : hear founder' (members (deeds past)) q' a.bytes ≡ Ok a.heard = hear_again founder (members (deeds past)) q a.bytes a.heard h founder' (members (deeds past)) q' verb number caller in
       let works : work_out past (next_moment past t') a.heard ≡ Ok a.deed = ap (λ (m : ℤ). work_out past m a.heard) moment ∙ a.works in
-      adds_again founder' past q' t' a.bytes a.heard a.deed body again a.act a.unused works
+      adds_again founder' None past q' t' a.bytes a.heard a.deed body again a.act a.unused works refl
       ∙ ap (λ (m : ℤ). Adds (new_entry a.heard a.bytes m)) moment
       ∙ ap (λ (x : Entry). Adds x) (sym a.entry)
 
@@ -136,7 +128,7 @@ module _ (founder : Key) (past : List Entry) (q : Request) (t : ℤ) (e : Entry)
   moment_is = ap (λ (x : Entry). x.moment) a.entry
 
   -- the entry's own request is heard as the one that became it, under any founder who finds the caller again
-  added_own : (founder' : Key) → caller_of founder' (members (deeds past)) (key_at founder' (members (deeds past)) a.heard.caller.number) ≡ Some a.heard.caller → outcome founder' past (entry_request founder' past e) e.moment ≡ Adds e
+  added_own : (founder' : Key) → caller_of founder' (members (deeds past)) (key_at founder' (members (deeds past)) a.heard.caller.number) ≡ Some a.heard.caller → outcome founder' None past (entry_request founder' past e) e.moment ≡ Adds e
   added_own founder' found =
       added_for founder' (entry_request founder' past e) e.moment
       (ap (λ (x : Entry). bytes_in (entry_request founder' past x).body) a.entry ∙ whole_again q.body a.bytes a.body)
@@ -147,51 +139,49 @@ module _ (founder : Key) (past : List Entry) (q : Request) (t : ℤ) (e : Entry)
 
 module _ (founder : Key) where
   -- an entry that is added is what becomes of its request
-  adds_entry : (past : List Entry) (e : Entry) → outcome founder past (entry_request founder past e) e.moment ≡ Adds e → (step founder past (entry_request founder past e) e.moment).1 ≡ e ∷ past
-  adds_entry past e is = ap (λ (p : Reply × List Entry). p.1) (step_is founder past (entry_request founder past e) e.moment) ∙ ap (λ (o : Outcome). (after past o).1) is
+  adds_entry : (past : List Entry) (e : Entry) → outcome founder None past (entry_request founder past e) e.moment ≡ Adds e → (step founder None past (entry_request founder past e) e.moment).1 ≡ e ∷ past
+  adds_entry past e is = ap (λ (p : Reply × List Entry). p.1) (step_is founder None past (entry_request founder past e) e.moment) ∙ ap (λ (o : Outcome). (after past o).1) is
 
   made_entry : (past : List Entry) (e : Entry) (o : Outcome) (reply : Reply) → Makes past o reply (e ∷ past) → (o ≡ Adds e) × (reply ≡ Done (entry_answer past e))
   made_entry past e o reply (inl same) = absurd (longer e past same)
   made_entry past e o reply (inr (other, is, answer, more)) =
       let same = sym (head_is e other past more) in (is ∙ ap (λ (x : Entry). Adds x) same, answer ∙ ap (λ (x : Entry). Done (entry_answer past x)) same)
 
-  stepped_entry : (past : List Entry) (q : Request) (t : ℤ) (reply : Reply) (e : Entry) → step founder past q t ≡ (reply, e ∷ past) → (outcome founder past q t ≡ Adds e) × (reply ≡ Done (entry_answer past e))
-  stepped_entry past q t reply e is = made_entry past e (outcome founder past q t) reply (step_makes founder past q t reply (e ∷ past) is)
+  stepped_entry : (limit : Option ℕ) (past : List Entry) (q : Request) (t : ℤ) (reply : Reply) (e : Entry) → step founder limit past q t ≡ (reply, e ∷ past)
+      → (outcome founder limit past q t ≡ Adds e) × (reply ≡ Done (entry_answer past e))
+  stepped_entry limit past q t reply e is = made_entry past e (outcome founder limit past q t) reply (step_makes founder limit past q t reply (e ∷ past) is)
 
-  added_outcome : (past : List Entry) (e : Entry) → IsAdded founder past e → outcome founder past (entry_request founder past e) e.moment ≡ Adds e
+  added_outcome : (past : List Entry) (e : Entry) → IsAdded founder past e → outcome founder None past (entry_request founder past e) e.moment ≡ Adds e
   added_outcome past e (instant, is) =
       let request : Request = entry_request founder past e in
-      let reply : Reply = (step founder past request e.moment).0 in
-      (stepped_entry past request e.moment reply e (ap (λ (h : List Entry). (reply, h)) is)).0
+      let reply : Reply = (step founder None past request e.moment).0 in
+      (stepped_entry None past request e.moment reply e (ap (λ (h : List Entry). (reply, h)) is)).0
 
-  added : (past : List Entry) (e : Entry) → IsAdded founder past e → Added founder past (entry_request founder past e) e.moment e
-  added past e is = adds founder past (entry_request founder past e) e.moment e (added_outcome past e is)
+  added : (past : List Entry) (e : Entry) → IsAdded founder past e → Added founder None past (entry_request founder past e) e.moment e
+  added past e is = adds founder None past (entry_request founder past e) e.moment e (added_outcome past e is)
 
   -- ---- legal histories
 
-  legal_more : (past : List Entry) (q : Request) (t : ℤ) (e : Entry) → IsLegal founder past → IsInstantNs t → Added founder past q t e → IsAdded founder past e
-  legal_more past q t e legal instant a =
-      let h = hears founder (members (deeds past)) q a.bytes a.heard a.hears in (
-        subst IsInstantNs (sym (moment_is founder past q t e a)) (next_instant founder past t legal instant),
-        adds_entry past e (added_own founder past q t e a founder (caller_again founder (members (deeds past)) q.key a.heard.caller h.caller)),
-      )
+  module _ (limit : Option ℕ) where
+    legal_more : (past : List Entry) (q : Request) (t : ℤ) (e : Entry) → IsLegal founder past → IsInstantNs t → Added founder limit past q t e → IsAdded founder past e
+    legal_more past q t e legal instant a =
+        let h = hears founder (members (deeds past)) q a.bytes a.heard a.hears in (
+          subst IsInstantNs (sym (moment_is founder limit past q t e a)) (next_instant founder past t legal instant),
+          adds_entry past e (added_own founder limit past q t e a founder (caller_again founder (members (deeds past)) q.key a.heard.caller h.caller)),
+        )
 
-  legal_made : (past : List Entry) (q : Request) (t : ℤ) (reply : Reply) (next : List Entry) → IsLegal founder past → IsInstantNs t → Makes past (outcome founder past q t) reply next → IsLegal founder next
-  legal_made past q t reply next legal instant (inl same) = subst (IsLegal founder) (sym same) legal
-  legal_made past q t reply next legal instant (inr (e, is, answer, more)) =
-      subst (IsLegal founder) (sym more) (legal_more past q t e legal instant (adds founder past q t e is), legal)
+    legal_added : (past : List Entry) (q : Request) (t : ℤ) (e : Entry) → IsInstantNs t → IsLegal founder past → outcome founder limit past q t ≡ Adds e → IsLegal founder (e ∷ past)
+    legal_added past q t e instant legal is = (legal_more past q t e legal instant (adds founder limit past q t e is), legal)
 
-  pub legal_step : (past : List Entry) (q : Request) (t : ℤ) (reply : Reply) (next : List Entry) → IsLegal founder past → IsInstantNs t → step founder past q t ≡ (reply, next) → IsLegal founder next
-  legal_step past q t reply next legal instant is = legal_made past q t reply next legal instant (step_makes founder past q t reply next is)
+    legal_made : (past : List Entry) (q : Request) (t : ℤ) (reply : Reply) (next : List Entry) → IsLegal founder past → IsInstantNs t → Makes past (outcome founder limit past q t) reply next → IsLegal founder next
+    legal_made past q t reply next legal instant (inl same) = subst (IsLegal founder) (sym same) legal
+    legal_made past q t reply next legal instant (inr (e, is, answer, more)) = subst (IsLegal founder) (sym more) (legal_added past q t e instant legal is)
 
-  legal_answer : (past : List Entry) (q : Request) (t : ℤ) (reply : Reply) (next : List Entry) → IsLegal founder past → IsInstantNs t → Answers founder past q t reply next → IsLegal founder next
-  legal_answer past q t reply next legal instant (inl is) = legal_step past q t reply next legal instant is
-  legal_answer past q t reply next legal instant (inr (wants, same)) = subst (IsLegal founder) (sym same) legal
+    pub legal_step : (past : List Entry) (q : Request) (t : ℤ) (reply : Reply) (next : List Entry) → IsLegal founder past → IsInstantNs t → step founder limit past q t ≡ (reply, next) → IsLegal founder next
+    legal_step past q t reply next legal instant is = legal_made past q t reply next legal instant (step_makes founder limit past q t reply next is)
 
-  pub legal_conduct : (past : List Entry) (turns : List Turn) (next : List Entry) → IsLegal founder past → Conduct founder past turns next → IsLegal founder next
-  legal_conduct past [] next legal is = subst (IsLegal founder) (sym is) legal
-  legal_conduct past (turn ∷ turns) next legal (between, first, others) =
-      legal_conduct between turns next (legal_answer past turn.request (unwrap_or turn.reading (pos 0)) turn.reply between legal (taken_instant turn.request.verb turn.reading first.reads) first.answers) others
+    pub legal_conduct : (before : OfficeState) (turns : List Turn) (after : OfficeState) → EitherWay (IsLegal founder) before → Conduct founder limit before turns after → EitherWay (IsLegal founder) after
+    legal_conduct = conduct_holds founder limit (IsLegal founder) legal_added
 
   legal_behind : (newer earlier : List Entry) → IsLegal founder (newer ++ earlier) → IsLegal founder earlier
   legal_behind [] earlier legal = legal
@@ -286,7 +276,7 @@ module _ (founder : Key) where
       let request : Request = entry_request founder past e in
       let a = added founder past e is in
       let w = worked past (next_moment past e.moment) a.heard a.deed a.works in
-      ap (λ (d : Deed). caller_of founder (with_enrolled d (members (deeds past))) key) (deed_added founder past request e.moment e a)
+      ap (λ (d : Deed). caller_of founder (with_enrolled d (members (deeds past))) key) (deed_added founder None past request e.moment e a)
       ∙ deed_keeps_callers founder (deeds past) (next_moment past e.moment) key caller found w.act a.deed w.done
 
   callers_behind : (newer earlier : List Entry) (key : Key) (caller : Caller) → IsLegal founder (newer ++ earlier) → caller_of founder (members (deeds earlier)) key ≡ Some caller → caller_of founder (members (deeds (newer ++ earlier))) key ≡ Some caller
@@ -300,9 +290,9 @@ module _ (founder : Key) where
 
 -- ---- resends
 
-module _ (founder : Key) where
+module _ (founder : Key) (limit other : Option ℕ) where
   again_after : (past : List Entry) (q : Request) (t t' : ℤ) (text : List ℕ) (e : Entry) (later : List Entry) → (reply : Done text ≡ Done (entry_answer past e))
-      → Added founder past q t e → IsLegal founder later → Extends (e ∷ past) later → step founder later q t' ≡ (Done text, later)
+      → Added founder limit past q t e → IsLegal founder later → Extends (e ∷ past) later → step founder other later q t' ≡ (Done text, later)
   again_after past q t t' text e later reply a legal extends =
       let k : Kept = record { entry = e; before = past } in
       let h = hears founder (members (deeds past)) q a.bytes a.heard a.hears in
@@ -315,15 +305,45 @@ module _ (founder : Key) where
       let same : kept_reply a.heard.verb a.bytes k ≡ Done (entry_answer past e) =
       ap (λ (x : Entry). cond ((verb_code a.heard.verb == verb_code x.verb) && bytes_eq a.bytes x.body) (Done (entry_answer past e)) (Refused (OtherRequest (next_receipt past)))) a.entry
       ∙ ap (λ (b : Bool). cond b (Done (entry_answer past e)) (Refused (OtherRequest (next_receipt past)))) (resent (verb_code a.heard.verb) a.bytes) in
-      step_is founder later q t'
-      ∙ ap (after later) (keeps founder later q t' a.bytes a.heard k a.body again a.act used)
+      step_is founder other later q t'
+      ∙ ap (after later) (keeps founder other later q t' a.bytes a.heard k a.body again a.act used)
       ∙ ap (λ (r : Reply). (r, later)) (same ∙ sym reply)
 
-  pub answered_again : (past : List Entry) (q : Request) (t t' : ℤ) (text : List ℕ) (e : Entry) (later : List Entry) → step founder past q t ≡ (Done text, e ∷ past)
-      → IsLegal founder later → Extends (e ∷ past) later → step founder later q t' ≡ (Done text, later)
+  pub answered_again : (past : List Entry) (q : Request) (t t' : ℤ) (text : List ℕ) (e : Entry) (later : List Entry) → step founder limit past q t ≡ (Done text, e ∷ past)
+      → IsLegal founder later → Extends (e ∷ past) later → step founder other later q t' ≡ (Done text, later)
   answered_again past q t t' text e later is =
-      let (adds_it, answer) = stepped_entry founder past q t (Done text) e is in
-      again_after past q t t' text e later answer (adds founder past q t e adds_it)
+      let (adds_it, answer) = stepped_entry founder limit past q t (Done text) e is in
+      again_after past q t t' text e later answer (adds founder limit past q t e adds_it)
+
+-- ---- turns without a disk
+
+module _ (founder : Key) (limit : Option ℕ) where
+  -- a query becomes no entry
+  query_made : (past : List Entry) (q : Request) (t : ℤ) (reply : Reply) (next : List Entry) → is_act q.verb ≡ false → Makes past (outcome founder limit past q t) reply next → next ≡ past
+  query_made past q t reply next query (inl same) = same
+  query_made past q t reply next query (inr (e, is, answer, more)) =
+      let a = adds founder limit past q t e is in
+      let verb = (hears founder (members (deeds past)) q a.bytes a.heard a.hears).verb in
+      let act : is_act q.verb ≡ true = ap is_act (sym verb) ∙ a.act in
+      absurd cc
+
+  query_leaves : (past : List Entry) (q : Request) (t : ℤ) (reply : Reply) (next : List Entry) → is_act q.verb ≡ false → Answers founder limit past q t reply next → next ≡ past
+  query_leaves past q t reply next query (inl is) = query_made past q t reply next query (step_makes founder limit past q t reply next is)
+  query_leaves past q t reply next query (inr (wants, same)) = same
+
+  rest_takes : (past : List Entry) (turn : Turn) (reading : Option ℤ) (next : List Entry) → TakesReading turn.request.verb reading
+      → Answers founder limit past turn.request (unwrap_or reading (pos 0)) turn.reply next → Takes founder limit (at_rest past) turn reading (at_rest next)
+  rest_takes past turn (Some reading) next reads is = inr (record { mended = past; mends = refl; acts = inl (record { answers = is; settled = refl }) })
+  rest_takes past turn None next reads is =
+      let same = query_leaves past turn.request (pos 0) turn.reply next reads is in
+      record {
+        answers = subst (λ (h : List Entry). Answers founder limit past turn.request (pos 0) turn.reply h) same is;
+        stays = ap (λ (h : List Entry). at_rest h) same;
+      }
+
+  pub rest_turn : (past next : List Entry) (turn : Turn) → TakesReading turn.request.verb turn.reading
+      → Answers founder limit past turn.request (unwrap_or turn.reading (pos 0)) turn.reply next → IsTurn founder limit (at_rest past) turn (at_rest next)
+  rest_turn past next turn reads is = record { reads = reads; takes = rest_takes past turn turn.reading next reads is }
 
 -- ---- how legal histories come about
 
@@ -332,25 +352,24 @@ module _ (founder : Key) where
   entry_turn : (past : List Entry) (e : Entry) → Turn
   entry_turn past e =
       let request : Request = entry_request founder past e in
-      record { request = request; reading = Some e.moment; reply = (step founder past request e.moment).0 }
+      record { request = request; reading = Some e.moment; reply = (step founder None past request e.moment).0; rise = 0 }
 
-  added_turn : (past : List Entry) (e : Entry) → IsAdded founder past e → IsTurn founder past (entry_turn past e) (e ∷ past)
+  added_turn : (past : List Entry) (e : Entry) → IsAdded founder past e → IsTurn founder None (at_rest past) (entry_turn past e) (at_rest (e ∷ past))
   unfolding entry_turn
   added_turn past e is =
       let request : Request = entry_request founder past e in
-      let reply : Reply = (step founder past request e.moment).0 in
+      let reply : Reply = (step founder None past request e.moment).0 in
       let a = added founder past e is in
-      record {
-        reads = (ap is_act (verb_is founder past request e.moment e a) ∙ a.act, is.0);
-        answers = inl (ap (λ (h : List Entry). (reply, h)) is.1);
-      }
+      rest_turn founder None past (e ∷ past) (entry_turn past e)
+      (ap is_act (verb_is founder None past request e.moment e a) ∙ a.act, is.0)
+      (inl (ap (λ (h : List Entry). (reply, h)) is.1))
 
   -- the turns in which a legal history came about
-  pub legal_reached : (history : List Entry) → IsLegal founder history → (turns : List Turn) × Conduct founder [] turns history
+  pub legal_reached : (history : List Entry) → IsLegal founder history → (turns : List Turn) × Conduct founder None (at_rest []) turns (at_rest history)
   legal_reached [] legal = ([], refl)
   legal_reached (e ∷ past) (is, legal) =
       let before = legal_reached past legal in
-      (before.0 ++ entry_turn past e ∷ [], conduct_more founder [] before.0 past (entry_turn past e) (e ∷ past) before.1 (added_turn past e is))
+      (before.0 ++ entry_turn past e ∷ [], conduct_more founder None (at_rest []) before.0 (at_rest past) (entry_turn past e) (at_rest (e ∷ past)) before.1 (added_turn past e is))
 
 -- ---- another founder
 
@@ -439,4 +458,4 @@ module _ (plain : Plain) where
       let a = added founder past e is in
       let h = hears founder (members (deeds past)) request a.bytes a.heard a.hears in
       let found = caller_under founder other (members (deeds past)) request.key a.heard.caller (members_plain past) plus h.caller in
-      ((is.0, adds_entry other past e (added_own founder past request e.moment e a other found)), legal_under founder other past plus legal)
+      ((is.0, adds_entry other past e (added_own founder None past request e.moment e a other found)), legal_under founder other past plus legal)

@@ -1,12 +1,15 @@
 -- What holds of every conduct.
-use Rattle.std.specs.Prelude.{◌≡◌, ◌≢◌, pos, List, [], ◌∷◌, ◌++◌, unwrap_or}
+use Rattle.std.specs.Prelude.{◌≡◌, ◌≢◌, ◌⊎◌, Bool, ℕ, pos, List, [], ◌∷◌, ◌++◌, Option, IfSome, unwrap_or}
 use Rattle.std.specs.List.{AllByRecursion}
 use Rattle.act_bodies.specs.declared.key.Key.{Key}
 use Rattle.act_model.specs.declared.entry.Entry.{Entry}
-use Rattle.act_model.specs.declared.reply.Refusal.TheVariants.{NoMemory}
-use Rattle.act_model.specs.declared.reply.Reply.TheVariants.{Refused}
-use Rattle.act_model.specs.Step.{step}
-use Rattle.act_model.specs.Turns.{Turn}
+use Rattle.act_model.specs.declared.keeper.OfficeState.{OfficeState}
+use Rattle.act_model.specs.declared.reply.Refusal.TheVariants.{DiskFault, NoMemory}
+use Rattle.act_model.specs.declared.reply.Reply.{Reply}
+use Rattle.act_model.specs.declared.reply.Reply.TheVariants.{Done, Refused}
+use Rattle.act_model.specs.Replies.{entry_answer}
+use Rattle.act_model.specs.Step.{Outcome, Adds, step}
+use Rattle.act_model.specs.Turns.{Turn, Answers}
 
 -- the later history is the earlier one with newer entries before it
 abbrev pub Extends : List Entry → List Entry → Type 0
@@ -16,9 +19,33 @@ Extends earlier later = (newer : List Entry) × (later ≡ newer ++ earlier)
 abbrev pub HadMemory : List Turn → Type 0
 HadMemory turns = AllByRecursion (λ turn. turn.reply ≢ Refused NoMemory) turns
 
+-- the disk's count of faults rose in no turn
+abbrev pub HadNoFault : List Turn → Type 0
+HadNoFault turns = AllByRecursion (λ turn. turn.rise ≡ 0) turns
+
+-- no reply is that the disk failed
+abbrev pub NoDiskFaults : List Turn → Type 0
+NoDiskFaults turns = AllByRecursion (λ turn. (doubt : Bool) → turn.reply ≢ Refused (DiskFault doubt)) turns
+
 -- the replies are those of the step, one after another
-abbrev pub IsStepped : Key → List Entry → List Turn → List Entry → Type 0
-IsStepped founder past [] after = after ≡ past
-IsStepped founder past (turn ∷ turns) after =
-    let stepped = step founder past turn.request (unwrap_or turn.reading (pos 0)) in
-    (turn.reply ≡ stepped.0) × IsStepped founder stepped.1 turns after
+abbrev pub IsStepped : Key → Option ℕ → List Entry → List Turn → List Entry → Type 0
+IsStepped founder limit past [] after = after ≡ past
+IsStepped founder limit past (turn ∷ turns) after =
+    let stepped = step founder limit past turn.request (unwrap_or turn.reading (pos 0)) in
+    (turn.reply ≡ stepped.0) × IsStepped founder limit stepped.1 turns after
+
+-- the replies are those of the step, or that memory was refused, one after another
+abbrev pub IsAnswered : Key → Option ℕ → List Entry → List Turn → List Entry → Type 0
+IsAnswered founder limit past [] after = after ≡ past
+IsAnswered founder limit past (turn ∷ turns) after =
+    (between : List Entry) × Answers founder limit past turn.request (unwrap_or turn.reading (pos 0)) turn.reply between
+    × IsAnswered founder limit between turns after
+
+-- this holds of the settled history, and also with the act in doubt
+abbrev pub EitherWay : (List Entry → Type 0) → OfficeState → Type 0
+EitherWay P state = P state.settled × IfSome state.doubt (λ entry. P (entry ∷ state.settled))
+
+-- the step leaves the history, or the request becomes this entry, which is answered
+abbrev pub Makes : List Entry → Outcome → Reply → List Entry → Type 0
+Makes past outcome reply after =
+    (after ≡ past) ⊎ ((entry : Entry) × (outcome ≡ Adds entry) × (reply ≡ Done (entry_answer past entry)) × (after ≡ entry ∷ past))

@@ -22,5 +22,6 @@ pub mod Replies
 pub mod Refusals
 pub mod Step
 pub mod Turns
+pub mod Keepers
 pub mod Conducts
 pub mod Legal

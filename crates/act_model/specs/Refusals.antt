@@ -1,5 +1,5 @@
 -- The later refusals of an act whose number was not used, and what it does where none holds.
-use Rattle.std.specs.Prelude.{ℕ, ℤ, Bool, false, not, ◌==◌, ◌&&◌, List, [], ◌∷◌, Option, Some, None, option_map, Result, Ok, Err}
+use Rattle.std.specs.Prelude.{ℕ, ◌+◌, ℤ, Bool, false, not, nat_lt, ◌==◌, ◌&&◌, List, [], ◌∷◌, length, Option, Some, None, option_map, Result, Ok, Err}
 use Rattle.std.specs.Option.{option_and_then}
 use Rattle.tracklet_file.specs.Numbering.{numbered}
 use Rattle.tracklet_file.specs.Observations.{entry_of}
@@ -12,7 +12,7 @@ use Rattle.act_model.specs.declared.heard.Asked.TheVariants as asked
 use Rattle.act_model.specs.declared.heard.Heard.{Heard}
 use Rattle.act_model.specs.declared.reply.Part.TheVariants as part
 use Rattle.act_model.specs.declared.reply.Refusal.{Refusal}
-use Rattle.act_model.specs.declared.reply.Refusal.TheVariants.{Unread, Role, Header}
+use Rattle.act_model.specs.declared.reply.Refusal.TheVariants.{Unread, Role, Header, JournalFull}
 use Rattle.act_model.specs.Rows.{first_row, unless, ◌>>=◌}
 use Rattle.act_model.specs.Requests.{is_officers}
 use Rattle.act_model.specs.Roster.{is_observer}
@@ -54,3 +54,26 @@ work_out past moment heard =
     unless (first_row (role_rows past heard)) do
       act ← act_in heard.asked
       does (deeds past) moment act
+
+-- ---- the journal's limit
+
+-- how many bytes of a journal an entry with this body takes
+abbrev pub entry_size : List ℕ → ℕ
+entry_size body = 26 + length body
+
+-- how many bytes of a journal these entries take
+abbrev pub used : List Entry → ℕ
+used [] = 1
+used (entry ∷ past) = used past + entry_size entry.body
+
+-- the journal has no room for another entry with this body; without a limit there always is
+abbrev pub full_rows : Option ℕ → List Entry → List ℕ → List (Bool × Refusal)
+full_rows None past body = []
+full_rows (Some limit) past body =
+    (nat_lt limit (used past + entry_size body), JournalFull (used past) (entry_size body) limit) ∷ []
+
+-- what a request that was heard does, where the journal has room for its entry
+abbrev pub work_within : Option ℕ → List Entry → List ℕ → ℤ → Heard → Result Deed Refusal
+work_within limit past body moment heard = do
+  deed ← work_out past moment heard
+  unless (first_row (full_rows limit past body)) (Ok deed)

@@ -1,5 +1,5 @@
 -- What the office answers to an act that it accepted, and the text and status of every reply.
-use Rattle.std.specs.Prelude.{ℕ, ◌+◌, List, [], ◌∷◌, ◌++◌, flat_map, codes, decimal, Result, Ok, Err}
+use Rattle.std.specs.Prelude.{ℕ, ◌+◌, true, false, List, [], ◌∷◌, ◌++◌, flat_map, codes, decimal, Result, Ok, Err}
 use Rattle.obs_record.specs.declared.rule.RuleCode.{RuleCode}
 use Rattle.act_model.specs.declared.deed.Deed.{Deed}
 use Rattle.act_model.specs.declared.deed.Deed.TheVariants.{Enrolled, Submitted}
@@ -8,7 +8,7 @@ use Rattle.act_model.specs.declared.reply.Excess.TheVariants as excess
 use Rattle.act_model.specs.declared.reply.Fault.{Fault}
 use Rattle.act_model.specs.declared.reply.Part.TheVariants as part
 use Rattle.act_model.specs.declared.reply.Refusal.{Refusal}
-use Rattle.act_model.specs.declared.reply.Refusal.TheVariants.{TooLarge, Unread, UnknownKey, OtherRequest, Role, UnknownThing, Header, NoLine, AlreadyRetracted, AlreadyThere, RosterFull, NoMemory}
+use Rattle.act_model.specs.declared.reply.Refusal.TheVariants.{TooLarge, Unread, UnknownKey, OtherRequest, Role, UnknownThing, Header, NoLine, AlreadyRetracted, AlreadyThere, RosterFull, JournalFull, DiskFault, NoMemory}
 use Rattle.act_model.specs.declared.reply.Reply.{Reply}
 use Rattle.act_model.specs.declared.reply.Reply.TheVariants.{Done, Refused}
 use Rattle.act_model.specs.declared.reply.Text.{Text}
@@ -76,6 +76,10 @@ refusal_text (NoLine faults) = line_of (codes "refused 7 NoLine") ++ fault_lines
 refusal_text (AlreadyRetracted k) = line_of (codes "refused 11 AlreadyRetracted " ++ decimal k)
 refusal_text AlreadyThere = line_of (codes "refused 13 AlreadyThere")
 refusal_text RosterFull = line_of (codes "refused 13 RosterFull")
+refusal_text (JournalFull used more limit) =
+    line_of (codes "refused 15 JournalFull used " ++ decimal used ++ codes " more " ++ decimal more ++ codes " limit " ++ decimal limit)
+refusal_text (DiskFault false) = line_of (codes "refused 16 DiskFault untouched")
+refusal_text (DiskFault true) = line_of (codes "refused 16 DiskFault doubt")
 refusal_text NoMemory = line_of (codes "refused 17 NoMemory")
 
 abbrev pub text_of : Reply → List ℕ
@@ -99,6 +103,8 @@ refusal_status (NoLine faults) = 422
 refusal_status (AlreadyRetracted k) = 409
 refusal_status AlreadyThere = 409
 refusal_status RosterFull = 409
+refusal_status (JournalFull used more limit) = 409
+refusal_status (DiskFault doubt) = 503
 refusal_status NoMemory = 507
 
 abbrev pub status_of : Reply → ℕ

@@ -23,7 +23,7 @@ use Rattle.act_model.specs.Deeds.{deeds}
 use Rattle.act_model.specs.History.{Kept, next_moment, next_receipt, kept}
 use Rattle.act_model.specs.Replies.{entry_answer}
 use Rattle.act_model.specs.Hearing.{bytes_in, hear}
-use Rattle.act_model.specs.Refusals.{work_out}
+use Rattle.act_model.specs.Refusals.{work_within}
 use Rattle.act_model.specs.Tallies.{tally, tally_text}
 
 -- what becomes of a request: it is refused; its number was used, and this is the reply that is kept for it; it is a query,
@@ -88,10 +88,10 @@ tells (Err refusal) = Refuses refusal
 -- ---- the step
 
 -- an act: the reply that is kept for its number; else the later refusals; else it becomes an entry
-abbrev pub act_step : List Entry → Heard → List ℕ → ℤ → Outcome
-act_step past heard bytes moment =
+abbrev pub act_step : Option ℕ → List Entry → Heard → List ℕ → ℤ → Outcome
+act_step limit past heard bytes moment =
     unless_kept (kept past heard.caller.number heard.number) heard bytes
-    (unless_refused (work_out past moment heard) (new_entry heard bytes moment))
+    (unless_refused (work_within limit past bytes moment heard) (new_entry heard bytes moment))
 
 -- a query reads the office and leaves it
 abbrev pub query_step : List Entry → Heard → Outcome
@@ -100,20 +100,21 @@ query_step past heard = tells do
   told past heard.caller.number query
 
 -- a request that was heard, which comes at this moment
-abbrev pub heard_step : List Entry → Heard → List ℕ → ℤ → Outcome
-heard_step past heard bytes moment = if is_act heard.verb then act_step past heard bytes moment else query_step past heard
+abbrev pub heard_step : Option ℕ → List Entry → Heard → List ℕ → ℤ → Outcome
+heard_step limit past heard bytes moment =
+    if is_act heard.verb then act_step limit past heard bytes moment else query_step past heard
 
 abbrev pub unless_unheard : Result Outcome Refusal → Outcome
 unless_unheard (Ok outcome) = outcome
 unless_unheard (Err refusal) = Refuses refusal
 
--- what becomes of a request at a history, with this reading of the clock: its bytes are taken, it is heard, and it makes
--- its step
-unfoldable pub outcome : Key → List Entry → Request → ℤ → Outcome
-outcome founder past request reading = unless_unheard do
+-- what becomes of a request at a history, with this reading of the clock, where the journal may have so many bytes: its
+-- bytes are taken, it is heard, and it makes its step
+unfoldable pub outcome : Key → Option ℕ → List Entry → Request → ℤ → Outcome
+outcome founder limit past request reading = unless_unheard do
   bytes ← bytes_in request.body
   heard ← hear founder (members (deeds past)) request bytes
-  Ok (heard_step past heard bytes (next_moment past reading))
+  Ok (heard_step limit past heard bytes (next_moment past reading))
 
 -- the reply to a request of which this becomes, and the history that it leaves
 abbrev pub after : List Entry → Outcome → Reply × List Entry
@@ -122,5 +123,5 @@ after past (Keeps reply) = (reply, past)
 after past (Tells text) = (Done text, past)
 after past (Adds entry) = (Done (entry_answer past entry), entry ∷ past)
 
-unfoldable pub step : Key → List Entry → Request → ℤ → Reply × List Entry
-step founder past request reading = after past (outcome founder past request reading)
+unfoldable pub step : Key → Option ℕ → List Entry → Request → ℤ → Reply × List Entry
+step founder limit past request reading = after past (outcome founder limit past request reading)

@@ -1,12 +1,13 @@
 //! Laws of histories and conducts, each the contract of a function that does nothing.
 
-ghost use Rattle.std.specs.Prelude.{◌≡◌, ◌+◌, true, ℕ, ℤ, List, [], ◌∷◌, ◌++◌, Some, Ok};
+ghost use Rattle.std.specs.Prelude.{◌≡◌, ◌+◌, true, ℕ, ℤ, pos, List, [], ◌∷◌, ◌++◌, Option, Some, None, Ok, unwrap_or};
 ghost use Rattle.obs_time.specs.Instants.{IsInstantNs};
 ghost use Rattle.act_bodies.specs.declared.key.Key.{Key};
 ghost use Rattle.act_bodies.specs.Keys.{key_text, begins_with_plus};
 ghost use Rattle.act_model.specs.declared.deed.Deed.{Deed};
 ghost use Rattle.act_model.specs.declared.entry.Entry.{Entry};
 ghost use Rattle.act_model.specs.declared.heard.Heard.{Heard};
+ghost use Rattle.act_model.specs.declared.keeper.OfficeState.{OfficeState};
 ghost use Rattle.act_model.specs.declared.reply.Refusal.{Refusal};
 ghost use Rattle.act_model.specs.declared.reply.Refusal.TheVariants.{NoMemory};
 ghost use Rattle.act_model.specs.declared.reply.Reply.{Reply};
@@ -18,80 +19,112 @@ ghost use Rattle.act_model.specs.Roster.{members, caller_of};
 ghost use Rattle.act_model.specs.Deeds.{deed_of, deeds};
 ghost use Rattle.act_model.specs.History.{Kept, kept, EachNumberOnce};
 ghost use Rattle.act_model.specs.Hearing.{asked_of};
-ghost use Rattle.act_model.specs.Refusals.{work_out};
-ghost use Rattle.act_model.specs.Step.{new_entry, step};
-ghost use Rattle.act_model.specs.Turns.{Turn, Answers, IsTurn, Conduct};
-ghost use Rattle.act_model.specs.Conducts.{Extends, HadMemory, IsStepped};
+ghost use Rattle.act_model.specs.Refusals.{work_out, work_within};
+ghost use Rattle.act_model.specs.Step.{new_entry, outcome, step};
+ghost use Rattle.act_model.specs.Turns.{Turn, TakesReading, Answers, IsTurn, Conduct, at_rest, Mends};
+ghost use Rattle.act_model.specs.Conducts.{Extends, HadMemory, HadNoFault, NoDiskFaults, IsStepped, IsAnswered, EitherWay, Makes};
 ghost use Rattle.act_model.specs.Legal.{IsLegal};
 ghost use Rattle.act_model.specs.Observations.{observations};
 ghost use Rattle.act_model.specs.Places.{OnePlace, added_by};
 
 /// A refusal changes nothing.
 pub fn a_refusal_changes_nothing()
-    ensures { (founder : Key) (past after : List Entry) (request : Request) (reading : ℤ) (refusal : Refusal) →
-        step founder past request reading ≡ (Refused refusal, after) → after ≡ past }
+    ensures { (founder : Key) (limit : Option ℕ) (past after : List Entry) (request : Request) (reading : ℤ)
+        (refusal : Refusal) → step founder limit past request reading ≡ (Refused refusal, after) → after ≡ past }
+{}
+
+/// The step leaves the history, or the request becomes its newest entry, and the reply is the answer to that.
+pub fn steps_add_one_entry()
+    ensures { (founder : Key) (limit : Option ℕ) (past after : List Entry) (request : Request) (reading : ℤ)
+        (reply : Reply) → step founder limit past request reading ≡ (reply, after) →
+        Makes past (outcome founder limit past request reading) reply after }
 {}
 
 /// A request for whose body there was no room is answered `NoMemory` and nothing else, and changes nothing.
 pub fn no_room_no_step()
-    ensures step { (founder : Key) (past : List Entry) (request : Request) (reading : ℤ) →
-        request.body ≡ NoRoom → step founder past request reading ≡ (Refused NoMemory, past) }
-    ensures turn { (founder : Key) (past after : List Entry) (request : Request) (reading : ℤ) (reply : Reply) →
-        request.body ≡ NoRoom → Answers founder past request reading reply after →
+    ensures step { (founder : Key) (limit : Option ℕ) (past : List Entry) (request : Request) (reading : ℤ) →
+        request.body ≡ NoRoom → step founder limit past request reading ≡ (Refused NoMemory, past) }
+    ensures turn { (founder : Key) (limit : Option ℕ) (past after : List Entry) (request : Request) (reading : ℤ)
+        (reply : Reply) → request.body ≡ NoRoom → Answers founder limit past request reading reply after →
         (reply ≡ Refused NoMemory) × (after ≡ past) }
 {}
 
 /// What is worked out for a request that was heard is the deed of the entry that it becomes.
 pub fn deeds_are_worked_out_once()
-    ensures { (bytes : List ℕ) (heard : Heard) (past : List Entry) (moment : ℤ) (deed : Deed) →
+    ensures deed { (bytes : List ℕ) (heard : Heard) (past : List Entry) (moment : ℤ) (deed : Deed) →
         asked_of heard.verb bytes ≡ Ok heard.asked → work_out past moment heard ≡ Ok deed →
         deed_of (deeds past) (new_entry heard bytes moment) ≡ deed }
+    ensures within { (limit : Option ℕ) (past : List Entry) (bytes : List ℕ) (moment : ℤ) (heard : Heard)
+        (deed : Deed) → work_within limit past bytes moment heard ≡ Ok deed → work_out past moment heard ≡ Ok deed }
 {}
 
 /// `NoMemory` may stand in the place of a refusal, and changes nothing.
 pub fn out_of_memory_changes_nothing()
-    ensures instead { (founder : Key) (past after : List Entry) (request : Request) (reading : ℤ) (refusal : Refusal) →
-        Answers founder past request reading (Refused refusal) after →
-        Answers founder past request reading (Refused NoMemory) after }
-    ensures stays { (founder : Key) (past after : List Entry) (request : Request) (reading : ℤ) →
-        Answers founder past request reading (Refused NoMemory) after → after ≡ past }
+    ensures instead { (founder : Key) (limit : Option ℕ) (past after : List Entry) (request : Request) (reading : ℤ)
+        (refusal : Refusal) → Answers founder limit past request reading (Refused refusal) after →
+        Answers founder limit past request reading (Refused NoMemory) after }
+    ensures stays { (founder : Key) (limit : Option ℕ) (past after : List Entry) (request : Request) (reading : ℤ) →
+        Answers founder limit past request reading (Refused NoMemory) after → after ≡ past }
+{}
+
+/// Without a disk, what answers a request is a turn, and nothing is in doubt before or after it.
+pub fn answers_are_turns()
+    ensures { (founder : Key) (limit : Option ℕ) (past after : List Entry) (turn : Turn) →
+        TakesReading turn.request.verb turn.reading →
+        Answers founder limit past turn.request (unwrap_or turn.reading (pos 0)) turn.reply after →
+        IsTurn founder limit (at_rest past) turn (at_rest after) }
+{}
+
+/// A turn that is refused leaves the history as it was, but for an act in doubt that it mended.
+pub fn a_refusal_only_mends()
+    ensures { (founder : Key) (limit : Option ℕ) (before after : OfficeState) (turn : Turn) (refusal : Refusal) →
+        IsTurn founder limit before turn after → turn.reply ≡ Refused refusal →
+        Mends before.settled before.doubt after.settled }
 {}
 
 /// A conduct goes on with one turn more.
 pub fn conducts_go_on()
-    ensures { (founder : Key) (past between after : List Entry) (turns : List Turn) (turn : Turn) →
-        Conduct founder past turns between → IsTurn founder between turn after →
-        Conduct founder past (turns ++ turn ∷ []) after }
+    ensures { (founder : Key) (limit : Option ℕ) (before between after : OfficeState) (turns : List Turn)
+        (turn : Turn) → Conduct founder limit before turns between → IsTurn founder limit between turn after →
+        Conduct founder limit before (turns ++ turn ∷ []) after }
 {}
 
-/// A later history is an earlier one with newer entries before it: what was accepted stays.
+/// A later settled history is an earlier one with newer entries before it: what was accepted stays.
 pub fn histories_grow()
-    ensures { (founder : Key) (past after : List Entry) (turns : List Turn) →
-        Conduct founder past turns after → Extends past after }
+    ensures { (founder : Key) (limit : Option ℕ) (before after : OfficeState) (turns : List Turn) →
+        Conduct founder limit before turns after → Extends before.settled after.settled }
 {}
 
-/// Each caller's numbered request becomes at most one entry.
+/// Each caller's numbered request becomes at most one entry, and an act in doubt has no number that was used.
 pub fn each_once()
-    ensures { (founder : Key) (past after : List Entry) (turns : List Turn) →
-        Conduct founder past turns after → EachNumberOnce past → EachNumberOnce after }
+    ensures { (founder : Key) (limit : Option ℕ) (before after : OfficeState) (turns : List Turn) →
+        Conduct founder limit before turns after → EitherWay EachNumberOnce before → EitherWay EachNumberOnce after }
 {}
 
-/// Where no turn ran out of memory, a conduct is the step, one after another.
+/// Where the disk's count of faults rose in no turn and nothing was in doubt, nothing is, and the replies are those
+/// of the step, one after another, or out of memory; where no turn ran out of memory, they are those of the step.
 pub fn no_faults()
-    ensures { (founder : Key) (past after : List Entry) (turns : List Turn) →
-        Conduct founder past turns after → HadMemory turns → IsStepped founder past turns after }
+    ensures settled { (founder : Key) (limit : Option ℕ) (past : List Entry) (after : OfficeState) (turns : List Turn) →
+        Conduct founder limit (at_rest past) turns after → HadNoFault turns → after ≡ at_rest after.settled }
+    ensures answered { (founder : Key) (limit : Option ℕ) (past : List Entry) (after : OfficeState) (turns : List Turn) →
+        Conduct founder limit (at_rest past) turns after → HadNoFault turns →
+        IsAnswered founder limit past turns after.settled }
+    ensures stepped { (founder : Key) (limit : Option ℕ) (past : List Entry) (after : OfficeState) (turns : List Turn) →
+        Conduct founder limit (at_rest past) turns after → HadNoFault turns → HadMemory turns →
+        IsStepped founder limit past turns after.settled }
 {}
 
-/// A history that the office makes of a legal one is legal: after one step, and after a conduct. So
-/// is each that it makes from nothing, since the history without entries is legal.
+/// A history that the office makes of a legal one is legal: after one step, and after a conduct, with the act in
+/// doubt and without. So is each that it makes from nothing, since the history without entries is legal.
 pub fn histories_are_legal()
-    ensures step { (founder : Key) (past after : List Entry) (request : Request) (reading : ℤ) (reply : Reply) →
-        IsLegal founder past → IsInstantNs reading → step founder past request reading ≡ (reply, after) →
-        IsLegal founder after }
-    ensures conduct { (founder : Key) (past after : List Entry) (turns : List Turn) →
-        IsLegal founder past → Conduct founder past turns after → IsLegal founder after }
-    ensures from_nothing { (founder : Key) (after : List Entry) (turns : List Turn) →
-        Conduct founder [] turns after → IsLegal founder after }
+    ensures step { (founder : Key) (limit : Option ℕ) (past after : List Entry) (request : Request) (reading : ℤ)
+        (reply : Reply) → IsLegal founder past → IsInstantNs reading →
+        step founder limit past request reading ≡ (reply, after) → IsLegal founder after }
+    ensures conduct { (founder : Key) (limit : Option ℕ) (before after : OfficeState) (turns : List Turn) →
+        EitherWay (IsLegal founder) before → Conduct founder limit before turns after →
+        EitherWay (IsLegal founder) after }
+    ensures from_nothing { (founder : Key) (limit : Option ℕ) (after : OfficeState) (turns : List Turn) →
+        Conduct founder limit (at_rest []) turns after → EitherWay (IsLegal founder) after }
 {}
 
 /// The founding officer's key finds a caller and does nothing else: a history that is legal under one key is
@@ -106,7 +139,7 @@ pub fn any_founder()
 /// Each legal history is one that the office can come to: some turns make it from nothing.
 pub fn legal_histories_are_reached()
     ensures { (founder : Key) (history : List Entry) →
-        IsLegal founder history → (turns : List Turn) × Conduct founder [] turns history }
+        IsLegal founder history → (turns : List Turn) × Conduct founder None (at_rest []) turns (at_rest history) }
 {}
 
 /// What stood before the newest entries of a legal history was a legal history too.
@@ -136,10 +169,11 @@ pub fn kept_replies_stay()
     ensures entry { (founder : Key) (earlier later : List Entry) (caller number : ℕ) (k : Kept) →
         IsLegal founder later → Extends earlier later →
         kept earlier caller number ≡ Some k → kept later caller number ≡ Some k }
-    ensures resend { (founder : Key) (past later : List Entry) (request : Request) (first again : ℤ)
-        (text : List ℕ) (entry : Entry) →
-        step founder past request first ≡ (Done text, entry ∷ past) →
-        IsLegal founder later → Extends (entry ∷ past) later → step founder later request again ≡ (Done text, later) }
+    ensures resend { (founder : Key) (limit other : Option ℕ) (past later : List Entry) (request : Request)
+        (first again : ℤ) (text : List ℕ) (entry : Entry) →
+        step founder limit past request first ≡ (Done text, entry ∷ past) →
+        IsLegal founder later → Extends (entry ∷ past) later →
+        step founder other later request again ≡ (Done text, later) }
 {}
 
 /// Each accepted observation stands in exactly one place: isolated, in an object, or retracted.

@@ -10,6 +10,7 @@ mod act;
 mod deed;
 mod entry;
 mod heard;
+mod keeper;
 mod known;
 pub mod laws;
 mod query;
@@ -26,6 +27,7 @@ pub use act_bodies::{Key, Rank};
 pub use deed::Deed;
 pub use entry::Entry;
 pub use heard::{Asked, Heard, read_asked};
+pub use keeper::{Keeper, Office, OfficeState};
 pub use known::Known;
 pub use query::{Query, read_query};
 pub use reply::{

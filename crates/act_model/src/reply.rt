@@ -11,7 +11,7 @@ use obs_record::{HeaderFault, RuleCode};
 use std::alloc::Global;
 
 /// The most bytes that the line of a refusal has.
-pub const REFUSAL_BYTES: usize = 64;
+pub const REFUSAL_BYTES: usize = 104;
 
 /// What of a request could not be read.
 #[derive(Clone, Copy, Debug, PartialEq, Eq)]
@@ -88,6 +88,21 @@ pub enum Refusal {
     AlreadyThere,
     /// The roster has all the callers that it may have.
     RosterFull,
+    /// The journal has no room for the act's entry.
+    JournalFull {
+        /// How many bytes the journal has.
+        used: u64,
+        /// How many more the entry would take.
+        more: u64,
+        /// How many it may have.
+        limit: u64,
+    },
+    /// The disk failed, and the act wasn't done; or it is in doubt, and may or may not be kept. The same
+    /// request, sent again, settles it.
+    DiskFault {
+        /// Whether this call left the act in doubt.
+        doubt: bool,
+    },
     /// Memory was refused. The same request may be done when it is sent again.
     NoMemory,
 }
@@ -115,7 +130,9 @@ pub fn refusal_status(refusal: &Refusal) -> u16
         Refusal::OtherRequest { .. }
         | Refusal::AlreadyRetracted(_)
         | Refusal::AlreadyThere
-        | Refusal::RosterFull => 409,
+        | Refusal::RosterFull
+        | Refusal::JournalFull { .. } => 409,
+        Refusal::DiskFault { .. } => 503,
         Refusal::NoMemory => 507,
     }
 }
@@ -123,8 +140,8 @@ pub fn refusal_status(refusal: &Refusal) -> u16
 /// The status of a reply, as HTTP numbers them (RFC 9110, and RFC 4918 where memory was refused): 200 for
 /// a request that was done, 400 for one that can't be read, 401 for a key that nobody has, 403 for an
 /// observer who asks what officers may, 404 for a thing that isn't there, 409 for a number that was used and for
-/// what is there or retracted already, 413 for a body that is too large, 422 for a batch with a fault of its headers or without a line that
-/// is accepted, and 507 where memory was refused.
+/// what is there or retracted already or finds no room in the journal, 413 for a body that is too large, 422 for a batch with a fault of its headers or without a line that
+/// is accepted, 503 where the disk failed, and 507 where memory was refused.
 pub fn status(reply: &Reply) -> u16
     ensures { result ≡ status_of reply.now }
 {
@@ -194,6 +211,35 @@ fn header_line(fault: HeaderFault, number: u32) -> ArrayVec<u8, REFUSAL_BYTES>
     line
 }
 
+fn full_line(used: u64, more: u64, limit: u64) -> ArrayVec<u8, REFUSAL_BYTES>
+    ensures { result.items ≡ refusal_text (Refusal.JournalFull used more limit) }
+{
+    let mut buffer = Buffer::new();
+    let mut line = ArrayVec::new();
+    line.try_extend_from_slice(b"refused 15 JournalFull used ")
+        .unwrap();
+    line.try_extend_from_slice(buffer.format(used).as_bytes())
+        .unwrap();
+    line.try_extend_from_slice(b" more ").unwrap();
+    line.try_extend_from_slice(buffer.format(more).as_bytes())
+        .unwrap();
+    line.try_extend_from_slice(b" limit ").unwrap();
+    line.try_extend_from_slice(buffer.format(limit).as_bytes())
+        .unwrap();
+    line.push(b'\n');
+    line
+}
+
+fn disk_fault_line(doubt: bool) -> ArrayVec<u8, REFUSAL_BYTES>
+    ensures { result.items ≡ refusal_text (Refusal.DiskFault doubt) }
+{
+    if doubt {
+        line_in_place(b"refused 16 DiskFault doubt")
+    } else {
+        line_in_place(b"refused 16 DiskFault untouched")
+    }
+}
+
 fn unread_line(part: Part) -> ArrayVec<u8, REFUSAL_BYTES>
     ensures { result.items ≡ refusal_text (Refusal.Unread part) }
 {
@@ -234,6 +280,8 @@ pub fn refusal_line(refusal: &Refusal) -> Option<ArrayVec<u8, REFUSAL_BYTES>>
         Refusal::AlreadyRetracted(k) => Some(numbered_line(b"refused 11 AlreadyRetracted ", *k)),
         Refusal::AlreadyThere => Some(line_in_place(b"refused 13 AlreadyThere")),
         Refusal::RosterFull => Some(line_in_place(b"refused 13 RosterFull")),
+        Refusal::JournalFull { used, more, limit } => Some(full_line(*used, *more, *limit)),
+        Refusal::DiskFault { doubt } => Some(disk_fault_line(*doubt)),
         Refusal::NoMemory => Some(line_in_place(b"refused 17 NoMemory")),
     }
 }

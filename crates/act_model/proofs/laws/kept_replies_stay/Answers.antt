@@ -5,4 +5,4 @@ pub returns-clause-entry : goal.returns-clause-entry
 returns-clause-entry c = λ founder earlier later caller number k. kept_stays founder earlier later caller number k
 
 pub returns-clause-resend : goal.returns-clause-resend
-returns-clause-resend c = λ founder past later request first again text entry. answered_again founder past request first again text entry later
+returns-clause-resend c = λ founder limit other past later request first again text entry. answered_again founder limit other past request first again text entry later

@@ -2,7 +2,7 @@ use Rattle.act_model.proofs.Conducts.{answer_wanting, wanting_leaves}
 use Rattle.act_model.proofs.laws.out_of_memory_changes_nothing.Goals as goal
 
 pub returns-clause-instead : goal.returns-clause-instead
-returns-clause-instead c = λ founder past after request reading refusal. answer_wanting founder past request reading refusal after
+returns-clause-instead c = λ founder limit past after request reading refusal. answer_wanting founder limit past request reading refusal after
 
 pub returns-clause-stays : goal.returns-clause-stays
-returns-clause-stays c = λ founder past after request reading. wanting_leaves founder past request reading after
+returns-clause-stays c = λ founder limit past after request reading. wanting_leaves founder limit past request reading after
