@@ -27,14 +27,14 @@ made_entry past e (Adds other) is = cc
 
 module _ (founder : Key) (past : List Entry) (e : Entry) where
   -- the step adds what becomes of the entry's request
-  pub adds_entry : outcome founder past (entry_request founder past e) e.moment ≡ Adds e → (step founder past (entry_request founder past e) e.moment).1 ≡ e ∷ past
+  pub adds_entry : outcome founder None past (entry_request founder past e) e.moment ≡ Adds e → (step founder None past (entry_request founder past e) e.moment).1 ≡ e ∷ past
   unfolding step
   adds_entry is = ap (λ (o : Outcome). (after past o).1) is
 
   -- and an entry that is added is what becomes of its request
-  pub entry_added : IsAdded founder past e → outcome founder past (entry_request founder past e) e.moment ≡ Adds e
+  pub entry_added : IsAdded founder past e → outcome founder None past (entry_request founder past e) e.moment ≡ Adds e
   unfolding step
-  entry_added is = made_entry past e (outcome founder past (entry_request founder past e) e.moment) is.1
+  entry_added is = made_entry past e (outcome founder None past (entry_request founder past e) e.moment) is.1
 
 pub one_entry : (o : Outcome) (e f : Entry) → o ≡ Adds e → o ≡ Adds f → e ≡ f
 one_entry o e f first second = let same = sym first ∙ second in cc
@@ -73,17 +73,17 @@ module _ (founder : Key) (past : List Entry) (caller number : ℕ) (moment : ℤ
   entry_is = ap (option_map (λ (v : Verb). record { caller = caller; number = number; moment = moment; verb = v; body = body })) is
 
   -- it is taken in where its request becomes it
-  pub comes_back : (q : Request) (t : ℤ) (e : Entry) (now : List Entry) → IsInstantNs moment → t ≡ moment → q ≡ entry_request founder past entry → outcome founder past q t ≡ Adds e → e ≡ entry → now ≡ e ∷ past
+  pub comes_back : (q : Request) (t : ℤ) (e : Entry) (now : List Entry) → IsInstantNs moment → t ≡ moment → q ≡ entry_request founder past entry → outcome founder None past q t ≡ Adds e → e ≡ entry → now ≡ e ∷ past
       → IsSomeAnd (entry_of caller number moment code body) (λ entry. IsAdded founder past entry × (now ≡ entry ∷ past))
   comes_back q t e now instant at asks adds same more =
       subst (λ (o : Option Entry). IsSomeAnd o (λ entry. IsAdded founder past entry × (now ≡ entry ∷ past))) (sym entry_is) (
-        (instant, adds_entry founder past entry (ap (λ (r : Request). outcome founder past r moment) (sym asks) ∙ ap (λ (m : ℤ). outcome founder past q m) (sym at) ∙ adds ∙ ap (λ (x : Entry). Adds x) same)),
+        (instant, adds_entry founder past entry (ap (λ (r : Request). outcome founder None past r moment) (sym asks) ∙ ap (λ (m : ℤ). outcome founder None past q m) (sym at) ∙ adds ∙ ap (λ (x : Entry). Adds x) same)),
         more ∙ ap (λ (x : Entry). x ∷ past) same,
       )
 
   -- and it isn't legal where it doesn't
-  pub stays_out : (q : Request) (t : ℤ) → t ≡ moment → q ≡ entry_request founder past entry → (outcome founder past q t ≡ Adds entry → ⊥)
+  pub stays_out : (q : Request) (t : ℤ) → t ≡ moment → q ≡ entry_request founder past entry → (outcome founder None past q t ≡ Adds entry → ⊥)
       → IfSome (entry_of caller number moment code body) (λ entry. IsAdded founder past entry → ⊥)
   stays_out q t at asks never =
       subst (λ (o : Option Entry). IfSome o (λ entry. IsAdded founder past entry → ⊥)) (sym entry_is)
-      (λ is. never (ap (λ (m : ℤ). outcome founder past q m) at ∙ ap (λ (r : Request). outcome founder past r moment) asks ∙ entry_added founder past entry is))
+      (λ is. never (ap (λ (m : ℤ). outcome founder None past q m) at ∙ ap (λ (r : Request). outcome founder None past r moment) asks ∙ entry_added founder past entry is))

@@ -8,6 +8,7 @@ mod filed;
 mod hearing;
 mod holding;
 mod knowing;
+mod limiting;
 mod office;
 mod prepared;
 mod preparing;

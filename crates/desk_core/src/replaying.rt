@@ -1,6 +1,6 @@
 //! Entries that come again, as a journal kept them.
 
-ghost use Rattle.std.specs.Prelude.{◌≡◌, ◌∷◌, reverse, true, IfOk, IfSome, IsErrOf, IsSomeAnd, IsTrue, ◌↔◌, OnOk, OnErr};
+ghost use Rattle.std.specs.Prelude.{◌≡◌, ◌∷◌, reverse, true, None, IfOk, IfSome, IsErrOf, IsSomeAnd, IsTrue, ◌↔◌, OnOk, OnErr};
 ghost use Rattle.act_model.specs.declared.entry.Entry.{Entry};
 ghost use Rattle.act_model.specs.declared.reply.Refusal.{Refusal};
 ghost use Rattle.act_model.specs.Deeds.{deeds};
@@ -101,15 +101,15 @@ impl Core {
     /// The act of this request, ready to become the next entry.
     fn come_again(&mut self, request: &Request, moment: Instant) -> Result<Prepared, ReplayFault>
         requires act { is_act request.now.verb ≡ true }
-        ensures ready { IfOk result (λ ready. outcome self.old.founder self.old.history request.now moment ≡ Adds ready.entry) }
+        ensures ready { IfOk result (λ ready. outcome self.old.founder None self.old.history request.now moment ≡ Adds ready.entry) }
         ensures at { IfOk result (IsReadyAt self.new.history) }
         ensures room { IfOk result (λ ready. IsRoomFor ready.deed self.new.spare) }
         ensures not_legal { IsErrOf result ReplayFault.NotLegal → (entry : Entry) →
-            outcome self.old.founder self.old.history request.now moment ≡ Adds entry → ⊥ }
+            outcome self.old.founder None self.old.history request.now moment ≡ Adds entry → ⊥ }
         ensures history { self.new.history ≡ self.old.history }
         ensures founder { self.new.founder ≡ self.old.founder }
     {
-        match self.prepare(request, moment) {
+        match self.prepare(request, moment, None) {
             Prep::Ready(prepared) => Ok(prepared),
             Prep::Kept(_) => Err(ReplayFault::NotLegal),
             Prep::Refused(refusal) => Err(fault_of(&refusal)),
