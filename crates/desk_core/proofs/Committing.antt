@@ -1,6 +1,6 @@
 -- What stands with an entry once it is added.
 use Rattle.std.proofs.Common.{◌≡◌, ℕ, ◌+◌, ◌-◌, ◌<◌, ◌≤◌, List, [], ◌∷◌, ◌++◌, length, refl, sym, ap, subst, ◌∙◌, arith, suc}
-use Rattle.std.specs.Prelude.{reverse, unwrap_or}
+use Rattle.std.specs.Prelude.{◌^◌, min, reverse, unwrap_or}
 use Rattle.std.proofs.lemmas.List.{reverse-append}
 use Rattle.station_tables.specs.Rows.{TableRows}
 use Rattle.act_model.specs.declared.deed.Deed.{Deed}
@@ -11,6 +11,7 @@ use Rattle.act_model.specs.Deeds.{deeds}
 use Rattle.act_model.specs.History.{next_receipt}
 use Rattle.act_model.specs.Holdings.{Holdings, with_deed, holdings}
 use Rattle.act_model.specs.OfficeTables.{tables_of}
+use Rattle.act_model.specs.Refusals.{entry_size, used as used_bytes}
 use Rattle.act_model.specs.Replies.{entry_answer}
 use Rattle.act_model.specs.Roster.{members, with_enrolled}
 use Rattle.desk_core.specs.declared.filed.Filed.{Filed}
@@ -55,6 +56,11 @@ module _ (items : List Filed) (f : Filed) (ready : Ready) (at : IsReadyAt (histo
       is ∙ ap (with_deed receipt ready.deed) before
       ∙ ap (λ (n : ℕ). with_deed n ready.deed (holdings (deeds past))) (number ∙ ap (λ (n : ℕ). n + 1) (sym (deeds_length past)))
       ∙ sym (ap holdings deeds_are)
+
+  pub bytes_are : (old new size : ℕ) → new ≡ min (old + size) (2 ^ 64 - 1) → old ≡ min (used_bytes past) (2 ^ 64 - 1) → size ≡ entry_size f.entry.body → new ≡ min (used_bytes (history_of now)) (2 ^ 64 - 1)
+  bytes_are old new size is before sized =
+      let more : used_bytes (history_of now) ≡ used_bytes past + entry_size f.entry.body = ap used_bytes (history_of-push items f) in
+      omega (arith, more, is, before, sized)
 
 -- what was used of the room
 pub used : (deed : Deed) (cap cap' len len' mcap mcap' mlen mlen' obs obs' tr tr' : ℕ) → cap' ≡ cap → mcap' ≡ mcap → len' ≡ len + 1 → mlen ≤ mlen' → mlen' ≤ mlen + 1 → obs ≤ obs' + added_by deed → tr ≤ tr' + added_by deed

@@ -10,3 +10,4 @@ pub mod Numbered
 pub mod Telling
 pub mod TakenLines
 pub mod Committing
+pub mod ReplayLemmas

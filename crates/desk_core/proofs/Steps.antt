@@ -18,7 +18,7 @@ use Rattle.act_model.specs.Roster.{members, with_enrolled}
 use Rattle.act_model.specs.Deeds.{deeds}
 use Rattle.act_model.specs.History.{Kept, kept, next_moment}
 use Rattle.act_model.specs.Hearing.{bytes_in, hear}
-use Rattle.act_model.specs.Refusals.{work_out}
+use Rattle.act_model.specs.Refusals.{work_within}
 use Rattle.act_model.specs.Turns.{Answers}
 use Rattle.act_model.specs.Step.{Outcome, Refuses, Tells, Adds, outcome, unless_unheard, heard_step, act_step, query_step, query_in, told, tells, unless_kept, unless_refused, new_entry, step, after}
 use Rattle.desk_core.specs.Office.{Room, Fits}
@@ -26,58 +26,58 @@ use Rattle.desk_core.specs.Preparing.{IsRefused, Prepares, IsPrepared, IsTold}
 use Rattle.desk_core.specs.declared.prepared.Prep.{Prep}
 use Rattle.desk_core.specs.declared.prepared.Prep.TheVariants as prep
 
-module _ (founder : Key) (past : List Entry) (q : Request) (t : ℤ) where
+module _ (founder : Key) (limit : Option ℕ) (past : List Entry) (q : Request) (t : ℤ) where
   -- the step of a request that was heard, and what is heard before it
   abbrev heard_outcome : List ℕ → Heard → Result Outcome Refusal
-  heard_outcome bytes heard = Ok (heard_step past heard bytes (next_moment past t))
+  heard_outcome bytes heard = Ok (heard_step limit past heard bytes (next_moment past t))
 
   abbrev hearing : List ℕ → Result Outcome Refusal
   hearing bytes = hear founder (members (deeds past)) q bytes >>= heard_outcome bytes
 
-  outcome_is : outcome founder past q t ≡ unless_unheard (bytes_in q.body >>= hearing)
+  outcome_is : outcome founder limit past q t ≡ unless_unheard (bytes_in q.body >>= hearing)
   unfolding outcome
   outcome_is = refl
 
   -- a body that isn't taken
-  pub outcome_bytes : (r : Refusal) → bytes_in q.body ≡ Err r → outcome founder past q t ≡ Refuses r
+  pub outcome_bytes : (r : Refusal) → bytes_in q.body ≡ Err r → outcome founder limit past q t ≡ Refuses r
   outcome_bytes r is = outcome_is ∙ ap (λ (x : Result (List ℕ) Refusal). unless_unheard (x >>= hearing)) is
 
-  after_bytes : (bytes : List ℕ) → bytes_in q.body ≡ Ok bytes → outcome founder past q t ≡ unless_unheard (hearing bytes)
+  after_bytes : (bytes : List ℕ) → bytes_in q.body ≡ Ok bytes → outcome founder limit past q t ≡ unless_unheard (hearing bytes)
   after_bytes bytes is = outcome_is ∙ ap (λ (x : Result (List ℕ) Refusal). unless_unheard (x >>= hearing)) is
 
   -- a request that isn't heard
-  outcome_unheard : (bytes : List ℕ) (r : Refusal) → bytes_in q.body ≡ Ok bytes → hear founder (members (deeds past)) q bytes ≡ Err r → outcome founder past q t ≡ Refuses r
+  outcome_unheard : (bytes : List ℕ) (r : Refusal) → bytes_in q.body ≡ Ok bytes → hear founder (members (deeds past)) q bytes ≡ Err r → outcome founder limit past q t ≡ Refuses r
   outcome_unheard bytes r body is = after_bytes bytes body ∙ ap (λ (x : Result Heard Refusal). unless_unheard (x >>= heard_outcome bytes)) is
 
-  pub refused_hearing : (bytes : List ℕ) (r : Refusal) → bytes_in q.body ≡ Ok bytes → IsDue (hear founder (members (deeds past)) q bytes) (Err r) → IsRefused (outcome founder past q t) r
+  pub refused_hearing : (bytes : List ℕ) (r : Refusal) → bytes_in q.body ≡ Ok bytes → IsDue (hear founder (members (deeds past)) q bytes) (Err r) → IsRefused (outcome founder limit past q t) r
   refused_hearing bytes r body (inl due) = inl (outcome_unheard bytes r body due)
   refused_hearing bytes r body (inr wants) = inr wants
 
   -- an act that is heard
   pub outcome_heard : (bytes : List ℕ) (heard : Heard) → bytes_in q.body ≡ Ok bytes → hear founder (members (deeds past)) q bytes ≡ Ok heard → heard.verb ≡ q.verb → is_act q.verb ≡ true
-      → outcome founder past q t ≡ act_step past heard bytes (next_moment past t)
+      → outcome founder limit past q t ≡ act_step limit past heard bytes (next_moment past t)
   outcome_heard bytes heard body is verb act =
       after_bytes bytes body
       ∙ ap (λ (x : Result Heard Refusal). unless_unheard (x >>= heard_outcome bytes)) is
-      ∙ ap (λ (b : Bool). cond b (act_step past heard bytes (next_moment past t)) (query_step past heard)) (ap is_act verb ∙ act)
+      ∙ ap (λ (b : Bool). cond b (act_step limit past heard bytes (next_moment past t)) (query_step past heard)) (ap is_act verb ∙ act)
 
   -- a body for which there was no room
-  pub outcome_no_room : q.body ≡ NoRoom → outcome founder past q t ≡ Refuses NoMemory
+  pub outcome_no_room : q.body ≡ NoRoom → outcome founder limit past q t ≡ Refuses NoMemory
   outcome_no_room none = outcome_is ∙ ap (λ (b : Body). unless_unheard (bytes_in b >>= hearing)) none
 
   -- a query that is heard
   pub outcome_query : (bytes : List ℕ) (heard : Heard) → bytes_in q.body ≡ Ok bytes → hear founder (members (deeds past)) q bytes ≡ Ok heard → heard.verb ≡ q.verb → is_act q.verb ≡ false
-      → outcome founder past q t ≡ tells (query_in heard.asked >>= told past heard.caller.number)
+      → outcome founder limit past q t ≡ tells (query_in heard.asked >>= told past heard.caller.number)
   outcome_query bytes heard body is verb query =
       after_bytes bytes body
       ∙ ap (λ (x : Result Heard Refusal). unless_unheard (x >>= heard_outcome bytes)) is
-      ∙ ap (λ (b : Bool). cond b (act_step past heard bytes (next_moment past t)) (query_step past heard)) (ap is_act verb ∙ query)
+      ∙ ap (λ (b : Bool). cond b (act_step limit past heard bytes (next_moment past t)) (query_step past heard)) (ap is_act verb ∙ query)
 
-  pub answers_told : (text : List ℕ) → outcome founder past q t ≡ Tells text → Answers founder past q t (Done text) past
+  pub answers_told : (text : List ℕ) → outcome founder limit past q t ≡ Tells text → Answers founder limit past q t (Done text) past
   unfolding step
   answers_told text is = inl (ap (after past) is)
 
-  pub answers_refused : (r : Refusal) → IsRefused (outcome founder past q t) r → Answers founder past q t (Refused r) past
+  pub answers_refused : (r : Refusal) → IsRefused (outcome founder limit past q t) r → Answers founder limit past q t (Refused r) past
   unfolding step
   answers_refused r (inl is) = inl (ap (after past) is)
   answers_refused r (inr wants) = inr (ap (λ (r : Refusal). Refused r) wants, refl)
@@ -91,27 +91,27 @@ told_as o due (Err r) is (inr wants) = inr wants
 -- ---- the parts of an act's step
 
 -- the same outcome
-pub prepared_as : (past : List Entry) (o o' : Outcome) (spare : Room) (result : Result Prep Refusal) → o' ≡ o → IsPrepared past o spare result → IsPrepared past o' spare result
-prepared_as past o o' spare result same is = subst (λ (x : Outcome). IsPrepared past x spare result) (sym same) is
+pub prepared_as : (limit : Option ℕ) (past : List Entry) (o o' : Outcome) (spare : Room) (result : Result Prep Refusal) → o' ≡ o → IsPrepared limit past o spare result → IsPrepared limit past o' spare result
+prepared_as limit past o o' spare result same is = subst (λ (x : Outcome). IsPrepared limit past x spare result) (sym same) is
 
 -- where there was no room for the body, it is refused with want of memory
-pub no_room_prep : (past : List Entry) (due : Outcome) (spare : Room) (p : Prep) → due ≡ Refuses NoMemory → Prepares past due spare p → p ≡ prep.Refused NoMemory
-no_room_prep past due spare (prep.Kept reply) none is = absurd cc
-no_room_prep past due spare (prep.Refused r) none (inl is) = let same = sym none ∙ is in cc
-no_room_prep past due spare (prep.Refused r) none (inr wants) = ap (λ (x : Refusal). prep.Refused x) wants
-no_room_prep past due spare (prep.Ready ready) none is = let added = is.0 in absurd cc
+pub no_room_prep : (limit : Option ℕ) (past : List Entry) (due : Outcome) (spare : Room) (p : Prep) → due ≡ Refuses NoMemory → Prepares limit past due spare p → p ≡ prep.Refused NoMemory
+no_room_prep limit past due spare (prep.Kept reply) none is = absurd cc
+no_room_prep limit past due spare (prep.Refused r) none (inl is) = let same = sym none ∙ is in cc
+no_room_prep limit past due spare (prep.Refused r) none (inr wants) = ap (λ (x : Refusal). prep.Refused x) wants
+no_room_prep limit past due spare (prep.Ready ready) none is = let added = is.0 in absurd cc
 
 -- a number that was used
-pub kept_step : (past : List Entry) (heard : Heard) (bytes : List ℕ) (moment : ℤ) (k : Kept) → kept past heard.caller.number heard.number ≡ Some k
-    → act_step past heard bytes moment ≡ unless_kept (Some k) heard bytes (Refuses NoMemory)
-kept_step past heard bytes moment k used =
-    ap (λ (o : Option Kept). unless_kept o heard bytes (unless_refused (work_out past moment heard) (new_entry heard bytes moment))) used
+pub kept_step : (limit : Option ℕ) (past : List Entry) (heard : Heard) (bytes : List ℕ) (moment : ℤ) (k : Kept) → kept past heard.caller.number heard.number ≡ Some k
+    → act_step limit past heard bytes moment ≡ unless_kept (Some k) heard bytes (Refuses NoMemory)
+kept_step limit past heard bytes moment k used =
+    ap (λ (o : Option Kept). unless_kept o heard bytes (unless_refused (work_within limit past bytes moment heard) (new_entry heard bytes moment))) used
 
 -- a number that was not used
-pub new_step : (past : List Entry) (heard : Heard) (bytes : List ℕ) (moment : ℤ) → kept past heard.caller.number heard.number ≡ None
-    → act_step past heard bytes moment ≡ unless_refused (work_out past moment heard) (new_entry heard bytes moment)
-new_step past heard bytes moment unused =
-    ap (λ (o : Option Kept). unless_kept o heard bytes (unless_refused (work_out past moment heard) (new_entry heard bytes moment))) unused
+pub new_step : (limit : Option ℕ) (past : List Entry) (heard : Heard) (bytes : List ℕ) (moment : ℤ) → kept past heard.caller.number heard.number ≡ None
+    → act_step limit past heard bytes moment ≡ unless_refused (work_within limit past bytes moment heard) (new_entry heard bytes moment)
+new_step limit past heard bytes moment unused =
+    ap (λ (o : Option Kept). unless_kept o heard bytes (unless_refused (work_within limit past bytes moment heard) (new_entry heard bytes moment))) unused
 
 -- an act that is refused, and one that isn't
 pub refused_work : (work : Result Deed Refusal) (e : Entry) (r : Refusal) → IsDue work (Err r) → IsRefused (unless_refused work e) r

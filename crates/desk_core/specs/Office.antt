@@ -1,5 +1,5 @@
 -- The office as contracts see it, and an act that is ready to become its next entry.
-use Rattle.std.specs.Prelude.{◌≡◌, ℕ, ◌+◌, ◌<◌, ◌≤◌, ◌≤ℤ◌, false, List, [], ◌∷◌, length, unwrap_or, IsTrue, Option, Result, Ok, Err}
+use Rattle.std.specs.Prelude.{◌≡◌, ℕ, ◌+◌, ◌<◌, ◌≤◌, ◌≤ℤ◌, true, false, List, [], ◌∷◌, length, unwrap_or, IsTrue, Option, Result, Ok, Err}
 use Rattle.obs_record.specs.declared.rule.RuleCode.{RuleCode}
 use Rattle.station_tables.specs.Stations.{overlaps}
 use Rattle.station_tables.specs.Codes.{has_code}
@@ -9,10 +9,12 @@ use Rattle.act_bodies.specs.declared.key.Key.{Key}
 use Rattle.act_model.specs.declared.deed.Deed.{Deed}
 use Rattle.act_model.specs.declared.deed.Deed.TheVariants.{Enrolled, Stationed, Coded, Submitted, Retracted, Nothing}
 use Rattle.act_model.specs.declared.entry.Entry.{Entry}
+use Rattle.act_model.specs.declared.request.TheConstants.{BODY_BYTES}
 use Rattle.act_model.specs.declared.roster.TheConstants.{CALLERS}
 use Rattle.act_model.specs.declared.taken.Placed.{Placed}
 use Rattle.act_model.specs.declared.taken.Taken.{Taken}
 use Rattle.act_model.specs.Deeds.{deed_of, deeds}
+use Rattle.act_model.specs.Requests.{is_act}
 use Rattle.act_model.specs.Roster.{members, next_caller}
 use Rattle.act_model.specs.OfficeTables.{tables_of}
 use Rattle.act_model.specs.Taken.{tracks_with}
@@ -41,6 +43,10 @@ abbrev pub held_in : Contents → Holdings
 held_in file = record { observations = file.observations; tracklets = file.tracklets }
 
 -- ---- an act that is ready
+
+-- an entry of an act, with a body that a request may have
+abbrev pub IsOfAct : Entry → Type 0
+IsOfAct entry = (is_act entry.verb ≡ true) × (length entry.body ≤ BODY_BYTES)
 
 -- an act that is ready to become an entry: the entry, its answer, its deed, and the tables with it, or None where they stay
 pub record Ready : Type 0 where

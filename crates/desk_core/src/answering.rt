@@ -1,6 +1,6 @@
 //! The answers to queries, which read the office and leave it.
 
-ghost use Rattle.std.specs.Prelude.{◌≡◌, ℕ, ℤ, List, false, Result, Ok, IfOk};
+ghost use Rattle.std.specs.Prelude.{◌≡◌, ℕ, ℤ, List, false, Option, Result, Ok, IfOk};
 ghost use Rattle.act_model.specs.Rows.{IsDue};
 ghost use Rattle.act_model.specs.Requests.{is_act};
 ghost use Rattle.act_model.specs.Tallies.{tally};
@@ -28,8 +28,8 @@ impl Core {
     /// What a query is told, where a refusal is an error.
     pub(crate) fn try_answer(&self, request: &Request) -> Result<Bytes, Refusal>
         requires query { is_act request.now.verb ≡ false }
-        ensures { (reading : ℤ) →
-            IsTold (outcome self.now.founder self.now.history request.now reading) result }
+        ensures { (limit : Option ℕ) (reading : ℤ) →
+            IsTold (outcome self.now.founder limit self.now.history request.now reading) result }
     {
         let alloc = self.allocator();
         let bytes = match bytes_in(&request.body) {

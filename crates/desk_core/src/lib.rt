@@ -8,15 +8,18 @@ mod filed;
 mod hearing;
 mod holding;
 mod knowing;
+mod limiting;
 mod office;
 mod prepared;
 mod preparing;
 mod refusals;
+mod replaying;
 mod roster;
 mod taking;
 
 pub use office::Core;
 pub use prepared::{Prep, Prepared};
+pub use replaying::ReplayFault;
 
 #[cfg(test)]
 mod tests;

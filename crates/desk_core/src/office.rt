@@ -1,4 +1,4 @@
-ghost use Rattle.std.specs.Prelude.{◌≡◌, ◌<◌, ◌∷◌, [], IfOk, OnOk, ℤ, length, reverse, true, false, unwrap_or};
+ghost use Rattle.std.specs.Prelude.{◌≡◌, ◌<◌, ◌^◌, ◌∷◌, [], ℕ, Option, IfOk, IfSome, OnOk, ℤ, length, reverse, true, false, unwrap_or};
 ghost use Rattle.act_model.specs.declared.roster.TheConstants.{CALLERS};
 ghost use Rattle.act_model.specs.Requests.{is_act};
 ghost use Rattle.act_model.specs.Roster.{members, IsFounder};
@@ -6,6 +6,7 @@ ghost use Rattle.act_model.specs.Deeds.{deeds};
 ghost use Rattle.act_model.specs.OfficeTables.{tables_of};
 ghost use Rattle.act_model.specs.Holdings.{holdings};
 ghost use Rattle.act_model.specs.History.{next_receipt};
+ghost use Rattle.act_model.specs.Refusals.{used};
 ghost use Rattle.act_model.specs.Step.{outcome};
 ghost use Rattle.act_model.specs.Turns.{Answers};
 ghost use Rattle.desk_core.specs.Filed.{history_of, AreAnswered};
@@ -14,6 +15,7 @@ ghost use Rattle.desk_core.specs.Preparing.{Prepares};
 
 use crate::filed::Filed;
 use crate::holding::{added_by, hold};
+use crate::limiting::entry_size;
 use crate::prepared::{Prep, Prepared};
 use crate::roster::enrol;
 use act_model::{Body, Deed, Key, Member, Refusal, Reply, Request};
@@ -35,15 +37,18 @@ pub struct Core {
     members: Vec<Member>,
     tables: Tables,
     file: TrackletFile,
+    // how many bytes of a journal the entries take, or the greatest number of the type
+    used: u64,
 }
 
 impl Model for Core {
-    ghost use Rattle.std.specs.Prelude.{◌≡◌, ◌-◌, ◌<◌, vec_len, vec_capacity, reverse};
+    ghost use Rattle.std.specs.Prelude.{◌≡◌, ◌-◌, ◌^◌, ◌<◌, min, vec_len, vec_capacity, reverse};
     ghost use Rattle.act_model.specs.declared.roster.TheConstants.{CALLERS};
     ghost use Rattle.act_model.specs.Deeds.{deeds};
     ghost use Rattle.act_model.specs.Roster.{members as members_of};
     ghost use Rattle.act_model.specs.OfficeTables.{tables_of};
     ghost use Rattle.act_model.specs.Holdings.{holdings};
+    ghost use Rattle.act_model.specs.Refusals.{used as used_bytes};
     ghost use Rattle.desk_core.specs.Office.{Office, held_in};
     ghost use Rattle.desk_core.specs.Filed.{history_of, AreAnswered};
 
@@ -65,7 +70,8 @@ impl Model for Core {
         × (reverse c.members.items ≡ members_of (deeds (history_of c.filed.items)))
         × (vec_len c.members < CALLERS)
         × (c.tables ≡ tables_of (deeds (history_of c.filed.items)))
-        × (held_in c.file ≡ holdings (deeds (history_of c.filed.items))) };
+        × (held_in c.file ≡ holdings (deeds (history_of c.filed.items)))
+        × (c.used ≡ min (used_bytes (history_of c.filed.items)) (2 ^ 64 - 1)) };
 }
 
 impl Core {
@@ -86,25 +92,28 @@ impl Core {
             members: Vec::new(alloc),
             tables: Tables::new(alloc)?,
             file: TrackletFile::new(alloc)?,
+            used: 1,
         })
     }
 
     /// Works out what becomes of an act at this moment, and takes the memory for it. The history stays.
     ///
     /// The request has the verb of an act. The reading is the clock's, and may be before the last
-    /// entry's moment. Answers `Kept` only where the caller has used the number, with the reply that is kept
+    /// entry's moment. The limit is how many bytes the journal may have, if it has one; then the bytes that the entries
+    /// take are fewer than 2 ^ 64. Answers `Kept` only where the caller has used the number, with the reply that is kept
     /// for it; `Refused` with the first refusal that the request meets in the office's table, or with `NoMemory`
     /// where memory was refused for reading, for a reply or for an entry; else `Ready` with the entry and its
     /// answer. A request for whose body there was no room is refused with `NoMemory`, whatever else it says.
-    pub fn prepare(&mut self, request: &Request, reading: Instant) -> Prep
+    pub fn prepare(&mut self, request: &Request, reading: Instant, limit: Option<u64>) -> Prep
         requires act { is_act request.now.verb ≡ true }
-        ensures answer { Prepares self.old.history
-            (outcome self.old.founder self.old.history request.now reading) self.new.spare result }
+        requires space { IfSome limit (λ _. used self.old.history < 2 ^ 64) }
+        ensures answer { Prepares limit self.old.history
+            (outcome self.old.founder limit self.old.history request.now reading) self.new.spare result }
         ensures no_room { request.now.body ≡ Body.NoRoom → result ≡ Prep.Refused Refusal.NoMemory }
         ensures history { self.new.history ≡ self.old.history }
         ensures founder { self.new.founder ≡ self.old.founder }
     {
-        match self.try_prepare(request, reading) {
+        match self.try_prepare(request, reading, limit) {
             Ok(prep) => prep,
             Err(refusal) => Prep::Refused(refusal),
         }
@@ -115,8 +124,8 @@ impl Core {
     /// no room for the body. The history stays.
     pub fn answer(&self, request: &Request) -> Reply
         requires query { is_act request.now.verb ≡ false }
-        ensures answer { (reading : ℤ) →
-            Answers self.now.founder self.now.history request.now reading result self.now.history }
+        ensures answer { (limit : Option ℕ) (reading : ℤ) →
+            Answers self.now.founder limit self.now.history request.now reading result self.now.history }
         ensures no_room { request.now.body ≡ Body.NoRoom → result ≡ Reply.Refused Refusal.NoMemory }
     {
         act_model::laws::no_room_no_step();
@@ -147,6 +156,8 @@ impl Core {
     {
         let receipt = self.next_receipt();
         let (filed, answer, deed, tables) = prepared.into_parts();
+        let size = entry_size(filed.entry.body.as_slice());
+        self.used = self.used.saturating_add(size);
         self.filed.push_reserved(filed);
         replace(&mut self.tables, tables);
         hold(&mut self.file, receipt, &deed);
@@ -196,6 +207,13 @@ impl Core {
         ensures { held_in result.now ≡ holdings (deeds self.now.history) }
     {
         &self.file
+    }
+
+    /// How many bytes of a journal the entries take, where that is a number of the type.
+    pub(crate) fn used(&self) -> u64
+        ensures { used self.now.history < 2 ^ 64 → result ≡ used self.now.history }
+    {
+        self.used
     }
 
     /// The receipt of the entry that comes next.

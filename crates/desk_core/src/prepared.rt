@@ -1,7 +1,10 @@
-ghost use Rattle.std.specs.Prelude.{◌≡◌};
+ghost use Rattle.std.specs.Prelude.{◌≡◌, ◌≤◌, true, length};
+ghost use Rattle.act_model.specs.declared.request.TheConstants.{BODY_BYTES};
+ghost use Rattle.act_model.specs.Requests.{is_act};
+ghost use Rattle.desk_core.specs.Office.{IsOfAct};
 
 use crate::filed::Filed;
-use act_model::{Deed, Refusal, Reply};
+use act_model::{Deed, Entry, Refusal, Reply};
 use item_list::Bytes;
 use station_tables::Tables;
 use std::marker::Model;
@@ -19,19 +22,20 @@ pub struct Prepared {
 
 impl Model for Prepared {
     ghost use Rattle.std.specs.Prelude.{◌≡◌};
-    ghost use Rattle.desk_core.specs.Office.{Ready};
+    ghost use Rattle.desk_core.specs.Office.{Ready, IsOfAct};
 
     ghost Value = { Ready };
 
     ghost view = { λ p. record { entry = p.filed.entry; answer = p.answer; deed = p.deed; tables = p.tables } };
 
-    ghost invariant = { λ p. p.filed.answer ≡ p.answer };
+    ghost invariant = { λ p. (p.filed.answer ≡ p.answer) × IsOfAct p.filed.entry };
 }
 
 impl Prepared {
     /// An act that is filed so, with a second copy of its answer.
     pub(crate) fn new(filed: Filed, answer: Bytes, deed: Deed, tables: Option<Tables>) -> Prepared
-        requires { filed.answer ≡ answer }
+        requires kept { filed.answer ≡ answer }
+        requires act { IsOfAct filed.entry }
         ensures entry { result.entry ≡ filed.entry }
         ensures answer { result.answer ≡ answer }
         ensures deed { result.deed ≡ deed }
@@ -43,6 +47,15 @@ impl Prepared {
             deed,
             tables,
         }
+    }
+
+    /// The entry that the act becomes.
+    pub fn entry(&self) -> &Entry
+        ensures entry { result.now ≡ self.now.entry }
+        ensures act { is_act result.now.verb ≡ true }
+        ensures short { length result.now.body ≤ BODY_BYTES }
+    {
+        &self.filed.entry
     }
 
     /// The entry with its answer, the answer, the deed, and the tables with it.

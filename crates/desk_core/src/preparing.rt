@@ -1,6 +1,6 @@
 //! What becomes of an act, worked out question by question, with the memory for it.
 
-ghost use Rattle.std.specs.Prelude.{◌≡◌, ◌≤◌, length, unwrap_or, true, Ok, IfOk};
+ghost use Rattle.std.specs.Prelude.{◌≡◌, ◌≤◌, ◌<◌, ◌^◌, length, unwrap_or, true, Ok, IfOk, IfSome};
 ghost use Rattle.act_model.specs.declared.request.TheConstants.{BODY_BYTES};
 ghost use Rattle.act_model.specs.Rows.{IsDue};
 ghost use Rattle.act_model.specs.Requests.{is_act};
@@ -10,10 +10,10 @@ ghost use Rattle.act_model.specs.OfficeTables.{tables_of, with_row};
 ghost use Rattle.act_model.specs.Deeds.{deed_of, deeds};
 ghost use Rattle.act_model.specs.History.{next_receipt, next_moment};
 ghost use Rattle.act_model.specs.Hearing.{asked_of, hear};
-ghost use Rattle.act_model.specs.Refusals.{work_out};
+ghost use Rattle.act_model.specs.Refusals.{used, work_within};
 ghost use Rattle.act_model.specs.Replies.{deed_answer};
 ghost use Rattle.act_model.specs.Step.{outcome, act_step, unless_refused, new_entry};
-ghost use Rattle.desk_core.specs.Office.{IsReadyAt, IsRoomFor, Fits};
+ghost use Rattle.desk_core.specs.Office.{IsOfAct, IsReadyAt, IsRoomFor, Fits};
 ghost use Rattle.desk_core.specs.Preparing.{IsPrepared};
 
 use crate::filed::{Filed, find, kept_reply, next_moment};
@@ -32,10 +32,12 @@ impl Core {
         &mut self,
         request: &Request,
         reading: Instant,
+        limit: Option<u64>,
     ) -> Result<Prep, Refusal>
         requires act { is_act request.now.verb ≡ true }
-        ensures answer { IsPrepared self.old.history
-            (outcome self.old.founder self.old.history request.now reading) self.new.spare result }
+        requires space { IfSome limit (λ _. used self.old.history < 2 ^ 64) }
+        ensures answer { IsPrepared limit self.old.history
+            (outcome self.old.founder limit self.old.history request.now reading) self.new.spare result }
         ensures history { self.new.history ≡ self.old.history }
         ensures founder { self.new.founder ≡ self.old.founder }
     {
@@ -48,7 +50,7 @@ impl Core {
             Ok(heard) => heard,
             Err(refusal) => return Err(refusal),
         };
-        self.prepare_heard(alloc, heard, bytes, reading)
+        self.prepare_heard(alloc, heard, bytes, reading, limit)
     }
 
     /// What is heard of a request with these bytes.
@@ -74,11 +76,15 @@ impl Core {
         heard: Heard,
         bytes: &[u8],
         reading: Instant,
+        limit: Option<u64>,
     ) -> Result<Prep, Refusal>
+        requires act { is_act heard.verb ≡ true }
+        requires short { length bytes.now ≤ BODY_BYTES }
+        requires space { IfSome limit (λ _. used self.old.history < 2 ^ 64) }
         requires asked { asked_of heard.verb bytes.now ≡ Ok heard.asked }
         requires forward { IsForwardAsked heard.asked }
-        ensures answer { IsPrepared self.old.history
-            (act_step self.old.history heard bytes.now (next_moment self.old.history reading)) self.new.spare result }
+        ensures answer { IsPrepared limit self.old.history
+            (act_step limit self.old.history heard bytes.now (next_moment self.old.history reading)) self.new.spare result }
         ensures history { self.new.history ≡ self.old.history }
         ensures founder { self.new.founder ≡ self.old.founder }
     {
@@ -90,7 +96,7 @@ impl Core {
             return Ok(Prep::Kept(reply));
         }
         let moment = next_moment(filed, reading);
-        self.prepare_new(alloc, heard, bytes, moment)
+        self.prepare_new(alloc, heard, bytes, moment, limit)
     }
 
     /// What becomes of an act whose number was not used, at this moment.
@@ -100,11 +106,15 @@ impl Core {
         heard: Heard,
         bytes: &[u8],
         moment: Instant,
+        limit: Option<u64>,
     ) -> Result<Prep, Refusal>
+        requires act { is_act heard.verb ≡ true }
+        requires short { length bytes.now ≤ BODY_BYTES }
+        requires space { IfSome limit (λ _. used self.old.history < 2 ^ 64) }
         requires asked { asked_of heard.verb bytes.now ≡ Ok heard.asked }
         requires forward { IsForwardAsked heard.asked }
-        ensures answer { IsPrepared self.old.history
-            (unless_refused (work_out self.old.history moment heard) (new_entry heard bytes.now moment))
+        ensures answer { IsPrepared limit self.old.history
+            (unless_refused (work_within limit self.old.history bytes.now moment heard) (new_entry heard bytes.now moment))
             self.new.spare result }
         ensures history { self.new.history ≡ self.old.history }
         ensures founder { self.new.founder ≡ self.old.founder }
@@ -117,6 +127,9 @@ impl Core {
             Ok(deed) => deed,
             Err(refusal) => return Err(refusal),
         };
+        if let Some(refusal) = self.full_refusal(limit, bytes) {
+            return Err(refusal);
+        }
         let Ok(body) = Bytes::from_slice(alloc, bytes) else {
             return Err(Refusal::NoMemory);
         };
@@ -135,6 +148,7 @@ impl Core {
 
     /// An entry that does this deed, with its answer, the tables with it, and room for it.
     fn ready(&mut self, alloc: Global, entry: Entry, deed: Deed) -> Result<Prepared, NoMemory>
+        requires act { IsOfAct entry }
         requires deed { deed_of (deeds self.old.history) entry ≡ deed }
         requires fits { Fits (deeds self.old.history) deed }
         ensures entry { IfOk result (λ ready. ready.entry ≡ entry) }

@@ -1,15 +1,16 @@
-use Rattle.std.proofs.Common.{◌≡◌, ◌+◌, ◌-◌, ◌≤◌, List, length, sym, ap, subst, ◌∙◌}
+use Rattle.std.proofs.Common.{◌≡◌, ℕ, ◌+◌, ◌-◌, ◌≤◌, List, length, sym, ap, subst, ◌∙◌}
 use Rattle.std.specs.Prelude.{Option, reverse, unwrap_or, vec_len, vec_capacity}
 use Rattle.act_model.specs.Places.{added_by}
 use Rattle.station_tables.specs.Rows.{TableRows}
 use Rattle.act_model.specs.declared.deed.Deed.{Deed}
 use Rattle.act_model.specs.declared.entry.Entry.{Entry}
 use Rattle.act_model.specs.History.{next_receipt}
+use Rattle.act_model.specs.Refusals.{entry_size}
 use Rattle.act_model.specs.Holdings.{with_deed}
 use Rattle.act_model.specs.Roster.{with_enrolled}
 use Rattle.desk_core.specs.Filed.{history_of}
 use Rattle.desk_core.specs.Office.{Office, Room, IsReadyAt, held_in, UsesRoom}
-use Rattle.desk_core.proofs.Committing.{answered, members_are, members_within, tables_are, held_are, used}
+use Rattle.desk_core.proofs.Committing.{answered, members_are, members_within, tables_are, held_are, bytes_are, used}
 use Rattle.desk_core.proofs.office.Core.commit.Goals as goal
 
 pub invariant_of-self : goal.invariant_of-self
@@ -31,6 +32,7 @@ invariant_of-self c =
           (c.hold.ensures.held ∙ ap (λ (d : Deed). with_deed c.next_receipt-receipt.result d (held_in c.self.inside.file)) c.into_parts-filed.ensures.deed)
           (c.next_receipt-receipt.ensures ∙ ap next_receipt back)
           c.self.invariant.4,
+      bytes_are items f ready at e a c.self.inside.used c.saturating_add-self-inside.result c.entry_size-size.result c.saturating_add-self-inside.ensures c.self.invariant.5 (c.entry_size-size.ensures ∙ ap (λ (b : List ℕ). entry_size b) c.as_slice.ensures),
     )
 
 pub returns-clause-used : goal.returns-clause-used

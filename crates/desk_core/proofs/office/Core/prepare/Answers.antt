@@ -5,11 +5,11 @@ use Rattle.desk_core.proofs.office.Core.prepare.Goals as goal
 
 pub returns-in-Ok-clause-no_room : goal.returns-in-Ok-clause-no_room
 returns-in-Ok-clause-no_room c =
-    λ none. no_room_prep c.args.self.now.history _ _ c.in-Ok.prep (outcome_no_room c.args.self.now.founder c.args.self.now.history c.args.request.now c.args.reading none) c.in-Ok.ensures.answer
+    λ none. no_room_prep c.args.limit c.args.self.now.history _ _ c.in-Ok.prep (outcome_no_room c.args.self.now.founder c.args.limit c.args.self.now.history c.args.request.now c.args.reading none) c.in-Ok.ensures.answer
 
 none_left : Room
 none_left = record { entries = 0; callers = 0; observations = 0; tracklets = 0 }
 
 pub returns-in-Err-clause-no_room : goal.returns-in-Err-clause-no_room
 returns-in-Err-clause-no_room c =
-    λ none. no_room_prep c.args.self.now.history _ none_left (prep.Refused c.in-Err.refusal) (outcome_no_room c.args.self.now.founder c.args.self.now.history c.args.request.now c.args.reading none) c.in-Err.ensures.answer
+    λ none. no_room_prep c.args.limit c.args.self.now.history _ none_left (prep.Refused c.in-Err.refusal) (outcome_no_room c.args.self.now.founder c.args.limit c.args.self.now.history c.args.request.now c.args.reading none) c.in-Err.ensures.answer

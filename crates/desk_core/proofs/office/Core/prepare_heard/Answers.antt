@@ -9,5 +9,5 @@ pub returns-in-Some-clause-answer : goal.returns-in-Some-clause-answer
 returns-in-Some-clause-answer c =
     let past = c.args.self.now.history in
     let found = c.in-Some.ensures.found in
-    kept_step past c.args.heard c.args.bytes.now (next_moment past c.args.reading) found.0 (kept_by past _ _ _ (Some found.0) (sym c.filed-filed.ensures.history) found.1)
+    kept_step c.args.limit past c.args.heard c.args.bytes.now (next_moment past c.args.reading) found.0 (kept_by past _ _ _ (Some found.0) (sym c.filed-filed.ensures.history) found.1)
     ∙ ap (λ (r : Reply). Keeps r) (sym (c.in-Ok.ensures found.0 found.2))
