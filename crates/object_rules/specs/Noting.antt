@@ -1,5 +1,5 @@
 -- What a deed asks of the files that it changes.
-use Rattle.std.specs.Prelude.{◌≡◌, ◌≢◌, ◌<◌, ℕ, List, ◌++◌, length, reverse, Option, Some, None}
+use Rattle.std.specs.Prelude.{◌≡◌, ◌≢◌, ◌<◌, ℕ, Bool, true, false, List, ◌++◌, length, reverse, Option, Some, None}
 use Rattle.std.specs.Option.{option_and_then}
 use Rattle.packed_names.specs.declared.name.Designation.{Designation}
 use Rattle.packed_names.specs.declared.name.Designation.TheVariants.{Provisional}
@@ -72,3 +72,14 @@ with_deed_homes tracklets (Designated ts given discovery) = with_homes tracklets
 with_deed_homes tracklets (Attributed t to) = with_home tracklets t (Some to)
 with_deed_homes tracklets (Released t) = with_home tracklets t None
 with_deed_homes tracklets _ = tracklets
+
+-- the deed is one on tracklets, objects or numbers
+abbrev pub is_of_objects : Deed → Bool
+is_of_objects (Designated ts given discovery) = true
+is_of_objects (Attributed t to) = true
+is_of_objects (Released t) = true
+is_of_objects (Identified p s) = true
+is_of_objects (Separated s) = true
+is_of_objects (Judged p u oppositions) = true
+is_of_objects (Numbered pairs) = true
+is_of_objects _ = false

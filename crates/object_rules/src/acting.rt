@@ -1,11 +1,12 @@
 //! What the acts on tracklets and objects do, or the first refusals that they meet.
 
-ghost use Rattle.std.specs.Prelude.{◌≡◌, ◌≤ℤ◌, ◌-ℤ◌, pos, int_lt, if◌then◌else◌, map, Some, None, Ok};
+ghost use Rattle.std.specs.Prelude.{◌≡◌, ◌≤ℤ◌, ◌-ℤ◌, pos, int_lt, if◌then◌else◌, map, true, Some, None, Ok, IfOk};
 ghost use Rattle.act_model.specs.Rows.{first_row, unless, IsDue};
 ghost use Rattle.act_model.specs.Holdings.{holdings};
 ghost use Rattle.act_model.specs.Designations.{takes_of, links_of};
 ghost use Rattle.act_model.specs.Numbers.{numbers_of};
 ghost use Rattle.act_model.specs.Doing.{tracklet_row, identify_rows, designates, designates_seen, attributes, releases, identifies, separates, judges, half_a_day};
+ghost use Rattle.object_rules.specs.Noting.{is_of_objects};
 ghost use Rattle.object_rules.specs.Seeing.{AreOfYears};
 
 use crate::asking::{home, is_given, is_numbered, is_principal, is_same, is_there};
@@ -49,6 +50,7 @@ fn night_between(from: Instant, to: Instant) -> Option<i64>
 fn designates_seen<L: Ledger>(office: &L, tracklets: Ids, seen: &[Seen]) -> Result<Deed, Refusal>
     requires years { AreOfYears seen.now }
     ensures due { IsDue (designates_seen (takes_of (L.deeds office.now)) tracklets seen.now) result }
+    ensures kind { IfOk result (λ deed. is_of_objects deed ≡ true) }
 {
     let Some((first, more)) = seen.split_first() else {
         return Err(Refusal::Unread(Part::Body));
@@ -83,6 +85,7 @@ fn designates_seen<L: Ledger>(office: &L, tracklets: Ids, seen: &[Seen]) -> Resu
 pub fn designates<L: Ledger>(office: &L, alloc: Global, tracklets: Ids) -> Result<Deed, Refusal>
     ensures due { IsDue
         (designates (holdings (L.deeds office.now)) (takes_of (L.deeds office.now)) tracklets) result }
+    ensures kind { IfOk result (λ deed. is_of_objects deed ≡ true) }
 {
     if let Some(refusal) = unknown_tracklet(office, tracklets.as_slice()) {
         return Err(refusal);
@@ -107,6 +110,7 @@ pub fn attributes<L: Ledger>(
 ) -> Result<Deed, Refusal>
     ensures due { IsDue
         (attributes (holdings (L.deeds office.now)) (links_of (L.deeds office.now)) t to) result }
+    ensures kind { IfOk result (λ deed. is_of_objects deed ≡ true) }
 {
     if !is_there(office, t) {
         return Err(Refusal::UnknownThing(Thing::Tracklet(t)));
@@ -128,6 +132,7 @@ pub fn attributes<L: Ledger>(
 /// The first refusal that holds: the tracklet isn't there; it is in no object.
 pub fn releases<L: Ledger>(office: &L, t: u64) -> Result<Deed, Refusal>
     ensures due { IsDue (releases (holdings (L.deeds office.now)) t) result }
+    ensures kind { IfOk result (λ deed. is_of_objects deed ≡ true) }
 {
     if !is_there(office, t) {
         return Err(Refusal::UnknownThing(Thing::Tracklet(t)));
@@ -175,6 +180,7 @@ fn identify_refusal<L: Ledger>(office: &L, p: Designation, s: Designation) -> Op
 /// numbers; the secondary alone has one.
 pub fn identifies<L: Ledger>(office: &L, p: Designation, s: Designation) -> Result<Deed, Refusal>
     ensures due { IsDue (identifies (links_of (L.deeds office.now)) (numbers_of (L.deeds office.now)) p s) result }
+    ensures kind { IfOk result (λ deed. is_of_objects deed ≡ true) }
 {
     match identify_refusal(office, p, s) {
         Some(refusal) => Err(refusal),
@@ -192,6 +198,7 @@ pub fn identifies<L: Ledger>(office: &L, p: Designation, s: Designation) -> Resu
 /// The first refusal that holds: the designation isn't there; it is its own principal.
 pub fn separates<L: Ledger>(office: &L, s: Designation) -> Result<Deed, Refusal>
     ensures due { IsDue (separates (links_of (L.deeds office.now)) s) result }
+    ensures kind { IfOk result (λ deed. is_of_objects deed ≡ true) }
 {
     if !is_given(office, s) {
         return Err(Refusal::UnknownThing(Thing::Designation(s)));
@@ -214,6 +221,7 @@ pub fn judges<L: Ledger>(
     oppositions: u8,
 ) -> Result<Deed, Refusal>
     ensures due { IsDue (judges (links_of (L.deeds office.now)) d u oppositions) result }
+    ensures kind { IfOk result (λ deed. is_of_objects deed ≡ true) }
 {
     if !is_given(office, d) {
         return Err(Refusal::UnknownThing(Thing::Designation(d)));
