@@ -2,3 +2,4 @@ mod RowLemmas
 mod SeenLemmas
 mod NumberLemmas
 mod HomeLemmas
+mod ObjectLemmas

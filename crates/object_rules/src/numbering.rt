@@ -1,21 +1,174 @@
 //! Numbers for the objects that can be numbered.
 
-ghost use Rattle.std.specs.Prelude.{◌≡◌, ◌≤◌, IfOk};
+ghost use Rattle.std.specs.Prelude.{◌≡◌, ◌≤◌, ◌+◌, ◌++◌, ◌∷◌, [], IfOk, OnOk, length};
 ghost use Rattle.packed_names.specs.Ranges.{IsNumber};
-ghost use Rattle.act_model.specs.Rows.{IsDue};
-ghost use Rattle.act_model.specs.Numbers.{numbers_of};
-ghost use Rattle.act_model.specs.Doing.{numbers, eligible_after};
+ghost use Rattle.numbering_core.specs.Numbers.{next_number};
+ghost use Rattle.act_model.specs.Rows.{first_row, IsDue};
+ghost use Rattle.act_model.specs.Holdings.{holdings};
+ghost use Rattle.act_model.specs.Designations.{links_of};
+ghost use Rattle.act_model.specs.Verdicts.{verdicts_of};
+ghost use Rattle.act_model.specs.Numbers.{numbers_of, is_observed, is_eligible, numbered_from, last_number};
+ghost use Rattle.act_model.specs.Doing.{numbers, eligible_after, next_rows};
+ghost use Rattle.object_rules.specs.Numbering.{is_in_object_at, eligible_in, numbers_all};
 
+use crate::asking::{is_numbered, is_principal_of, object_of_track};
 use crate::ledger::Ledger;
 use act_model::{Deed, Refusal};
+use identify_core::Link;
+use item_list::{ItemList, NoMemory};
+use numbering_core::Numbering;
+use packed_names::{Designation, Number};
 use std::alloc::Global;
 
-/// Numbers.
+/// The greatest number that a minor planet can have.
+const GREATEST_NUMBER: u64 = 15_396_335;
+
+/// Whether the observation with this number is live, and of the object with this principal.
+fn is_in_object_at<L: Ledger>(office: &L, p: Designation, k: u64) -> bool
+    ensures { result ≡ is_in_object_at (holdings (L.deeds office.now)) (links_of (L.deeds office.now)) p k }
+{
+    match office.file().track_of(k) {
+        Some(t) => office.file().is_live(k) && is_principal_of(p, object_of_track(office, t)),
+        None => false,
+    }
+}
+
+/// Whether the object with this principal has a live observation.
+fn is_observed<L: Ledger>(office: &L, p: Designation) -> bool
+    ensures { result ≡ is_observed (holdings (L.deeds office.now)) (links_of (L.deeds office.now)) p }
+{
+    for older in (0..office.file().observations()).rev() {
+        if is_in_object_at(office, p, older + 1) {
+            return true;
+        }
+    }
+    false
+}
+
+/// Whether the object has no number, a live observation, and a good verdict that is in force.
+fn is_eligible<L: Ledger>(office: &L, p: Designation) -> bool
+    ensures { result ≡ is_eligible (holdings (L.deeds office.now)) (links_of (L.deeds office.now))
+        (verdicts_of (L.deeds office.now)) (numbers_of (L.deeds office.now)) p }
+{
+    office.register().good(p) && !is_numbered(office, p) && is_observed(office, p)
+}
+
+/// Adds the link's member, where it is a principal whose object can be numbered.
+fn push_eligible<L: Ledger>(
+    office: &L,
+    found: &mut ItemList<Designation>,
+    link: Link,
+) -> Result<(), NoMemory>
+    ensures { OnOk result (found.new ≡ found.old ++ eligible_in (L.deeds office.now) (link ∷ [])) }
+{
+    if link.is_own() && is_eligible(office, link.member) {
+        found.push(link.member)?;
+    }
+    Ok(())
+}
+
+/// The principals of the objects that can be numbered, in the order of designations.
+fn eligible<L: Ledger>(office: &L, alloc: Global) -> Result<ItemList<Designation>, NoMemory>
+    ensures { IfOk result (λ found. found ≡ eligible_after (L.deeds office.now)) }
+{
+    let links = office.links().as_slice();
+    let mut found = ItemList::new(alloc);
+    for link in links {
+        push_eligible(office, &mut found, *link)?;
+    }
+    Ok(found)
+}
+
+/// The refusal of a first number that isn't the next one. Where no number was given, any may be the first.
+fn not_next<L: Ledger>(office: &L, first: u32) -> Option<Refusal>
+    ensures { result ≡ first_row (next_rows (next_number (numbers_of (L.deeds office.now))) first) }
+{
+    match office.register().next() {
+        Some(next) => if next == first {
+            None
+        } else {
+            Some(Refusal::NotNext(next))
+        },
+        None => None,
+    }
+}
+
+/// The last of the numbers that so many designations get, from the first on.
+fn last_number(first: u32, designations: &[Designation]) -> u64
+    requires { IsNumber first }
+    ensures { result ≡ last_number first designations.now }
+{
+    u64::from(first) + designations.len() as u64 - 1
+}
+
+/// Designations with numbers from the first upwards.
+fn numbered_from(alloc: Global, first: u32, designations: &[Designation]) -> Result<ItemList<Numbering>, NoMemory>
+    requires { first + length designations.now ≤ 15396336 }
+    ensures { IfOk result (λ pairs. pairs ≡ numbered_from first designations.now) }
+{
+    let mut pairs = ItemList::new(alloc);
+    let mut next = first;
+    for d in designations {
+        pairs.push(Numbering {
+            designation: *d,
+            number: Number(next),
+        })?;
+        next += 1;
+    }
+    Ok(pairs)
+}
+
+/// Numbers for all of these objects, from the first on.
+fn numbers_all(alloc: Global, first: u32, chosen: &[Designation]) -> Result<Deed, Refusal>
+    requires { IsNumber first }
+    ensures due { IsDue (numbers_all first chosen.now) result }
+{
+    if last_number(first, chosen) > GREATEST_NUMBER {
+        return Err(Refusal::NumbersFull);
+    }
+    match numbered_from(alloc, first, chosen) {
+        Ok(pairs) => Ok(Deed::Numbered(pairs)),
+        Err(_) => Err(Refusal::NoMemory),
+    }
+}
+
+/// Numbers for at most so many of these objects, where none was given before.
+fn first_numbers(
+    alloc: Global,
+    first: u32,
+    most: u32,
+    objects: ItemList<Designation>,
+) -> Result<Deed, Refusal>
+    requires { IsNumber first }
+    ensures due { IsDue (numbers [] first most objects) result }
+{
+    let mut chosen = objects;
+    if chosen.is_empty() {
+        return Err(Refusal::NoneEligible);
+    }
+    chosen.truncate(u64::from(most));
+    numbers_all(alloc, first, chosen.as_slice())
+}
+
+/// Objects that can be numbered get numbers, from the first number upwards, in the order of their principal
+/// designations; at most so many of them. An object can be numbered where it has no number, a live observation, and a good
+/// verdict in force.
+///
+/// # Errors
+///
+/// The first refusal that holds: numbers were given, and the first isn't the next one; no object can be numbered; a
+/// number over 15,396,335 were needed. `NoMemory` where memory was refused.
 pub fn numbers<L: Ledger>(office: &L, alloc: Global, first: u32, most: u32) -> Result<Deed, Refusal>
     requires first { IsNumber first }
     requires most { 1 ≤ most }
     ensures due { IsDue
         (numbers (numbers_of (L.deeds office.now)) first most (eligible_after (L.deeds office.now))) result }
 {
-    Err(Refusal::NoMemory)
+    if let Some(refusal) = not_next(office, first) {
+        return Err(refusal);
+    }
+    match eligible(office, alloc) {
+        Ok(objects) => first_numbers(alloc, first, most, objects),
+        Err(_) => Err(Refusal::NoMemory),
+    }
 }

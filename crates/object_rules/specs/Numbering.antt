@@ -1,0 +1,36 @@
+-- Which objects are numbered, part by part.
+use Rattle.std.specs.Prelude.{ℕ, Bool, false, nat_lt, List, [], ◌∷◌, filter, Result, Ok}
+use Rattle.std.specs.Option.{option_map_or}
+use Rattle.packed_names.specs.declared.name.Designation.{Designation}
+use Rattle.identify_core.specs.declared.link.Link.{Link}
+use Rattle.identify_core.specs.Acts.{LinkAct}
+use Rattle.identify_core.specs.Principals.{own_members}
+use Rattle.tracklet_file.specs.Numbering.{numbered}
+use Rattle.act_model.specs.declared.deed.Deed.{Deed}
+use Rattle.act_model.specs.declared.deed.Deed.TheVariants.{Numbered}
+use Rattle.act_model.specs.declared.reply.Refusal.{Refusal}
+use Rattle.act_model.specs.declared.reply.Refusal.TheVariants.{NumbersFull}
+use Rattle.act_model.specs.Rows.{first_row, unless}
+use Rattle.act_model.specs.Holdings.{Holdings, holdings}
+use Rattle.act_model.specs.Designations.{links_of}
+use Rattle.act_model.specs.Verdicts.{verdicts_of}
+use Rattle.act_model.specs.Numbers.{numbers_of, is_in_object, is_eligible, numbered_from, last_number}
+use Rattle.act_model.specs.Doing.{greatest_number}
+
+-- the observation with this number is live, and of the object with this principal
+abbrev pub is_in_object_at : Holdings → List LinkAct → Designation → ℕ → Bool
+is_in_object_at held acts p k = option_map_or (is_in_object held acts p) (numbered held.observations k) false
+
+-- the object with this principal can be numbered after these deeds
+abbrev pub is_eligible_after : List Deed → Designation → Bool
+is_eligible_after past = is_eligible (holdings past) (links_of past) (verdicts_of past) (numbers_of past)
+
+-- the principals among the members of links, of those objects that can be numbered
+abbrev pub eligible_in : List Deed → List Link → List Designation
+eligible_in past links = filter (is_eligible_after past) (own_members links)
+
+-- numbers from the first on for all of these objects
+abbrev pub numbers_all : ℕ → List Designation → Result Deed Refusal
+numbers_all first chosen =
+    unless (first_row ((nat_lt greatest_number (last_number first chosen), NumbersFull) ∷ []))
+    (Ok (Numbered (numbered_from first chosen)))
