@@ -1,5 +1,5 @@
 -- How a frame that was read is answered.
-use Rattle.std.proofs.Common.{◌≡◌, ℕ, Bool, true, false, cond, List, length, Option, Some, Result, Ok, Err, refl, sym, ap, subst, ◌∙◌, inl, inr, arith, pos}
+use Rattle.std.proofs.Common.{◌≡◌, ℕ, Bool, true, false, cond, List, length, Option, Some, None, Result, Ok, Err, refl, sym, ap, subst, ◌∙◌, inl, inr, arith, pos}
 use Rattle.std.specs.Prelude.{◌⊎◌, nat_lt, unwrap_or}
 use Rattle.std.specs.Io.KnownBytes.{Appends}
 use Rattle.std.proofs.lemmas.Bool.Decides.{nat_tests}
@@ -45,7 +45,7 @@ module _ (wants : WantLaws) (founder : Key) (past next : List Entry) (before aft
   -- out of memory may stand in the place of a refusal
   turn_wanting : (q : Request) (refusal : Refusal) → TakesTurn founder past q (Refused refusal) next before after → TakesTurn founder past q (Refused NoMemory) next before after
   turn_wanting q refusal t =
-      record { reading = t.reading; reads = t.reads; answers = wants.instead founder past next q (unwrap_or t.reading (pos 0)) refusal t.answers; clock = t.clock }
+      record { reading = t.reading; reads = t.reads; answers = wants.instead founder None past next q (unwrap_or t.reading (pos 0)) refusal t.answers; clock = t.clock }
 
   -- a request that had no room stands for the one that came
   turn_for : (q came : Request) (reply : Reply) → q.body ≡ NoRoom → q.verb ≡ came.verb → TakesTurn founder past q reply next before after → TakesTurn founder past came reply next before after
@@ -53,7 +53,7 @@ module _ (wants : WantLaws) (founder : Key) (past next : List Entry) (before aft
       record {
         reading = t.reading;
         reads = subst (λ (v : Verb). TakesReading v t.reading) verb t.reads;
-        answers = inr (wants.no_room founder past next q (unwrap_or t.reading (pos 0)) reply none t.answers);
+        answers = inr (wants.no_room founder None past next q (unwrap_or t.reading (pos 0)) reply none t.answers);
         clock = t.clock;
       }
 

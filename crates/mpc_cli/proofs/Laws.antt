@@ -1,5 +1,6 @@
 -- The laws of frames and of conducts on which the proofs of a run rest, as the crates below ensure them.
-use Rattle.std.proofs.Common.{◌≡◌, ℕ, ℤ, List, [], ◌∷◌, ◌++◌}
+use Rattle.std.proofs.Common.{◌≡◌, ℕ, ℤ, pos, List, [], ◌∷◌, ◌++◌, Option}
+use Rattle.std.specs.Prelude.{unwrap_or}
 use Rattle.desk_frames.specs.Frames.{Frame, framed, streamed, NoFrame}
 use Rattle.act_bodies.specs.declared.key.Key.{Key}
 use Rattle.act_model.specs.declared.entry.Entry.{Entry}
@@ -11,8 +12,9 @@ use Rattle.act_model.specs.declared.reply.Reply.{Reply}
 use Rattle.act_model.specs.declared.reply.Reply.TheVariants.{Refused}
 use Rattle.act_model.specs.History.{EachNumberOnce}
 use Rattle.act_model.specs.Places.{OnePlace}
-use Rattle.act_model.specs.Conducts.{HadMemory, IsStepped}
-use Rattle.act_model.specs.Turns.{Turn, Answers, IsTurn, Conduct}
+use Rattle.act_model.specs.declared.keeper.OfficeState.{OfficeState}
+use Rattle.act_model.specs.Conducts.{HadMemory, HadNoFault, IsStepped, EitherWay}
+use Rattle.act_model.specs.Turns.{Turn, TakesReading, Answers, IsTurn, Conduct, at_rest}
 
 pub record RunLaws : Type 0 where
   -- bytes that come later stand behind a frame, and behind frames
@@ -21,17 +23,19 @@ pub record RunLaws : Type 0 where
   pub stream_joins : (fs gs : List Frame) (rest : List ℕ) → streamed (fs ++ gs) rest ≡ streamed fs (streamed gs rest)
   -- no frame stands where nothing does
   pub nothing : NoFrame []
+  -- what answers a request without a disk is a turn
+  pub turn : (founder : Key) (limit : Option ℕ) (past after : List Entry) (turn : Turn) → TakesReading turn.request.verb turn.reading → Answers founder limit past turn.request (unwrap_or turn.reading (pos 0)) turn.reply after → IsTurn founder limit (at_rest past) turn (at_rest after)
   -- a conduct goes on with one turn more, and keeps each number once
-  pub goes_on : (founder : Key) (past between after : List Entry) (turns : List Turn) (turn : Turn) → Conduct founder past turns between → IsTurn founder between turn after → Conduct founder past (turns ++ turn ∷ []) after
-  pub once : (founder : Key) (past after : List Entry) (turns : List Turn) → Conduct founder past turns after → EachNumberOnce past → EachNumberOnce after
+  pub goes_on : (founder : Key) (limit : Option ℕ) (before between after : OfficeState) (turns : List Turn) (turn : Turn) → Conduct founder limit before turns between → IsTurn founder limit between turn after → Conduct founder limit before (turns ++ turn ∷ []) after
+  pub once : (founder : Key) (limit : Option ℕ) (before after : OfficeState) (turns : List Turn) → Conduct founder limit before turns after → EitherWay EachNumberOnce before → EitherWay EachNumberOnce after
   -- each accepted observation stands in one place
   pub places : (history : List Entry) → OnePlace history
-  -- where memory was never refused, a conduct is the step
-  pub steps : (founder : Key) (past after : List Entry) (turns : List Turn) → Conduct founder past turns after → HadMemory turns → IsStepped founder past turns after
+  -- where no fault was counted and memory was never refused, a conduct is the step
+  pub steps : (founder : Key) (limit : Option ℕ) (past : List Entry) (after : OfficeState) (turns : List Turn) → Conduct founder limit (at_rest past) turns after → HadNoFault turns → HadMemory turns → IsStepped founder limit past turns after.settled
 
 -- what is known of out of memory
 pub record WantLaws : Type 0 where
   -- it may stand in the place of a refusal
-  pub instead : (founder : Key) (past after : List Entry) (request : Request) (reading : ℤ) (refusal : Refusal) → Answers founder past request reading (Refused refusal) after → Answers founder past request reading (Refused NoMemory) after
+  pub instead : (founder : Key) (limit : Option ℕ) (past after : List Entry) (request : Request) (reading : ℤ) (refusal : Refusal) → Answers founder limit past request reading (Refused refusal) after → Answers founder limit past request reading (Refused NoMemory) after
   -- it is the answer to a body without room, and changes nothing
-  pub no_room : (founder : Key) (past after : List Entry) (request : Request) (reading : ℤ) (reply : Reply) → request.body ≡ NoRoom → Answers founder past request reading reply after → (reply ≡ Refused NoMemory) × (after ≡ past)
+  pub no_room : (founder : Key) (limit : Option ℕ) (past after : List Entry) (request : Request) (reading : ℤ) (reply : Reply) → request.body ≡ NoRoom → Answers founder limit past request reading reply after → (reply ≡ Refused NoMemory) × (after ≡ past)

@@ -15,7 +15,7 @@ use Rattle.act_model.specs.declared.entry.Entry.{Entry}
 use Rattle.act_model.specs.declared.reply.Reply.{Reply}
 use Rattle.act_model.specs.declared.request.Request.{Request}
 use Rattle.act_model.specs.History.{EachNumberOnce}
-use Rattle.act_model.specs.Turns.{Turn, request_of, written_reply}
+use Rattle.act_model.specs.Turns.{Turn, at_rest, request_of, written_reply}
 use Rattle.mpc_cli.specs.declared.serving.Turned.{Turned}
 use Rattle.mpc_cli.specs.declared.serving.Turned.TheVariants.{Answered, Over, NoMore, ReadFailed, WriteFailed}
 use Rattle.mpc_cli.specs.declared.status.Status.{Status}
@@ -77,8 +77,8 @@ module _ (laws : RunLaws) where
   -- a turn keeps each number once
   turn_once : (founder : Key) (past next : List Entry) (q : Request) (reply : Reply) (before after : ClockState) → TakesTurn founder past q reply next before after → EachNumberOnce past → EachNumberOnce next
   turn_once founder past next q reply before after t once =
-      let turn : Turn = record { request = q; reading = t.reading; reply = reply } in
-      laws.once founder past next (turn ∷ []) (next, record { reads = t.reads; answers = t.answers }, refl) once
+      let turn : Turn = record { request = q; reading = t.reading; reply = reply; rise = 0 } in
+      (laws.once founder None (at_rest past) (at_rest next) (turn ∷ []) (at_rest next, laws.turn founder None past next turn t.reads t.answers, refl) (once, tt)).0
 
 module _ {S : Type 0} (left : S → Option (List ℕ)) (gives : Passes S) (founder : Key) (first : ClockState) where
   -- nothing was done, since memory was refused
@@ -206,8 +206,8 @@ module _ {S : Type 0} (left : S → Option (List ℕ)) (gives : Passes S) (found
           served = s;
           answered = answered;
           ended = ended;
-          left = record { entries = refl; once = laws.once founder [] history s.turns s.conduct tt; places = laws.places history };
-          stepped = laws.steps founder [] history s.turns s.conduct;
+          left = record { entries = refl; once = (laws.once founder None (at_rest []) (at_rest history) s.turns s.conduct (tt, tt)).0; places = laws.places history };
+          stepped = laws.steps founder None [] (at_rest history) s.turns s.conduct s.faultless;
         }
 
     -- what is said of a run at its end
@@ -284,7 +284,7 @@ module _ {S : Type 0} (left : S → Option (List ℕ)) (gives : Passes S) (found
               left = record {
                 entries = refl;
                 places = laws.places next;
-                once = turn_once laws founder past next (request_of t.frame) t.answers.reply now after t.answers.turn (laws.once founder [] past p.served.turns p.served.conduct tt);
+                once = turn_once laws founder past next (request_of t.frame) t.answers.reply now after t.answers.turn (laws.once founder None (at_rest []) (at_rest past) p.served.turns p.served.conduct (tt, tt)).0;
               };
             },
           )

@@ -10,7 +10,7 @@ use Rattle.act_bodies.specs.declared.key.Key.{Key}
 use Rattle.act_model.specs.declared.request.Request.{Request}
 use Rattle.act_model.specs.declared.entry.Entry.{Entry}
 use Rattle.act_model.specs.declared.reply.Reply.{Reply}
-use Rattle.act_model.specs.Turns.{Turn, Answers, request_of, readings_of, written_reply, written}
+use Rattle.act_model.specs.Turns.{Turn, Answers, at_rest, request_of, readings_of, written_reply, written}
 use Rattle.act_model.specs.Requests.{is_act}
 use Rattle.obs_time.specs.Instants.{IsInstantNs}
 use Rattle.mpc_cli.specs.Serving.{ClockState, Gives, TakesTurn, Served}
@@ -20,7 +20,7 @@ use Rattle.mpc_cli.proofs.Laws.{RunLaws}
 module _ (founder : Key) (past : List Entry) where
   -- the turn of an act, with the clock's next reading
   pub act_turn : (q : Request) (reading : ℤ) (reply : Reply) (next : List Entry) (before after : ClockState) → is_act q.verb ≡ true → IsInstantNs reading
-      → IfSome (before.to_come 0) (λ t. reading ≡ t) → ((k : ℕ) → after.to_come k ≡ before.to_come (k + 1)) → after.last ≡ reading → Answers founder past q reading reply next
+      → IfSome (before.to_come 0) (λ t. reading ≡ t) → ((k : ℕ) → after.to_come k ≡ before.to_come (k + 1)) → after.last ≡ reading → Answers founder None past q reading reply next
       → TakesTurn founder past q reply next before after
   act_turn q reading reply next before after act years told later last answers =
       record {
@@ -31,7 +31,7 @@ module _ (founder : Key) (past : List Entry) where
       }
 
   -- the turn of a query
-  pub query_turn : (q : Request) (reply : Reply) (next : List Entry) (clock : ClockState) → is_act q.verb ≡ false → Answers founder past q (pos 0) reply next → TakesTurn founder past q reply next clock clock
+  pub query_turn : (q : Request) (reply : Reply) (next : List Entry) (clock : ClockState) → is_act q.verb ≡ false → Answers founder None past q (pos 0) reply next → TakesTurn founder past q reply next clock clock
   query_turn q reply next clock query answers = record { reading = None; reads = query; answers = answers; clock = gives_none clock }
 
 AllByRecursion-push : {X : Type 0} (P : X → Type 0) (xs : List X) (x : X) → AllByRecursion P xs → P x → AllByRecursion P (xs ++ x ∷ [])
@@ -53,6 +53,7 @@ module _ (founder : Key) (before : ClockState) where
         whole = tt;
         requests = refl;
         conduct = refl;
+        faultless = tt;
         clock = gives_none before;
         texts_are = refl;
       }
@@ -69,6 +70,7 @@ module _ (founder : Key) (before : ClockState) where
         whole = s.whole;
         requests = s.requests;
         conduct = s.conduct;
+        faultless = s.faultless;
         clock = s.clock;
         texts_are = s.texts_are;
       },
@@ -80,7 +82,7 @@ module _ (founder : Key) (before : ClockState) where
         → (s : Served founder before between bytes (framed frame rest) texts past) → IsFrame frame → TakesTurn founder past (request_of frame) reply next between after
         → (more : Served founder before after bytes rest (texts ++ written_reply reply) next) × (more.frames ≡ s.frames ++ frame ∷ [])
     served_more between after bytes rest texts past next frame reply s good t =
-        let turn : Turn = record { request = request_of frame; reading = t.reading; reply = reply } in
+        let turn : Turn = record { request = request_of frame; reading = t.reading; reply = reply; rise = 0 } in
         let readings : readings_of (s.turns ++ turn ∷ []) ≡ readings_of s.turns ++ option_to_list t.reading =
         filter_map-append (λ (x : Turn). x.reading) s.turns (turn ∷ []) ∙ ap (λ (rs : List ℤ). readings_of s.turns ++ rs) (readings_of_one t.reading turn refl) in (
           record {
@@ -89,7 +91,8 @@ module _ (founder : Key) (before : ClockState) where
             stream = s.stream ∙ sym (laws.stream_joins s.frames (frame ∷ []) rest);
             whole = AllByRecursion-push IsFrame s.frames frame s.whole good;
             requests = map-append (λ (x : Turn). x.request) s.turns (turn ∷ []) ∙ ap (λ (qs : List Request). qs ++ request_of frame ∷ []) s.requests ∙ sym (map-append request_of s.frames (frame ∷ []));
-            conduct = laws.goes_on founder [] past next s.turns turn s.conduct (record { reads = t.reads; answers = t.answers });
+            conduct = laws.goes_on founder None (at_rest []) (at_rest past) (at_rest next) s.turns turn s.conduct (laws.turn founder None past next turn t.reads t.answers);
+            faultless = AllByRecursion-push (λ (x : Turn). x.rise ≡ 0) s.turns turn s.faultless refl;
             clock = subst (Gives before after) (sym readings) (gives_more before between after (readings_of s.turns) (option_to_list t.reading) s.clock t.clock);
             texts_are = ap (λ (x : List ℕ). x ++ written_reply reply) s.texts_are ∙ ap (λ (x : List ℕ). written s.turns ++ x) (sym (append-nil (written_reply reply))) ∙ sym (flat_map-append (λ (x : Turn). written_reply x.reply) s.turns (turn ∷ []));
           },

@@ -55,7 +55,7 @@ pub record RunsOver (founder : Key) (before after : ClockState) (bytes rest : Li
   pub answered : run.answered ≡ length served.frames
   pub ended : NoFrame rest
   pub left : IsLeft history count
-  pub stepped : HadMemory served.turns → IsStepped founder [] served.turns history
+  pub stepped : HadMemory served.turns → IsStepped founder None [] served.turns history
 
 -- the bytes are frames and nothing else
 abbrev pub IsWhole : List ℕ → Type 0

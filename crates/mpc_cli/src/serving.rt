@@ -135,6 +135,7 @@ pub fn serve<S: Source, K: Sink, C: Clock>(
     frame_laws::goes_on();
     frame_laws::session_behind();
     frame_laws::no_frame_yet();
+    office_laws::answers_are_turns();
     office_laws::conducts_go_on();
     office_laws::each_once();
     office_laws::one_place();

@@ -1,6 +1,6 @@
 //! One turn of the office: a request, the clock's reading, and the reply.
 
-ghost use Rattle.std.specs.Prelude.{◌≡◌, true};
+ghost use Rattle.std.specs.Prelude.{◌≡◌, true, None};
 ghost use Rattle.act_model.specs.Requests.{is_act};
 ghost use Rattle.act_model.specs.Turns.{Answers};
 ghost use Rattle.mpc_cli.specs.Serving.{clock_of, TakesTurn};
@@ -13,10 +13,10 @@ use obs_time::Instant;
 /// Answers an act.
 fn act(core: &mut Core, request: &Request, reading: Instant) -> Reply
     requires { is_act request.now.verb ≡ true }
-    ensures answers { Answers core.old.founder core.old.history request.now reading result core.new.history }
+    ensures answers { Answers core.old.founder None core.old.history request.now reading result core.new.history }
     ensures founder { core.new.founder ≡ core.old.founder }
 {
-    match core.prepare(request, reading) {
+    match core.prepare(request, reading, None) {
         Prep::Kept(reply) => reply,
         Prep::Refused(refusal) => Reply::Refused(refusal),
         Prep::Ready(prepared) => core.commit(prepared),

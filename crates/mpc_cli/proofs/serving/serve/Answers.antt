@@ -20,10 +20,11 @@ frames-preserved g c =
       stream_goes_on = c.goes_on.ensures.streams;
       stream_joins = c.session_behind.ensures.streams;
       nothing = c.no_frame_yet.ensures.nothing;
+      turn = c.answers_are_turns.ensures;
       goes_on = c.conducts_go_on.ensures;
       once = c.each_once.ensures;
       places = c.one_place.ensures;
-      steps = c.no_faults.ensures;
+      steps = c.no_faults.ensures.stepped;
     } in
     record {
       progress = rw c.saturating_add-offset.ensures (progress_more _ _ c.args.core.now.founder _ laws _ _ _ _ _ _ _ c.frames.offset c.frames.invariant.progress _ _ _ _ _ c.in-Answered.size (step_for c.frames.invariant.founder c.in-Answered.ensures.step));
@@ -41,10 +42,11 @@ returns-in-Over-clause-ends g c =
       stream_goes_on = c.goes_on.ensures.streams;
       stream_joins = c.session_behind.ensures.streams;
       nothing = c.no_frame_yet.ensures.nothing;
+      turn = c.answers_are_turns.ensures;
       goes_on = c.conducts_go_on.ensures;
       once = c.each_once.ensures;
       places = c.one_place.ensures;
-      steps = c.no_faults.ensures;
+      steps = c.no_faults.ensures.stepped;
     } in
     ends_over _ _ c.args.core.now.founder _ laws _ _ _ _ _ _ _ c.frames.offset c.frames.invariant.progress _ _ _ _ _ (step_for c.frames.invariant.founder c.in-Over.ensures.step)
 
@@ -55,10 +57,11 @@ returns-in-NoMore-clause-ends g c =
       stream_goes_on = c.goes_on.ensures.streams;
       stream_joins = c.session_behind.ensures.streams;
       nothing = c.no_frame_yet.ensures.nothing;
+      turn = c.answers_are_turns.ensures;
       goes_on = c.conducts_go_on.ensures;
       once = c.each_once.ensures;
       places = c.one_place.ensures;
-      steps = c.no_faults.ensures;
+      steps = c.no_faults.ensures.stepped;
     } in
     ends_no_more _ _ c.args.core.now.founder _ laws _ _ _ _ _ _ _ c.frames.offset c.frames.invariant.progress _ _ _ _ _ (step_for c.frames.invariant.founder c.in-NoMore.ensures.step)
 
@@ -69,10 +72,11 @@ returns-in-ReadFailed-clause-ends g c =
       stream_goes_on = c.goes_on.ensures.streams;
       stream_joins = c.session_behind.ensures.streams;
       nothing = c.no_frame_yet.ensures.nothing;
+      turn = c.answers_are_turns.ensures;
       goes_on = c.conducts_go_on.ensures;
       once = c.each_once.ensures;
       places = c.one_place.ensures;
-      steps = c.no_faults.ensures;
+      steps = c.no_faults.ensures.stepped;
     } in
     ends_reading _ _ c.args.core.now.founder _ laws _ _ _ _ _ _ _ c.frames.offset c.frames.invariant.progress _ _ _ _ _ (step_for c.frames.invariant.founder c.in-ReadFailed.ensures.step)
 
@@ -83,9 +87,10 @@ returns-in-WriteFailed-clause-ends g c =
       stream_goes_on = c.goes_on.ensures.streams;
       stream_joins = c.session_behind.ensures.streams;
       nothing = c.no_frame_yet.ensures.nothing;
+      turn = c.answers_are_turns.ensures;
       goes_on = c.conducts_go_on.ensures;
       once = c.each_once.ensures;
       places = c.one_place.ensures;
-      steps = c.no_faults.ensures;
+      steps = c.no_faults.ensures.stepped;
     } in
     ends_writing _ _ c.args.core.now.founder _ laws _ _ _ _ _ _ _ c.frames.offset c.frames.invariant.progress _ _ _ _ _ (step_for c.frames.invariant.founder c.in-WriteFailed.ensures.step)
