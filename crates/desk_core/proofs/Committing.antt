@@ -17,6 +17,7 @@ use Rattle.act_model.specs.Roster.{members, with_enrolled}
 use Rattle.desk_core.specs.declared.filed.Filed.{Filed}
 use Rattle.desk_core.specs.Filed.{history_of, AreAnswered}
 use Rattle.act_model.specs.Places.{added_by}
+use Rattle.desk_core.specs.Objects.{ObjectsValue, StandFor, UsesObjects}
 use Rattle.desk_core.specs.Office.{Ready, IsReadyAt, UsesRoom}
 use Rattle.desk_core.proofs.FiledLemmas.{history_of-push}
 
@@ -62,15 +63,21 @@ module _ (items : List Filed) (f : Filed) (ready : Ready) (at : IsReadyAt (histo
       let more : used_bytes (history_of now) ≡ used_bytes past + entry_size f.entry.body = ap used_bytes (history_of-push items f) in
       omega (arith, more, is, before, sized)
 
+  pub objects_are : (new : ObjectsValue) → StandFor (ready.deed ∷ deeds past) new → StandFor (deeds (history_of now)) new
+  objects_are new stand = subst (λ (ds : List Deed). StandFor ds new) (sym deeds_are) stand
+
 -- what was used of the room
-pub used : (deed : Deed) (cap cap' len len' mcap mcap' mlen mlen' obs obs' tr tr' : ℕ) → cap' ≡ cap → mcap' ≡ mcap → len' ≡ len + 1 → mlen ≤ mlen' → mlen' ≤ mlen + 1 → obs ≤ obs' + added_by deed → tr ≤ tr' + added_by deed
-    → UsesRoom deed (record { entries = cap - len; callers = mcap - mlen; observations = obs; tracklets = tr }) (record { entries = cap' - len'; callers = mcap' - mlen'; observations = obs'; tracklets = tr' })
-used deed cap cap' len len' mcap mcap' mlen mlen' obs obs' tr tr' same same_m one no_fewer one_more observations tracklets =
+pub used : (deed : Deed) (cap cap' len len' mcap mcap' mlen mlen' obs obs' tr tr' : ℕ) (o o' : ObjectsValue) → UsesObjects deed o o' → cap' ≡ cap → mcap' ≡ mcap → len' ≡ len + 1 → mlen ≤ mlen' → mlen' ≤ mlen + 1 → obs ≤ obs' + added_by deed → tr ≤ tr' + added_by deed
+    → UsesRoom deed (record { entries = cap - len; callers = mcap - mlen; observations = obs; tracklets = tr; takes = o.take_room; links = o.link_room; register = o.register_room }) (record { entries = cap' - len'; callers = mcap' - mlen'; observations = obs'; tracklets = tr'; takes = o'.take_room; links = o'.link_room; register = o'.register_room })
+used deed cap cap' len len' mcap mcap' mlen mlen' obs obs' tr tr' o o' objects same same_m one no_fewer one_more observations tracklets =
     record {
       entries = omega arith;
       callers = omega arith;
       observations = observations;
       tracklets = tracklets;
+      takes = objects.takes;
+      links = objects.links;
+      register = objects.register;
       no_more_entries = omega arith;
       no_more_callers = omega arith;
     }

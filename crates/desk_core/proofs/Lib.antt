@@ -11,3 +11,4 @@ pub mod Telling
 pub mod TakenLines
 pub mod Committing
 pub mod ReplayLemmas
+mod ObjectLemmas

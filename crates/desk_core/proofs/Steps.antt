@@ -2,7 +2,7 @@
 use Rattle.std.proofs.Common.{◌≡◌, ℕ, ℤ, Bool, true, false, cond, List, length, ◌<◌, Option, Some, None, Result, Ok, Err, refl, sym, ap, subst, ◌∙◌, inl, inr, arith}
 use Rattle.act_bodies.specs.declared.key.Key.{Key}
 use Rattle.act_model.specs.declared.deed.Deed.{Deed}
-use Rattle.act_model.specs.declared.deed.Deed.TheVariants.{Enrolled, Stationed, Coded, Submitted, Retracted, Nothing}
+use Rattle.act_model.specs.declared.deed.Deed.TheVariants.{Enrolled, Stationed, Coded, Submitted, Designated, Attributed, Released, Identified, Separated, Judged, Numbered, Retracted, Nothing}
 use Rattle.act_model.specs.declared.entry.Entry.{Entry}
 use Rattle.act_model.specs.declared.heard.Heard.{Heard}
 use Rattle.act_model.specs.declared.reply.Refusal.{Refusal}
@@ -129,6 +129,13 @@ callers_with past (Enrolled member) within fits = omega arith
 callers_with past (Stationed code from to) within fits = within
 callers_with past (Coded kind letter word) within fits = within
 callers_with past (Submitted lines) within fits = within
+callers_with past (Designated tracklets given discovery) within fits = within
+callers_with past (Attributed t to) within fits = within
+callers_with past (Released t) within fits = within
+callers_with past (Identified p s) within fits = within
+callers_with past (Separated s) within fits = within
+callers_with past (Judged p u oppositions) within fits = within
+callers_with past (Numbered pairs) within fits = within
 callers_with past (Retracted k) within fits = within
 callers_with past Nothing within fits = within
 

@@ -7,7 +7,7 @@ use Rattle.tracklet_file.specs.Contents.{Contents}
 use Rattle.tracklet_file.specs.Observations.{is_live}
 use Rattle.act_bodies.specs.declared.key.Key.{Key}
 use Rattle.act_model.specs.declared.deed.Deed.{Deed}
-use Rattle.act_model.specs.declared.deed.Deed.TheVariants.{Enrolled, Stationed, Coded, Submitted, Retracted, Nothing}
+use Rattle.act_model.specs.declared.deed.Deed.TheVariants.{Enrolled, Stationed, Coded, Submitted, Designated, Attributed, Released, Identified, Separated, Judged, Numbered, Retracted, Nothing}
 use Rattle.act_model.specs.declared.entry.Entry.{Entry}
 use Rattle.act_model.specs.declared.request.TheConstants.{BODY_BYTES}
 use Rattle.act_model.specs.declared.roster.TheConstants.{CALLERS}
@@ -20,17 +20,23 @@ use Rattle.act_model.specs.OfficeTables.{tables_of}
 use Rattle.act_model.specs.Taken.{tracks_with}
 use Rattle.act_model.specs.Holdings.{Holdings, holdings}
 use Rattle.act_model.specs.Places.{added_by}
+use Rattle.act_model.specs.Fitting.{FitsObjects}
 use Rattle.act_model.specs.Replies.{entry_answer}
+use Rattle.object_rules.specs.Noting.{registered_by}
 use Rattle.station_tables.specs.Rows.{TableRows}
 
 -- ---- the office
 
--- for how many more entries, callers, observations and tracklets there is room
+-- for how many more entries, callers, observations, tracklets, designations, links and entries of the register there is
+-- room
 pub record Room : Type 0 where
   pub entries : ℕ
   pub callers : ℕ
   pub observations : ℕ
   pub tracklets : ℕ
+  pub takes : ℕ
+  pub links : ℕ
+  pub register : ℕ
 
 -- the office: the founder's key, the history with the newest entry first, and for how much more there is room
 pub record Office : Type 0 where
@@ -71,6 +77,13 @@ Fits past (Enrolled member) = next_caller (members past) < CALLERS
 Fits past (Stationed code from to) = (from ≤ℤ to) × (overlaps (tables_of past).stations code from to ≡ false)
 Fits past (Coded kind letter word) = has_code (tables_of past).codes kind letter word ≡ false
 Fits past (Submitted lines) = AreTracked (length (holdings past).tracklets) lines
+Fits past (Designated tracklets given discovery) = FitsObjects past (Designated tracklets given discovery)
+Fits past (Attributed t to) = FitsObjects past (Attributed t to)
+Fits past (Released t) = FitsObjects past (Released t)
+Fits past (Identified p s) = FitsObjects past (Identified p s)
+Fits past (Separated s) = FitsObjects past (Separated s)
+Fits past (Judged p u oppositions) = FitsObjects past (Judged p u oppositions)
+Fits past (Numbered pairs) = FitsObjects past (Numbered pairs)
 Fits past (Retracted k) = IsTrue (is_live (holdings past).observations k)
 Fits past Nothing = Unit {0}
 
@@ -91,6 +104,9 @@ pub record IsRoomFor (deed : Deed) (room : Room) : Type 0 where
   pub callers : 0 < room.callers
   pub observations : added_by deed ≤ room.observations
   pub tracklets : added_by deed ≤ room.tracklets
+  pub takes : 1 ≤ room.takes
+  pub links : 1 ≤ room.links
+  pub register : registered_by deed ≤ room.register
 
 -- what such an entry used of the room: no more than it may need, and of entries and callers none was taken
 pub record UsesRoom (deed : Deed) (old new : Room) : Type 0 where
@@ -98,5 +114,8 @@ pub record UsesRoom (deed : Deed) (old new : Room) : Type 0 where
   pub callers : old.callers ≤ new.callers + 1
   pub observations : old.observations ≤ new.observations + added_by deed
   pub tracklets : old.tracklets ≤ new.tracklets + added_by deed
+  pub takes : old.takes ≤ new.takes + 1
+  pub links : old.links ≤ new.links + 1
+  pub register : old.register ≤ new.register + registered_by deed
   pub no_more_entries : new.entries ≤ old.entries
   pub no_more_callers : new.callers ≤ old.callers

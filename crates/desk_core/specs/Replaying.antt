@@ -2,7 +2,7 @@
 use Rattle.std.specs.Prelude.{ℕ, ℤ, ◌==◌, if◌then◌else◌, List, Option, Some, None, option_map}
 use Rattle.act_model.specs.declared.entry.Entry.{Entry}
 use Rattle.act_model.specs.declared.request.Verb.{Verb}
-use Rattle.act_model.specs.declared.request.Verb.TheVariants.{Enrol, Station, Code, Submit80, SubmitPsv, Retract}
+use Rattle.act_model.specs.declared.request.Verb.TheVariants.{Enrol, Station, Code, Submit80, SubmitPsv, Designate, Attribute, Release, Identify, Separate, Verdict, Number, Retract}
 
 -- the verb of an act with this number
 abbrev pub act_with : ℕ → Option Verb
@@ -12,8 +12,15 @@ act_with code =
     else (if code == 3 then Some Code
     else (if code == 4 then Some Submit80
     else (if code == 5 then Some SubmitPsv
+    else (if code == 6 then Some Designate
+    else (if code == 7 then Some Attribute
+    else (if code == 8 then Some Release
+    else (if code == 9 then Some Identify
+    else (if code == 10 then Some Separate
+    else (if code == 11 then Some Verdict
+    else (if code == 12 then Some Number
     else (if code == 13 then Some Retract
-    else None)))))
+    else None))))))))))))
 
 -- the entry of these fields; None where the number is no act's
 abbrev pub entry_of : (caller number : ℕ) (moment : ℤ) (code : ℕ) (body : List ℕ) → Option Entry

@@ -78,7 +78,7 @@ impl Core {
     fn tally(&self) -> Tally
         ensures { result ≡ tally self.now.history }
     {
-        let file = self.file();
+        let file = self.held();
         Tally {
             entries: self.entries(),
             isolated: file.isolated(),

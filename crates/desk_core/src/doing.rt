@@ -3,7 +3,7 @@
 ghost use Rattle.std.specs.Prelude.{◌≡◌, ◌≤ℤ◌, length, Some, None, cond, IfOk};
 ghost use Rattle.act_model.specs.declared.reply.Refusal.TheVariants as refusals;
 ghost use Rattle.act_model.specs.Rows.{first_row, IsDue};
-ghost use Rattle.act_model.specs.Acts.{IsForward, IsForwardAsked};
+ghost use Rattle.act_model.specs.Acts.{IsRead, IsReadAsked};
 ghost use Rattle.act_model.specs.Roster.{is_observer, members};
 ghost use Rattle.act_model.specs.Deeds.{deeds};
 ghost use Rattle.act_model.specs.OfficeTables.{tables_of};
@@ -19,6 +19,7 @@ use crate::taking::taken_lines;
 use act_model::{Act, Asked, Deed, Heard, Key, Member, Part, Rank, Refusal, Taken};
 use batch_rules::judge;
 use item_list::{ItemList, NoMemory};
+use object_rules::{attributes, designates, identifies, judges, numbers, releases, separates};
 use obs_record::{Lines, Short};
 use obs_time::Instant;
 use station_tables::Kind;
@@ -45,7 +46,7 @@ impl Core {
     fn sender(&self, k: u64) -> Option<u32>
         ensures { result ≡ sender self.now.history k }
     {
-        let receipt = self.file().entry_of(k)?;
+        let receipt = self.held().entry_of(k)?;
         caller_at(self.filed(), receipt)
     }
 
@@ -76,7 +77,7 @@ impl Core {
         heard: Heard,
         moment: Instant,
     ) -> Result<Deed, Refusal>
-        requires forward { IsForwardAsked heard.asked }
+        requires read { IsReadAsked heard.asked }
         ensures due { IsDue (work_out self.now.history moment heard) result }
         ensures fits { IfOk result (Fits (deeds self.now.history)) }
     {
@@ -93,15 +94,30 @@ impl Core {
     /// What an act does at this moment.
     #[tactic(auto, unfolding(act_model::specs::Doing::does))]
     fn does(&self, alloc: Global, moment: Instant, act: Act) -> Result<Deed, Refusal>
-        requires forward { IsForward act }
+        requires read { IsRead act }
         ensures due { IsDue (does (deeds self.now.history) moment act) result }
         ensures fits { IfOk result (Fits (deeds self.now.history)) }
     {
+        act_model::laws::acts_fit();
         match act {
             Act::Enrol { key, role, .. } => self.enrols(key, role),
             Act::Station { code, from, to, .. } => self.enters_station(code, from, to),
             Act::Code { kind, letter, word } => self.enters_code(kind, letter, word),
             Act::Submit80(lines) | Act::SubmitPsv(lines) => self.submits(alloc, moment, &lines),
+            Act::Designate(tracklets) => designates(self, alloc, tracklets),
+            Act::Attribute { tracklet, to } => attributes(self, alloc, tracklet, to),
+            Act::Release(t) => releases(self, t),
+            Act::Identify {
+                principal,
+                secondary,
+            } => identifies(self, principal, secondary),
+            Act::Separate(s) => separates(self, s),
+            Act::Verdict {
+                object,
+                u,
+                oppositions,
+            } => judges(self, object, u, oppositions),
+            Act::Number { first, most } => numbers(self, alloc, first, most),
             Act::Retract(k) => self.retracts(k),
         }
     }
@@ -144,7 +160,7 @@ impl Core {
         ensures taken { IfOk result (λ taken. taken ≡ taken_after (deeds self.now.history) moment lines.now) }
         ensures tracked { IfOk result (AreTracked (length (holdings (deeds self.now.history)).tracklets)) }
     {
-        let tracks = self.file().tracks();
+        let tracks = self.held().tracks();
         if tracks >= 1 << 62 || lines.len() >= 1 << 62 {
             return Err(AllocError);
         }
@@ -171,7 +187,7 @@ impl Core {
         ensures due { IsDue (retracts (holdings (deeds self.now.history)).observations k) result }
         ensures fits { IfOk result (Fits (deeds self.now.history)) }
     {
-        let refusal = retract_refusal(self.file(), k);
+        let refusal = retract_refusal(self.held(), k);
         unless(refusal, Deed::Retracted(k))
     }
 }

@@ -4,7 +4,7 @@ ghost use Rattle.std.specs.Prelude.{◌≡◌, ◌≤◌, ◌<◌, length, rever
 ghost use Rattle.act_model.specs.declared.request.TheConstants.{BODY_BYTES};
 ghost use Rattle.act_model.specs.declared.roster.TheConstants.{CALLERS};
 ghost use Rattle.act_model.specs.Rows.{first_row, IsDue};
-ghost use Rattle.act_model.specs.Acts.{IsForwardAsked};
+ghost use Rattle.act_model.specs.Acts.{IsReadAsked};
 ghost use Rattle.act_model.specs.Hearing.{size_rows, bytes_in, is_number_of, number_in, asked_of, hear};
 
 use crate::roster::caller_of;
@@ -87,7 +87,7 @@ pub fn hear(
     ensures due { IsDue (hear founder.now (reverse members.now) request.now bytes.now) result }
     ensures verb { IfOk result (λ heard. heard.verb ≡ request.now.verb) }
     ensures asked { IfOk result (λ heard. asked_of heard.verb bytes.now ≡ Ok heard.asked) }
-    ensures forward { IfOk result (λ heard. IsForwardAsked heard.asked) }
+    ensures read { IfOk result (λ heard. IsReadAsked heard.asked) }
 {
     if request.verb.is_unknown() {
         return Err(Refusal::Unread(Part::Verb));

@@ -9,6 +9,7 @@ ghost use Rattle.desk_core.specs.Office.{held_in, IsTracked, AreTracked};
 ghost use Rattle.desk_core.specs.Holding.{is_added, HoldsDeed};
 
 use act_model::{Deed, Placed, Taken, accepted_in, name_of};
+use object_rules::home_tracklets;
 use tracklet_file::TrackletFile;
 
 /// Begins the tracklet of an accepted observation, where it isn't there.
@@ -80,11 +81,7 @@ pub fn added_by(deed: &Deed) -> u64
 {
     match deed {
         Deed::Submitted(lines) => accepted_in(lines.as_slice()),
-        Deed::Enrolled(_)
-        | Deed::Stationed { .. }
-        | Deed::Coded { .. }
-        | Deed::Retracted(_)
-        | Deed::Nothing => 0,
+        _ => 0,
     }
 }
 
@@ -100,6 +97,16 @@ pub fn hold(file: &mut TrackletFile, receipt: u64, deed: &Deed)
     match deed {
         Deed::Submitted(lines) => hold_batch(file, receipt, lines.as_slice()),
         Deed::Retracted(k) => file.retract(*k),
-        Deed::Enrolled(_) | Deed::Stationed { .. } | Deed::Coded { .. } | Deed::Nothing => {}
+        Deed::Designated { .. } | Deed::Attributed { .. } | Deed::Released(_) => {
+            home_tracklets(file, deed);
+        }
+        Deed::Enrolled(_)
+        | Deed::Stationed { .. }
+        | Deed::Coded { .. }
+        | Deed::Identified { .. }
+        | Deed::Separated(_)
+        | Deed::Judged { .. }
+        | Deed::Numbered(_)
+        | Deed::Nothing => {}
     }
 }

@@ -14,16 +14,14 @@ impl Known for Core {
     ghost office = { λ core. known_of (deeds core.history) };
 
     fn has_live(&self, station: Short, time: Instant, ra: Ra, dec: Dec) -> bool {
-        self.file().has_live(station, time, ra, dec)
+        self.held().has_live(station, time, ra, dec)
     }
 
-    /// No designation was given yet.
-    fn stands_for(&self, _name: Name) -> Option<Designation> {
-        None
+    fn stands_for(&self, name: Name) -> Option<Designation> {
+        object_rules::stands_for(self, name)
     }
 
-    /// No designation was given yet.
-    fn principal(&self, _d: Designation) -> Option<Designation> {
-        None
+    fn principal(&self, d: Designation) -> Option<Designation> {
+        object_rules::principal_of(self, d)
     }
 }

@@ -11,11 +11,13 @@ ghost use Rattle.act_model.specs.Step.{outcome};
 ghost use Rattle.act_model.specs.Turns.{Answers};
 ghost use Rattle.desk_core.specs.Filed.{history_of, AreAnswered};
 ghost use Rattle.desk_core.specs.Office.{IsReadyAt, IsRoomFor, UsesRoom, held_in};
+ghost use Rattle.desk_core.specs.Objects.{StandFor};
 ghost use Rattle.desk_core.specs.Preparing.{Prepares};
 
 use crate::filed::Filed;
 use crate::holding::{added_by, hold};
 use crate::limiting::entry_size;
+use crate::objects::Objects;
 use crate::prepared::{Prep, Prepared};
 use crate::roster::enrol;
 use act_model::{Body, Deed, Key, Member, Refusal, Reply, Request};
@@ -27,7 +29,8 @@ use std::marker::Model;
 use tracklet_file::TrackletFile;
 
 /// The office in memory: the founding officer's key, and the history of what was accepted, with what
-/// is worked out from its deeds: the roster, the tables, and the file of the observations and tracklets.
+/// is worked out from its deeds: the roster, the tables, the file of the observations and tracklets, and the objects
+/// with their designations, verdicts and numbers.
 ///
 /// Contracts see the key, the history with its newest entry first, and for how much more there is room.
 #[derive(Drop)]
@@ -37,6 +40,7 @@ pub struct Core {
     members: Vec<Member>,
     tables: Tables,
     file: TrackletFile,
+    objects: Objects,
     // how many bytes of a journal the entries take, or the greatest number of the type
     used: u64,
 }
@@ -50,6 +54,7 @@ impl Model for Core {
     ghost use Rattle.act_model.specs.Holdings.{holdings};
     ghost use Rattle.act_model.specs.Refusals.{used as used_bytes};
     ghost use Rattle.desk_core.specs.Office.{Office, held_in};
+    ghost use Rattle.desk_core.specs.Objects.{StandFor};
     ghost use Rattle.desk_core.specs.Filed.{history_of, AreAnswered};
 
     ghost Value = { Office };
@@ -62,6 +67,9 @@ impl Model for Core {
         callers = vec_capacity c.members - vec_len c.members;
         observations = c.file.observation_room;
         tracklets = c.file.tracklet_room;
+        takes = c.objects.take_room;
+        links = c.objects.link_room;
+        register = c.objects.register_room;
       };
     } };
 
@@ -71,6 +79,7 @@ impl Model for Core {
         × (vec_len c.members < CALLERS)
         × (c.tables ≡ tables_of (deeds (history_of c.filed.items)))
         × (held_in c.file ≡ holdings (deeds (history_of c.filed.items)))
+        × StandFor (deeds (history_of c.filed.items)) c.objects
         × (c.used ≡ min (used_bytes (history_of c.filed.items)) (2 ^ 64 - 1)) };
 }
 
@@ -92,6 +101,7 @@ impl Core {
             members: Vec::new(alloc),
             tables: Tables::new(alloc)?,
             file: TrackletFile::new(alloc)?,
+            objects: Objects::new(alloc)?,
             used: 1,
         })
     }
@@ -160,6 +170,7 @@ impl Core {
         self.used = self.used.saturating_add(size);
         self.filed.push_reserved(filed);
         replace(&mut self.tables, tables);
+        self.objects.note(&self.file, &deed);
         hold(&mut self.file, receipt, &deed);
         enrol(&mut self.members, deed);
         Reply::Done(answer)
@@ -203,10 +214,17 @@ impl Core {
     }
 
     /// The observations and tracklets.
-    pub(crate) fn file(&self) -> &TrackletFile
+    pub(crate) fn held(&self) -> &TrackletFile
         ensures { held_in result.now ≡ holdings (deeds self.now.history) }
     {
         &self.file
+    }
+
+    /// The designations, the principals, the verdicts and the numbers.
+    pub(crate) fn objects(&self) -> &Objects
+        ensures { StandFor (deeds self.now.history) result.now }
+    {
+        &self.objects
     }
 
     /// How many bytes of a journal the entries take, where that is a number of the type.
@@ -235,7 +253,8 @@ impl Core {
         let Ok(more) = u32::try_from(added_by(deed)) else {
             return Err(AllocError);
         };
-        self.file.reserve(more, more)
+        self.file.reserve(more, more)?;
+        self.objects.reserve_for(deed)
     }
 }
 

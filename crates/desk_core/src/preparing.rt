@@ -4,7 +4,7 @@ ghost use Rattle.std.specs.Prelude.{◌≡◌, ◌≤◌, ◌<◌, ◌^◌, leng
 ghost use Rattle.act_model.specs.declared.request.TheConstants.{BODY_BYTES};
 ghost use Rattle.act_model.specs.Rows.{IsDue};
 ghost use Rattle.act_model.specs.Requests.{is_act};
-ghost use Rattle.act_model.specs.Acts.{IsForwardAsked};
+ghost use Rattle.act_model.specs.Acts.{IsReadAsked};
 ghost use Rattle.act_model.specs.Roster.{members};
 ghost use Rattle.act_model.specs.OfficeTables.{tables_of, with_row};
 ghost use Rattle.act_model.specs.Deeds.{deed_of, deeds};
@@ -20,9 +20,13 @@ use crate::filed::{Filed, find, kept_reply, next_moment};
 use crate::hearing::{bytes_in, hear};
 use crate::office::Core;
 use crate::prepared::{Prep, Prepared};
-use act_model::{Deed, Entry, Heard, Refusal, Request, batch_answer, enrol_answer, receipt_answer};
+use act_model::{
+    Deed, Entry, Heard, Refusal, Request, batch_answer, enrol_answer,
+    numbers_answer, object_answer, receipt_answer,
+};
 use item_list::{Bytes, NoMemory};
 use obs_time::Instant;
+use packed_names::Designation;
 use station_tables::Tables;
 use std::alloc::{AllocError, Global};
 
@@ -64,7 +68,7 @@ impl Core {
         ensures due { IsDue (hear self.now.founder (members (deeds self.now.history)) request.now bytes.now) result }
         ensures verb { IfOk result (λ heard. heard.verb ≡ request.now.verb) }
         ensures asked { IfOk result (λ heard. asked_of heard.verb bytes.now ≡ Ok heard.asked) }
-        ensures forward { IfOk result (λ heard. IsForwardAsked heard.asked) }
+        ensures read { IfOk result (λ heard. IsReadAsked heard.asked) }
     {
         hear(alloc, self.founder(), self.members(), request, bytes)
     }
@@ -82,7 +86,7 @@ impl Core {
         requires short { length bytes.now ≤ BODY_BYTES }
         requires space { IfSome limit (λ _. used self.old.history < 2 ^ 64) }
         requires asked { asked_of heard.verb bytes.now ≡ Ok heard.asked }
-        requires forward { IsForwardAsked heard.asked }
+        requires read { IsReadAsked heard.asked }
         ensures answer { IsPrepared limit self.old.history
             (act_step limit self.old.history heard bytes.now (next_moment self.old.history reading)) self.new.spare result }
         ensures history { self.new.history ≡ self.old.history }
@@ -112,7 +116,7 @@ impl Core {
         requires short { length bytes.now ≤ BODY_BYTES }
         requires space { IfSome limit (λ _. used self.old.history < 2 ^ 64) }
         requires asked { asked_of heard.verb bytes.now ≡ Ok heard.asked }
-        requires forward { IsForwardAsked heard.asked }
+        requires read { IsReadAsked heard.asked }
         ensures answer { IsPrepared limit self.old.history
             (unless_refused (work_within limit self.old.history bytes.now moment heard) (new_entry heard bytes.now moment))
             self.new.spare result }
@@ -177,15 +181,25 @@ impl Core {
         match deed {
             Deed::Enrolled(_) => enrol_answer(alloc, receipt, self.members().len() as u64 + 1),
             Deed::Submitted(lines) => {
-                let before = self.file().observations();
+                let before = self.held().observations();
                 if lines.len() > u64::MAX - before {
                     return Err(AllocError);
                 }
                 batch_answer(alloc, receipt, before, lines.as_slice())
             }
-            Deed::Stationed { .. } | Deed::Coded { .. } | Deed::Retracted(_) | Deed::Nothing => {
-                receipt_answer(alloc, receipt)
+            Deed::Designated { given, .. } => {
+                object_answer(alloc, receipt, Designation::Provisional(*given))
             }
+            Deed::Numbered(pairs) => numbers_answer(alloc, receipt, pairs.as_slice()),
+            Deed::Stationed { .. }
+            | Deed::Coded { .. }
+            | Deed::Attributed { .. }
+            | Deed::Released(_)
+            | Deed::Identified { .. }
+            | Deed::Separated(_)
+            | Deed::Judged { .. }
+            | Deed::Retracted(_)
+            | Deed::Nothing => receipt_answer(alloc, receipt),
         }
     }
 
@@ -204,7 +218,7 @@ impl Core {
                 let tables = self.tables().with_code(*kind, *letter, *word)?;
                 Ok(Some(tables))
             }
-            Deed::Enrolled(_) | Deed::Submitted(_) | Deed::Retracted(_) | Deed::Nothing => Ok(None),
+            _ => Ok(None),
         }
     }
 }

@@ -52,6 +52,13 @@ fn act_with(code: u8) -> Option<Verb>
         3 => Some(Verb::Code),
         4 => Some(Verb::Submit80),
         5 => Some(Verb::SubmitPsv),
+        6 => Some(Verb::Designate),
+        7 => Some(Verb::Attribute),
+        8 => Some(Verb::Release),
+        9 => Some(Verb::Identify),
+        10 => Some(Verb::Separate),
+        11 => Some(Verb::Verdict),
+        12 => Some(Verb::Number),
         13 => Some(Verb::Retract),
         _ => None,
     }
