@@ -65,7 +65,7 @@ module _ (past : List Deed) (file : Contents) (o : ObjectsValue) (stands : Stand
   objects_hold (Released t) fits =
       record { takes = tt; links = tt; touches = subst (λ (h : Holdings). IsTracklet h.tracklets t) (sym held) fits; numbers = tt }
   objects_hold (Identified p s) fits =
-      record { takes = tt; links = (stands.links p ∙ fits.0, stands.links s ∙ fits.1.0, fits.1.1); touches = tt; numbers = tt }
+      record { takes = tt; links = (stands.links p ∙ fits.0, stands.links s ∙ fits.1, fits.2); touches = tt; numbers = tt }
   objects_hold (Separated s) fits = record { takes = tt; links = λ is. fits.1 (sym (stands.links s) ∙ is); touches = tt; numbers = tt }
   objects_hold (Judged p u oppositions) fits = record { takes = tt; links = tt; touches = tt; numbers = tt }
   objects_hold (Numbered pairs) fits =

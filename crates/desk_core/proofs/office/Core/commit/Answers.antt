@@ -1,4 +1,4 @@
-use Rattle.std.proofs.Common.{◌≡◌, ℕ, ◌+◌, ◌-◌, ◌≤◌, List, length, sym, ap, subst, ◌∙◌}
+use Rattle.std.proofs.Common.{◌≡◌, ℕ, ◌+◌, ◌-◌, ◌≤◌, List, ◌∷◌, length, sym, ap, subst, ◌∙◌}
 use Rattle.std.specs.Prelude.{Option, reverse, unwrap_or, vec_len, vec_capacity}
 use Rattle.act_model.specs.Places.{added_by}
 use Rattle.station_tables.specs.Rows.{TableRows}
@@ -8,9 +8,11 @@ use Rattle.act_model.specs.History.{next_receipt}
 use Rattle.act_model.specs.Refusals.{entry_size}
 use Rattle.act_model.specs.Holdings.{with_deed}
 use Rattle.act_model.specs.Roster.{with_enrolled}
+use Rattle.act_model.specs.Deeds.{deeds}
 use Rattle.desk_core.specs.Filed.{history_of}
+use Rattle.desk_core.specs.Objects.{StandFor, UsesObjects}
 use Rattle.desk_core.specs.Office.{Office, Room, IsReadyAt, held_in, UsesRoom}
-use Rattle.desk_core.proofs.Committing.{answered, members_are, members_within, tables_are, held_are, bytes_are, used}
+use Rattle.desk_core.proofs.Committing.{answered, members_are, members_within, tables_are, held_are, objects_are, bytes_are, used}
 use Rattle.desk_core.proofs.office.Core.commit.Goals as goal
 
 pub invariant_of-self : goal.invariant_of-self
@@ -23,6 +25,10 @@ invariant_of-self c =
     let e = c.into_parts-filed.ensures.entry in
     let a = c.into_parts-filed.ensures.kept in
     let roster = c.enrol.ensures.roster ∙ ap (λ (d : Deed). with_enrolled d (reverse c.self.inside.members.items)) c.into_parts-filed.ensures.deed in
+    let past = deeds (history_of items) in
+    let deed : c.into_parts-filed.result.2 ≡ ready.deed = c.into_parts-filed.ensures.deed in
+    let stands : StandFor (ready.deed ∷ past) c.note.new.self =
+        subst (λ (d : Deed). StandFor (d ∷ past) c.note.new.self) deed (c.note.ensures.stand past c.self.invariant.4 c.self.invariant.5) in
     rw c.push_reserved.ensures.items (
       answered items f ready at e a c.self.invariant.0,
       members_are items f ready at e a c.self.inside.members.items c.enrol.new.members.items roster c.self.invariant.1,
@@ -32,7 +38,8 @@ invariant_of-self c =
           (c.hold.ensures.held ∙ ap (λ (d : Deed). with_deed c.next_receipt-receipt.result d (held_in c.self.inside.file)) c.into_parts-filed.ensures.deed)
           (c.next_receipt-receipt.ensures ∙ ap next_receipt back)
           c.self.invariant.4,
-      bytes_are items f ready at e a c.self.inside.used c.saturating_add-self-inside.result c.entry_size-size.result c.saturating_add-self-inside.ensures c.self.invariant.5 (c.entry_size-size.ensures ∙ ap (λ (b : List ℕ). entry_size b) c.as_slice.ensures),
+      objects_are items f ready at e a c.note.new.self stands,
+      bytes_are items f ready at e a c.self.inside.used c.saturating_add-self-inside.result c.entry_size-size.result c.saturating_add-self-inside.ensures c.self.invariant.6 (c.entry_size-size.ensures ∙ ap (λ (b : List ℕ). entry_size b) c.as_slice.ensures),
     )
 
 pub returns-clause-used : goal.returns-clause-used
@@ -45,10 +52,14 @@ returns-clause-used c =
       callers = vec_capacity c.enrol.new.members - vec_len c.enrol.new.members;
       observations = held.observation_room;
       tracklets = held.tracklet_room;
+      takes = c.note.new.self.take_room;
+      links = c.note.new.self.link_room;
+      register = c.note.new.self.register_room;
     })) (ap (λ (o : Office). o.spare) c.self.view_is)
     (used c.args.prepared.deed (vec_capacity c.self.inside.filed) (vec_capacity c.push_reserved.new.self) (vec_len c.self.inside.filed) (vec_len c.push_reserved.new.self)
     (vec_capacity c.self.inside.members) (vec_capacity c.enrol.new.members) (vec_len c.self.inside.members) (vec_len c.enrol.new.members)
     file.observation_room held.observation_room file.tracklet_room held.tracklet_room
+    c.self.inside.objects c.note.new.self (subst (λ (d : Deed). UsesObjects d c.self.inside.objects c.note.new.self) deed c.note.ensures.used)
     c.push_reserved.ensures.capacity c.enrol.ensures.room c.push_reserved.ensures.len c.enrol.ensures.no_fewer c.enrol.ensures.one_more
     (subst (λ (d : Deed). file.observation_room ≤ held.observation_room + added_by d) deed c.hold.ensures.observations)
     (subst (λ (d : Deed). file.tracklet_room ≤ held.tracklet_room + added_by d) deed c.hold.ensures.tracklets))
