@@ -102,7 +102,11 @@ fn last_number(first: u32, designations: &[Designation]) -> u64
 }
 
 /// Designations with numbers from the first upwards.
-fn numbered_from(alloc: Global, first: u32, designations: &[Designation]) -> Result<ItemList<Numbering>, NoMemory>
+fn numbered_from(
+    alloc: Global,
+    first: u32,
+    designations: &[Designation],
+) -> Result<ItemList<Numbering>, NoMemory>
     requires { first + length designations.now ≤ 15396336 }
     ensures { IfOk result (λ pairs. pairs ≡ numbered_from first designations.now) }
 {
