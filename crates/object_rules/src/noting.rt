@@ -28,7 +28,9 @@ pub fn take(rows: &mut Rows, deed: &Deed)
     ensures spare { rows.old.spare ≤ rows.new.spare + 1 }
 {
     if let Deed::Designated {
-        given, discovery, ..
+        given,
+        discovery,
+        ..
     } = deed
     {
         rows.take(given.half, *discovery);
@@ -114,7 +116,9 @@ pub fn home_tracklets(file: &mut TrackletFile, deed: &Deed)
 {
     match deed {
         Deed::Designated {
-            tracklets, given, ..
+            tracklets,
+            given,
+            ..
         } => {
             let home = Designation::Provisional(*given);
             home_all(file, tracklets.as_slice(), Some(home));

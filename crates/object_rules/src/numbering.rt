@@ -102,7 +102,11 @@ fn last_number(first: u32, designations: &[Designation]) -> u64
 }
 
 /// Designations with numbers from the first upwards.
-fn numbered_from(alloc: Global, first: u32, designations: &[Designation]) -> Result<ItemList<Numbering>, NoMemory>
+fn numbered_from(
+    alloc: Global,
+    first: u32,
+    designations: &[Designation],
+) -> Result<ItemList<Numbering>, NoMemory>
     requires { first + length designations.now ≤ 15396336 }
     ensures { IfOk result (λ pairs. pairs ≡ numbered_from first designations.now) }
 {
@@ -151,13 +155,13 @@ fn first_numbers(
 }
 
 /// Objects that can be numbered get numbers, from the first number upwards, in the order of their principal
-/// designations; at most so many of them. An object can be numbered where it has no number, a live observation, and a good
-/// verdict in force.
+/// designations; at most so many of them. An object can be numbered where it has no number, a live observation, and a
+/// good verdict in force.
 ///
 /// # Errors
 ///
 /// The first refusal that holds: numbers were given, and the first isn't the next one; no object can be numbered; a
-/// number over 15,396,335 were needed. `NoMemory` where memory was refused.
+/// number over 15,396,335 would be needed. `NoMemory` where memory was refused.
 pub fn numbers<L: Ledger>(office: &L, alloc: Global, first: u32, most: u32) -> Result<Deed, Refusal>
     requires first { IsNumber first }
     requires most { 1 ≤ most }

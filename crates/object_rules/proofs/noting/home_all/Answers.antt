@@ -1,4 +1,4 @@
-use Rattle.std.proofs.Common.{◌≡◌, ◌+◌, List, drop, get_or, ap, sym, subst, ◌∙◌, arith}
+use Rattle.std.proofs.Common.{◌+◌, List, drop, get_or, ap, sym, subst, ◌∙◌, arith}
 use Rattle.std.proofs.lemmas.List.{drop_more}
 use Rattle.act_model.specs.Holdings.{with_homes}
 use Rattle.act_model.specs.Fitting.{AreTracklets}
@@ -19,11 +19,11 @@ loop-t-preserved c =
     let tracklets_now = c.set_home.ensures.room_stays.tracklets in
     record {
       homes =
-        ap (λ (x : List _). with_homes x (drop (i + 1) ts) home) set
-        ∙ sym (ap (λ (x : List _). with_homes file.tracklets x home) first) ∙ c.loop-t.invariant.homes;
+          ap (λ (x : List _). with_homes x (drop (i + 1) ts) home) set
+          ∙ sym (ap (λ (x : List _). with_homes file.tracklets x home) first) ∙ c.loop-t.invariant.homes;
       there =
-        subst (λ (x : List _). AreTracklets x (drop (i + 1) ts)) (sym set)
-        (stay_there file.tracklets (get_or ts i 0) home (drop (i + 1) ts) (subst (AreTracklets file.tracklets) first c.loop-t.invariant.there).1);
+          subst (λ (x : List _). AreTracklets x (drop (i + 1) ts)) (sym set)
+          (stay_there file.tracklets (get_or ts i 0) home (drop (i + 1) ts) (subst (AreTracklets file.tracklets) first c.loop-t.invariant.there).1);
       observations = c.set_home.ensures.observations ∙ c.loop-t.invariant.observations;
       observation_room = omega arith;
       tracklet_room = omega arith;

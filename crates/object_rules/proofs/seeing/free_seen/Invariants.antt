@@ -11,8 +11,8 @@ abbrev pub invariant-loop-t : goal.invariant-loop-t
 invariant-loop-t g l =
     record {
       refusal : first_row (flat_map (free_rows (holdings (g.L.Ledger.deeds l.office))) (drop l.t-index l.tracklets))
-        ≡ first_row (flat_map (free_rows (holdings (g.L.Ledger.deeds l.office))) l.tracklets);
+          ≡ first_row (flat_map (free_rows (holdings (g.L.Ledger.deeds l.office))) l.tracklets);
       seen : l.seen ++ seen_in (holdings (g.L.Ledger.deeds l.office)).observations (drop l.t-index l.tracklets)
-        ≡ seen_in (holdings (g.L.Ledger.deeds l.office)).observations l.tracklets;
+          ≡ seen_in (holdings (g.L.Ledger.deeds l.office)).observations l.tracklets;
       years : AreOfYears l.seen;
     }

@@ -27,10 +27,10 @@ loop-next-preserved c =
     let own = subst (λ (n : Option _). IfSome n (λ j. track_of observations j ≡ Some t)) c.in-Some.is c.loop-next.invariant.own in
     record {
       seen =
-        ap (λ (s : List Seen). s ++ filter_map (seen_at observations) (chain_from observations t next)) (pushed.seen ∙ ap (λ (o : Option Seen). c.loop-next.seen ++ option_to_list o) c.seen_at.ensures.seen)
-        ∙ seen_more (seen_at observations) c.loop-next.seen (c.args.seen.now ++ seen_of observations t) k (later_of_track observations t k) (chain_from observations t next)
-        (chain_next observations t k next own c.next_of-next.ensures.next c.next_of-next.ensures.rest)
-        (subst (λ (n : Option _). c.loop-next.seen ++ filter_map (seen_at observations) (chain_from observations t n) ≡ c.args.seen.now ++ seen_of observations t) c.in-Some.is c.loop-next.invariant.seen);
+          ap (λ (s : List Seen). s ++ filter_map (seen_at observations) (chain_from observations t next)) (pushed.seen ∙ ap (λ (o : Option Seen). c.loop-next.seen ++ option_to_list o) c.seen_at.ensures.seen)
+          ∙ seen_more (seen_at observations) c.loop-next.seen (c.args.seen.now ++ seen_of observations t) k (later_of_track observations t k) (chain_from observations t next)
+          (chain_next observations t k next own c.next_of-next.ensures.next c.next_of-next.ensures.rest)
+          (subst (λ (n : Option _). c.loop-next.seen ++ filter_map (seen_at observations) (chain_from observations t n) ≡ c.args.seen.now ++ seen_of observations t) c.in-Some.is c.loop-next.invariant.seen);
       own = own_next observations t k next own c.next_of-next.ensures.own;
       years = pushed.years;
     }

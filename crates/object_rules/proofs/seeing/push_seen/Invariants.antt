@@ -1,4 +1,4 @@
-use Rattle.std.proofs.Common.{◌≡◌, ◌++◌, Option, length, IfSome, Some}
+use Rattle.std.proofs.Common.{◌≡◌, ◌++◌, length, IfSome, Some}
 use Rattle.std.specs.Prelude.{filter_map}
 use Rattle.tracklet_file.specs.Observations.{track_of}
 use Rattle.act_model.specs.Discoveries.{seen_at, seen_of}
@@ -10,7 +10,7 @@ abbrev pub invariant-loop-next : goal.invariant-loop-next
 invariant-loop-next l =
     record {
       seen : l.seen ++ filter_map (seen_at l.file.observations) (chain_from l.file.observations l.t l.next)
-        ≡ l.fn.seen ++ seen_of l.file.observations l.t;
+          ≡ l.fn.seen ++ seen_of l.file.observations l.t;
       own : IfSome l.next (λ k. track_of l.file.observations k ≡ Some l.t);
       years : AreOfYears l.seen;
     }
