@@ -1,6 +1,6 @@
 //! Numbers for the objects that can be numbered.
 
-ghost use Rattle.std.specs.Prelude.{◌≡◌, ◌≤◌, ◌+◌, ◌++◌, ◌∷◌, [], IfOk, OnOk, length};
+ghost use Rattle.std.specs.Prelude.{◌≡◌, ◌≤◌, ◌+◌, ◌++◌, ◌∷◌, [], IfOk, OnOk, length, true};
 ghost use Rattle.packed_names.specs.Ranges.{IsNumber};
 ghost use Rattle.numbering_core.specs.Numbers.{next_number};
 ghost use Rattle.act_model.specs.Rows.{first_row, IsDue};
@@ -9,6 +9,7 @@ ghost use Rattle.act_model.specs.Designations.{links_of};
 ghost use Rattle.act_model.specs.Verdicts.{verdicts_of};
 ghost use Rattle.act_model.specs.Numbers.{numbers_of, is_observed, is_eligible, numbered_from, last_number};
 ghost use Rattle.act_model.specs.Doing.{numbers, eligible_after, next_rows};
+ghost use Rattle.object_rules.specs.Noting.{is_of_objects};
 ghost use Rattle.object_rules.specs.Numbering.{is_in_object_at, eligible_in, numbers_all};
 
 use crate::asking::{is_numbered, is_principal_of, object_of_track};
@@ -126,6 +127,7 @@ fn numbered_from(
 fn numbers_all(alloc: Global, first: u32, chosen: &[Designation]) -> Result<Deed, Refusal>
     requires { IsNumber first }
     ensures due { IsDue (numbers_all first chosen.now) result }
+    ensures kind { IfOk result (λ deed. is_of_objects deed ≡ true) }
 {
     if last_number(first, chosen) > GREATEST_NUMBER {
         return Err(Refusal::NumbersFull);
@@ -145,6 +147,7 @@ fn first_numbers(
 ) -> Result<Deed, Refusal>
     requires { IsNumber first }
     ensures due { IsDue (numbers [] first most objects) result }
+    ensures kind { IfOk result (λ deed. is_of_objects deed ≡ true) }
 {
     let mut chosen = objects;
     if chosen.is_empty() {
@@ -167,6 +170,7 @@ pub fn numbers<L: Ledger>(office: &L, alloc: Global, first: u32, most: u32) -> R
     requires most { 1 ≤ most }
     ensures due { IsDue
         (numbers (numbers_of (L.deeds office.now)) first most (eligible_after (L.deeds office.now))) result }
+    ensures kind { IfOk result (λ deed. is_of_objects deed ≡ true) }
 {
     if let Some(refusal) = not_next(office, first) {
         return Err(refusal);
