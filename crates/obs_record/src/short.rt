@@ -12,6 +12,7 @@ pub struct Short {
 
 impl Short {
     /// The text, or its first 12 bytes where it is longer.
+    #[inline(always)]
     pub fn new(text: &[u8]) -> Short
         ensures text { result ≡ kept_short text.now }
         ensures short { IsShort result }
