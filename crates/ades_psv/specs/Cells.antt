@@ -1,6 +1,6 @@
 -- The cells of a line, which bars separate: the names of a column header, and the fields of a data line.
 use Rattle.std.specs.Prelude.{ℕ, Bool, false, ◌==◌, nat_eq, List, [], ◌∷◌, map, Option, Some, None, slice_get, unwrap_or}
-use Rattle.std.specs.List.{slice_split, position_from}
+use Rattle.std.specs.List.{slice_split}
 use Rattle.std.specs.Cmp.Lexicographic.{pointwise}
 use Rattle.ascii_text.specs.Blanks.{trimmed}
 use Rattle.ascii_text.specs.Bytes.{vertical_bar}
@@ -13,10 +13,6 @@ is_word word text = pointwise nat_eq text word
 abbrev pub begins_with : ℕ → List ℕ → Bool
 begins_with byte [] = false
 begins_with byte (first ∷ line) = first == byte
-
--- the place of the first bar, counted from 0
-abbrev pub bar_place : List ℕ → Option ℕ
-bar_place text = position_from (λ byte. byte == vertical_bar) 0 text
 
 -- what stands between the bars of a line, blanks included
 abbrev pub pieces : List ℕ → List (List ℕ)

@@ -2,50 +2,19 @@
 
 ghost use Rattle.std.specs.Prelude.{◌≡◌, ◌==◌, ◌+◌, ◌<◌, ◌≤◌, [], ◌∷◌, ◌++◌, All, false, length, IfSome, IfNone, count_by};
 ghost use Rattle.ascii_text.specs.Bytes.{vertical_bar};
-ghost use Rattle.ades_psv.specs.Cells.{bar_place, cells};
+ghost use Rattle.ades_psv.specs.Cells.{cells};
 ghost use Rattle.ades_psv.specs.Columns.{place_of};
 
 use ascii_text::blanks::trimmed;
 
-/// The place of the first bar of a text, counted from 0. Cells are short: a loop that looks at four bytes in a turn finds
-/// their end sooner than a search that is made for long texts.
-fn bar_place(text: &[u8]) -> Option<usize>
-    ensures { result ≡ bar_place text.now }
-{
-    let mut passed = 0;
-    let mut rest = text;
-    'fours: while let [a, b, c, d, behind @ ..] = rest {
-        if *a == b'|' {
-            return Some(passed);
-        }
-        if *b == b'|' {
-            return Some(passed + 1);
-        }
-        if *c == b'|' {
-            return Some(passed + 2);
-        }
-        if *d == b'|' {
-            return Some(passed + 3);
-        }
-        passed += 4;
-        rest = behind;
-    }
-    'bytes: for byte in rest {
-        if *byte == b'|' {
-            return Some(passed);
-        }
-        passed += 1;
-    }
-    None
-}
-
-/// What stands before the first bar of a text, and what stands behind it; the whole text where there is none.
+/// What stands before the first bar of a text, and what stands behind it; the whole text where there is none. Cells are
+/// short, and a plain loop finds their end sooner than a search that is made for long texts.
 fn cut_at_bar(text: &[u8]) -> (&[u8], Option<&[u8]>)
     ensures parts { IfSome result.1 (λ behind. text.now ≡ result.0.now ++ 124 ∷ behind.now) }
     ensures whole { IfNone result.1 (result.0.now ≡ text.now) }
     ensures first { All (λ b. (b == vertical_bar) ≡ false) result.0.now }
 {
-    match bar_place(text) {
+    match text.iter().position(|byte| *byte == b'|') {
         None => (text, None),
         Some(place) => {
             let (front, rest) = text.split_at(place);
