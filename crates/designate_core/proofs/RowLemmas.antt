@@ -31,8 +31,8 @@ orders_in-same half given past same = ap (λ (b : Bool). cond b (given.order ∷
 
 orders_in-apart : (half : HalfMonth) (given : Provisional) (past : List Provisional) → eq_by_cmp half_cmp given.half half ≡ false → orders_in half (given ∷ past) ≡ orders_in half past
 orders_in-apart half given past apart = ap (λ (b : Bool). cond b (given.order ∷ orders_in half past) (orders_in half past)) apart
-module _ (orders : OrderLaws) where
 
+module _ (orders : OrderLaws) where
   pub unbroken : (half : HalfMonth) (takes : List Take) → orders_in half (designations_given takes) ≡ down_from (given_in half takes)
   unbroken half [] = refl
   unbroken half (take ∷ past) =

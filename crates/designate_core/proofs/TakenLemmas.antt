@@ -13,8 +13,8 @@ use Rattle.designate_core.proofs.RowLemmas.{given_in-yes}
 
 pub newest_first : (taken : List Taken) (place : ℕ) (t : Taken) → place < length taken → reverse (take (place + 1) taken) ≡ get_or taken place t ∷ reverse (take place taken)
 newest_first taken place t within = ap reverse (take_more taken place t within) ∙ reverse-append (take place taken) (get_or taken place t ∷ [])
-module _ (orders : OrderLaws) where
 
+module _ (orders : OrderLaws) where
   -- the newest designation of a half-month has its count for an order
   newest_order : (half : HalfMonth) (t : Taken) (older : List Taken) → AreGivenInRow (t ∷ older) → eq_by_cmp half_cmp t.given.half half ≡ true
       → t.given.order ≡ given_in half (map take_of (t ∷ older))

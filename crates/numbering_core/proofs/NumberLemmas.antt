@@ -49,8 +49,8 @@ numbered_among n d (newest ∷ past) some =
       | inl same ↦ (0, omega arith, ap (λ (m : Number). m.0) (some_same newest.number n (sym (number-here d newest past same) ∙ some)))
       | inr apart ↦ let rest = numbered_among n d past (sym (number-past d newest past apart) ∙ some) in (suc rest.0, omega (arith, rest.1), rest.2)
     ]
-module _ (orders : OrderLaws) where
 
+module _ (orders : OrderLaws) where
   -- the designation with a number is the one that the number was given to
   pub named_from : (numbered : List Numbering) → IsUnbroken numbered → (n : Number) (d : Designation) → number_of numbered d ≡ Some n → named numbered n.0 ≡ Some d
   named_from [] row n d some = absurd (cc)

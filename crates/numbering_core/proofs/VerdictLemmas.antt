@@ -25,8 +25,8 @@ dropped p v vs same = ap (λ (b : Bool). cond (not b) (v ∷ others p vs) (other
 
 kept : (p : Designation) (v : Verdict) (vs : List Verdict) → is_of p v ≡ false → others p (v ∷ vs) ≡ v ∷ others p vs
 kept p v vs apart = ap (λ (b : Bool). cond (not b) (v ∷ others p vs) (others p vs)) apart
-module _ (orders : OrderLaws) where
 
+module _ (orders : OrderLaws) where
   pub removed : (p d : Designation) (vs : List Verdict) → eq_by_cmp designation_cmp p d ≡ true → verdict_of (others p vs) d ≡ None
   removed p d [] same = refl
   removed p d (v ∷ vs) same =

@@ -1,4 +1,4 @@
-use Rattle.std.proofs.Common.{◌≡◌, ◌+◌, ◌*◌, ◌^◌, ◌<◌, ◌≤◌, refl, ap, ◌∙◌, arith, drop}
+use Rattle.std.proofs.Common.{◌≡◌, ◌+◌, ◌*◌, ◌^◌, ◌<◌, refl, ap, ◌∙◌, arith, drop}
 use Rattle.std.proofs.lemmas.List.{drop-drop}
 use Rattle.ascii_text.specs.declared.digits.Radix.TheVariants.{Ten}
 use Rattle.ascii_text.proofs.Steps.{digits_below, ten_power}

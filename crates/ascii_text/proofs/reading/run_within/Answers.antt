@@ -1,7 +1,4 @@
-use Rattle.std.proofs.Common.{◌≡◌, ◌+◌, ℕ, List, drop, sym, ap, ◌∙◌, arith}
-use Rattle.std.proofs.lemmas.List.{drop-drop}
-use Rattle.ascii_text.specs.Reading.{digit_run}
-use Rattle.ascii_text.proofs.NumberTexts.{run_past}
+use Rattle.std.proofs.Common.{arith}
 use Rattle.ascii_text.proofs.DigitRuns.{past_all}
 use Rattle.ascii_text.proofs.reading.run_within.Goals as goal
 
