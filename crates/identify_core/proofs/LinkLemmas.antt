@@ -6,10 +6,10 @@ use Rattle.std.proofs.lemmas.Bool.{cases_Bool}
 use Rattle.std.proofs.lemmas.List.Sums.{sum_by-cons}
 use Rattle.std.proofs.lemmas.List.Sorted.{sum_by-IsPermutation, Contains-permutation}
 use Rattle.packed_names.specs.declared.name.Designation.{Designation}
+use Rattle.packed_names.specs.Laws.{OrderLaws}
 use Rattle.identify_core.specs.declared.link.Link.{Link}
 use Rattle.identify_core.specs.Principals.{principal_of}
 use Rattle.identify_core.specs.Walks.{has_member}
-use Rattle.identify_core.proofs.OrderLemmas.{designation_same, designation_itself}
 
 pub principal_of-here : (d : Designation) (link : Link) (links : List Link) → has_member d link ≡ true → principal_of (link ∷ links) d ≡ Some link.principal
 principal_of-here d link links same = ap (λ (b : Bool). cond b (Some link.principal) (principal_of links d)) same
@@ -67,45 +67,46 @@ link_is link p d principal member = ap (λ (q : Designation). linked q link.memb
 pub some_same : (p q : Designation) → Some p ≡ Some q → p ≡ q
 some_same p q e = cc
 
-pub link_from_some : (d p : Designation) (links : List Link) → principal_of links d ≡ Some p → Contains links (linked p d)
-link_from_some d p [] some = absurd (cc)
-link_from_some d p (link ∷ links) some =
-    elim (cases_Bool (has_member d link)) [
-      | inl same ↦
-          let principal = some_same link.principal p (sym (principal_of-here d link links same) ∙ some) in
-          (0, omega arith, link_is link p d principal (designation_same link.member d same))
-      | inr apart ↦
-          let rest = link_from_some d p links (sym (principal_of-past d link links apart) ∙ some) in (suc rest.0, omega (arith, rest.1), rest.2)
-    ]
-
-pub some_from_link : (d p : Designation) (links : List Link) → count_by (has_member d) links ≤ 1 → Contains links (linked p d) → principal_of links d ≡ Some p
-some_from_link d p [] once among = absurd (omega (arith, among.1))
-some_from_link d p (link ∷ links) once (zero, below, here) =
-    let P : Link → Type 0 = λ l. principal_of (l ∷ links) d ≡ Some p in
-    subst P (sym here) (principal_of-here d (linked p d) links (designation_itself d))
-some_from_link d p (link ∷ links) once (suc k, below, here) =
-    let more = count-more d link links in
-    let rest = some_from_link d p links (omega (arith, once, more)) (k, omega (arith, below), here) in
-    elim (cases_Bool (has_member d link)) [
-      | inl same ↦ let e = count-here d link links same in let counted = counted_from_some d p links rest in absurd (omega (arith, e, counted, once))
-      | inr apart ↦ principal_of-past d link links apart ∙ rest
-    ]
-
 -- each designation has at most one link
 abbrev pub EachOnce : List Link → Type 0
 EachOnce links = (d : Designation) → count_by (has_member d) links ≤ 1
 
-pub count-permuted : (xs ys : List Link) → IsPermutation xs ys → (d : Designation) → count_by (has_member d) ys ≡ count_by (has_member d) xs
-count-permuted xs ys moved d = sum_by-IsPermutation (λ (l : Link). cond (has_member d l) 1 0) xs ys moved
+module _ (orders : OrderLaws) where
+  pub link_from_some : (d p : Designation) (links : List Link) → principal_of links d ≡ Some p → Contains links (linked p d)
+  link_from_some d p [] some = absurd (cc)
+  link_from_some d p (link ∷ links) some =
+      elim (cases_Bool (has_member d link)) [
+        | inl same ↦
+            let principal = some_same link.principal p (sym (principal_of-here d link links same) ∙ some) in
+            (0, omega arith, link_is link p d principal ((orders.designations link.member d).0 same))
+        | inr apart ↦
+            let rest = link_from_some d p links (sym (principal_of-past d link links apart) ∙ some) in (suc rest.0, omega (arith, rest.1), rest.2)
+      ]
 
-pub once_permuted : (xs ys : List Link) → IsPermutation xs ys → EachOnce xs → EachOnce ys
-once_permuted xs ys moved once d = let e = count-permuted xs ys moved d in let one = once d in omega (arith, e, one)
+  pub some_from_link : (d p : Designation) (links : List Link) → count_by (has_member d) links ≤ 1 → Contains links (linked p d) → principal_of links d ≡ Some p
+  some_from_link d p [] once among = absurd (omega (arith, among.1))
+  some_from_link d p (link ∷ links) once (zero, below, here) =
+      let P : Link → Type 0 = λ l. principal_of (l ∷ links) d ≡ Some p in
+      subst P (sym here) (principal_of-here d (linked p d) links ((orders.designations d d).1 refl))
+  some_from_link d p (link ∷ links) once (suc k, below, here) =
+      let more = count-more d link links in
+      let rest = some_from_link d p links (omega (arith, once, more)) (k, omega (arith, below), here) in
+      elim (cases_Bool (has_member d link)) [
+        | inl same ↦ let e = count-here d link links same in let counted = counted_from_some d p links rest in absurd (omega (arith, e, counted, once))
+        | inr apart ↦ principal_of-past d link links apart ∙ rest
+      ]
 
-permuted_as : (xs ys : List Link) → IsPermutation xs ys → EachOnce xs → (d : Designation) (before : Option Designation) → principal_of xs d ≡ before → principal_of ys d ≡ before
-permuted_as xs ys moved once d None none = none_from_count d ys (count-permuted xs ys moved d ∙ count_from_none d xs none)
-permuted_as xs ys moved once d (Some p) some =
-    some_from_link d p ys (once_permuted xs ys moved once d) (Contains-permutation xs ys (linked p d) moved (link_from_some d p xs some))
+  pub count-permuted : (xs ys : List Link) → IsPermutation xs ys → (d : Designation) → count_by (has_member d) ys ≡ count_by (has_member d) xs
+  count-permuted xs ys moved d = sum_by-IsPermutation (λ (l : Link). cond (has_member d l) 1 0) xs ys moved
 
--- another order of the links leaves each principal
-pub principal_of-permuted : (xs ys : List Link) → IsPermutation xs ys → EachOnce xs → (d : Designation) → principal_of ys d ≡ principal_of xs d
-principal_of-permuted xs ys moved once d = permuted_as xs ys moved once d (principal_of xs d) refl
+  pub once_permuted : (xs ys : List Link) → IsPermutation xs ys → EachOnce xs → EachOnce ys
+  once_permuted xs ys moved once d = let e = count-permuted xs ys moved d in let one = once d in omega (arith, e, one)
+
+  permuted_as : (xs ys : List Link) → IsPermutation xs ys → EachOnce xs → (d : Designation) (before : Option Designation) → principal_of xs d ≡ before → principal_of ys d ≡ before
+  permuted_as xs ys moved once d None none = none_from_count d ys (count-permuted xs ys moved d ∙ count_from_none d xs none)
+  permuted_as xs ys moved once d (Some p) some =
+      some_from_link d p ys (once_permuted xs ys moved once d) (Contains-permutation xs ys (linked p d) moved (link_from_some d p xs some))
+
+  -- another order of the links leaves each principal
+  pub principal_of-permuted : (xs ys : List Link) → IsPermutation xs ys → EachOnce xs → (d : Designation) → principal_of ys d ≡ principal_of xs d
+  principal_of-permuted xs ys moved once d = permuted_as xs ys moved once d (principal_of xs d) refl

@@ -12,10 +12,11 @@ use Rattle.std.proofs.lemmas.List.Sums.{take_while-cons}
 use Rattle.std.proofs.lemmas.List.Sorted.{sorted_far, ranks_by}
 use Rattle.packed_names.specs.declared.name.Designation.{Designation}
 use Rattle.packed_names.specs.Order.{designation_cmp}
+use Rattle.packed_names.specs.Laws.{OrderLaws}
 use Rattle.identify_core.specs.declared.link.Link.{Link}
 use Rattle.identify_core.specs.Principals.{principal_of, IsBefore, IsAscending}
 use Rattle.identify_core.specs.Walks.{has_principal, has_member, link_cmp, run_of}
-use Rattle.identify_core.proofs.OrderLemmas.{designation_same, designation_itself, designation_total, link_total, then_parts}
+use Rattle.identify_core.proofs.OrderLemmas.{link_total, then_parts}
 use Rattle.identify_core.proofs.LinkLemmas.{EachOnce, principal_of-here, principal_of-past, count-here, count-more, counted_at, counted_from_some, some_same}
 
 -- a link comes before each of others
@@ -41,192 +42,193 @@ behind_from Greater h apart = refl
 pub tied_member : (one other : Link) → link_cmp one other ≡ Equal → has_member other.member one ≡ true
 tied_member one other tied = (then_parts (designation_cmp one.principal other.principal) (designation_cmp one.member other.member) (ap is_eq tied)).1
 
-behind_at : (one : Link) (links : List Link) → IsSorted link_cmp (one ∷ links) → EachOnce (one ∷ links) → (j : ℕ) (x : Link) → j < length links → link_cmp one (get_or links j x) ≡ Less
-behind_at one links sorted once j x below =
-    let next : Link = get_or links j x in
-    let late : is_lt (link_cmp next one) ≡ false =
-    sorted_far (λ a b. is_lt (link_cmp a b)) (ranks_by link_total (λ l. l)) (one ∷ links) sorted 0 (suc j) x (omega arith) (omega (arith, below)) in
-    link_total.antisymm one next
-    ∙ behind_from (link_cmp next one) late
-    (λ tied.
-    let counted = counted_at one.member links j x below (tied_member next one tied) in
-    let count = count-here one.member one links (designation_itself one.member) in
-    let most = once one.member in
-    omega (arith, counted, count, most))
-
-tail_sorted : (one : Link) (links : List Link) → IsSorted link_cmp (one ∷ links) → IsSorted link_cmp links
-tail_sorted one links sorted k d low high =
-    let next : suc k + 1 ≡ suc (k + 1) = omega arith in
-    subst (λ (n : ℕ). is_lt (link_cmp (get_or (one ∷ links) n d) (get_or links k d)) ≡ false) next (sorted (suc k) d (omega arith) (omega (arith, high)))
-
-pub rising : (links : List Link) → IsSorted link_cmp links → EachOnce links → IsRising links
-rising [] sorted once = tt
-rising (one ∷ links) sorted once = (
-  all_behind one links (behind_at one links sorted once),
-  rising links (tail_sorted one links sorted) (λ d. let most = once d in let more = count-more d one links in omega (arith, most, more)),
-)
-
-filter-yes : (p : Designation) (link : Link) (links : List Link) → has_principal p link ≡ true → filter (has_principal p) (link ∷ links) ≡ link ∷ filter (has_principal p) links
-filter-yes p link links same = ap (λ (b : Bool). cond b (link ∷ filter (has_principal p) links) (filter (has_principal p) links)) same
-
-filter-no : (p : Designation) (link : Link) (links : List Link) → has_principal p link ≡ false → filter (has_principal p) (link ∷ links) ≡ filter (has_principal p) links
-filter-no p link links apart = ap (λ (b : Bool). cond b (link ∷ filter (has_principal p) links) (filter (has_principal p) links)) apart
-
--- how the first of two orders stands where both together are Less
-first_less : (o q : Ordering) → ordering_then o q ≡ Less → (o ≡ Less) ⊎ ((o ≡ Equal) × (q ≡ Less))
-first_less Less q h = inl refl
-first_less Equal q h = inr (refl, h)
-first_less Greater q h = absurd (cc)
-
-not_after : (d e : Designation) → designation_cmp d e ≡ Less → designation_cmp e d ≡ Greater
-not_after d e less = designation_total.antisymm e d ∙ ap ordering_reverse less
-
--- a link behind one whose principal comes after p isn't of p
-passed : (p : Designation) (one other : Link) → link_cmp one other ≡ Less → designation_cmp p one.principal ≡ Less → has_principal p other ≡ false
-passed p one other behind less =
-    false_from_ne_true (has_principal p other)
-    (λ h.
-    let same = designation_same other.principal p h in
-    let greater : designation_cmp one.principal other.principal ≡ Greater = ap (designation_cmp one.principal) same ∙ not_after p one.principal less in
-    elim (first_less (designation_cmp one.principal other.principal) (designation_cmp one.member other.member) behind) [
-      | inl before ↦ cc
-      | inr tied ↦ let e = tied.0 in cc
-    ])
-
-none_behind : (p : Designation) (one : Link) (links : List Link) → AreBehind one links → designation_cmp p one.principal ≡ Less → filter (has_principal p) links ≡ []
-none_behind p one [] behind less = refl
-none_behind p one (other ∷ links) behind less = filter-no p other links (passed p one other behind.0 less) ∙ none_behind p one links behind.1 less
-
--- the first link that isn't of p comes after it
-beyond : (p : Designation) (one other : Link) → link_cmp one other ≡ Less → has_principal p one ≡ true → has_principal p other ≡ false → designation_cmp p other.principal ≡ Less
-beyond p one other behind mine apart =
-    let same = designation_same one.principal p mine in
-    elim (first_less (designation_cmp one.principal other.principal) (designation_cmp one.member other.member) behind) [
-      | inl before ↦ subst (λ (q : Designation). designation_cmp q other.principal ≡ Less) same before
-      | inr tied ↦
-          let equal = designation_same one.principal other.principal (ap is_eq tied.0) in
-          let mine_too : has_principal p other ≡ true = subst (λ (q : Designation). eq_by_cmp designation_cmp q p ≡ true) equal mine in
-          absurd (cc)
-    ]
-
-run_first : (p : Designation) (one : Link) (links : List Link) → AreBehind one links → IsRising links → has_principal p one ≡ true → filter (has_principal p) links ≡ take_while (has_principal p) links
-run_first p one [] behind up mine = refl
-run_first p one (other ∷ links) behind up mine =
-    let cut = take_while-cons (has_principal p) other links in
-    elim (cases_Bool (has_principal p other)) [
-      | inl same ↦
-          filter-yes p other links same
-          ∙ ap (λ (ls : List Link). other ∷ ls) (run_first p other links up.0 up.1 same)
-          ∙ sym (cut ∙ ap (λ (b : Bool). cond b (other ∷ take_while (has_principal p) links) []) same)
-      | inr apart ↦
-          filter-no p other links apart
-          ∙ none_behind p other links up.0 (beyond p one other behind.0 mine apart)
-          ∙ sym (cut ∙ ap (λ (b : Bool). cond b (other ∷ take_while (has_principal p) links) []) apart)
-    ]
-
--- the links that stand together are all that the principal has
-pub run_is : (p : Designation) (links : List Link) → IsRising links → run_of p links ≡ filter (has_principal p) links
-run_is p [] up = refl
-run_is p (one ∷ links) up =
-    let f : Link → Bool = has_principal p in
-    let n : ℕ = prefix_len (λ link. not (f link)) links in
-    let cut = take_while-cons f one links in
-    elim (cases_Bool (f one)) [
-      | inl same ↦
-          let none : prefix_len (λ link. not (f link)) (one ∷ links) ≡ 0 = ap (λ (b : Bool). cond (not b) (1 + n) 0) same in
-          ap (λ (k : ℕ). take_while f (drop k (one ∷ links))) none
-          ∙ (cut ∙ ap (λ (b : Bool). cond b (one ∷ take_while f links) []) same)
-          ∙ ap (λ (ls : List Link). one ∷ ls) (sym (run_first p one links up.0 up.1 same))
-          ∙ sym (filter-yes p one links same)
-      | inr apart ↦
-          let one_more : 1 + n ≡ suc n = omega arith in
-          let past : prefix_len (λ link. not (f link)) (one ∷ links) ≡ suc n = ap (λ (b : Bool). cond (not b) (1 + n) 0) apart ∙ one_more in
-          ap (λ (k : ℕ). take_while f (drop k (one ∷ links))) past ∙ run_is p links up.1 ∙ sym (filter-no p one links apart)
-    ]
-
 abbrev pub members : Designation → List Link → List Designation
 members p links = map (λ (l : Link). l.member) (filter (has_principal p) links)
 
-pub all_of : (p : Designation) (links : List Link) → All (λ (l : Link). l.principal ≡ p) (filter (has_principal p) links)
-all_of p [] = All-nil (λ (l : Link). l.principal ≡ p)
-all_of p (link ∷ links) =
-    elim (cases_Bool (has_principal p link)) [
-      | inl same ↦
-          subst (All (λ (l : Link). l.principal ≡ p)) (sym (filter-yes p link links same))
-          (All-cons (λ (l : Link). l.principal ≡ p) link (filter (has_principal p) links) (designation_same link.principal p same) (all_of p links))
-      | inr apart ↦ subst (All (λ (l : Link). l.principal ≡ p)) (sym (filter-no p link links apart)) (all_of p links)
-    ]
+module _ (orders : OrderLaws) where
+  behind_at : (one : Link) (links : List Link) → IsSorted link_cmp (one ∷ links) → EachOnce (one ∷ links) → (j : ℕ) (x : Link) → j < length links → link_cmp one (get_or links j x) ≡ Less
+  behind_at one links sorted once j x below =
+      let next : Link = get_or links j x in
+      let late : is_lt (link_cmp next one) ≡ false =
+      sorted_far (λ a b. is_lt (link_cmp a b)) (ranks_by (link_total orders) (λ l. l)) (one ∷ links) sorted 0 (suc j) x (omega arith) (omega (arith, below)) in
+      (link_total orders).antisymm one next
+      ∙ behind_from (link_cmp next one) late
+      (λ tied.
+      let counted = counted_at one.member links j x below (tied_member next one tied) in
+      let count = count-here one.member one links ((orders.designations one.member one.member).1 refl) in
+      let most = once one.member in
+      omega (arith, counted, count, most))
 
-pub among : (d p : Designation) (links : List Link) → principal_of links d ≡ Some p → Contains (members p links) d
-among d p [] some = absurd (cc)
-among d p (link ∷ links) some =
-    let M : List Link → Type 0 = λ ls. Contains (map (λ (l : Link). l.member) ls) d in
-    elim (cases_Bool (has_member d link)) [
-      | inl here ↦
-          let principal = some_same link.principal p (sym (principal_of-here d link links here) ∙ some) in
-          let mine : has_principal p link ≡ true = subst (λ (q : Designation). eq_by_cmp designation_cmp link.principal q ≡ true) principal (designation_itself link.principal) in
-          subst M (sym (filter-yes p link links mine)) (0, omega arith, designation_same link.member d here)
-      | inr past ↦
-          let rest = among d p links (sym (principal_of-past d link links past) ∙ some) in
-          elim (cases_Bool (has_principal p link)) [
-            | inl mine ↦ subst M (sym (filter-yes p link links mine)) (suc rest.0, omega (arith, rest.1), rest.2)
-            | inr not_mine ↦ subst M (sym (filter-no p link links not_mine)) rest
-          ]
-    ]
+  tail_sorted : (one : Link) (links : List Link) → IsSorted link_cmp (one ∷ links) → IsSorted link_cmp links
+  tail_sorted one links sorted k d low high =
+      let next : suc k + 1 ≡ suc (k + 1) = omega arith in
+      subst (λ (n : ℕ). is_lt (link_cmp (get_or (one ∷ links) n d) (get_or links k d)) ≡ false) next (sorted (suc k) d (omega arith) (omega (arith, high)))
 
-tail_once : (d : Designation) (link : Link) (links : List Link) → count_by (has_member d) (link ∷ links) ≤ 1 → count_by (has_member d) links ≤ 1
-tail_once d link links once = let more = count-more d link links in omega (arith, once, more)
+  pub rising : (links : List Link) → IsSorted link_cmp links → EachOnce links → IsRising links
+  rising [] sorted once = tt
+  rising (one ∷ links) sorted once = (
+    all_behind one links (behind_at one links sorted once),
+    rising links (tail_sorted one links sorted) (λ d. let most = once d in let more = count-more d one links in omega (arith, most, more)),
+  )
 
--- a link that is found behind another one has another member
-behind_first : (d p : Designation) (link : Link) (links : List Link) → count_by (has_member d) (link ∷ links) ≤ 1 → principal_of links d ≡ Some p → principal_of (link ∷ links) d ≡ Some p
-behind_first d p link links once rest =
-    elim (cases_Bool (has_member d link)) [
-      | inl same ↦ let count = count-here d link links same in let counted = counted_from_some d p links rest in absurd (omega (arith, count, counted, once))
-      | inr apart ↦ principal_of-past d link links apart ∙ rest
-    ]
+  filter-yes : (p : Designation) (link : Link) (links : List Link) → has_principal p link ≡ true → filter (has_principal p) (link ∷ links) ≡ link ∷ filter (has_principal p) links
+  filter-yes p link links same = ap (λ (b : Bool). cond b (link ∷ filter (has_principal p) links) (filter (has_principal p) links)) same
 
--- what a list begins with, or what follows it
-pub first_or_later : (e : Designation) (ds : List Designation) (d : Designation) → Contains (e ∷ ds) d → (e ≡ d) ⊎ Contains ds d
-first_or_later e ds d (zero, below, here) = inl here
-first_or_later e ds d (suc k, below, here) = inr (k, omega (arith, below), here)
+  filter-no : (p : Designation) (link : Link) (links : List Link) → has_principal p link ≡ false → filter (has_principal p) (link ∷ links) ≡ filter (has_principal p) links
+  filter-no p link links apart = ap (λ (b : Bool). cond b (link ∷ filter (has_principal p) links) (filter (has_principal p) links)) apart
 
-pub principal_from : (d p : Designation) (links : List Link) → count_by (has_member d) links ≤ 1 → Contains (members p links) d → principal_of links d ≡ Some p
-principal_from d p [] once found = absurd (omega (arith, found.1))
-principal_from d p (link ∷ links) once found =
-    let M : List Link → Type 0 = λ ls. Contains (map (λ (l : Link). l.member) ls) d in
-    elim (cases_Bool (has_principal p link)) [
-      | inl mine ↦
-          elim (first_or_later link.member (members p links) d (subst M (filter-yes p link links mine) found)) [
-            | inl here ↦
-                principal_of-here d link links (subst (λ (e : Designation). eq_by_cmp designation_cmp link.member e ≡ true) here (designation_itself link.member))
-                ∙ ap Some (designation_same link.principal p mine)
-            | inr later ↦ behind_first d p link links once (principal_from d p links (tail_once d link links once) later)
-          ]
-      | inr not_mine ↦ behind_first d p link links once (principal_from d p links (tail_once d link links once) (subst M (filter-no p link links not_mine) found))
-    ]
+  -- how the first of two orders stands where both together are Less
+  first_less : (o q : Ordering) → ordering_then o q ≡ Less → (o ≡ Less) ⊎ ((o ≡ Equal) × (q ≡ Less))
+  first_less Less q h = inl refl
+  first_less Equal q h = inr (refl, h)
+  first_less Greater q h = absurd (cc)
 
-equal_from : (d e p : Designation) → eq_by_cmp designation_cmp d p ≡ true → eq_by_cmp designation_cmp e p ≡ true → designation_cmp d e ≡ Equal
-equal_from d e p one two =
-    subst (λ (q : Designation). designation_cmp d q ≡ Equal) (designation_same d p one ∙ sym (designation_same e p two)) (tied_itself designation_total d)
+  not_after : (d e : Designation) → designation_cmp d e ≡ Less → designation_cmp e d ≡ Greater
+  not_after d e less = orders.total.antisymm e d ∙ ap ordering_reverse less
 
-before_members : (p : Designation) (one : Link) (links : List Link) → AreBehind one links → has_principal p one ≡ true → IsBefore one.member (members p links)
-before_members p one [] behind mine = tt
-before_members p one (other ∷ links) behind mine =
-    let B : List Link → Type 0 = λ ls. IsBefore one.member (map (λ (l : Link). l.member) ls) in
-    let rest = before_members p one links behind.1 mine in
-    elim (cases_Bool (has_principal p other)) [
-      | inl same ↦
-          let tied : designation_cmp one.principal other.principal ≡ Equal = equal_from one.principal other.principal p mine same in
-          let less : designation_cmp one.member other.member ≡ Less = ap (λ (o : Ordering). ordering_then o (designation_cmp one.member other.member)) (sym tied) ∙ behind.0 in
-          subst B (sym (filter-yes p other links same)) (less, rest)
-      | inr apart ↦ subst B (sym (filter-no p other links apart)) rest
-    ]
+  -- a link behind one whose principal comes after p isn't of p
+  passed : (p : Designation) (one other : Link) → link_cmp one other ≡ Less → designation_cmp p one.principal ≡ Less → has_principal p other ≡ false
+  passed p one other behind less =
+      false_from_ne_true (has_principal p other)
+      (λ h.
+      let same = (orders.designations other.principal p).0 h in
+      let greater : designation_cmp one.principal other.principal ≡ Greater = ap (designation_cmp one.principal) same ∙ not_after p one.principal less in
+      elim (first_less (designation_cmp one.principal other.principal) (designation_cmp one.member other.member) behind) [
+        | inl before ↦ cc
+        | inr tied ↦ let e = tied.0 in cc
+      ])
 
-pub ascending : (p : Designation) (links : List Link) → IsRising links → IsAscending (members p links)
-ascending p [] up = tt
-ascending p (link ∷ links) up =
-    let A : List Link → Type 0 = λ ls. IsAscending (map (λ (l : Link). l.member) ls) in
-    elim (cases_Bool (has_principal p link)) [
-      | inl mine ↦ subst A (sym (filter-yes p link links mine)) (before_members p link links up.0 mine, ascending p links up.1)
-      | inr not_mine ↦ subst A (sym (filter-no p link links not_mine)) (ascending p links up.1)
-    ]
+  none_behind : (p : Designation) (one : Link) (links : List Link) → AreBehind one links → designation_cmp p one.principal ≡ Less → filter (has_principal p) links ≡ []
+  none_behind p one [] behind less = refl
+  none_behind p one (other ∷ links) behind less = filter-no p other links (passed p one other behind.0 less) ∙ none_behind p one links behind.1 less
+
+  -- the first link that isn't of p comes after it
+  beyond : (p : Designation) (one other : Link) → link_cmp one other ≡ Less → has_principal p one ≡ true → has_principal p other ≡ false → designation_cmp p other.principal ≡ Less
+  beyond p one other behind mine apart =
+      let same = (orders.designations one.principal p).0 mine in
+      elim (first_less (designation_cmp one.principal other.principal) (designation_cmp one.member other.member) behind) [
+        | inl before ↦ subst (λ (q : Designation). designation_cmp q other.principal ≡ Less) same before
+        | inr tied ↦
+            let equal = (orders.designations one.principal other.principal).0 (ap is_eq tied.0) in
+            let mine_too : has_principal p other ≡ true = subst (λ (q : Designation). eq_by_cmp designation_cmp q p ≡ true) equal mine in
+            absurd (cc)
+      ]
+
+  run_first : (p : Designation) (one : Link) (links : List Link) → AreBehind one links → IsRising links → has_principal p one ≡ true → filter (has_principal p) links ≡ take_while (has_principal p) links
+  run_first p one [] behind up mine = refl
+  run_first p one (other ∷ links) behind up mine =
+      let cut = take_while-cons (has_principal p) other links in
+      elim (cases_Bool (has_principal p other)) [
+        | inl same ↦
+            filter-yes p other links same
+            ∙ ap (λ (ls : List Link). other ∷ ls) (run_first p other links up.0 up.1 same)
+            ∙ sym (cut ∙ ap (λ (b : Bool). cond b (other ∷ take_while (has_principal p) links) []) same)
+        | inr apart ↦
+            filter-no p other links apart
+            ∙ none_behind p other links up.0 (beyond p one other behind.0 mine apart)
+            ∙ sym (cut ∙ ap (λ (b : Bool). cond b (other ∷ take_while (has_principal p) links) []) apart)
+      ]
+
+  -- the links that stand together are all that the principal has
+  pub run_is : (p : Designation) (links : List Link) → IsRising links → run_of p links ≡ filter (has_principal p) links
+  run_is p [] up = refl
+  run_is p (one ∷ links) up =
+      let f : Link → Bool = has_principal p in
+      let n : ℕ = prefix_len (λ link. not (f link)) links in
+      let cut = take_while-cons f one links in
+      elim (cases_Bool (f one)) [
+        | inl same ↦
+            let none : prefix_len (λ link. not (f link)) (one ∷ links) ≡ 0 = ap (λ (b : Bool). cond (not b) (1 + n) 0) same in
+            ap (λ (k : ℕ). take_while f (drop k (one ∷ links))) none
+            ∙ (cut ∙ ap (λ (b : Bool). cond b (one ∷ take_while f links) []) same)
+            ∙ ap (λ (ls : List Link). one ∷ ls) (sym (run_first p one links up.0 up.1 same))
+            ∙ sym (filter-yes p one links same)
+        | inr apart ↦
+            let one_more : 1 + n ≡ suc n = omega arith in
+            let past : prefix_len (λ link. not (f link)) (one ∷ links) ≡ suc n = ap (λ (b : Bool). cond (not b) (1 + n) 0) apart ∙ one_more in
+            ap (λ (k : ℕ). take_while f (drop k (one ∷ links))) past ∙ run_is p links up.1 ∙ sym (filter-no p one links apart)
+      ]
+
+  pub all_of : (p : Designation) (links : List Link) → All (λ (l : Link). l.principal ≡ p) (filter (has_principal p) links)
+  all_of p [] = All-nil (λ (l : Link). l.principal ≡ p)
+  all_of p (link ∷ links) =
+      elim (cases_Bool (has_principal p link)) [
+        | inl same ↦
+            subst (All (λ (l : Link). l.principal ≡ p)) (sym (filter-yes p link links same))
+            (All-cons (λ (l : Link). l.principal ≡ p) link (filter (has_principal p) links) ((orders.designations link.principal p).0 same) (all_of p links))
+        | inr apart ↦ subst (All (λ (l : Link). l.principal ≡ p)) (sym (filter-no p link links apart)) (all_of p links)
+      ]
+
+  pub among : (d p : Designation) (links : List Link) → principal_of links d ≡ Some p → Contains (members p links) d
+  among d p [] some = absurd (cc)
+  among d p (link ∷ links) some =
+      let M : List Link → Type 0 = λ ls. Contains (map (λ (l : Link). l.member) ls) d in
+      elim (cases_Bool (has_member d link)) [
+        | inl here ↦
+            let principal = some_same link.principal p (sym (principal_of-here d link links here) ∙ some) in
+            let mine : has_principal p link ≡ true = subst (λ (q : Designation). eq_by_cmp designation_cmp link.principal q ≡ true) principal ((orders.designations link.principal link.principal).1 refl) in
+            subst M (sym (filter-yes p link links mine)) (0, omega arith, (orders.designations link.member d).0 here)
+        | inr past ↦
+            let rest = among d p links (sym (principal_of-past d link links past) ∙ some) in
+            elim (cases_Bool (has_principal p link)) [
+              | inl mine ↦ subst M (sym (filter-yes p link links mine)) (suc rest.0, omega (arith, rest.1), rest.2)
+              | inr not_mine ↦ subst M (sym (filter-no p link links not_mine)) rest
+            ]
+      ]
+
+  tail_once : (d : Designation) (link : Link) (links : List Link) → count_by (has_member d) (link ∷ links) ≤ 1 → count_by (has_member d) links ≤ 1
+  tail_once d link links once = let more = count-more d link links in omega (arith, once, more)
+
+  -- a link that is found behind another one has another member
+  behind_first : (d p : Designation) (link : Link) (links : List Link) → count_by (has_member d) (link ∷ links) ≤ 1 → principal_of links d ≡ Some p → principal_of (link ∷ links) d ≡ Some p
+  behind_first d p link links once rest =
+      elim (cases_Bool (has_member d link)) [
+        | inl same ↦ let count = count-here d link links same in let counted = counted_from_some d p links rest in absurd (omega (arith, count, counted, once))
+        | inr apart ↦ principal_of-past d link links apart ∙ rest
+      ]
+
+  -- what a list begins with, or what follows it
+  pub first_or_later : (e : Designation) (ds : List Designation) (d : Designation) → Contains (e ∷ ds) d → (e ≡ d) ⊎ Contains ds d
+  first_or_later e ds d (zero, below, here) = inl here
+  first_or_later e ds d (suc k, below, here) = inr (k, omega (arith, below), here)
+
+  pub principal_from : (d p : Designation) (links : List Link) → count_by (has_member d) links ≤ 1 → Contains (members p links) d → principal_of links d ≡ Some p
+  principal_from d p [] once found = absurd (omega (arith, found.1))
+  principal_from d p (link ∷ links) once found =
+      let M : List Link → Type 0 = λ ls. Contains (map (λ (l : Link). l.member) ls) d in
+      elim (cases_Bool (has_principal p link)) [
+        | inl mine ↦
+            elim (first_or_later link.member (members p links) d (subst M (filter-yes p link links mine) found)) [
+              | inl here ↦
+                  principal_of-here d link links (subst (λ (e : Designation). eq_by_cmp designation_cmp link.member e ≡ true) here ((orders.designations link.member link.member).1 refl))
+                  ∙ ap Some ((orders.designations link.principal p).0 mine)
+              | inr later ↦ behind_first d p link links once (principal_from d p links (tail_once d link links once) later)
+            ]
+        | inr not_mine ↦ behind_first d p link links once (principal_from d p links (tail_once d link links once) (subst M (filter-no p link links not_mine) found))
+      ]
+
+  equal_from : (d e p : Designation) → eq_by_cmp designation_cmp d p ≡ true → eq_by_cmp designation_cmp e p ≡ true → designation_cmp d e ≡ Equal
+  equal_from d e p one two =
+      subst (λ (q : Designation). designation_cmp d q ≡ Equal) ((orders.designations d p).0 one ∙ sym ((orders.designations e p).0 two)) (tied_itself orders.total d)
+
+  before_members : (p : Designation) (one : Link) (links : List Link) → AreBehind one links → has_principal p one ≡ true → IsBefore one.member (members p links)
+  before_members p one [] behind mine = tt
+  before_members p one (other ∷ links) behind mine =
+      let B : List Link → Type 0 = λ ls. IsBefore one.member (map (λ (l : Link). l.member) ls) in
+      let rest = before_members p one links behind.1 mine in
+      elim (cases_Bool (has_principal p other)) [
+        | inl same ↦
+            let tied : designation_cmp one.principal other.principal ≡ Equal = equal_from one.principal other.principal p mine same in
+            let less : designation_cmp one.member other.member ≡ Less = ap (λ (o : Ordering). ordering_then o (designation_cmp one.member other.member)) (sym tied) ∙ behind.0 in
+            subst B (sym (filter-yes p other links same)) (less, rest)
+        | inr apart ↦ subst B (sym (filter-no p other links apart)) rest
+      ]
+
+  pub ascending : (p : Designation) (links : List Link) → IsRising links → IsAscending (members p links)
+  ascending p [] up = tt
+  ascending p (link ∷ links) up =
+      let A : List Link → Type 0 = λ ls. IsAscending (map (λ (l : Link). l.member) ls) in
+      elim (cases_Bool (has_principal p link)) [
+        | inl mine ↦ subst A (sym (filter-yes p link links mine)) (before_members p link links up.0 mine, ascending p links up.1)
+        | inr not_mine ↦ subst A (sym (filter-no p link links not_mine)) (ascending p links up.1)
+      ]

@@ -72,6 +72,7 @@ impl Links {
             → StandFor self.old.links acts → StandFor self.new.links (Given d ∷ acts) }
         ensures spare { self.old.spare ≤ self.new.spare + 1 }
     {
+        packed_names::laws::orders();
         let link = Link {
             principal: d,
             member: d,
@@ -102,6 +103,7 @@ impl Links {
         ensures acts { (acts : List LinkAct)
             → StandFor self.now.links acts → map (λ link. link.member) result.now ≡ members acts p }
     {
+        packed_names::laws::orders();
         walk::run_of(self.links.as_slice(), p)
     }
 
@@ -116,6 +118,7 @@ impl Links {
             → StandFor self.old.links acts → StandFor self.new.links (Joined p s ∷ acts) }
         ensures spare { self.old.spare ≤ self.new.spare }
     {
+        packed_names::laws::orders();
         walk::relabel(self.links.as_mut_slice(), p, s);
         self.links.sort_unstable();
     }
@@ -128,6 +131,7 @@ impl Links {
             → StandFor self.old.links acts → StandFor self.new.links (Parted s ∷ acts) }
         ensures spare { self.old.spare ≤ self.new.spare }
     {
+        packed_names::laws::orders();
         walk::part(self.links.as_mut_slice(), s);
         self.links.sort_unstable();
     }

@@ -58,6 +58,7 @@ pub fn run_of(links: &[Link], p: Designation) -> &[Link]
 fn is_before(one: Link, other: Link) -> bool
     ensures { result ≡ is_lt (link_cmp one other) }
 {
+    packed_names::laws::orders();
     one.cmp(&other).is_lt()
 }
 

@@ -4,4 +4,4 @@ use Rattle.identify_core.proofs.OrderLemmas.{link_order}
 use Rattle.identify_core.proofs.walk.is_before.Goals as goal
 
 pub returns : goal.returns
-returns c = c.is_lt.ensures ∙ ap is_lt (c.cmp.ensures ∙ link_order c.args.one c.args.other)
+returns c = c.is_lt.ensures ∙ ap is_lt (c.cmp.ensures ∙ (link_order c.orders.ensures) c.args.one c.args.other)

@@ -24,11 +24,11 @@ added c =
     ∙ ap (λ (n : ℕ). insert c.self.inside.links.items n link) (c.place_of-place.ensures.count ∙ ap (prefix_len (λ l. is_lt (link_cmp l link))) c.as_slice.ensures.value)
 
 pub invariant_of-self : goal.invariant_of-self
-invariant_of-self c = links_given c.args.d c.self.inside.links.items c.insert.new.self.items c.self.invariant (absent c) (added c)
+invariant_of-self c = (links_given c.orders.ensures) c.args.d c.self.inside.links.items c.insert.new.self.items c.self.invariant (absent c) (added c)
 
 pub returns-clause-principals : goal.returns-clause-principals
 returns-clause-principals c = λ e.
-    follows_given c.args.d c.self.inside.links.items c.insert.new.self.items c.self.invariant (absent c) (added c) e
+    (follows_given c.orders.ensures) c.args.d c.self.inside.links.items c.insert.new.self.items c.self.invariant (absent c) (added c) e
     ∙ ap (λ (v : LinksValue). principal_after (Given c.args.d) e (principal_of v.links e)) c.self.view_is
 
 pub returns-clause-acts : goal.returns-clause-acts

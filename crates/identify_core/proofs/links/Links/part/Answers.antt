@@ -12,13 +12,13 @@ invariant_of-self c =
     let secondary : ¬ IsPrincipal c.self.inside.links.items c.args.s =
     λ own. c.requires.secondary (ap (λ (v : LinksValue). principal_of v.links c.args.s) (sym c.self.view_is) ∙ own) in
     let long : length c.part.new.links ≡ c.self.inside.links.len = ap length c.part.ensures ∙ length-map c.as_mut_slice.result.now (parted c.args.s) ∙ c.as_mut_slice.ensures.len in
-    links_parted c.args.s c.self.inside.links.items _ _ c.self.invariant secondary (take_at _ _ _ long ∙ c.part.ensures ∙ ap (map (parted c.args.s)) c.as_mut_slice.ensures.value)
+    (links_parted c.orders.ensures) c.args.s c.self.inside.links.items _ _ c.self.invariant secondary (take_at _ _ _ long ∙ c.part.ensures ∙ ap (map (parted c.args.s)) c.as_mut_slice.ensures.value)
     c.sort_unstable.ensures.permutation c.sort_unstable.ensures.sorted
 
 pub returns-clause-principals : goal.returns-clause-principals
 returns-clause-principals c = λ e.
     let long : length c.part.new.links ≡ c.self.inside.links.len = ap length c.part.ensures ∙ length-map c.as_mut_slice.result.now (parted c.args.s) ∙ c.as_mut_slice.ensures.len in
-    follows_parted c.args.s c.self.inside.links.items _ _ c.self.invariant (take_at _ _ _ long ∙ c.part.ensures ∙ ap (map (parted c.args.s)) c.as_mut_slice.ensures.value)
+    (follows_parted c.orders.ensures) c.args.s c.self.inside.links.items _ _ c.self.invariant (take_at _ _ _ long ∙ c.part.ensures ∙ ap (map (parted c.args.s)) c.as_mut_slice.ensures.value)
     c.sort_unstable.ensures.permutation e
     ∙ ap (λ (v : LinksValue). principal_after (Parted c.args.s) e (principal_of v.links e)) c.self.view_is
 
