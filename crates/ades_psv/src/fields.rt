@@ -33,7 +33,7 @@ pub(crate) struct Fields<'a> {
 
 /// How many cells at the front of a line are kept as it is cut. Lines have fewer as a rule; the others of a longer line
 /// are looked for where they are wanted.
-const KEPT: usize = 32;
+const KEPT: usize = 16;
 
 /// A line that was cut.
 #[derive(Drop)]

@@ -44,6 +44,7 @@ pub(crate) fn designation_in(text: &[u8]) -> Result<Option<Designation>, RuleCod
 
 /// The temporary designation in a field that isn't empty, or rule S12 where it shows none.
 #[tactic(auto, unfolding(crate::specs::Names::temporary_in))]
+#[inline]
 pub(crate) fn temporary_in(text: &[u8]) -> Result<Option<Short>, RuleCode>
     ensures { result ≡ temporary_in text.now }
 {

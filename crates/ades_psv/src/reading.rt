@@ -106,6 +106,7 @@ fn word(text: &[u8]) -> Coded
 }
 
 /// The observation of a line whose parts were read.
+#[inline(always)]
 fn observed(
     fields: &Fields,
     names: Names,

@@ -1,8 +1,9 @@
 //! Reading degrees with decimals, as ADES, the IAU's Astrometry Data Exchange Standard, has right ascension and
 //! declination. The limit on the number of decimals is our own.
 
-ghost use Rattle.std.specs.Prelude.{◌≡◌, ◌<◌, ◌≤◌, ℕ, ℤ, IfSome, Result, option_map};
+ghost use Rattle.std.specs.Prelude.{◌≡◌, ◌*◌, ◌/◌, ◌^◌, ◌<◌, ◌≤◌, ℕ, ℤ, IfSome, Result, option_map};
 ghost use Rattle.angle_fixed.specs.declared.fault.AngleFault.{AngleFault};
+ghost use Rattle.angle_fixed.specs.Angles.{degree};
 ghost use Rattle.angle_fixed.specs.Degrees.{dec_within, degree_units, past_sign, ra_within};
 ghost use Rattle.angle_fixed.specs.Degrees.{dec_degrees_of, ra_degrees_of, ReadsDecDegrees, ReadsRaDegrees};
 ghost use Rattle.ascii_text.specs.DecimalNumbers.{number_parts_at, within};
@@ -11,9 +12,10 @@ ghost use Rattle.angle_fixed.specs.WrittenDegrees.{found_answer, IsBoundedDegree
 
 use crate::angle::{Dec, Ra};
 use crate::fault::AngleFault;
-use crate::reading::decimals_units;
 use crate::units::{CIRCLE, DEGREE, QUARTER};
+use ascii_text::digits::power_of_ten;
 use ascii_text::numbers::{DecimalNumber, decimal_number};
+use ascii_text::reading::Decimals;
 
 // As many decimals are read: the twelfth is 9 units.
 const MOST_DECIMALS: usize = 12;
@@ -27,12 +29,22 @@ fn degrees(most: usize, text: &[u8]) -> Option<Option<DecimalNumber>>
     decimal_number(most, MOST_DECIMALS, text)
 }
 
+// The units of decimals of a degree. One in the twelfth decimal is 9 units.
+fn degree_of_decimals(decimals: Decimals) -> u64
+    requires few { decimals.count ≤ 12 }
+    requires digits { decimals.value < 10 ^ decimals.count }
+    ensures value { result ≡ decimals.value * (degree / 10 ^ decimals.count) }
+    ensures below { result < degree }
+{
+    decimals.value * (9 * power_of_ten(MOST_DECIMALS - decimals.count))
+}
+
 #[tactic(auto, unfolding(crate::specs::Degrees::degree_units))]
 fn degree_units(d: DecimalNumber) -> u64
     requires { IsBoundedDegrees d }
     ensures { result ≡ degree_units (number_parts d) }
 {
-    d.whole * DEGREE + decimals_units(d.decimals, DEGREE)
+    d.whole * DEGREE + degree_of_decimals(d.decimals)
 }
 
 fn ra_degrees(text: &[u8]) -> Result<Ra, AngleFault>

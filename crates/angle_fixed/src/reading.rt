@@ -49,7 +49,7 @@ fn parts_front(text: &[u8]) -> Option<Sexagesimal>
 }
 
 // The units of the decimals, of which one is the unit of a second divided by ten as often as there are decimals.
-pub(crate) fn decimals_units(decimals: Decimals, second: u64) -> u64
+fn decimals_units(decimals: Decimals, second: u64) -> u64
     requires few { decimals.count ≤ 18 }
     requires digits { decimals.value < 10 ^ decimals.count }
     requires fine { 10 ^ decimals.count ≤ second }

@@ -1,6 +1,6 @@
 //! Digits of a radix.
 
-ghost use Rattle.std.specs.Prelude.{◌≡◌, ◌<◌, IfSome};
+ghost use Rattle.std.specs.Prelude.{◌≡◌, ◌^◌, ◌<◌, ◌≤◌, IfSome};
 ghost use Rattle.ascii_text.specs.Digits.{base, digit_byte};
 ghost use Rattle.ascii_text.specs.Reading.{digit_value};
 
@@ -47,5 +47,27 @@ pub fn byte_of(radix: Radix, digit: u8) -> u8
         Radix::SixtyTwo if digit >= 36 => digit - 36 + b'a',
         Radix::SixtyTwo if digit >= 10 => digit - 10 + b'A',
         _ => digit + b'0',
+    }
+}
+
+/// 10 to this power, which is at most 12.
+pub fn power_of_ten(power: usize) -> u64
+    requires { power ≤ 12 }
+    ensures { result ≡ 10 ^ power }
+{
+    match power {
+        0 => 1,
+        1 => 10,
+        2 => 100,
+        3 => 1_000,
+        4 => 10_000,
+        5 => 100_000,
+        6 => 1_000_000,
+        7 => 10_000_000,
+        8 => 100_000_000,
+        9 => 1_000_000_000,
+        10 => 10_000_000_000,
+        11 => 100_000_000_000,
+        _ => 1_000_000_000_000,
     }
 }

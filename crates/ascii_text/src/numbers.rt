@@ -4,8 +4,7 @@ ghost use Rattle.std.specs.Prelude.{◌≡◌, ◌^◌, ◌<◌, ◌≤◌, leng
 ghost use Rattle.ascii_text.specs.DecimalNumbers.{whole_at, within, number_parts_at};
 ghost use Rattle.ascii_text.specs.Written.{number_parts, number_within};
 
-use crate::digits::Radix;
-use crate::reading::{Decimals, decimals_within, digit_run, digits_at};
+use crate::reading::{Decimals, decimals_within, digit_run, digits_front};
 
 /// A decimal number as it is written.
 #[derive(Clone, Copy, Debug, PartialEq, Eq)]
@@ -26,12 +25,11 @@ fn whole_front(most: usize, text: &[u8]) -> Option<(usize, u64, &[u8])>
     ensures within { IfSome result (λ x. x.0 ≤ most) }
     ensures below { IfSome result (λ x. x.1 < 10 ^ x.0) }
 {
-    let count = digit_run(text);
-    if count == 0 || count > most {
+    let (digits, rest) = digits_front(most, text);
+    if digits.count == 0 || digit_run(rest) > 0 {
         return None;
     }
-    let (value, rest) = digits_at(Radix::Ten, count, text)?;
-    Some((count, value, rest))
+    Some((digits.count, digits.value, rest))
 }
 
 // The decimal number that the whole text is, with at most so many decimals.

@@ -1,7 +1,8 @@
 //! Reading from the front of a text: a value, and the text behind it.
 
-ghost use Rattle.std.specs.Prelude.{◌≡◌, ◌+◌, ◌^◌, ◌<◌, ◌≤◌, length, IfSome, option_map};
+ghost use Rattle.std.specs.Prelude.{◌≡◌, ◌+◌, ◌^◌, ◌<◌, ◌≤◌, length, drop, Some, IfSome, option_map};
 ghost use Rattle.ascii_text.specs.Digits.{base};
+ghost use Rattle.ascii_text.specs.declared.digits.Radix.TheVariants as radixes;
 ghost use Rattle.ascii_text.specs.Reading.{decimals_within, run_within, digit_at, digits_at, behind, digit_run, run_at, decimals_at, number_at};
 
 use crate::digits::{Radix, base_of, digit_of};
@@ -71,6 +72,30 @@ pub struct Decimals {
     pub value: u64,
 }
 
+/// The decimal digits at the front of a text, at most so many of them, and the text behind them. Each byte is looked at once.
+pub(crate) fn digits_front(most: usize, text: &[u8]) -> (Decimals, &[u8])
+    requires { most ≤ 18 }
+    ensures value { Some (result.0.value, result.1.now) ≡ digits_at radixes.Ten result.0.count text.now }
+    ensures below { result.0.value < 10 ^ result.0.count }
+    ensures most { result.0.count ≤ most }
+    ensures run { digit_run text.now ≡ result.0.count + digit_run result.1.now }
+    // Where fewer stand there, they are all.
+    ensures all { result.0.count < most → digit_run result.1.now ≡ 0 }
+    ensures rest { result.1.now ≡ drop result.0.count text.now }
+    ensures left { length result.1.now + result.0.count ≡ length text.now }
+{
+    let mut value = 0;
+    let mut rest = text;
+    'digits: for count in 0..most {
+        let Some((digit, after)) = digit_front(Radix::Ten, rest) else {
+            return (Decimals { count, value }, rest);
+        };
+        value = value * 10 + digit;
+        rest = after;
+    }
+    (Decimals { count: most, value }, rest)
+}
+
 /// All the decimal digits at the front, and the text behind them; `None` where none stands there.
 #[tactic(auto, unfolding(crate::specs::Reading::run_at))]
 fn run_front(text: &[u8]) -> Option<(Decimals, &[u8])>
@@ -80,12 +105,11 @@ fn run_front(text: &[u8]) -> Option<(Decimals, &[u8])>
     ensures below { IfSome result (λ x. x.0.value < 10 ^ x.0.count) }
     ensures rest { IfSome result (λ x. length x.1.now + x.0.count ≡ length text.now) }
 {
-    let count = digit_run(text);
-    if count == 0 {
+    let (digits, rest) = digits_front(18, text);
+    if digits.count == 0 {
         return None;
     }
-    let (value, rest) = digits_at(Radix::Ten, count, text)?;
-    Some((Decimals { count, value }, rest))
+    Some((digits, rest))
 }
 
 /// The decimals at the front, behind a point, and the text behind them; no decimals where no point stands there, and
@@ -111,16 +135,15 @@ fn run_within(most: usize, text: &[u8]) -> Option<(Option<Decimals>, &[u8])>
     ensures below { IfSome result (λ x. IfSome x.0 (λ d. (d.count ≤ most) × (d.value < 10 ^ d.count))) }
     ensures rest { IfSome result (λ x. length x.1.now ≤ length text.now) }
 {
-    let count = digit_run(text);
-    if count == 0 {
+    let (digits, rest) = digits_front(most, text);
+    let more = digit_run(rest);
+    if more > 0 {
+        return Some((None, rest.split_at(more).1));
+    }
+    if digits.count == 0 {
         return None;
     }
-    if count > most {
-        let (_digits, rest) = text.split_at(count);
-        return Some((None, rest));
-    }
-    let (value, rest) = digits_at(Radix::Ten, count, text)?;
-    Some((Some(Decimals { count, value }), rest))
+    Some((Some(digits), rest))
 }
 
 /// The decimals at the front of a text of any length, and the text behind them, as `decimals_at` reads them; `None` in

@@ -8,4 +8,6 @@ pub fn unbroken_rows()
     ensures in_order { UnbrokenRow }
     ensures within { EachWithinLimit }
     ensures once { EachGivenOnce }
-{}
+{
+    packed_names::laws::orders();
+}

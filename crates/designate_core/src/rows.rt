@@ -116,6 +116,7 @@ impl Rows {
         ensures given { IsSome result ↔ Contains (map designations.Provisional (designations_given self.now.takes)) d }
         ensures name { IfSome result (λ _. IsDesignation d) }
     {
+        packed_names::laws::orders();
         taken::discovery_of(self.taken.as_slice(), d)
     }
 }

@@ -39,6 +39,7 @@ pub fn given_in(taken: &[Taken], half: HalfMonth) -> u32
     ensures count { result ≡ given_in half (takes_of taken.now) }
     ensures within { result ≤ limit_of half }
 {
+    packed_names::laws::orders();
     for place in (0..taken.len()).rev() {
         let given = taken[place].given;
         if is_of(given, half) {

@@ -8,4 +8,6 @@ pub fn unbroken_numbers()
     ensures without_gap { WithoutGap }
     ensures numbers_once { NumbersOnce }
     ensures designations_once { DesignationsOnce }
-{}
+{
+    packed_names::laws::orders();
+}

@@ -84,6 +84,7 @@ impl Register {
         ensures numbered { self.new.numbered ≡ self.old.numbered }
         ensures spare { self.old.spare ≤ self.new.spare + 1 }
     {
+        packed_names::laws::orders();
         lists::remove(&mut self.verdicts, p);
         self.verdicts.push_reserved(Verdict {
             principal: p,
@@ -100,6 +101,7 @@ impl Register {
         ensures numbered { self.new.numbered ≡ self.old.numbered }
         ensures spare { self.old.spare ≤ self.new.spare }
     {
+        packed_names::laws::orders();
         lists::remove(&mut self.verdicts, p);
     }
 
@@ -144,6 +146,7 @@ impl Register {
         ensures named { IfSome result (λ n. named self.now.numbered n.0 ≡ Some d) }
         ensures range { IfSome result (λ n. IsNumber n.0) }
     {
+        packed_names::laws::orders();
         lists::number_of(self.numbered.as_slice(), d)
     }
 
@@ -152,6 +155,7 @@ impl Register {
         ensures designation { result ≡ named self.now.numbered n.0 }
         ensures numbered { IfSome result (λ d. number_of self.now.numbered d ≡ Some n) }
     {
+        packed_names::laws::orders();
         lists::named(self.numbered.as_slice(), n)
     }
 }

@@ -3,6 +3,7 @@
 ghost use Rattle.std.specs.Prelude.{◌≡◌, ◌+◌, ◌*◌, ◌^◌, ◌<◌, ◌≤◌};
 ghost use Rattle.obs_record.specs.Magnitudes.{magnitude_of};
 
+use ascii_text::digits::power_of_ten;
 use ascii_text::reading::Decimals;
 
 /// A magnitude of 1, in units of 0.000001.
@@ -16,6 +17,6 @@ pub fn magnitude_of(whole: u64, decimals: Decimals) -> u32
     ensures value { result ≡ magnitude_of whole decimals.count decimals.value }
     ensures below { result < (whole + 1) * 1000000 }
 {
-    let unit = 10u32.pow(6 - decimals.count as u32);
+    let unit = power_of_ten(6 - decimals.count) as u32;
     whole as u32 * UNITS + decimals.value as u32 * unit
 }

@@ -9,7 +9,7 @@ ghost use Rattle.obs_time.specs.Written.{written, written_clock, written_iso, wr
 
 use crate::dates::{Numbers, date_at, judge_date};
 use crate::{Instant, TimeFault};
-use ascii_text::digits::Radix;
+use ascii_text::digits::{Radix, power_of_ten};
 use ascii_text::reading::{Decimals, behind, decimals_within, digits_at};
 
 /// The greatest number of decimals of a second that are read.
@@ -105,7 +105,7 @@ fn ns_of_decimals(decimals: Decimals) -> u64
     ensures value { result ≡ decimals.value * 10 ^ (9 - decimals.count) }
     ensures within { result < nanos_of_a_second }
 {
-    decimals.value * 10u64.pow((MOST_DECIMALS - decimals.count) as u32)
+    decimals.value * power_of_ten(MOST_DECIMALS - decimals.count)
 }
 
 /// The nanoseconds of the day before a time of day with decimals.

@@ -2,6 +2,7 @@ pub mod Chains
 pub mod LetterLaws
 pub mod DigitLaws
 pub mod OrderLaws
+pub mod ComparingLaws
 pub mod PackedNumberLaws
 pub mod PackedProvisionalLaws
 pub mod PackedSurveyLaws

@@ -5,7 +5,7 @@ ghost use Rattle.packed_names.specs.declared.name.Name.{Name};
 ghost use Rattle.packed_names.specs.Packed.{IsPackedAs};
 ghost use Rattle.packed_names.specs.Printed.{IsPrintedAs};
 ghost use Rattle.packed_names.specs.Order.{designation_cmp};
-ghost use Rattle.packed_names.specs.Laws.{NameLaws};
+ghost use Rattle.packed_names.specs.Laws.{NameLaws, OrderLaws};
 
 use crate::name::Designation;
 use std::cmp::Ordering;
@@ -32,6 +32,11 @@ pub fn names()
 {
     ascii_text::laws::texts();
 }
+
+/// Half-months and designations that compare equal are the same, and the order of designations is total.
+pub fn orders()
+    ensures { OrderLaws }
+{}
 
 /// Designations compare in the order that is stated for them.
 pub fn designations_in_order(one: Designation, other: Designation) -> Ordering

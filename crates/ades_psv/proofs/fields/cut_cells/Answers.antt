@@ -34,10 +34,10 @@ overflow_add-cut-2 c = omega (arith, c.count_cells.ensures.few, c.cells.invarian
 
 pub returns-clause-cells : goal.returns-clause-cells
 returns-clause-cells c =
-    let left : length (cells c.cells.rest.now) ≡ length (cells c.args.cut.now.line.now) - 32 =
-    (let done : c.cells.place ≡ 32 = omega arith in
+    let left : length (cells c.cells.rest.now) ≡ length (cells c.args.cut.now.line.now) - 16 =
+    (let done : c.cells.place ≡ 16 = omega arith in
     let rest = rw done at c.cells.invariant.rest in
-    omega (arith, ap length rest, length-drop 32 (cells c.args.cut.now.line.now))) in
+    omega (arith, ap length rest, length-drop 16 (cells c.args.cut.now.line.now))) in
     record {
       whole = ap (λ (t : Bor (List ℕ)). t.now) c.cells.invariant.same;
       count = omega (arith, left, length-cells c.cells.rest.now, c.count_cells.ensures.exact);

@@ -8,6 +8,6 @@ invariant-cells l = record {
   same : l.cut.line ≡ l.initial.cut.line;
   rest : drop l.place (cells l.initial.cut.line.now) ≡ cells l.rest;
   within : length l.rest ≤ length l.initial.cut.line.now;
-  kept : length l.cut.first ≡ 32;
+  kept : length l.cut.first ≡ 16;
   first : (k : ℕ) → k < l.place → option_map (λ cell. cell.now) (slice_get l.cut.first k) ≡ slice_get (cells l.initial.cut.line.now) k;
 }

@@ -1,11 +1,9 @@
-use Rattle.std.proofs.Common.{sym, arith}
-use Rattle.ascii_text.proofs.NumberTexts.{run_past}
-use Rattle.ascii_text.proofs.Steps.{ten_power}
+use Rattle.std.proofs.Common.{arith}
+use Rattle.ascii_text.proofs.DigitRuns.{past_all}
 use Rattle.ascii_text.proofs.reading.run_within.Goals as goal
 
-pub returns-then-count-most-clause-exact : goal.returns-then-count-most-clause-exact
-returns-then-count-most-clause-exact c =
-    rw (c.split_at.ensures.back, c.digit_run-count.ensures.exact) (sym (run_past c.args.most c.args.text.now (omega (arith, c.digit_run-count.ensures.exact, c.if-count-most.true))))
-
-pub digits_at-requires : goal.digits_at-requires
-digits_at-requires c = ten_power c.digit_run-count.result (omega arith)
+pub returns-then-more-gt0-clause-exact : goal.returns-then-more-gt0-clause-exact
+returns-then-more-gt0-clause-exact c =
+    let d = c.digits_front.ensures in
+    let more = c.digit_run-more.ensures.exact in
+    past_all c.args.most c.digits_front.result.0.count c.digit_run-more.result c.args.text.now c.digits_front.result.1.now c.split_at.result.1.now d.most d.all d.run d.rest more c.split_at.ensures.back (omega arith)

@@ -13,4 +13,4 @@ returns-clause-given c =
     c.discovery_of.ensures.discovery
     ∙ ap (λ (taken : List Taken). discovery_of d (takes_of taken)) c.as_slice.ensures.value
     ∙ ap (λ (rows : RowsValue). discovery_of d rows.takes) c.self.view_is in
-    (λ some. found d takes (subst IsSome answer some), λ among. subst IsSome (sym answer) (contained d takes among))
+    (λ some. found c.orders.ensures d takes (subst IsSome answer some), λ among. subst IsSome (sym answer) (contained c.orders.ensures d takes among))

@@ -11,7 +11,7 @@ returns-clause-verdicts c = λ d.
     let verdict : Verdict = record { principal = c.args.p; u = c.args.u; oppositions = c.args.oppositions } in
     ap (λ (vs : List Verdict). verdict_of vs d) c.push_reserved.ensures.items
     ∙ ap (λ (vs : List Verdict). verdict_of (vs ++ verdict ∷ []) d) c.remove.ensures.items
-    ∙ set_after verdict d c.self.inside.verdicts.items
+    ∙ set_after c.orders.ensures verdict d c.self.inside.verdicts.items
     ∙ ap (λ (v : RegisterValue). verdict_after (Set c.args.p c.args.u c.args.oppositions) d (verdict_of v.verdicts d)) c.self.view_is
 
 pub returns-clause-acts : goal.returns-clause-acts

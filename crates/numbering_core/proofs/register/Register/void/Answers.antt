@@ -9,7 +9,7 @@ use Rattle.numbering_core.proofs.register.Register.void.Goals as goal
 pub returns-clause-verdicts : goal.returns-clause-verdicts
 returns-clause-verdicts c = λ d.
     ap (λ (vs : List Verdict). verdict_of vs d) c.remove.ensures.items
-    ∙ voided c.args.p d c.self.inside.verdicts.items
+    ∙ voided c.orders.ensures c.args.p d c.self.inside.verdicts.items
     ∙ ap (λ (v : RegisterValue). verdict_after (Voided c.args.p) d (verdict_of v.verdicts d)) c.self.view_is
 
 pub returns-clause-acts : goal.returns-clause-acts

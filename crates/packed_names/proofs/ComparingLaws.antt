@@ -1,4 +1,4 @@
--- What compares equal is the same.
+-- What compares equal is the same, and the order of designations is total.
 use Rattle.std.proofs.Common.{◌≡◌, ℕ, true, refl, ap, sym, ◌∙◌}
 use Rattle.std.specs.declared.cmp.Ordering.{Ordering}
 use Rattle.std.specs.declared.cmp.Ordering.TheVariants.{Less, Equal, Greater}
@@ -16,13 +16,13 @@ use Rattle.packed_names.specs.contracts.survey.SurveyOrd.TheImpl as surveys
 use Rattle.packed_names.specs.contracts.name.DesignationOrd.TheImpl as derived
 use Rattle.packed_names.specs.contracts.name.DesignationOrd.TheImpl.Laws.{total-law}
 
-pub numbers_same : (x y : ℕ) → is_eq (nat_cmp x y) ≡ true → x ≡ y
+numbers_same : (x y : ℕ) → is_eq (nat_cmp x y) ≡ true → x ≡ y
 numbers_same x y same = by_ranked _ _ _ (nat_cmp x y) (ranked x y _ refl) (λ e _. cc) (λ _ e. e) (λ e _. cc)
 
 number_itself : (x : ℕ) → nat_cmp x x ≡ Equal
 number_itself x = tied_itself nat_cmp_total x
 
-pub then_parts : (o p : Ordering) → is_eq (ordering_then o p) ≡ true → (is_eq o ≡ true) × (is_eq p ≡ true)
+then_parts : (o p : Ordering) → is_eq (ordering_then o p) ≡ true → (is_eq o ≡ true) × (is_eq p ≡ true)
 then_parts Less p h = cc
 then_parts Equal p h = (refl, h)
 then_parts Greater p h = cc
@@ -38,7 +38,7 @@ half_same one other same =
 pub half_itself : (half : HalfMonth) → eq_by_cmp half_cmp half half ≡ true
 half_itself half = let year = number_itself half.year in let index = number_itself half.index in rw (year, index) refl
 
-pub provisional_same : (one other : Provisional) → is_eq (provisional_cmp one other) ≡ true → one ≡ other
+provisional_same : (one other : Provisional) → is_eq (provisional_cmp one other) ≡ true → one ≡ other
 provisional_same one other same =
     let parts = then_parts (half_cmp one.half other.half) (nat_cmp one.order other.order) same in
     let half = half_same one.half other.half parts.0 in
@@ -46,7 +46,7 @@ provisional_same one other same =
     ap (λ (h : HalfMonth). let given : Provisional = record { half = h; order = one.order } in given) half
     ∙ ap (λ (n : ℕ). let given : Provisional = record { half = other.half; order = n } in given) order
 
-pub provisional_itself : (given : Provisional) → is_eq (provisional_cmp given given) ≡ true
+provisional_itself : (given : Provisional) → is_eq (provisional_cmp given given) ≡ true
 provisional_itself given =
     let year = number_itself given.half.year in let index = number_itself given.half.index in let order = number_itself given.order in rw (year, index, order) refl
 
@@ -104,7 +104,7 @@ survey_order T3 T1 = refl
 survey_order T3 T2 = refl
 survey_order T3 T3 = refl
 
-designation_order : (d e : Designation) → (derived.ghosts).cmp d e ≡ designation_cmp d e
+pub designation_order : (d e : Designation) → (derived.ghosts).cmp d e ≡ designation_cmp d e
 designation_order (designations.Provisional one) (designations.Provisional other) = refl
 designation_order (designations.Provisional one) (designations.Survey survey number) = refl
 designation_order (designations.Survey survey number) (designations.Provisional other) = refl
