@@ -1,0 +1,7 @@
+mod PlaceLemmas
+mod InsertLemmas
+mod MergeLemmas
+mod RemoveLemmas
+mod ArrangedLemmas
+mod GapLemmas
+pub mod MergeSteps

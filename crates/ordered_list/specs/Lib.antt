@@ -1,0 +1,3 @@
+pub mod Orders
+pub mod Gaps
+pub mod Contents
