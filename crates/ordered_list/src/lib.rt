@@ -9,6 +9,7 @@
 #![tactic(auto)]
 
 mod changes;
+pub mod laws;
 mod list;
 mod merging;
 mod searches;
