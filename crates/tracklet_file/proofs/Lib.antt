@@ -3,3 +3,4 @@ mod TrackLemmas
 mod CountLemmas
 mod ChangeLemmas
 mod AddedLemmas
+mod ChainLemmas

@@ -2,4 +2,6 @@ pub mod Numbering
 pub mod Observations
 pub mod Tracklets
 pub mod Contents
+pub mod Chains
+pub mod Positions
 pub mod Changes

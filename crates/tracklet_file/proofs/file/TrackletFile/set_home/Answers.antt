@@ -4,9 +4,10 @@ use Rattle.packed_names.specs.declared.name.Designation.{Designation}
 use Rattle.tracklet_file.specs.declared.observation.Observation.{Observation}
 use Rattle.tracklet_file.specs.declared.tracklet.Tracklet.{Tracklet}
 use Rattle.tracklet_file.specs.Tracklets.{IsTracklet, home_of, with_home, isolated_in}
+use Rattle.tracklet_file.specs.Chains.{is_live_of}
 use Rattle.tracklet_file.specs.Contents.{Contents, IsCounted}
 use Rattle.tracklet_file.proofs.NumberingLemmas.{numbered_within, place_within, changed_in_place}
-use Rattle.tracklet_file.proofs.CountLemmas.{is_live_of, live_are_isolated, counted_rehomed}
+use Rattle.tracklet_file.proofs.CountLemmas.{live_are_isolated, counted_rehomed}
 use Rattle.tracklet_file.proofs.file.TrackletFile.set_home.Goals as goal
 
 pub isolated_after-self-inside-requires-clause-counted : goal.isolated_after-self-inside-requires-clause-counted
