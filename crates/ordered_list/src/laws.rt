@@ -7,3 +7,8 @@ ghost use Rattle.ordered_list.specs.Orders.{ties, found};
 pub fn ties_find_alike<T: Ord>()
     ensures { (key other : T) (items : List T) → IsTrue (ties T.cmp key other) → found T.cmp key items ≡ found T.cmp other items }
 {}
+
+/// An item ties with itself.
+pub fn ties_itself<T: Ord>()
+    ensures { (item : T) → IsTrue (ties T.cmp item item) }
+{}

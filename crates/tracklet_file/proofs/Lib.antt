@@ -4,3 +4,5 @@ mod CountLemmas
 mod ChangeLemmas
 mod AddedLemmas
 mod ChainLemmas
+mod PositionLemmas
+mod KeepingLemmas

@@ -4,4 +4,5 @@ pub mod Tracklets
 pub mod Contents
 pub mod Chains
 pub mod Positions
+pub mod Keeping
 pub mod Changes

@@ -1,6 +1,6 @@
 //! What is kept of the observations of each tracklet, so that none is searched for.
 
-ghost use Rattle.std.specs.Prelude.{◌≡◌, ◌+◌, ◌^◌, ◌<◌, ◌≤◌, vec_len, vec_capacity};
+ghost use Rattle.std.specs.Prelude.{◌≡◌, ◌+◌, ◌^◌, ◌<◌, ◌≤◌, ◌==◌, None, Some, if◌then◌else◌, vec_len, vec_capacity};
 ghost use Rattle.tracklet_file.specs.Chains.{extended, linked};
 
 /// What is kept of a tracklet's observations.
@@ -42,4 +42,11 @@ pub(crate) fn link(links: &mut Vec<u64>, last: u64, number: u64)
     if last > 0 {
         links[(last - 1) as usize] = number;
     }
+}
+
+/// The number, where it isn't 0.
+pub(crate) fn some_number(number: u64) -> Option<u64>
+    ensures { result ≡ (if number == 0 then None else Some number) }
+{
+    if number == 0 { None } else { Some(number) }
 }
