@@ -1,8 +1,8 @@
 -- The chains of tracklets, as observations and tracklets come and go.
 use Rattle.std.proofs.Common.{◌≡◌, ℕ, ◌+◌, ◌-◌, ◌<◌, ◌≤◌, Bool, true, false, cond, List, [], ◌∷◌, ◌++◌, length, get_or, set, Option, Some, None, refl, ap, sym, subst, ◌∙◌, inl, inr, arith}
-use Rattle.std.specs.Prelude.{◌==◌, ◌&&◌, ◌≢◌, nat_lt, count_by, unwrap_or, slice_get, IsSome, is_some, reverse}
+use Rattle.std.specs.Prelude.{◌==◌, ◌&&◌, ◌≢◌, nat_lt, count_by, unwrap_or, slice_get, IsSome}
 use Rattle.std.specs.Option.{option_map, option_and_then}
-use Rattle.std.proofs.lemmas.Bool.{and_parts, eqb-true, eq-eqb, ne_eqb, eqb-false, false≢true, cases_eq, cases_lt}
+use Rattle.std.proofs.lemmas.Bool.{eqb-true, eq-eqb, ne_eqb, eqb-false, false≢true, cases_eq, cases_lt}
 use Rattle.std.proofs.lemmas.Bool.Decides.{nat_tests}
 use Rattle.std.proofs.lemmas.List.{append-nil, length-set, get_or-set_same, get_or-set_other, get_or_append_left, get_or_push, length_push}
 use Rattle.std.proofs.lemmas.List.Sums.{sum_by-cons}
@@ -11,7 +11,7 @@ use Rattle.tracklet_file.specs.declared.observation.Observation.{Observation}
 use Rattle.tracklet_file.specs.declared.tracklet.Tracklet.{Tracklet}
 use Rattle.tracklet_file.specs.declared.chain.Chain.{Chain}
 use Rattle.tracklet_file.specs.Contents.{AreInTracklets}
-use Rattle.tracklet_file.specs.Numbering.{next_number, numbered, changed_at}
+use Rattle.tracklet_file.specs.Numbering.{next_number, numbered}
 use Rattle.tracklet_file.specs.Observations.{track_of, later_of_track, first_of, next_of, with_retraction}
 use Rattle.tracklet_file.specs.Chains.{is_live_of, last_of, chain_of, AreChained, extended, linked}
 use Rattle.tracklet_file.proofs.NumberingLemmas.{numbered_within, length-changed_at}
@@ -283,7 +283,7 @@ chained_more tracks newest older chains links chain was some there live read = r
             ]
           where
             positive : 0 < chain.last
-            positive = elim (cases_lt 0 chain.last) [ | inl more ↦ more | inr none ↦ absurd (eqb-false chain.last 0 is (omega arith)) ]
+            positive = elim (cases_lt 0 chain.last) [ inl more ↦ more | inr none ↦ absurd (eqb-false chain.last 0 is (omega arith)) ]
 
             linked_last : place ≡ chain.last - 1 → get_or (set (links ++ 0 ∷ []) (chain.last - 1) (next_number older)) place 0 ≡ unwrap_or (next_of (newest ∷ older) (place + 1)) 0
             linked_last same =

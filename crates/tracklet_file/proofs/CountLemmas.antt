@@ -95,7 +95,6 @@ in_rehomed tracklets t home (o ∷ older) there = (by (o.track == t) refl, in_re
         ∙ is_some-option_map (λ (tracklet : Tracklet). record tracklet { home = home }) (numbered tracklets t) ∙ ap (λ (u : ℕ). is_some (numbered tracklets u)) (sym same) ∙ there.0
     by false differs = ap is_some (numbered_others (λ (tracklet : Tracklet). record tracklet { home = home }) tracklets t o.track differs) ∙ there.0
 
-
 -- a count of observations, as those of a tracklet leave it, and come to it
 recounted : (before after own : Observation → Bool) (was is : Bool) → ((o : Observation) → cond (after o) 1 0 + cond was (cond (own o) 1 0) 0 ≡ cond (before o) 1 0 + cond is (cond (own o) 1 0) 0)
     → (observations : List Observation) → count_by after observations + cond was (count_by own observations) 0 ≡ count_by before observations + cond is (count_by own observations) 0

@@ -17,14 +17,14 @@ use Rattle.tracklet_file.specs.declared.position.Position.{Position}
 use Rattle.tracklet_file.specs.Numbering.{next_number, numbered}
 use Rattle.tracklet_file.specs.Observations.{track_of, later_of_track, first_of, next_of, IsFollowedBy, with_retraction}
 use Rattle.tracklet_file.specs.Tracklets.{IsTracklet, home_of, with_home, is_isolated, is_retracted}
-use Rattle.tracklet_file.specs.Contents.{AreInTracklets, IsCounted}
-use Rattle.tracklet_file.specs.Chains.{is_live_of, last_of, chain_of, AreChained, extended, linked}
-use Rattle.tracklet_file.specs.Positions.{position_of, live_in, counts_at, IsIndexed}
+use Rattle.tracklet_file.specs.Contents.{AreInTracklets}
+use Rattle.tracklet_file.specs.Chains.{is_live_of, chain_of, AreChained, extended, linked}
+use Rattle.tracklet_file.specs.Positions.{position_of, live_in, counts_at}
 use Rattle.tracklet_file.specs.Keeping.{IsKept}
 use Rattle.tracklet_file.proofs.NumberingLemmas.{numbered_within, numbered_at, length-changed_at}
-use Rattle.tracklet_file.proofs.TrackLemmas.{first_is, ComesFirst}
+use Rattle.tracklet_file.proofs.TrackLemmas.{first_is}
 use Rattle.tracklet_file.proofs.CountLemmas.{counted_more, counted_retracted, counted_rehomed, count_changed, tracklet_at}
-use Rattle.tracklet_file.proofs.ChainLemmas.{chained_more, chained_tracklet, chained_retracted, live_retracted, last_low}
+use Rattle.tracklet_file.proofs.ChainLemmas.{chained_more, chained_tracklet, chained_retracted}
 use Rattle.tracklet_file.proofs.PositionLemmas.{ReadsKeys, indexed_more, indexed_less}
 
 -- ---- what stands at a number
@@ -52,7 +52,7 @@ there_within (newest ∷ older) number some low = by (number == next_number olde
     by false is rest = rest (lower (eqb-false _ _ is))
       where
         lower : (number ≡ next_number older → ⊥) → number ≤ length older
-        lower differs = elim (cases_lt (length older) number) [ | inl past ↦ absurd (differs (omega arith)) | inr within ↦ within ]
+        lower differs = elim (cases_lt (length older) number) [ inl past ↦ absurd (differs (omega arith)) | inr within ↦ within ]
 
 -- lists of one length have the same numbers
 absent_too : {A B : Type 0} (items : List A) (others : List B) (number : ℕ) → length items ≡ length others → numbered items number ≡ None → numbered others number ≡ None
@@ -163,7 +163,7 @@ module _ (cmp : Position → Position → Ordering) (tracklets : List Tracklet) 
       record {
         counted = counted_more newest tracklets observations was.counted;
         chained = subst (λ (n : ℕ). AreChained n observations (chains ++ record { first = 0; last = 0; live = 0 } ∷ []) links) (omega arith)
-        (chained_tracklet tracklets observations chains links was.counted.in_tracklets was.chained);
+            (chained_tracklet tracklets observations chains links was.counted.in_tracklets was.chained);
         indexed = was.indexed;
       })
 
@@ -182,8 +182,8 @@ module _ (cmp : Position → Position → Ordering) (tracklets : List Tracklet) 
         counted = record { in_tracklets = (there, was.counted.in_tracklets); isolated_are = isolated_are; retracted_are = retracted_are };
         chained = chained_more (length tracklets) newest observations chains links chain was.chained inside.0 inside.1 alive read;
         indexed = indexed_more cmp keys entries after observations was.indexed newest.sighting (live + 1)
-        (subst (λ (p : Position). (key : Position) → found cmp key after ≡ cond (ties cmp key p) (Some p) (found cmp key entries)) item_is finds) newest refl alive
-        (ap (λ (n : ℕ). n + 1) (had ∙ ap (λ (p : Position). live_in (found cmp p entries)) probe_is));
+            (subst (λ (p : Position). (key : Position) → found cmp key after ≡ cond (ties cmp key p) (Some p) (found cmp key entries)) item_is finds) newest refl alive
+            (ap (λ (n : ℕ). n + 1) (had ∙ ap (λ (p : Position). live_in (found cmp p entries)) probe_is));
       }))
     where
       inside : (0 < newest.track) × (newest.track ≤ length tracklets)
@@ -217,8 +217,8 @@ module _ (cmp : Position → Position → Ordering) (tracklets : List Tracklet) 
         counted = counted_retracted tracklets observations k o at alive was.counted isolated' isolated_is;
         chained = chained_retracted (length tracklets) observations k o chains links chain fewer was.chained at alive inside.0 inside.1 read less;
         indexed = indexed_less cmp keys entries after observations was.indexed o.sighting live
-        (subst (λ (p : Position). (key : Position) → found cmp key after ≡ cond (ties cmp key p) (Some p) (found cmp key entries)) item_is finds) k o at refl alive
-        (rest ∙ ap (λ (p : Position). live_in (found cmp p entries)) probe_is);
+            (subst (λ (p : Position). (key : Position) → found cmp key after ≡ cond (ties cmp key p) (Some p) (found cmp key entries)) item_is finds) k o at refl alive
+            (rest ∙ ap (λ (p : Position). live_in (found cmp p entries)) probe_is);
       }))
     where
       inside : (0 < o.track) × (o.track ≤ length tracklets)

@@ -1,5 +1,5 @@
 -- The index of positions, as live observations come and go.
-use Rattle.std.proofs.Common.{◌≡◌, ℕ, ℤ, ◌+◌, ◌<◌, Bool, true, false, cond, List, [], ◌∷◌, Option, Some, None, refl, ap, sym, ◌∙◌, arith}
+use Rattle.std.proofs.Common.{◌≡◌, ℕ, ℤ, ◌+◌, Bool, true, false, cond, List, [], ◌∷◌, Some, refl, ap, sym, ◌∙◌, arith}
 use Rattle.std.specs.Prelude.{◌&&◌, ◌||◌, ◌==◌, pos, count_by, nat_lt, if◌then◌else◌}
 use Rattle.std.specs.List.{list_any}
 use Rattle.std.specs.declared.cmp.Ordering.{Ordering}
@@ -16,7 +16,7 @@ use Rattle.ordered_list.specs.Orders.{ties, found}
 use Rattle.tracklet_file.specs.declared.observation.Observation.{Observation}
 use Rattle.tracklet_file.specs.declared.position.Position.{Position}
 use Rattle.tracklet_file.specs.Numbering.{numbered}
-use Rattle.tracklet_file.specs.Observations.{is_at, is_live_at, has_live, with_retraction}
+use Rattle.tracklet_file.specs.Observations.{is_at, with_retraction}
 use Rattle.tracklet_file.specs.Positions.{at_position, position_of, live_in, counts_at, IsIndexed}
 use Rattle.tracklet_file.proofs.CountLemmas.{count_changed}
 

@@ -52,7 +52,7 @@ impl Model for TrackletFile {
 
     ghost invariant = { λ f.
         IsKept ⟦<Position as Ord>⟧.cmp (reverse f.tracklets.items) (reverse f.observations.items) f.isolated f.retracted
-            f.chains.items f.links.items f.index.items };
+        f.chains.items f.links.items f.index.items };
 }
 
 impl TrackletFile {

@@ -1,7 +1,6 @@
-use Rattle.std.proofs.Common.{◌≡◌, ℕ, ◌+◌, ◌-◌, ◌<◌, ◌≤◌, Bool, cond, List, length, set, true, refl, ap, sym, subst, ◌∙◌, arith}
+use Rattle.std.proofs.Common.{◌≡◌, ◌+◌, ◌-◌, Bool, cond, set, true, refl, ap, sym, subst, ◌∙◌, arith}
 use Rattle.std.specs.Prelude.{reverse, is_none}
 use Rattle.std.proofs.lemmas.List.{length-reverse}
-use Rattle.tracklet_file.specs.declared.observation.Observation.{Observation}
 use Rattle.tracklet_file.specs.declared.chain.Chain.{Chain}
 use Rattle.tracklet_file.specs.Numbering.{next_number}
 use Rattle.tracklet_file.specs.Tracklets.{IsTracklet, home_of}

@@ -1,6 +1,5 @@
-use Rattle.std.proofs.Common.{◌≡◌, Bool, ap, sym, ◌∙◌}
+use Rattle.std.proofs.Common.{Bool, ap, ◌∙◌}
 use Rattle.std.specs.Prelude.{reverse, nat_lt, ◌&&◌}
-use Rattle.tracklet_file.specs.declared.observation.Observation.{Observation}
 use Rattle.tracklet_file.specs.declared.position.Position.{Position}
 use Rattle.tracklet_file.specs.Observations.{is_live_at, has_live}
 use Rattle.tracklet_file.specs.Positions.{counts_at}

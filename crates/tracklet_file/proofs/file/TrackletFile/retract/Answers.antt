@@ -1,12 +1,9 @@
 use Rattle.std.proofs.Common.{◌≡◌, ℕ, ◌+◌, ◌-◌, ◌<◌, true, false, Bool, cond, length, refl, ap, subst, sym, ◌∙◌, arith}
-use Rattle.std.specs.Prelude.{reverse, is_none, is_some, IsSome}
+use Rattle.std.specs.Prelude.{reverse, is_none}
 use Rattle.std.proofs.lemmas.List.{length-reverse}
-use Rattle.ordered_list.specs.Orders.{found}
 use Rattle.tracklet_file.specs.declared.observation.Observation.{Observation}
-use Rattle.tracklet_file.specs.declared.position.Position.{Position}
 use Rattle.tracklet_file.specs.Observations.{is_live, with_retraction}
 use Rattle.tracklet_file.specs.Tracklets.{IsTracklet, home_of}
-use Rattle.tracklet_file.specs.Positions.{live_in}
 use Rattle.tracklet_file.specs.Contents.{Contents}
 use Rattle.tracklet_file.proofs.NumberingLemmas.{numbered_within, place_within, read_at, changed_in_place}
 use Rattle.tracklet_file.proofs.CountLemmas.{tracklet_at, none_told, live_there, live_at, some_isolated}

@@ -1,4 +1,4 @@
-use Rattle.std.proofs.Common.{◌≡◌, ℕ, ◌+◌, ◌-◌, ◌<◌, ◌≤◌, true, not, length, Option, cond, subst, sym, ap, ◌∙◌, arith}
+use Rattle.std.proofs.Common.{◌≡◌, ℕ, ◌+◌, ◌-◌, ◌<◌, true, not, length, Option, cond, subst, sym, ap, ◌∙◌, arith}
 use Rattle.std.specs.Prelude.{reverse, is_none, count_by}
 use Rattle.std.proofs.lemmas.List.{length-reverse}
 use Rattle.packed_names.specs.declared.name.Designation.{Designation}
@@ -20,7 +20,6 @@ index-requires c =
     let there : IsTracklet (reverse c.self.inside.tracklets.items) c.args.t = subst (λ (v : Contents). IsTracklet v.tracklets c.args.t) (sym c.self.view_is) c.requires in
     let within = place_within c.self.inside.tracklets.items c.args.t there in
     omega (arith, within, c.self.invariant.chained.as_many_chains, length-reverse c.self.inside.tracklets.items)
-
 
 pub isolated_after-self-inside-requires-clause-counted : goal.isolated_after-self-inside-requires-clause-counted
 isolated_after-self-inside-requires-clause-counted c none =
