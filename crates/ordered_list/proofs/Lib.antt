@@ -5,3 +5,4 @@ mod RemoveLemmas
 mod ArrangedLemmas
 mod GapLemmas
 pub mod MergeSteps
+mod MergedPlaces

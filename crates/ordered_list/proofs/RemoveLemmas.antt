@@ -61,7 +61,7 @@ module _ {T : Type 0} {cmp : T → T → Ordering} (total : IsTotalOrder cmp) wh
       by Greater is rest = ap (removed cmp key) (inserted_by cmp item x xs Greater is) ∙ removed_by cmp key item (x ∷ xs) true tie
 
   -- an item below all of a list comes before it
-  inserted_first : (item : T) (xs : List T) → AllByRecursion (λ x. cmp item x ≡ Less) xs → inserted cmp item xs ≡ item ∷ xs
+  pub inserted_first : (item : T) (xs : List T) → AllByRecursion (λ x. cmp item x ≡ Less) xs → inserted cmp item xs ≡ item ∷ xs
   inserted_first item [] below = refl
   inserted_first item (x ∷ xs) below = inserted_by cmp item x xs Greater (total.antisymm x item ∙ ap ordering_reverse below.0)
 

@@ -12,6 +12,7 @@ mod changes;
 pub mod laws;
 mod list;
 mod merging;
+mod places;
 mod searches;
 
 pub use list::{NoMemory, OrderedList};

@@ -55,5 +55,18 @@ fn three_thousand_items(rt: HostRuntime) -> Result<(), Fail> {
     ] {
         assert_eq!(rt; number_of(&list, key), want, "at {key}");
     }
+    for (place, want) in [
+        (0, Some(0)),
+        (1_991, Some(1_991)),
+        (1_992, Some(1_993)),
+        (2_999, Some(3_000)),
+        (3_000, None),
+    ] {
+        assert_eq!(rt;
+            list.get(place).map(|entry| entry.key),
+            want,
+            "at place {place}"
+        );
+    }
     Ok(())
 }
