@@ -15,7 +15,7 @@ use Rattle.tracklet_file.proofs.NumberingLemmas.{numbered_changed, numbered_othe
 use Rattle.tracklet_file.proofs.CountLemmas.{retracted_more}
 
 -- what a change of an item leaves alone reads as before
-read_unchanged : {A B : Type 0} (read : A → B) (change : A → A) → ((item : A) → read (change item) ≡ read item) → (items : List A) (number k : ℕ)
+pub read_unchanged : {A B : Type 0} (read : A → B) (change : A → A) → ((item : A) → read (change item) ≡ read item) → (items : List A) (number k : ℕ)
     → option_map read (numbered (changed_at change items number) k) ≡ option_map read (numbered items k)
 read_unchanged read change same items number k = by (k == number) refl
   where
@@ -60,7 +60,7 @@ read_as_brought read same (Retract other ∷ past) k = read_unchanged read (λ (
 abbrev with_newest : ℕ → ℕ → ℕ → List ℕ → ℕ → List ℕ
 with_newest track t after rest count = rest ++ cond ((track == t) && nat_lt after (count + 1)) ((count + 1) ∷ []) []
 
-later_retracted : (observations : List Observation) (k t after : ℕ) → later_of_track (with_retraction observations k) t after ≡ later_of_track observations t after
+pub later_retracted : (observations : List Observation) (k t after : ℕ) → later_of_track (with_retraction observations k) t after ≡ later_of_track observations t after
 later_retracted [] k t after = refl
 later_retracted (newest ∷ older) k t after = by (k == next_number older) (later_retracted older k t after)
   where

@@ -11,6 +11,7 @@ use Rattle.packed_names.specs.declared.name.Designation.{Designation}
 use Rattle.tracklet_file.specs.Numbering.{next_number, numbered, changed_at}
 use Rattle.tracklet_file.specs.Observations.{track_of, is_live, with_retraction}
 use Rattle.tracklet_file.specs.Contents.{AreInTracklets, IsCounted}
+use Rattle.tracklet_file.specs.Chains.{is_live_of}
 use Rattle.tracklet_file.proofs.NumberingLemmas.{numbered_stays, numbered_changed, numbered_others}
 use Rattle.tracklet_file.specs.Tracklets.{IsTracklet, with_home, home_of, is_isolated, is_homed, is_retracted, isolated_in, homed_in, retracted_in}
 
@@ -93,10 +94,6 @@ in_rehomed tracklets t home (o ∷ older) there = (by (o.track == t) refl, in_re
         ∙ ap is_some (numbered_changed (λ (tracklet : Tracklet). record tracklet { home = home }) tracklets t)
         ∙ is_some-option_map (λ (tracklet : Tracklet). record tracklet { home = home }) (numbered tracklets t) ∙ ap (λ (u : ℕ). is_some (numbered tracklets u)) (sym same) ∙ there.0
     by false differs = ap is_some (numbered_others (λ (tracklet : Tracklet). record tracklet { home = home }) tracklets t o.track differs) ∙ there.0
-
--- the live observations of a tracklet
-abbrev pub is_live_of : ℕ → Observation → Bool
-is_live_of t o = o.live && (o.track == t)
 
 -- a count of observations, as those of a tracklet leave it, and come to it
 recounted : (before after own : Observation → Bool) (was is : Bool) → ((o : Observation) → cond (after o) 1 0 + cond was (cond (own o) 1 0) 0 ≡ cond (before o) 1 0 + cond is (cond (own o) 1 0) 0)
@@ -188,7 +185,7 @@ in_retracted tracklets (o ∷ older) k there = by (k == next_number older) (in_r
     by false rest = (there.0, rest)
 
 -- a count, as one observation is changed
-count_changed : (counts : Observation → Bool) (change : Observation → Observation) (observations : List Observation) (k : ℕ) (o : Observation) → numbered observations k ≡ Some o
+pub count_changed : (counts : Observation → Bool) (change : Observation → Observation) (observations : List Observation) (k : ℕ) (o : Observation) → numbered observations k ≡ Some o
     → count_by counts (changed_at change observations k) + cond (counts o) 1 0 ≡ count_by counts observations + cond (counts (change o)) 1 0
 count_changed counts change [] k o there = absurd (none-some o there)
 count_changed counts change (newest ∷ older) k o there = by (k == next_number older) refl there (count_changed counts change older k o)

@@ -3,3 +3,6 @@ mod TrackLemmas
 mod CountLemmas
 mod ChangeLemmas
 mod AddedLemmas
+mod ChainLemmas
+mod PositionLemmas
+mod KeepingLemmas

@@ -4,14 +4,18 @@ ghost use Rattle.tracklet_file.specs.Observations.{IsObservation, sighting_of, e
 ghost use Rattle.tracklet_file.specs.Tracklets.{IsTracklet, name_of_track, station_of, home_of, retracted_in, isolated_in, homed_in, with_tracklet, with_home};
 ghost use Rattle.tracklet_file.specs.Contents.{UsesOne, KeepsRoom};
 
+use crate::chain::{Chain, extend, link, some_number};
 use crate::counting::{isolated_after, with_one, without_one};
 use crate::observation::Observation;
-use crate::searches::{self, first_after, live_of_track, numbered};
+use crate::position::{Position, at_position, live_at, position_of};
+use crate::searches::numbered;
 use crate::tracklet::Tracklet;
 use angle_fixed::{Dec, Ra};
 use item_list::NoMemory;
 use obs_record::{Short, Sighting, TrackName};
 use obs_time::Instant;
+use ordered_list::OrderedList;
+use ordered_list::laws::{ties_find_alike, ties_itself};
 use packed_names::Designation;
 use std::alloc::Global;
 use std::marker::Model;
@@ -23,26 +27,32 @@ const FIRST_ROOM: usize = 16;
 #[derive(Debug, Drop)]
 pub struct TrackletFile {
     observations: Vec<Observation>,
+    links: Vec<u64>,
     tracklets: Vec<Tracklet>,
+    chains: Vec<Chain>,
+    index: OrderedList<Position>,
     isolated: u64,
     retracted: u64,
 }
 
 impl Model for TrackletFile {
-    ghost use Rattle.std.specs.Prelude.{◌-◌, reverse, vec_len, vec_capacity};
-    ghost use Rattle.tracklet_file.specs.Contents.{Contents, IsCounted};
+    ghost use Rattle.std.specs.Prelude.{◌-◌, min, reverse, vec_len, vec_capacity};
+    ghost use Rattle.tracklet_file.specs.Contents.{Contents};
+    ghost use Rattle.tracklet_file.specs.Keeping.{IsKept};
 
     ghost Value = { Contents };
 
     ghost view = { λ f. record {
       observations = reverse f.observations.items;
       tracklets = reverse f.tracklets.items;
-      observation_room = vec_capacity f.observations - vec_len f.observations;
-      tracklet_room = vec_capacity f.tracklets - vec_len f.tracklets;
+      observation_room = min (vec_capacity f.observations - vec_len f.observations)
+          (min (vec_capacity f.links - vec_len f.links) f.index.room);
+      tracklet_room = min (vec_capacity f.tracklets - vec_len f.tracklets) (vec_capacity f.chains - vec_len f.chains);
     } };
 
     ghost invariant = { λ f.
-        IsCounted (reverse f.tracklets.items) (reverse f.observations.items) f.isolated f.retracted };
+        IsKept ⟦<Position as Ord>⟧.cmp (reverse f.tracklets.items) (reverse f.observations.items) f.isolated f.retracted
+        f.chains.items f.links.items f.index.items };
 }
 
 impl TrackletFile {
@@ -57,7 +67,10 @@ impl TrackletFile {
     {
         Ok(TrackletFile {
             observations: Vec::with_capacity(alloc, FIRST_ROOM)?,
+            links: Vec::with_capacity(alloc, FIRST_ROOM)?,
             tracklets: Vec::with_capacity(alloc, FIRST_ROOM)?,
+            chains: Vec::with_capacity(alloc, FIRST_ROOM)?,
+            index: OrderedList::new(alloc)?,
             isolated: 0,
             retracted: 0,
         })
@@ -77,7 +90,10 @@ impl TrackletFile {
         ensures tracklets { self.new.tracklets ≡ self.old.tracklets }
     {
         self.observations.reserve(sightings as usize)?;
+        self.links.reserve(sightings as usize)?;
+        self.index.reserve(sightings)?;
         self.tracklets.reserve(tracks as usize)?;
+        self.chains.reserve(tracks as usize)?;
         Ok(())
     }
 
@@ -96,6 +112,11 @@ impl TrackletFile {
             station,
             home,
         });
+        self.chains.push_reserved(Chain {
+            first: 0,
+            last: 0,
+            live: 0,
+        });
         track
     }
 
@@ -110,9 +131,15 @@ impl TrackletFile {
         ensures observation_room { UsesOne self.old.observation_room self.new.observation_room }
         ensures tracklet_room { self.new.tracklet_room ≡ self.old.tracklet_room }
     {
+        ties_find_alike::<Position>();
         let number = self.observations.len() as u64 + 1;
         let isolated = self.home(track).is_none();
         self.isolated = with_one(self.isolated, isolated);
+        let live = live_at(&self.index, &position_of(&s, 0));
+        self.index.insert(position_of(&s, live + 1));
+        let chain = self.chains[(track - 1) as usize];
+        self.chains[(track - 1) as usize] = extend(chain, number);
+        link(&mut self.links, chain.last, number);
         self.observations.push_reserved(Observation {
             track,
             sighting: s,
@@ -129,11 +156,17 @@ impl TrackletFile {
         ensures tracklets { self.new.tracklets ≡ self.old.tracklets }
         ensures room_stays { KeepsRoom self.old self.new }
     {
+        ties_find_alike::<Position>();
+        ties_itself::<Position>();
         let place = (k - 1) as usize;
-        let isolated = self.home(self.observations[place].track).is_none();
+        let o = self.observations[place];
+        let isolated = self.home(o.track).is_none();
         self.isolated = without_one(self.isolated, isolated);
         self.retracted += 1;
-        self.observations[place].live = false;
+        let live = live_at(&self.index, &position_of(&o.sighting, 0));
+        self.index.insert(position_of(&o.sighting, live - 1));
+        self.chains[(o.track - 1) as usize].live -= 1;
+        self.observations[place] = Observation { live: false, ..o };
     }
 
     /// Gives a tracklet that is there another home, or makes it isolated.
@@ -144,7 +177,7 @@ impl TrackletFile {
         ensures room_stays { KeepsRoom self.old self.new }
     {
         let was = self.home(t);
-        let live = live_of_track(self.observations.as_slice(), t);
+        let live = self.chains[(t - 1) as usize].live;
         self.isolated = isolated_after(self.isolated, live, was, home);
         self.tracklets[(t - 1) as usize].home = home;
     }
@@ -169,7 +202,7 @@ impl TrackletFile {
     pub fn has_live(&self, station: Short, time: Instant, ra: Ra, dec: Dec) -> bool
         ensures { result ≡ has_live self.now.observations station time ra dec }
     {
-        searches::has_live(self.observations.as_slice(), station, time, ra, dec)
+        live_at(&self.index, &at_position(station, time, ra, dec, 0)) > 0
     }
 
     /// What was observed; None exactly for what isn't there.
@@ -215,7 +248,10 @@ impl TrackletFile {
         ensures rest { IfSome result (λ k.
             observations_of self.now.observations t ≡ k ∷ later_of_track self.now.observations t k) }
     {
-        first_after(self.observations.as_slice(), t, 0)
+        match numbered(self.chains.as_slice(), t) {
+            Some(chain) => some_number(chain.first),
+            None => None,
+        }
     }
 
     /// The next greater number of an observation of the same tracklet, retracted ones included; None exactly where
@@ -226,8 +262,10 @@ impl TrackletFile {
         ensures own { IfSome result (λ next. track_of self.now.observations next ≡ track_of self.now.observations k) }
         ensures rest { IfSome result (λ next. IsFollowedBy self.now.observations k next) }
     {
-        let track = self.track_of(k)?;
-        first_after(self.observations.as_slice(), track, k)
+        match numbered(self.links.as_slice(), k) {
+            Some(next) => some_number(*next),
+            None => None,
+        }
     }
 
     /// How many live observations are of isolated tracklets.

@@ -9,10 +9,12 @@
 //! change takes any.
 #![tactic(auto)]
 
+mod chain;
 mod counting;
 mod file;
 pub mod laws;
 mod observation;
+mod position;
 mod searches;
 mod tracklet;
 

@@ -1,3 +1,5 @@
+mod plain;
+
 use super::*;
 use angle_fixed::{Dec, Ra};
 use item_list::NoMemory;
@@ -5,6 +7,7 @@ use obs_record::{Coded, Shape, Short, Sighting, TrackName};
 use obs_time::Instant;
 use packed_names::{Designation, HalfMonth, Provisional};
 use std::alloc::{AllocError, Global};
+use plain::Plain;
 use std::test::Fail;
 
 const ENTRY: u64 = 7;
@@ -173,5 +176,90 @@ fn tracklets_and_positions(rt: HostRuntime) -> Result<(), Fail> {
     ] {
         assert_eq!(rt; has_live(&file, code, ns), want, "at {ns}");
     }
+    Ok(())
+}
+
+/// A call that changes the file.
+#[derive(Clone, Copy)]
+enum Call {
+    Track(Option<Designation>),
+    Add(u64, i64),
+    Retract(u64),
+    Home(u64, Option<Designation>),
+}
+
+fn make(file: &mut TrackletFile, call: Call) -> Result<(), NoMemory> {
+    match call {
+        Call::Track(home) => {
+            let _number = begin_track(file, home)?;
+        }
+        Call::Add(track, ns) => {
+            let _number = observe(file, track, ns)?;
+        }
+        Call::Retract(k) => retract(file, k),
+        Call::Home(t, home) => set_home(file, t, home),
+    }
+    Ok(())
+}
+
+fn make_plain(plain: &mut Plain, call: Call) -> Result<(), NoMemory> {
+    match call {
+        Call::Track(home) => {
+            let station = Short::new(b"703");
+            plain.add_track(Tracklet { name: name(), station, home })?;
+        }
+        Call::Add(track, ns) => {
+            if let Some(s) = seen(ns) {
+                plain.add(track, s, ENTRY)?;
+            }
+        }
+        Call::Retract(k) => plain.retract(k),
+        Call::Home(t, home) => plain.set_home(t, home),
+    }
+    Ok(())
+}
+
+// Whether the two answer every question alike, over numbers to 9 and times to 40.
+fn agree(file: &TrackletFile, plain: &Plain) -> bool {
+    let numbers = (0..10).all(|k| {
+        file.first_of(k) == plain.first_after(k, 0) && file.next_of(k) == plain.next_of(k)
+    });
+    let positions = (0..5).all(|tens: i64| match seen(tens * 10) {
+        Some(s) => file.has_live(s.station, s.time, s.ra, s.dec) == plain.has_live(&s),
+        None => false,
+    });
+    numbers && positions && [file.isolated(), file.homed(), file.retracted()] == plain.counts()
+}
+
+#[test]
+fn answers_as_the_plain_lists(rt: HostRuntime) -> Result<(), Fail> {
+    let mut file = TrackletFile::new(rt.alloc())?;
+    let mut plain = Plain::new(rt.alloc());
+    let calls = [
+        Call::Track(None),
+        Call::Add(1, 10),
+        Call::Track(Some(HOME)),
+        Call::Add(2, 10),
+        Call::Add(1, 10),
+        Call::Add(1, 20),
+        Call::Retract(1),
+        Call::Add(2, 30),
+        Call::Retract(3),
+        Call::Home(1, Some(HOME)),
+        Call::Retract(2),
+        Call::Add(1, 10),
+        Call::Home(2, None),
+        Call::Track(None),
+        Call::Add(3, 20),
+        Call::Retract(4),
+        Call::Retract(7),
+        Call::Add(2, 0),
+    ];
+    for (place, call) in calls.iter().enumerate() {
+        make(&mut file, *call)?;
+        make_plain(&mut plain, *call)?;
+        assert!(rt; agree(&file, &plain), "after call {place}");
+    }
+    assert_eq!(rt; counts(&file), [2, 1, 5, 8, 3]);
     Ok(())
 }

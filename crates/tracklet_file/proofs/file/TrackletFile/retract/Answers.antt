@@ -1,68 +1,130 @@
-use Rattle.std.proofs.Common.{◌≡◌, ℕ, ◌+◌, ◌-◌, ◌<◌, true, false, List, length, Bool, cond, ap, subst, sym, ◌∙◌, arith}
+use Rattle.std.proofs.Common.{◌≡◌, ℕ, ◌+◌, ◌-◌, ◌<◌, true, false, Bool, cond, length, refl, ap, subst, sym, ◌∙◌, arith}
 use Rattle.std.specs.Prelude.{reverse, is_none}
-use Rattle.std.proofs.lemmas.Option.{same_Some}
+use Rattle.std.proofs.lemmas.List.{length-reverse}
 use Rattle.tracklet_file.specs.declared.observation.Observation.{Observation}
 use Rattle.tracklet_file.specs.Observations.{is_live, with_retraction}
 use Rattle.tracklet_file.specs.Tracklets.{IsTracklet, home_of}
-use Rattle.tracklet_file.specs.Contents.{Contents, IsCounted}
+use Rattle.tracklet_file.specs.Contents.{Contents}
 use Rattle.tracklet_file.proofs.NumberingLemmas.{numbered_within, place_within, read_at, changed_in_place}
-use Rattle.tracklet_file.proofs.CountLemmas.{tracklet_at, none_told, live_there, live_at, some_isolated, counted_retracted}
+use Rattle.tracklet_file.proofs.CountLemmas.{tracklet_at, none_told, live_there, live_at, some_isolated}
+use Rattle.tracklet_file.proofs.KeepingLemmas.{chain_some, index_some, found_some, there_some, less, kept_retracted}
 use Rattle.tracklet_file.proofs.file.TrackletFile.retract.Goals as goal
 
 pub overflow_sub-place : goal.overflow_sub-place
-overflow_sub-place c = (numbered_within c.args.self.now.observations c.args.k (live_there c.args.self.now.observations c.args.k c.requires)).0
+overflow_sub-place c =
+    (numbered_within c.args.self.now.observations c.args.k (live_there c.args.self.now.observations c.args.k c.requires)).0
 
 pub index-requires : goal.index-requires
 index-requires c =
-    let live : is_live (reverse c.self.inside.observations.items) c.args.k ≡ true = ap (λ (v : Contents). is_live v.observations c.args.k) c.self.view_is ∙ c.requires in
-    let within : c.args.k - 1 < length c.self.inside.observations.items = place_within c.self.inside.observations.items c.args.k (live_there (reverse c.self.inside.observations.items) c.args.k live) in
+    let observations = reverse c.self.inside.observations.items in
+    let live : is_live observations c.args.k ≡ true = ap (λ (v : Contents). is_live v.observations c.args.k) c.self.view_is ∙ c.requires in
+    let within : c.args.k - 1 < length c.self.inside.observations.items = place_within c.self.inside.observations.items c.args.k (live_there observations c.args.k live) in
     omega arith
 
 pub home-requires : goal.home-requires
 home-requires c =
     let observations = reverse c.self.inside.observations.items in
     let live : is_live observations c.args.k ≡ true = ap (λ (v : Contents). is_live v.observations c.args.k) c.self.view_is ∙ c.requires in
-    let here = read_at c.self.inside.observations.items c.args.k c.index.result.now (live_there observations c.args.k live) c.index.ensures in
+    let at = read_at c.self.inside.observations.items c.args.k c.index.result.now (live_there observations c.args.k live) c.index.ensures in
     subst (λ (v : Contents). IsTracklet v.tracklets c.index.result.now.track) c.self.view_is
-    (tracklet_at (reverse c.self.inside.tracklets.items) observations c.args.k c.index.result.now c.self.invariant.in_tracklets here)
+    (tracklet_at (reverse c.self.inside.tracklets.items) observations c.args.k c.index.result.now c.self.invariant.counted.in_tracklets at)
 
 pub without_one-self-inside-requires : goal.without_one-self-inside-requires
 without_one-self-inside-requires c none =
-    let tracklets = reverse c.self.inside.tracklets.items in
     let observations = reverse c.self.inside.observations.items in
     let live : is_live observations c.args.k ≡ true = ap (λ (v : Contents). is_live v.observations c.args.k) c.self.view_is ∙ c.requires in
-    let here = read_at c.self.inside.observations.items c.args.k c.index.result.now (live_there observations c.args.k live) c.index.ensures in
+    let at = read_at c.self.inside.observations.items c.args.k c.index.result.now (live_there observations c.args.k live) c.index.ensures in
+    let alive = live_at observations c.args.k c.index.result.now at live in
+    let tracklets = reverse c.self.inside.tracklets.items in
     let alone : is_none (home_of tracklets c.index.result.now.track) ≡ true =
     ap (λ (v : Contents). is_none (home_of v.tracklets c.index.result.now.track)) c.self.view_is ∙ ap is_none (sym c.home.ensures) ∙ sym (none_told c.home.result c.is_none-isolated.result c.is_none-isolated.ensures) ∙ none in
-    subst (λ (n : ℕ). 0 < n) (sym c.self.invariant.isolated_are)
-    (some_isolated tracklets observations c.args.k c.index.result.now here (live_at observations c.args.k c.index.result.now here live) alone)
+    subst (λ (n : ℕ). 0 < n) (sym c.self.invariant.counted.isolated_are) (some_isolated tracklets observations c.args.k c.index.result.now at alive alone)
+
+pub overflow_sub-live : goal.overflow_sub-live
+overflow_sub-live c =
+    let observations = reverse c.self.inside.observations.items in
+    let live : is_live observations c.args.k ≡ true = ap (λ (v : Contents). is_live v.observations c.args.k) c.self.view_is ∙ c.requires in
+    let at = read_at c.self.inside.observations.items c.args.k c.index.result.now (live_there observations c.args.k live) c.index.ensures in
+    let alive = live_at observations c.args.k c.index.result.now at live in
+    let some = index_some _ _ _ _ _ _ _ _ c.self.invariant c.args.k c.index.result.now at alive c.position_of.result c.position_of.ensures c.ties_itself.ensures in
+    omega (arith, some, c.live_at-live.ensures)
+
+pub insert-requires : goal.insert-requires
+insert-requires c none =
+    let observations = reverse c.self.inside.observations.items in
+    let live : is_live observations c.args.k ≡ true = ap (λ (v : Contents). is_live v.observations c.args.k) c.self.view_is ∙ c.requires in
+    let at = read_at c.self.inside.observations.items c.args.k c.index.result.now (live_there observations c.args.k live) c.index.ensures in
+    let alive = live_at observations c.args.k c.index.result.now at live in
+    let some = index_some _ _ _ _ _ _ _ _ c.self.invariant c.args.k c.index.result.now at alive c.position_of.result c.position_of.ensures c.ties_itself.ensures in
+    absurd (found_some _ c.self.inside.index.items c.position_of-2.result c.position_of.result c.index.result.now.sighting (c.live_at-live.result - 1) c.position_of-2.ensures c.position_of.ensures (λ key s live. refl) c.ties_find_alike.ensures c.ties_itself.ensures some none)
+
+pub overflow_sub-o : goal.overflow_sub-o
+overflow_sub-o c =
+    let observations = reverse c.self.inside.observations.items in
+    let live : is_live observations c.args.k ≡ true = ap (λ (v : Contents). is_live v.observations c.args.k) c.self.view_is ∙ c.requires in
+    let at = read_at c.self.inside.observations.items c.args.k c.index.result.now (live_there observations c.args.k live) c.index.ensures in
+    let there = tracklet_at (reverse c.self.inside.tracklets.items) observations c.args.k c.index.result.now c.self.invariant.counted.in_tracklets at in
+    (numbered_within (reverse c.self.inside.tracklets.items) c.index.result.now.track there).0
 
 pub index_mut-requires : goal.index_mut-requires
 index_mut-requires c =
-    let live : is_live (reverse c.self.inside.observations.items) c.args.k ≡ true = ap (λ (v : Contents). is_live v.observations c.args.k) c.self.view_is ∙ c.requires in
-    let within : c.args.k - 1 < length c.self.inside.observations.items = place_within c.self.inside.observations.items c.args.k (live_there (reverse c.self.inside.observations.items) c.args.k live) in
+    let observations = reverse c.self.inside.observations.items in
+    let live : is_live observations c.args.k ≡ true = ap (λ (v : Contents). is_live v.observations c.args.k) c.self.view_is ∙ c.requires in
+    let at = read_at c.self.inside.observations.items c.args.k c.index.result.now (live_there observations c.args.k live) c.index.ensures in
+    let there = tracklet_at (reverse c.self.inside.tracklets.items) observations c.args.k c.index.result.now c.self.invariant.counted.in_tracklets at in
+    omega (arith, place_within c.self.inside.tracklets.items c.index.result.now.track there, c.self.invariant.chained.as_many_chains, length-reverse c.self.inside.tracklets.items)
+
+pub overflow_sub-index_mut : goal.overflow_sub-index_mut
+overflow_sub-index_mut c =
+    let observations = reverse c.self.inside.observations.items in
+    let live : is_live observations c.args.k ≡ true = ap (λ (v : Contents). is_live v.observations c.args.k) c.self.view_is ∙ c.requires in
+    let at = read_at c.self.inside.observations.items c.args.k c.index.result.now (live_there observations c.args.k live) c.index.ensures in
+    let alive = live_at observations c.args.k c.index.result.now at live in
+    chain_some _ _ _ _ _ _ _ _ c.self.invariant c.args.k c.index.result.now at alive c.index_mut.result.now c.index_mut.ensures.value
+
+pub index_mut-requires-2 : goal.index_mut-requires-2
+index_mut-requires-2 c =
+    let observations = reverse c.self.inside.observations.items in
+    let live : is_live observations c.args.k ≡ true = ap (λ (v : Contents). is_live v.observations c.args.k) c.self.view_is ∙ c.requires in
+    let within : c.args.k - 1 < length c.self.inside.observations.items = place_within c.self.inside.observations.items c.args.k (live_there observations c.args.k live) in
     omega arith
 
 pub invariant_of-self : goal.invariant_of-self
 invariant_of-self c =
-    let tracklets = reverse c.self.inside.tracklets.items in
     let observations = reverse c.self.inside.observations.items in
     let live : is_live observations c.args.k ≡ true = ap (λ (v : Contents). is_live v.observations c.args.k) c.self.view_is ∙ c.requires in
+    let at = read_at c.self.inside.observations.items c.args.k c.index.result.now (live_there observations c.args.k live) c.index.ensures in
+    let alive = live_at observations c.args.k c.index.result.now at live in
+    let some = index_some _ _ _ _ _ _ _ _ c.self.invariant c.args.k c.index.result.now at alive c.position_of.result c.position_of.ensures c.ties_itself.ensures in
+    let tracklets = reverse c.self.inside.tracklets.items in
     let there = live_there observations c.args.k live in
-    let read = read_at c.self.inside.observations.items c.args.k c.index.result.now there c.index.ensures in
-    let here = read_at c.self.inside.observations.items c.args.k c.index_mut.result.now there c.index_mut.ensures.value in
-    let same : c.index.result.now ≡ c.index_mut.result.now = same_Some _ _ (sym read ∙ here) in
-    let home : c.home.result ≡ home_of tracklets c.index_mut.result.now.track =
-    c.home.ensures ∙ sym (ap (λ (v : Contents). home_of v.tracklets c.index.result.now.track) c.self.view_is) ∙ ap (λ (o : Observation). home_of tracklets o.track) same in
-    let isolated : c.is_none-isolated.result ≡ is_none (home_of tracklets c.index_mut.result.now.track) = none_told c.home.result c.is_none-isolated.result c.is_none-isolated.ensures ∙ ap is_none home in
-    subst (λ (after : List Observation). IsCounted tracklets after c.without_one-self-inside.result (c.self.inside.retracted + 1))
-    (changed_in_place (λ (o : Observation). record o { live = false }) c.self.inside.observations.items c.args.k c.index_mut.result.now there c.index_mut.ensures.value)
-    (counted_retracted tracklets observations c.args.k c.index_mut.result.now here (live_at observations c.args.k c.index_mut.result.now here live) c.self.invariant c.without_one-self-inside.result
-    (ap (λ (b : Bool). c.without_one-self-inside.result + cond b 1 0) (sym isolated) ∙ c.without_one-self-inside.ensures))
+    let home : c.home.result ≡ home_of tracklets c.index.result.now.track = c.home.ensures ∙ sym (ap (λ (v : Contents). home_of v.tracklets c.index.result.now.track) c.self.view_is) in
+    let isolated : c.is_none-isolated.result ≡ is_none (home_of tracklets c.index.result.now.track) = none_told c.home.result c.is_none-isolated.result c.is_none-isolated.ensures ∙ ap is_none home in
+    let chain = chain_some _ _ _ _ _ _ _ _ c.self.invariant c.args.k c.index.result.now at alive c.index_mut.result.now c.index_mut.ensures.value in
+    kept_retracted _ _ _ _ _ _ _ _ c.self.invariant c.args.k c.index.result.now c.index_mut.result.now _ _ _ c.without_one-self-inside.result (c.self.inside.retracted + 1)
+    (c.index_mut.result.now.live - 1) (c.live_at-live.result - 1) c.position_of-2.result c.position_of.result (record { alike = c.ties_find_alike.ensures; plain = λ key s live. refl })
+    at alive c.index_mut.ensures.value (omega (arith, chain))
+    (sym (changed_in_place (λ (o : Observation). record o { live = false }) c.self.inside.observations.items c.args.k c.index.result.now there c.index.ensures)) refl refl
+    (ap (λ (b : Bool). c.without_one-self-inside.result + cond b 1 0) (sym isolated) ∙ c.without_one-self-inside.ensures)
+    c.position_of-2.ensures c.position_of.ensures c.insert.ensures.finds (less c.live_at-live.result _ some c.live_at-live.ensures)
 
 pub returns-clause-retracted : goal.returns-clause-retracted
 returns-clause-retracted c =
     let observations = reverse c.self.inside.observations.items in
     let live : is_live observations c.args.k ≡ true = ap (λ (v : Contents). is_live v.observations c.args.k) c.self.view_is ∙ c.requires in
-    sym (changed_in_place (λ (o : Observation). record o { live = false }) c.self.inside.observations.items c.args.k c.index_mut.result.now (live_there observations c.args.k live) c.index_mut.ensures.value)
+    sym (changed_in_place (λ (o : Observation). record o { live = false }) c.self.inside.observations.items c.args.k c.index.result.now (live_there observations c.args.k live) c.index.ensures)
     ∙ ap (λ (v : Contents). with_retraction v.observations c.args.k) c.self.view_is
+
+pub returns-clause-room_stays : goal.returns-clause-room_stays
+returns-clause-room_stays c =
+    let observations = reverse c.self.inside.observations.items in
+    let live : is_live observations c.args.k ≡ true = ap (λ (v : Contents). is_live v.observations c.args.k) c.self.view_is ∙ c.requires in
+    let at = read_at c.self.inside.observations.items c.args.k c.index.result.now (live_there observations c.args.k live) c.index.ensures in
+    let alive = live_at observations c.args.k c.index.result.now at live in
+    let some = index_some _ _ _ _ _ _ _ _ c.self.invariant c.args.k c.index.result.now at alive c.position_of.result c.position_of.ensures c.ties_itself.ensures in
+    let there = there_some _ c.self.inside.index.items c.position_of-2.result c.position_of.result c.index.result.now.sighting (c.live_at-live.result - 1) c.position_of-2.ensures c.position_of.ensures (λ key s live. refl) c.ties_find_alike.ensures c.ties_itself.ensures some in
+    let stays = c.insert.ensures.replaces there in
+    record {
+      observations = omega (arith, stays, ap (λ (v : Contents). v.observation_room) c.self.view_is);
+      tracklets = omega (arith, ap (λ (v : Contents). v.tracklet_room) c.self.view_is);
+    }

@@ -1,0 +1,4 @@
+pub mod Orders
+pub mod Gaps
+pub mod Contents
+pub mod Places

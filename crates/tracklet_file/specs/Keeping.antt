@@ -1,0 +1,17 @@
+-- What the file keeps beside its observations and tracklets.
+use Rattle.std.specs.Prelude.{ℕ, List, length}
+use Rattle.std.specs.declared.cmp.Ordering.{Ordering}
+use Rattle.tracklet_file.specs.declared.observation.Observation.{Observation}
+use Rattle.tracklet_file.specs.declared.tracklet.Tracklet.{Tracklet}
+use Rattle.tracklet_file.specs.declared.chain.Chain.{Chain}
+use Rattle.tracklet_file.specs.declared.position.Position.{Position}
+use Rattle.tracklet_file.specs.Contents.{IsCounted}
+use Rattle.tracklet_file.specs.Chains.{AreChained}
+use Rattle.tracklet_file.specs.Positions.{IsIndexed}
+
+-- the counts, the chains and the index are those of the plain lists
+pub record IsKept (cmp : Position → Position → Ordering) (tracklets : List Tracklet) (observations : List Observation)
+    (isolated retracted : ℕ) (chains : List Chain) (links : List ℕ) (entries : List Position) : Type 0 where
+  pub counted : IsCounted tracklets observations isolated retracted
+  pub chained : AreChained (length tracklets) observations chains links
+  pub indexed : IsIndexed cmp entries observations
