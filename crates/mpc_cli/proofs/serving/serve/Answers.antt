@@ -25,6 +25,7 @@ frames-preserved g c =
       once = c.each_once.ensures;
       places = c.one_place.ensures;
       steps = c.no_faults.ensures.stepped;
+      none = c.no_faults.ensures.none;
     } in
     record {
       progress = rw c.saturating_add-offset.ensures (progress_more _ _ c.args.core.now.founder _ laws _ _ _ _ _ _ _ c.frames.offset c.frames.invariant.progress _ _ _ _ _ c.in-Answered.size (step_for c.frames.invariant.founder c.in-Answered.ensures.step));
@@ -47,6 +48,7 @@ returns-in-Over-clause-ends g c =
       once = c.each_once.ensures;
       places = c.one_place.ensures;
       steps = c.no_faults.ensures.stepped;
+      none = c.no_faults.ensures.none;
     } in
     ends_over _ _ c.args.core.now.founder _ laws _ _ _ _ _ _ _ c.frames.offset c.frames.invariant.progress _ _ _ _ _ (step_for c.frames.invariant.founder c.in-Over.ensures.step)
 
@@ -62,6 +64,7 @@ returns-in-NoMore-clause-ends g c =
       once = c.each_once.ensures;
       places = c.one_place.ensures;
       steps = c.no_faults.ensures.stepped;
+      none = c.no_faults.ensures.none;
     } in
     ends_no_more _ _ c.args.core.now.founder _ laws _ _ _ _ _ _ _ c.frames.offset c.frames.invariant.progress _ _ _ _ _ (step_for c.frames.invariant.founder c.in-NoMore.ensures.step)
 
@@ -77,6 +80,7 @@ returns-in-ReadFailed-clause-ends g c =
       once = c.each_once.ensures;
       places = c.one_place.ensures;
       steps = c.no_faults.ensures.stepped;
+      none = c.no_faults.ensures.none;
     } in
     ends_reading _ _ c.args.core.now.founder _ laws _ _ _ _ _ _ _ c.frames.offset c.frames.invariant.progress _ _ _ _ _ (step_for c.frames.invariant.founder c.in-ReadFailed.ensures.step)
 
@@ -92,5 +96,6 @@ returns-in-WriteFailed-clause-ends g c =
       once = c.each_once.ensures;
       places = c.one_place.ensures;
       steps = c.no_faults.ensures.stepped;
+      none = c.no_faults.ensures.none;
     } in
     ends_writing _ _ c.args.core.now.founder _ laws _ _ _ _ _ _ _ c.frames.offset c.frames.invariant.progress _ _ _ _ _ (step_for c.frames.invariant.founder c.in-WriteFailed.ensures.step)
