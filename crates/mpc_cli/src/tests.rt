@@ -7,6 +7,8 @@ use obs_time::Instant;
 use std::alloc::Global;
 use std::process::Abort;
 
+mod objects;
+
 /// A frame, the answer to it, and how many entries the history has behind it.
 #[derive(Clone, Copy)]
 struct Exchange {
