@@ -13,10 +13,11 @@ use Rattle.act_model.specs.declared.reply.Reply.{Reply}
 use Rattle.act_model.specs.declared.reply.Reply.TheVariants.{Done}
 use Rattle.act_model.specs.declared.request.Request.{Request}
 use Rattle.act_model.specs.Requests.{is_act}
-use Rattle.act_model.specs.Conducts.{Extends, Makes}
+use Rattle.act_model.specs.Conducts.{Extends, EitherWay, Makes}
+use Rattle.act_model.specs.Legal.{IsLegal}
 use Rattle.act_model.specs.Keepers.{RoseBy}
 use Rattle.act_model.specs.Step.{Outcome, Adds, outcome, step}
-use Rattle.act_model.specs.Turns.{Turn, TakesReading, Answers, unless_untouched, Mends, FailsToMend, FailsToKeep, Settles, ActsMended, Asks}
+use Rattle.act_model.specs.Turns.{Turn, TakesReading, Answers, unless_untouched, Mends, FailsToMend, FailsToKeep, Settles, ActsMended, Asks, Takes, IsTurn, Conduct}
 use Rattle.intake_lock.specs.declared.view.Item.{Item}
 use Rattle.intake_lock.specs.declared.view.View.{View}
 use Rattle.intake_lock.specs.Rule.{IsCall, IsOrigin, Origins, Comes}
@@ -79,9 +80,9 @@ reading_is item reading is = sym (ap (λ (o : Option ℤ). unwrap_or o (pos 0)) 
 module _ (steps : StepLaw) (founder : Key) (limit : Option ℕ) where
   one_more : (past : List Entry) (q : Request) (t : ℤ) (reply : Reply) (after : List Entry) → Answers founder limit past q t reply after → OneMore founder limit past q t after
   one_more past q t reply after (inl is) = elim (steps founder limit past after q t reply is) [
-      | inl same ↦ inl same
-      | inr added ↦ inr (added.0, added.1, added.3)
-    ]
+    | inl same ↦ inl same
+    | inr added ↦ inr (added.0, added.1, added.3)
+  ]
   one_more past q t reply after (inr (wants, same)) = inl same
 
   more_extends : (past : List Entry) (q : Request) (t : ℤ) (after : List Entry) → OneMore founder limit past q t after → Extends past after
@@ -192,8 +193,8 @@ module _ (steps : StepLaw) where
       let here = takes_true steps between.founder between.limit between.state item after.state item.reading refl last.reads last.takes in (
         subst (λ (l : Option ℕ). IsTrue before.founder l after.state.settled item) same.1 (subst (λ (f : Key). IsTrue f between.limit after.state.settled item) same.0 here),
         are_true_later steps before.founder before.limit between.state.settled after.state.settled items
-        (takes_extend steps between.founder between.limit between.state item after.state item.reading last.takes)
-        (called_true before between items others),
+            (takes_extend steps between.founder between.limit between.state item after.state item.reading last.takes)
+            (called_true before between items others),
       )
 
 pub called_counts : (r first : ℕ) (before after : Office) (items : List Item) → RisesBy r first before.faults → Called before items after → RisesBy (r + rises items) first after.faults
@@ -301,3 +302,23 @@ comes_more steps opening before after items views views' founder limit kept call
     let k = comes_kept opening before views views' kept c in
     let r = comes_called steps opening views' before after items founder limit calls (record { newer = k.newer; grown = k.grown; origins = k.origins }) k.doubt called in
     record { newer = r.0.newer; grown = r.0.grown; origins = r.0.origins; doubt = r.1 }
+
+-- ---- legal histories
+
+-- a conduct from a legal history leaves one
+abbrev pub LegalLaw : Type 0
+LegalLaw = (founder : Key) (limit : Option ℕ) (before after : OfficeState) (turns : List Turn) → EitherWay (IsLegal founder) before → Conduct founder limit before turns after → EitherWay (IsLegal founder) after
+
+takes_of : (founder : Key) (limit : Option ℕ) (before : OfficeState) (item : Item) (reading : Option ℤ) (after : OfficeState) → TakesAt founder limit before item reading after → Takes founder limit before (turn_of item) reading after
+takes_of founder limit before item (Some reading) after (inl (f, place)) = inl f
+takes_of founder limit before item (Some reading) after (inr (a, place)) = inr a
+takes_of founder limit before item None after (a, place) = a
+
+pub called_legal : (steps : StepLaw) → LegalLaw → (before after : Office) (items : List Item) → EitherWay (IsLegal before.founder) before.state → Called before items after → EitherWay (IsLegal before.founder) after.state
+called_legal steps law before after [] legal is = subst (λ (o : Office). EitherWay (IsLegal before.founder) o.state) (sym is) legal
+called_legal steps law before after (item ∷ items) legal (between, others, last) =
+    let so_far = called_legal steps law before between items legal others in
+    let same = called_same steps before between items others in
+    let turn : IsTurn between.founder between.limit between.state (turn_of item) after.state = record { reads = last.reads; takes = takes_of between.founder between.limit between.state item item.reading after.state last.takes } in
+    subst (λ (f : Key). EitherWay (IsLegal f) after.state) same.0
+    (law between.founder between.limit between.state after.state (turn_of item ∷ []) (subst (λ (f : Key). EitherWay (IsLegal f) between.state) (sym same.0) so_far) (after.state, turn, refl))

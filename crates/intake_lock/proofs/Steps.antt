@@ -12,7 +12,8 @@ use Rattle.atomic_table.proofs.Lists.{set_else, set_again}
 use Rattle.act_bodies.specs.declared.key.Key.{Key}
 use Rattle.act_model.specs.declared.entry.Entry.{Entry}
 use Rattle.act_model.specs.declared.keeper.Office.{Office}
-use Rattle.act_model.specs.Conducts.{Extends}
+use Rattle.act_model.specs.Conducts.{Extends, EitherWay}
+use Rattle.act_model.specs.Legal.{IsLegal}
 use Rattle.intake_lock.specs.declared.view.Item.{Item}
 use Rattle.intake_lock.specs.declared.view.Role.{Role}
 use Rattle.intake_lock.specs.declared.view.Role.TheVariants.{Root, Branch, Spent}
@@ -23,7 +24,7 @@ use Rattle.intake_lock.specs.Items.{AreTrue, Called, RisesBy, rises}
 use Rattle.intake_lock.specs.Views.{seen, live, ticketed, one_if_ticketed, made_by, rises_by, HasTicketAt, HasTicket, HasTurnAt, HasTurn, waiting, holding, published, idle}
 use Rattle.intake_lock.specs.Rule.{MOST, word, FitsStage, IsKnown, Fits, At, Apart, Rooted, IsCall, Comes, IsHome, IsOut, Standing}
 use Rattle.intake_lock.specs.Plays.{Mine, Draws, Gets, Looks, Publishes, Leaves, Tells}
-use Rattle.intake_lock.proofs.Histories.{StepLaw, extends_refl, extends_on, extends_length, shorter_begins, comes_kept, comes_more, called_same, called_extends, called_true, called_counts, are_true_later, are_true_both}
+use Rattle.intake_lock.proofs.Histories.{StepLaw, extends_refl, extends_on, extends_length, shorter_begins, comes_kept, comes_more, called_same, called_extends, called_true, called_counts, LegalLaw, called_legal, are_true_later, are_true_both}
 use Rattle.intake_lock.proofs.Sums.{sum_set, sum_le, sum_one, at_below}
 use Rattle.intake_lock.proofs.Views.{fits_live, live_known, ticket_range, turn_ticket, ticket_weighs, known_later, fits_later, one_there, changed, here, each, apart_set, sum_same, rooted_set, calls_set, calls_same, kept_set}
 
@@ -86,14 +87,15 @@ module _ (steps : StepLaw) {V : Type 0} (office_of : V → Office) (opening : Of
           limit = h.limit;
           tickets = omega arith;
           fits = each s.views id v w at (λ j u. Fits opening h.office (h.drawn + 1) h.served u)
-          (fits_live opening h.office (h.drawn + 1) h.served w one (record { founder = known.0.founder; limit = known.0.limit; first = known.0.first; also = known.0.also; true_of = known.0.true_of }) (omega arith, omega arith))
-          (λ j u other at'. fits_later opening h.office h.office h.drawn (h.drawn + 1) h.served h.served u (extends_refl h.office.state.settled) (more u u.stage) (h.fits j u at'));
+              (fits_live opening h.office (h.drawn + 1) h.served w one (record { founder = known.0.founder; limit = known.0.limit; first = known.0.first; also = known.0.also; true_of = known.0.true_of }) (omega arith, omega arith))
+              (λ j u other at'. fits_later opening h.office h.office h.drawn (h.drawn + 1) h.served h.served u (extends_refl h.office.state.settled) (more u u.stage) (h.fits j u at'));
           apart = apart_set s.views id v w at
-          (λ j u ticket other at' has has'. let range = ticket_range opening h.office h.drawn h.served u ticket (h.fits j u at') has' in let low = range.1 in let same : h.drawn ≡ ticket = has in absurd (omega arith))
-          h.apart;
+              (λ j u ticket other at' has has'. let range = ticket_range opening h.office h.drawn h.served u ticket (h.fits j u at') has' in let low = range.1 in let same : h.drawn ≡ ticket = has in absurd (omega arith))
+              h.apart;
           rooted = rooted_set s.views id v w at refl h.rooted;
           kept = kept_set s.views id v w at office_of h.office s.homes (λ turn. subst HasTurnAt rests turn) (λ turn. turn) h.kept;
           made = h.made ∙ ap (λ (n : ℕ). length opening.state.settled + n) (sym (sum_same s.views id v w at made_by refl));
+          legal = h.legal;
           comes = comes_kept opening h.office s.views (set s.views id w) (calls_same s.views id v w at refl) h.comes;
           counts = subst (λ (n : ℕ). RisesBy n opening.faults h.office.faults) (sym (sum_same s.views id v w at rises_by refl)) h.counts;
         }
@@ -153,16 +155,17 @@ module _ (steps : StepLaw) {V : Type 0} (office_of : V → Office) (opening : Of
               limit = h.limit;
               tickets = h.tickets ∙ ap (λ (n : ℕ). h.served + n) (sym (sum_same s.views id v got at ticketed (sym weighs)));
               fits = each s.views id v got at (λ j u. Fits opening h.office h.drawn h.served u)
-              (fits_live opening h.office h.drawn h.served got one
-              (record { founder = h.founder; limit = h.limit; first = extends_refl h.office.state.settled; also = known.also; true_of = are_true_later steps opening.founder opening.limit (seen v) h.office.state.settled v.mine known.first known.true_of })
-              (sym served, omega arith, refl))
-              (λ j u other at'. h.fits j u at');
+                  (fits_live opening h.office h.drawn h.served got one
+                  (record { founder = h.founder; limit = h.limit; first = extends_refl h.office.state.settled; also = known.also; true_of = are_true_later steps opening.founder opening.limit (seen v) h.office.state.settled v.mine known.first known.true_of })
+                  (sym served, omega arith, refl))
+                  (λ j u other at'. h.fits j u at');
               apart = apart_set s.views id v got at
-              (λ j u t other at' has has'. other (h.apart j id u v t at' at has' (subst (λ (st : Stage). HasTicketAt st t) (sym waits) has)))
-              h.apart;
+                  (λ j u t other at' has has'. other (h.apart j id u v t at' at has' (subst (λ (st : Stage). HasTicketAt st t) (sym waits) has)))
+                  h.apart;
               rooted = rooted_set s.views id v got at refl h.rooted;
               kept = inr (record { home = ap (λ (hs : List (slot.Option (Option V))). slice_set hs 0 slot.none) home; id = id; view = got; at = here s.views id v got at; turn = tt });
               made = h.made ∙ ap (λ (n : ℕ). length opening.state.settled + n) (sym (sum_same s.views id v got at made_by refl));
+              legal = h.legal;
               comes = comes_kept opening h.office s.views (set s.views id got) (calls_same s.views id v got at refl) h.comes;
               counts = subst (λ (n : ℕ). RisesBy n opening.faults h.office.faults) (sym (sum_same s.views id v got at rises_by refl)) h.counts;
             }
@@ -219,7 +222,7 @@ module _ (steps : StepLaw) {V : Type 0} (office_of : V → Office) (opening : Of
 
   -- ---- publish
 
-  module _ (slots id ticket : ℕ) (m : Mine V) (one : live m.0 ≡ 1) (turn : m.0.stage ≡ Holding ticket) (items : List Item) (later : Office) (called : Called m.0.office items later) (n : ℕ) (is : n ≡ length later.state.settled) (within : n < 2 ^ 64) where
+  module _ (slots id ticket : ℕ) (m : Mine V) (one : live m.0 ≡ 1) (turn : m.0.stage ≡ Holding ticket) (items : List Item) (later : Office) (law : LegalLaw) (called : Called m.0.office items later) (n : ℕ) (is : n ≡ length later.state.settled) (within : n < 2 ^ 64) where
     abbrev told : View
     told = published later items m.0
 
@@ -268,26 +271,27 @@ module _ (steps : StepLaw) {V : Type 0} (office_of : V → Office) (opening : Of
             limit = same.1 ∙ h.limit;
             tickets = h.tickets ∙ ap (λ (x : ℕ). h.served + x) (sym (sum_same s.views id m.0 told at ticketed refl));
             fits = each s.views id m.0 told at (λ j u. Fits opening later h.drawn h.served u)
-            (fits_live opening later h.drawn h.served told one
-            (record {
-              founder = same.0 ∙ h.founder;
-              limit = same.1 ∙ h.limit;
-              first = extends_refl later.state.settled;
-              also = extends_on m.0.also h.office.state.settled later.state.settled known.0.also grows;
-              true_of = are_true_both opening.founder opening.limit later.state.settled items m.0.mine
-              (subst (λ (l : Option ℕ). AreTrue opening.founder l later.state.settled items) h.limit (subst (λ (f : Key). AreTrue f h.office.limit later.state.settled items) h.founder (called_true steps h.office later items publish_called)))
-              (are_true_later steps opening.founder opening.limit (seen m.0) later.state.settled m.0.mine (extends_on (seen m.0) h.office.state.settled later.state.settled known.0.first grows) known.0.true_of);
-            })
-            (subst (λ (st : Stage). FitsStage later h.drawn h.served told st) (sym turn) (known.1.0, known.1.1, refl)))
-            (λ j u other at'. fits_later opening h.office later h.drawn h.drawn h.served h.served u grows (publish_others j u other at' u.stage (λ has. has)) (h.fits j u at'));
+                (fits_live opening later h.drawn h.served told one
+                (record {
+                  founder = same.0 ∙ h.founder;
+                  limit = same.1 ∙ h.limit;
+                  first = extends_refl later.state.settled;
+                  also = extends_on m.0.also h.office.state.settled later.state.settled known.0.also grows;
+                  true_of = are_true_both opening.founder opening.limit later.state.settled items m.0.mine
+                      (subst (λ (l : Option ℕ). AreTrue opening.founder l later.state.settled items) h.limit (subst (λ (f : Key). AreTrue f h.office.limit later.state.settled items) h.founder (called_true steps h.office later items publish_called)))
+                      (are_true_later steps opening.founder opening.limit (seen m.0) later.state.settled m.0.mine (extends_on (seen m.0) h.office.state.settled later.state.settled known.0.first grows) known.0.true_of);
+                })
+                (subst (λ (st : Stage). FitsStage later h.drawn h.served told st) (sym turn) (known.1.0, known.1.1, refl)))
+                (λ j u other at'. fits_later opening h.office later h.drawn h.drawn h.served h.served u grows (publish_others j u other at' u.stage (λ has. has)) (h.fits j u at'));
             apart = apart_set s.views id m.0 told at (λ j u t other at' has has'. other (h.apart j id u m.0 t at' at has' has)) h.apart;
             rooted = rooted_set s.views id m.0 told at refl h.rooted;
             kept = inr (record { home = publish_home h.kept; id = id; view = told; at = here s.views id m.0 told at; turn = publish_has });
             made = omega arith;
+            legal = λ was. subst (λ (f : Key). EitherWay (IsLegal f) later.state) h.founder (called_legal steps law h.office later items (subst (λ (f : Key). EitherWay (IsLegal f) h.office.state) (sym h.founder) (h.legal was)) publish_called);
             comes = comes_more steps opening h.office later items s.views (set s.views id told) h.founder h.limit
-            (calls_set s.views id m.0 told at (λ i has. Contains-append_right items m.0.mine i has))
-            (λ i has. (id, told, here s.views id m.0 told at, Contains-append_left items m.0.mine i has))
-            publish_called h.comes;
+                (calls_set s.views id m.0 told at (λ i has. Contains-append_right items m.0.mine i has))
+                (λ i has. (id, told, here s.views id m.0 told at, Contains-append_left items m.0.mine i has))
+                publish_called h.comes;
             counts = subst (λ (x : ℕ). RisesBy x opening.faults later.faults) total counted;
           }
         where
@@ -334,8 +338,8 @@ module _ (steps : StepLaw) {V : Type 0} (office_of : V → Office) (opening : Of
             limit = h.limit;
             tickets = omega arith;
             fits = each s.views id m.0 w at (λ j u. Fits opening h.office h.drawn (h.served + 1) u)
-            (fits_live opening h.office h.drawn (h.served + 1) w one (record { founder = known.0.founder; limit = known.0.limit; first = known.0.first; also = known.0.also; true_of = known.0.true_of }) tt)
-            (λ j u other at'. fits_later opening h.office h.office h.drawn h.drawn h.served (h.served + 1) u (extends_refl h.office.state.settled) (next_others j u other at' u.stage (λ has. has)) (h.fits j u at'));
+                (fits_live opening h.office h.drawn (h.served + 1) w one (record { founder = known.0.founder; limit = known.0.limit; first = known.0.first; also = known.0.also; true_of = known.0.true_of }) tt)
+                (λ j u other at'. fits_later opening h.office h.office h.drawn h.drawn h.served (h.served + 1) u (extends_refl h.office.state.settled) (next_others j u other at' u.stage (λ has. has)) (h.fits j u at'));
             apart = apart_set s.views id m.0 w at (λ j u t other at' has has'. has) h.apart;
             rooted = rooted_set s.views id m.0 w at refl h.rooted;
             kept = inl (record {
@@ -343,9 +347,10 @@ module _ (steps : StepLaw) {V : Type 0} (office_of : V → Office) (opening : Of
               home = ap (λ (c : List (ℕ × Option V)). Rattle.atomic_table.specs.Table.put_back s.homes c) held ∙ ap (λ (hs : List (slot.Option (Option V))). slice_set hs 0 (slot.some (Some keeper))) (next_home h.kept);
               stands = stands ∙ known.1.2;
               free = each s.views id m.0 w at (λ j u. HasTurn u → ⊥) (λ has. has)
-              (λ j u other at' has. other (sym (only_turn s h id j m.0 u at at' next_has (turn_ticket opening h.office h.drawn h.served u (h.fits j u at') has))));
+                  (λ j u other at' has. other (sym (only_turn s h id j m.0 u at at' next_has (turn_ticket opening h.office h.drawn h.served u (h.fits j u at') has))));
             });
             made = h.made ∙ ap (λ (n : ℕ). length opening.state.settled + n) (sym (sum_same s.views id m.0 w at made_by refl));
+            legal = h.legal;
             comes = comes_kept opening h.office s.views (set s.views id w) (calls_same s.views id m.0 w at refl) h.comes;
             counts = subst (λ (n : ℕ). RisesBy n opening.faults h.office.faults) (sym (sum_same s.views id m.0 w at rises_by refl)) h.counts;
           }

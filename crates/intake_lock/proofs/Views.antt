@@ -131,21 +131,21 @@ module _ (views : List View) (id : ℕ) (v w : View) (at : At views id v) where
   -- what holds of the new view and of all others holds of all
   pub each : (P : ℕ → View → Type 0) → P id w → ((j : ℕ) (u : View) → j ≢ id → At views j u → P j u) → (j : ℕ) (u : View) → At changed j u → P j u
   each P new others j u at' = elim (at_set views id j w u at') [
-      | inl is ↦ subst (λ (x : View). P j x) is.1 (subst (λ (k : ℕ). P k w) (sym is.0) new)
-      | inr is ↦ others j u is.0 is.1
-    ]
+    | inl is ↦ subst (λ (x : View). P j x) is.1 (subst (λ (k : ℕ). P k w) (sym is.0) new)
+    | inr is ↦ others j u is.0 is.1
+  ]
 
   pub apart_set : ((j : ℕ) (u : View) (ticket : ℕ) → j ≢ id → At views j u → HasTicket w ticket → HasTicket u ticket → ⊥) → Apart views → Apart changed
   apart_set new apart i j x y ticket at_x at_y has has' = elim (at_set views id i w x at_x) [
-      | inl is ↦ elim (at_set views id j w y at_y) [
-        | inl js ↦ is.0 ∙ sym js.0
-        | inr js ↦ absurd (new j y ticket js.0 js.1 (subst (λ (z : View). HasTicket z ticket) (sym is.1) has) has')
-      ]
-      | inr is ↦ elim (at_set views id j w y at_y) [
-        | inl js ↦ absurd (new i x ticket is.0 is.1 (subst (λ (z : View). HasTicket z ticket) (sym js.1) has') has)
-        | inr js ↦ apart i j x y ticket is.1 js.1 has has'
-      ]
+    | inl is ↦ elim (at_set views id j w y at_y) [
+      | inl js ↦ is.0 ∙ sym js.0
+      | inr js ↦ absurd (new j y ticket js.0 js.1 (subst (λ (z : View). HasTicket z ticket) (sym is.1) has) has')
     ]
+    | inr is ↦ elim (at_set views id j w y at_y) [
+      | inl js ↦ absurd (new i x ticket is.0 is.1 (subst (λ (z : View). HasTicket z ticket) (sym js.1) has') has)
+      | inr js ↦ apart i j x y ticket is.1 js.1 has has'
+    ]
+  ]
 
   pub sum_same : (f : View → ℕ) → f w ≡ f v → sum_by f changed ≡ sum_by f views
   sum_same f same = let s = sum_set f views id v w at in omega arith
@@ -158,7 +158,7 @@ module _ (views : List View) (id : ℕ) (v w : View) (at : At views id v) where
         most = r.most;
         count = sum_same live (ap one_if_live same) ∙ r.count;
         one = λ j n u at' is.
-          each (λ j u. (n : ℕ) → u.role ≡ Root n → (j ≡ r.root) × (n ≡ r.out)) (λ n is. r.one id n v at (sym same ∙ is)) (λ j u other at n is. r.one j n u at is) j u at' n is;
+            each (λ j u. (n : ℕ) → u.role ≡ Root n → (j ≡ r.root) × (n ≡ r.out)) (λ n is. r.one id n v at (sym same ∙ is)) (λ j u other at n is. r.one j n u at is) j u at' n is;
       }
 
   pub calls_set : ((item : Item) → Contains v.mine item → Contains w.mine item) → (item : Item) → IsCall views item → IsCall changed item

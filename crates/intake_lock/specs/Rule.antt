@@ -9,7 +9,8 @@ use Rattle.atomic_table.specs.Table.{State}
 use Rattle.act_bodies.specs.declared.key.Key.{Key}
 use Rattle.act_model.specs.declared.entry.Entry.{Entry}
 use Rattle.act_model.specs.declared.keeper.Office.{Office}
-use Rattle.act_model.specs.Conducts.{Extends}
+use Rattle.act_model.specs.Conducts.{Extends, EitherWay}
+use Rattle.act_model.specs.Legal.{IsLegal}
 use Rattle.intake_lock.specs.declared.view.Item.{Item}
 use Rattle.intake_lock.specs.declared.view.Role.{Role}
 use Rattle.intake_lock.specs.declared.view.Role.TheVariants.{Root, Branch, Spent}
@@ -96,6 +97,10 @@ pub record Comes (opening office : Office) (views : List View) : Type 0 where
   pub origins : Origins opening views newer
   pub doubt : IfSome office.state.doubt (λ entry. IsOrigin opening views office.state.settled entry)
 
+-- the history is legal, also with the act in doubt, if that at the opening was
+abbrev pub StaysLegal : Office → Office → Type 0
+StaysLegal opening office = IsLegal opening.founder opening.state.settled → EitherWay (IsLegal opening.founder) office.state
+
 -- ---- the slot
 
 module _ {V : Type 0} (office_of : V → Office) where
@@ -129,6 +134,7 @@ module _ {V : Type 0} (office_of : V → Office) where
     pub rooted : Rooted s.views
     pub kept : IsHome office s.homes s.views ⊎ IsOut s.homes s.views
     pub made : length office.state.settled ≡ length opening.state.settled + sum_by made_by s.views
+    pub legal : StaysLegal opening office
     pub comes : Comes opening office s.views
     pub counts : RisesBy (sum_by rises_by s.views) opening.faults office.faults
 
@@ -142,5 +148,6 @@ pub record Closes (opening : Office) (view : View) (office : Office) : Type 0 wh
   pub limit : office.limit ≡ opening.limit
   pub seen : Extends (seen view) office.state.settled
   pub made : length office.state.settled ≡ length opening.state.settled + view.made
+  pub legal : StaysLegal opening office
   pub comes : Comes opening office (view ∷ [])
   pub counts : RisesBy (rises_by view) opening.faults office.faults

@@ -1,4 +1,4 @@
-ghost use Rattle.std.specs.Prelude.{◌≡◌, ℕ, ◌^◌, ◌<◌, ◌%◌, List, [], ◌∷◌, length, Some, None, IfOk, IfErr, ◌⊎◌};
+ghost use Rattle.std.specs.Prelude.{◌≡◌, ℕ, ◌^◌, ◌<◌, ◌%◌, List, [], ◌∷◌, length, Some, None, IfOk, IfErr, IfSome, IfNone};
 ghost use Rattle.act_model.specs.Conducts.{Extends};
 ghost use Rattle.intake_lock.specs.declared.view.Role.TheVariants.{Root, Branch};
 ghost use Rattle.intake_lock.specs.declared.view.Stage.TheVariants.{Waiting, Holding};
@@ -80,6 +80,7 @@ impl<V: Keeper> TurnLock<V> {
         ensures grows { Extends (seen pass.view) result.office.state.settled }
         ensures items { result.items ≡ [] }
     {
+        act_model::laws::steps_add_one_entry();
         let Pass { badge } = pass;
         let mut seat = badge.into_seat();
         let ticket = self.table.shared.fetch_add::<Draw>(&mut seat, DRAWN, 1);
@@ -94,6 +95,105 @@ impl<V: Keeper> TurnLock<V> {
             log,
         }
     }
+    /// Leaves: publishes the calls of the turn, puts the keeper back, and gives the turn on. The pass has then seen the
+    /// turn's history, its calls are those of the turn and its own from before, and it made as many entries more as the
+    /// history has.
+    pub fn leave(&self, turn: Turn<V>) -> Pass
+        requires { turn.lock ≡ self.now.id }
+        ensures lock { (result.lock ≡ turn.lock) × (result.id ≡ turn.id) }
+        ensures pass { result.view ≡ idle (published turn.office turn.items turn.view) }
+    {
+        act_model::laws::steps_add_one_entry();
+        let Turn {
+            mut seat,
+            keeper,
+            notes: _notes,
+            log,
+        } = turn;
+        publish::<V, Brand>(&self.table.shared, &mut seat, &log, &keeper);
+        drop(self.table.shared.exchange(&mut seat, KEEPER, Some(keeper)));
+        self.table.shared.fetch_add::<Next>(&mut seat, SERVED, 1);
+        self.table.shared.wake_all(SERVED);
+        Pass {
+            badge: seat.into_badge(),
+        }
+    }
+
+    /// Splits a branch off the root, which has fewer than 1,000 branches out. The branch has seen as much, and made no
+    /// calls. It takes no memory, and doesn't fail.
+    pub fn split(&self, pass: Pass) -> Result<(Pass, Pass), Pass>
+        requires lock { pass.lock ≡ self.now.id }
+        requires root { MaySplit pass.view.role }
+        ensures stem { IfOk result (λ both.
+            (both.0.lock ≡ pass.lock) × (both.0.id ≡ pass.id) × (both.0.view ≡ stem pass.view)) }
+        ensures branch { IfOk result (λ both. (both.1.lock ≡ pass.lock) × (both.1.view ≡ branch pass.view)) }
+        ensures back { IfErr result (λ same. same ≡ pass) }
+    {
+        act_model::laws::steps_add_one_entry();
+        let Pass { badge } = pass;
+        let mut seat = badge.into_seat();
+        let other = self.table.shared.split_seat::<Fork>(&mut seat);
+        let stem = Pass {
+            badge: seat.into_badge(),
+        };
+        let branch = Pass {
+            badge: other.into_badge(),
+        };
+        Ok((stem, branch))
+    }
+
+    /// Joins a branch into the root: the root has then seen the longer history, which the shorter one begins, and has
+    /// both one's calls.
+    pub fn join(&self, pass: Pass, other: Pass) -> Pass
+        requires lock { (pass.lock ≡ self.now.id) × (other.lock ≡ self.now.id) }
+        requires root { IsRoot pass.view.role }
+        requires branch { other.view.role ≡ Branch }
+        ensures lock { (result.lock ≡ pass.lock) × (result.id ≡ pass.id) }
+        ensures view { result.view ≡ joined pass.view other.view }
+        ensures seen { Extends (seen pass.view) (seen result.view) × Extends (seen other.view) (seen result.view) }
+    {
+        act_model::laws::steps_add_one_entry();
+        let Pass { badge } = pass;
+        let Pass { badge: joining } = other;
+        let mut seat = badge.into_seat();
+        self.table
+            .shared
+            .join_seat::<Merge>(&mut seat, joining.into_seat());
+        self.table.shared.load::<Tell>(&mut seat, DRAWN);
+        Pass {
+            badge: seat.into_badge(),
+        }
+    }
+
+    /// Closes the lock, once every branch was joined into the root, and gives the keeper.
+    pub fn close(self, pass: Pass) -> V
+        requires lock { pass.lock ≡ self.id }
+        requires root { pass.view.role ≡ Root 0 }
+        ensures { Closes self.opening pass.view (V.office result) }
+    {
+        let TurnLock { table } = self;
+        let Pass { badge } = pass;
+        let mut closed = table.close_with(badge.into_seat());
+        let taken = closed.take(KEEPER);
+        closed.free();
+        let Some(value) = taken else { unreachable!() };
+        value
+    }
+}
+
+// Looks at the ticket that is served, and takes the slot where it is the pass's own. None then, and else the ticket that is
+// served.
+fn look<V: Keeper>(words: &Words<V>, seat: &mut Seat<V>, ticket: u64) -> Option<u64>
+    requires seat { (seat.old.table_id ≡ words.now.table_id) × (words.now.table_id.words ≡ 3) × (seat.old.me.1 ≡ []) }
+    requires ticket { (t : ℕ) × (seat.old.me.0.stage ≡ Waiting t) × (ticket ≡ word t) }
+    requires live { live seat.old.me.0 ≡ 1 }
+    ensures seat { (seat.new.table_id ≡ seat.old.table_id) × (seat.new.id ≡ seat.old.id) }
+    ensures missed { IfSome result (λ served. seat.new.me ≡ seat.old.me) }
+    ensures gets { IfNone result ((t : ℕ) × Gets V.office t seat.old.me seat.new.me) }
+{
+    act_model::laws::steps_add_one_entry();
+    let served = words.load::<Look>(seat, SERVED);
+    if served == ticket { None } else { Some(served) }
 }
 
 // Waits until the ticket is served, and takes the slot.
@@ -104,13 +204,26 @@ fn await_turn<V: Keeper, R: Wait>(rt: &R, words: &Words<V>, seat: &mut Seat<V>, 
     ensures seat { (seat.new.table_id ≡ seat.old.table_id) × (seat.new.id ≡ seat.old.id) }
     ensures gets { (t : ℕ) × Gets V.office t seat.old.me seat.new.me }
 {
-    act_model::laws::steps_add_one_entry();
     for _ in rt.forever() {
-        let served = words.load::<Look>(seat, SERVED);
-        if served == ticket {
+        let Some(served) = look(words, seat, ticket) else {
             return;
-        }
+        };
         words.park(rt, SERVED, (served % (1 << 32)) as u32);
     }
     unreachable!()
+}
+
+// Publishes the calls of a turn. The log and the keeper say which, and what office they left.
+fn publish<V: Keeper, W: Turned>(words: &Words<V>, seat: &mut Seat<V>, _log: &Mark<Log>, keeper: &V)
+    requires seat { (seat.old.table_id ≡ words.now.table_id) × (words.now.table_id.words ≡ 3) }
+    requires turn { (t : ℕ) × (seat.old.me.0.stage ≡ Holding t) }
+    requires live { live seat.old.me.0 ≡ 1 }
+    requires office { W.office ≡ V.office keeper.now }
+    requires called { Called seat.old.me.0.office W.items W.office }
+    ensures seat { (seat.new.table_id ≡ seat.old.table_id) × (seat.new.id ≡ seat.old.id) }
+    ensures told { seat.new.me ≡ (published W.office W.items seat.old.me.0, seat.old.me.1) }
+{
+    act_model::laws::steps_add_one_entry();
+    act_model::laws::histories_are_legal();
+    words.store::<Publish<W>>(seat, LENGTH, keeper.entries());
 }

@@ -96,11 +96,11 @@ impl<V: Keeper> Model for Turn<V> {
     ghost Value = { TurnState };
 
     ghost view = { λ t. record {
-        lock = t.seat.table_id;
-        id = t.seat.id;
-        view = t.seat.me.0;
-        office = V.office t.keeper;
-        items = t.log.view;
+      lock = t.seat.table_id;
+      id = t.seat.id;
+      view = t.seat.me.0;
+      office = V.office t.keeper;
+      items = t.log.view;
     } };
 
     ghost invariant = { λ t.

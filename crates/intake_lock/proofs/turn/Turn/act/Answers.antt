@@ -12,7 +12,7 @@ invariant_of-self g c = (
   c.self.invariant.1,
   c.self.invariant.2,
   called_noted c.self.inside.seat.me.0.office (g.V.Keeper.office c.self.inside.keeper) c.args.request.now (Some c.args.reading) c.act-reply.result (g.V.Keeper.office c.act-reply.new.self) c.self.inside.log.view c.note_call.new.log.view c.self.invariant.3
-  (noted_from (g.V.Keeper.office c.of-before.result.value) (g.V.Keeper.office c.self.inside.keeper) c.args.request.now (Some c.args.reading) c.act-reply.result (g.V.Keeper.office c.act-reply.new.self) c.self.inside.log.view c.note_call.new.log.view (ap g.V.Keeper.office c.of-before.ensures) c.note_call.ensures.noted),
+      (noted_from (g.V.Keeper.office c.of-before.result.value) (g.V.Keeper.office c.self.inside.keeper) c.args.request.now (Some c.args.reading) c.act-reply.result (g.V.Keeper.office c.act-reply.new.self) c.self.inside.log.view c.note_call.new.log.view (ap g.V.Keeper.office c.of-before.ensures) c.note_call.ensures.noted),
   c.note_call.ensures.place ∙ c.self.invariant.4,
 )
 
