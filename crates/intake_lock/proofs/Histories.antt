@@ -1,27 +1,25 @@
 -- Histories that begin one another, and calls that are true of them.
-use Rattle.std.proofs.Common.{◌≡◌, ℕ, ℤ, pos, zero, suc, ◌+◌, ◌-◌, ◌^◌, ◌≤◌, ◌<◌, ◌≢◌, List, [], ◌∷◌, ◌++◌, length, Bool, true, false, cond, Option, Some, None, refl, sym, ap, subst, ◌∙◌, append_assoc, inl, inr, arith}
-use Rattle.std.specs.Prelude.{◌⊎◌, min, sum_by, unwrap_or, IfSome, Contains}
-use Rattle.std.specs.List.{AllByRecursion}
+use Rattle.std.proofs.Common.{◌≡◌, ℕ, ℤ, pos, ◌+◌, ◌≤◌, ◌<◌, List, [], ◌∷◌, ◌++◌, length, Bool, true, false, Option, Some, None, refl, sym, ap, subst, ◌∙◌, append_assoc, inl, inr, arith}
+use Rattle.std.specs.Prelude.{◌⊎◌, unwrap_or, IfSome, Contains}
 use Rattle.std.proofs.lemmas.List.{length-append}
 use Rattle.std.proofs.lemmas.List.Elements.{Contains-append_left, Contains-append_right}
-use Rattle.std.proofs.lemmas.List.Sums.{sum_by-append, sum_by-cons}
+use Rattle.std.proofs.lemmas.List.Sums.{sum_by-cons}
 use Rattle.act_bodies.specs.declared.key.Key.{Key}
 use Rattle.act_model.specs.declared.entry.Entry.{Entry}
 use Rattle.act_model.specs.declared.keeper.Office.{Office}
 use Rattle.act_model.specs.declared.keeper.OfficeState.{OfficeState}
 use Rattle.act_model.specs.declared.reply.Reply.{Reply}
-use Rattle.act_model.specs.declared.reply.Reply.TheVariants.{Done}
 use Rattle.act_model.specs.declared.request.Request.{Request}
 use Rattle.act_model.specs.Requests.{is_act}
 use Rattle.act_model.specs.Conducts.{Extends, EitherWay, Makes}
 use Rattle.act_model.specs.Legal.{IsLegal}
 use Rattle.act_model.specs.Keepers.{RoseBy}
-use Rattle.act_model.specs.Step.{Outcome, Adds, outcome, step}
-use Rattle.act_model.specs.Turns.{Turn, TakesReading, Answers, unless_untouched, Mends, FailsToMend, FailsToKeep, Settles, ActsMended, Asks, Takes, IsTurn, Conduct}
+use Rattle.act_model.specs.Step.{Adds, outcome, step}
+use Rattle.act_model.specs.Turns.{Turn, TakesReading, Answers, unless_untouched, Mends, FailsToKeep, Settles, Takes, IsTurn, Conduct}
 use Rattle.intake_lock.specs.declared.view.Item.{Item}
 use Rattle.intake_lock.specs.declared.view.View.{View}
 use Rattle.intake_lock.specs.Rule.{IsCall, IsOrigin, Origins, Comes}
-use Rattle.intake_lock.specs.Items.{reading_of, AddsAt, Failed, IsTrue, AreTrue, rises, turn_of, TakesAt, Calls, Called, RisesBy}
+use Rattle.intake_lock.specs.Items.{reading_of, IsTrue, AreTrue, rises, turn_of, TakesAt, Called, RisesBy}
 
 -- ---- beginnings
 

@@ -1,5 +1,5 @@
 -- Passes that are split, joined and closed.
-use Rattle.std.proofs.Common.{◌≡◌, ℕ, zero, suc, ◌+◌, ◌-◌, ◌^◌, ◌%◌, ◌≤◌, ◌<◌, ◌≢◌, List, [], ◌∷◌, ◌++◌, length, slice_index, slice_set, Bool, true, false, cond, Option, Some, None, set, refl, sym, ap, subst, ◌∙◌, inl, inr, arith}
+use Rattle.std.proofs.Common.{◌≡◌, ℕ, zero, suc, ◌+◌, ◌-◌, ◌^◌, ◌≤◌, ◌<◌, ◌≢◌, List, [], ◌∷◌, ◌++◌, length, Bool, true, false, cond, Option, Some, None, set, refl, sym, ap, subst, ◌∙◌, inl, inr, arith}
 use Rattle.std.specs.Prelude.{◌⊎◌, nat_lt, sum_by, IfSome, Contains}
 use Rattle.std.proofs.lemmas.Bool.Decides.{nat_tests}
 use Rattle.std.proofs.lemmas.List.Sums.{sum_by-append}
@@ -9,24 +9,23 @@ use mathlib.Core.Logic.{dite}
 use native.Mathlib.Decide.{ℕ_discrete}
 use lib.ListN.{get_elem?}
 use Rattle.atomic_table.specs.Table.{State, Splits, Joins, Final, Seen, opening as table_opening}
-use Rattle.atomic_table.proofs.Lists.{at_set, at_snoc, at_longer, at_last, set_here, set_else}
-use Rattle.act_bodies.specs.declared.key.Key.{Key}
+use Rattle.atomic_table.proofs.Lists.{at_snoc, at_longer, set_here, set_else}
 use Rattle.act_model.specs.declared.entry.Entry.{Entry}
 use Rattle.act_model.specs.declared.keeper.Office.{Office}
-use Rattle.act_model.specs.Conducts.{Extends, EitherWay}
+use Rattle.act_model.specs.Conducts.{Extends}
 use Rattle.act_model.specs.Legal.{IsLegal}
 use Rattle.intake_lock.specs.declared.view.Item.{Item}
 use Rattle.intake_lock.specs.declared.view.Role.{Role}
 use Rattle.intake_lock.specs.declared.view.Role.TheVariants.{Root, Branch, Spent}
 use Rattle.intake_lock.specs.declared.view.Stage.{Stage}
-use Rattle.intake_lock.specs.declared.view.Stage.TheVariants.{Idle, Waiting, Holding}
+use Rattle.intake_lock.specs.declared.view.Stage.TheVariants.{Idle}
 use Rattle.intake_lock.specs.declared.view.View.{View}
 use Rattle.intake_lock.specs.Items.{AreTrue, RisesBy, rises}
 use Rattle.intake_lock.specs.Views.{seen, live, one_if_live, ticketed, one_if_ticketed, made_by, rises_by, HasTicketAt, HasTicket, HasTurnAt, HasTurn, stem, branch, joined, spent, longer_office, shorter_office, one_in, first_view}
 use Rattle.intake_lock.specs.Rule.{MOST, word, FitsStage, IsKnown, Fits, At, Apart, Rooted, IsCall, Comes, IsHome, IsOut, Standing, Closes}
 use Rattle.intake_lock.proofs.Histories.{StepLaw, extends_refl, extends_on, extends_length, comes_kept, are_true_later, are_true_both, rises_none}
-use Rattle.intake_lock.proofs.Sums.{sum_set, sum_push, sum_one, sum_two, sum_none, at_below}
-use Rattle.intake_lock.proofs.Views.{fits_live, live_known, ticket_range, turn_ticket, one_there, changed, here, each, apart_set, sum_same, calls_set, kept_set}
+use Rattle.intake_lock.proofs.Sums.{sum_set, sum_push, sum_two, sum_none, at_below}
+use Rattle.intake_lock.proofs.Views.{fits_live, live_known, one_there, here, each, apart_set, sum_same, calls_set, kept_set}
 
 -- ---- one view more
 

@@ -1,6 +1,6 @@
 -- Each step of the lock keeps the rule.
-use Rattle.std.proofs.Common.{◌≡◌, ℕ, zero, suc, ◌+◌, ◌-◌, ◌^◌, ◌%◌, ◌≤◌, ◌<◌, ◌≢◌, List, [], ◌∷◌, ◌++◌, length, slice_index, slice_set, Option, Some, None, set, refl, sym, ap, subst, ◌∙◌, inl, inr, arith}
-use Rattle.std.specs.Prelude.{◌⊎◌, sum_by, IfSome, Contains}
+use Rattle.std.proofs.Common.{◌≡◌, ℕ, ◌+◌, ◌^◌, ◌%◌, ◌≤◌, ◌<◌, ◌≢◌, List, [], ◌∷◌, length, slice_index, slice_set, Option, Some, set, refl, sym, ap, subst, ◌∙◌, inl, inr, arith}
+use Rattle.std.specs.Prelude.{◌⊎◌, sum_by}
 use Rattle.std.proofs.lemmas.List.Sums.{sum_by-append}
 use Rattle.std.proofs.lemmas.List.Elements.{Contains-append_left, Contains-append_right}
 use mathlib.Core.Option as slot
@@ -8,25 +8,22 @@ use mathlib.Core.Logic.{dite}
 use native.Mathlib.Decide.{ℕ_discrete}
 use lib.ListN.{get_elem?}
 use Rattle.atomic_table.specs.Table.{State, Me, Act, keeps, takes, gives, Allows, stepped}
-use Rattle.atomic_table.proofs.Lists.{set_else, set_again}
+use Rattle.atomic_table.proofs.Lists.{set_again}
 use Rattle.act_bodies.specs.declared.key.Key.{Key}
-use Rattle.act_model.specs.declared.entry.Entry.{Entry}
 use Rattle.act_model.specs.declared.keeper.Office.{Office}
 use Rattle.act_model.specs.Conducts.{Extends, EitherWay}
 use Rattle.act_model.specs.Legal.{IsLegal}
 use Rattle.intake_lock.specs.declared.view.Item.{Item}
-use Rattle.intake_lock.specs.declared.view.Role.{Role}
-use Rattle.intake_lock.specs.declared.view.Role.TheVariants.{Root, Branch, Spent}
 use Rattle.intake_lock.specs.declared.view.Stage.{Stage}
 use Rattle.intake_lock.specs.declared.view.Stage.TheVariants.{Idle, Waiting, Holding}
 use Rattle.intake_lock.specs.declared.view.View.{View}
 use Rattle.intake_lock.specs.Items.{AreTrue, Called, RisesBy, rises}
 use Rattle.intake_lock.specs.Views.{seen, live, ticketed, one_if_ticketed, made_by, rises_by, HasTicketAt, HasTicket, HasTurnAt, HasTurn, waiting, holding, published, idle}
-use Rattle.intake_lock.specs.Rule.{MOST, word, FitsStage, IsKnown, Fits, At, Apart, Rooted, IsCall, Comes, IsHome, IsOut, Standing}
+use Rattle.intake_lock.specs.Rule.{word, FitsStage, IsKnown, Fits, At, IsHome, IsOut, Standing}
 use Rattle.intake_lock.specs.Plays.{Mine, Draws, Gets, Looks, Publishes, Leaves, Tells}
 use Rattle.intake_lock.proofs.Histories.{StepLaw, extends_refl, extends_on, extends_length, shorter_begins, comes_kept, comes_more, called_same, called_extends, called_true, called_counts, LegalLaw, called_legal, are_true_later, are_true_both}
-use Rattle.intake_lock.proofs.Sums.{sum_set, sum_le, sum_one, at_below}
-use Rattle.intake_lock.proofs.Views.{fits_live, live_known, ticket_range, turn_ticket, ticket_weighs, known_later, fits_later, one_there, changed, here, each, apart_set, sum_same, rooted_set, calls_set, calls_same, kept_set}
+use Rattle.intake_lock.proofs.Sums.{sum_set, sum_le}
+use Rattle.intake_lock.proofs.Views.{fits_live, live_known, ticket_range, turn_ticket, ticket_weighs, fits_later, one_there, here, each, apart_set, sum_same, rooted_set, calls_set, calls_same, kept_set}
 
 -- a pass waits for one ticket
 one_ticket : (t u : ℕ) → Waiting t ≡ Waiting u → t ≡ u

@@ -1,5 +1,5 @@
 -- The calls of a turn.
-use Rattle.std.proofs.Common.{◌≡◌, ℕ, ℤ, List, [], ◌∷◌, length, Option, Some, None, refl, sym, ap, subst, ◌∙◌, inl, inr}
+use Rattle.std.proofs.Common.{◌≡◌, ℕ, ℤ, List, length, Option, Some, None, refl, sym, subst, inl, inr}
 use Rattle.act_bodies.specs.declared.key.Key.{Key}
 use Rattle.act_model.specs.declared.keeper.Office.{Office}
 use Rattle.act_model.specs.declared.keeper.OfficeState.{OfficeState}

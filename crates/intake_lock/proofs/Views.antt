@@ -1,12 +1,11 @@
 -- The views of all passes, where one of them changes.
-use Rattle.std.proofs.Common.{◌≡◌, ℕ, zero, suc, ◌+◌, ◌^◌, ◌≤◌, ◌<◌, ◌≢◌, List, [], ◌∷◌, ◌++◌, length, set, refl, sym, ap, subst, ◌∙◌, inl, inr, arith}
-use Rattle.std.specs.Prelude.{◌⊎◌, sum_by, Option, IfSome, Contains}
+use Rattle.std.proofs.Common.{◌≡◌, ℕ, ◌≤◌, ◌<◌, ◌≢◌, List, set, sym, ap, subst, ◌∙◌, inl, inr, arith}
+use Rattle.std.specs.Prelude.{◌⊎◌, sum_by, Option, Contains}
 use mathlib.Core.Option.{some, some-injective}
 use mathlib.Core.Logic.{dite}
 use native.Mathlib.Decide.{ℕ_discrete}
 use lib.ListN.{get_elem?}
-use Rattle.atomic_table.proofs.Lists.{at_set, at_snoc, at_longer, at_last, set_here, set_else}
-use Rattle.act_model.specs.declared.entry.Entry.{Entry}
+use Rattle.atomic_table.proofs.Lists.{at_set, set_here, set_else}
 use Rattle.act_model.specs.declared.keeper.Office.{Office}
 use Rattle.act_model.specs.Conducts.{Extends}
 use Rattle.intake_lock.specs.declared.view.Item.{Item}
@@ -15,11 +14,10 @@ use Rattle.intake_lock.specs.declared.view.Role.TheVariants.{Root, Branch, Spent
 use Rattle.intake_lock.specs.declared.view.Stage.{Stage}
 use Rattle.intake_lock.specs.declared.view.Stage.TheVariants.{Idle, Waiting, Holding}
 use Rattle.intake_lock.specs.declared.view.View.{View}
-use Rattle.intake_lock.specs.Items.{RisesBy}
-use Rattle.intake_lock.specs.Views.{seen, live, one_if_live, ticketed, one_if_ticketed, made_by, rises_by, HasTicketAt, HasTicket, HasTurnAt, HasTurn}
-use Rattle.intake_lock.specs.Rule.{MOST, word, FitsStage, IsKnown, IsGone, FitsRole, Fits, At, Apart, Rooted, IsCall, Comes, IsHome, IsOut, Standing}
-use Rattle.intake_lock.proofs.Histories.{extends_on, comes_kept}
-use Rattle.intake_lock.proofs.Sums.{sum_set, sum_le, at_below}
+use Rattle.intake_lock.specs.Views.{seen, live, one_if_live, ticketed, one_if_ticketed, HasTicketAt, HasTicket, HasTurnAt, HasTurn}
+use Rattle.intake_lock.specs.Rule.{FitsStage, IsKnown, FitsRole, Fits, At, Apart, Rooted, IsCall, IsHome, IsOut}
+use Rattle.intake_lock.proofs.Histories.{extends_on}
+use Rattle.intake_lock.proofs.Sums.{sum_set, at_below}
 
 -- ---- one view
 

@@ -1,4 +1,4 @@
-use Rattle.std.proofs.Common.{◌≡◌, ℕ, sym, ap, ◌∙◌, arith}
+use Rattle.std.proofs.Common.{arith}
 use Rattle.intake_lock.proofs.Steps.{looks}
 use Rattle.intake_lock.proofs.lock.look.Goals as goal
 

@@ -1,4 +1,4 @@
-use Rattle.std.proofs.Common.{◌≡◌, length, sym, ap, ◌∙◌, arith}
+use Rattle.std.proofs.Common.{length, sym, ap, ◌∙◌, arith}
 use Rattle.act_model.specs.declared.keeper.Office.{Office}
 use Rattle.intake_lock.proofs.Steps.{publishes}
 use Rattle.intake_lock.proofs.lock.publish.Goals as goal

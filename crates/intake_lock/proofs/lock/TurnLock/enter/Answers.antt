@@ -1,4 +1,4 @@
-use Rattle.std.proofs.Common.{◌≡◌, ℕ, List, [], ◌∷◌, Option, Some, sym, ap, subst, ◌∙◌, arith}
+use Rattle.std.proofs.Common.{◌≡◌, ℕ, List, ◌∷◌, Option, Some, sym, ap, subst, ◌∙◌, arith}
 use Rattle.atomic_table.specs.Table.{rest}
 use Rattle.intake_lock.specs.declared.view.Stage.TheVariants.{Idle}
 use Rattle.intake_lock.specs.declared.view.View.{View}

@@ -1,4 +1,3 @@
-use Rattle.std.proofs.Common.{◌≡◌, ℕ, List, [], ◌∷◌, ◌++◌, Option, Some, sym, ap, ◌∙◌}
 use Rattle.intake_lock.proofs.Passes.{opens}
 use Rattle.intake_lock.proofs.lock.TurnLock.new.Goals as goal
 

@@ -1,4 +1,4 @@
-use Rattle.std.proofs.Common.{Some, sym, ap, ◌∙◌}
+use Rattle.std.proofs.Common.{Some, ap, ◌∙◌}
 use Rattle.intake_lock.proofs.Turns.{item_of, called_noted, noted_from}
 use Rattle.intake_lock.proofs.turn.Turn.act.Goals as goal
 

@@ -1,4 +1,4 @@
-use Rattle.std.proofs.Common.{None, sym, ap, ◌∙◌}
+use Rattle.std.proofs.Common.{None, ap, ◌∙◌}
 use Rattle.intake_lock.proofs.Turns.{item_of, called_noted, noted_from}
 use Rattle.intake_lock.proofs.turn.Turn.ask.Goals as goal
 
