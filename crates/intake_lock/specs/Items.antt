@@ -1,0 +1,90 @@
+-- Calls on the office, as a pass keeps them.
+use Rattle.std.specs.Prelude.{◌≡◌, ◌⊎◌, ℕ, ◌+◌, ◌-◌, ◌^◌, min, ◌≤◌, ◌<◌, ℤ, pos, Bool, true, List, [], ◌∷◌, length, sum_by, Option, Some, None, unwrap_or}
+use Rattle.std.specs.List.{AllByRecursion}
+use Rattle.act_bodies.specs.declared.key.Key.{Key}
+use Rattle.act_model.specs.declared.entry.Entry.{Entry}
+use Rattle.act_model.specs.declared.keeper.Office.{Office}
+use Rattle.act_model.specs.declared.keeper.OfficeState.{OfficeState}
+use Rattle.act_model.specs.declared.reply.Refusal.TheVariants.{DiskFault}
+use Rattle.act_model.specs.declared.reply.Reply.{Reply}
+use Rattle.act_model.specs.declared.reply.Reply.TheVariants.{Refused}
+use Rattle.act_model.specs.declared.request.Request.{Request}
+use Rattle.act_model.specs.Requests.{is_act}
+use Rattle.act_model.specs.Conducts.{Extends}
+use Rattle.act_model.specs.Keepers.{RoseBy}
+use Rattle.act_model.specs.Step.{Adds, outcome}
+use Rattle.act_model.specs.Turns.{Turn, TakesReading, Answers, FailsToMend, ActsMended, Asks}
+use Rattle.intake_lock.specs.declared.view.Item.{Item}
+
+-- the reading of a call, or 0 where it took none
+abbrev pub reading_of : Item → ℤ
+reading_of item = unwrap_or item.reading (pos 0)
+
+-- the call adds this entry where it is asked at this history
+abbrev pub AddsAt : Key → Option ℕ → List Entry → Item → Entry → Type 0
+AddsAt founder limit past item entry = outcome founder limit past item.request (reading_of item) ≡ Adds entry
+
+-- An act could not be mended or kept, and the reply is that the disk failed, which counted it.
+pub record Failed (item : Item) : Type 0 where
+  pub doubt : Bool
+  pub act : is_act item.request.verb ≡ true
+  pub reply : item.reply ≡ Refused (DiskFault doubt)
+  pub rose : 0 < item.rise
+
+-- The call is true of this history. It was answered at some first entries of it, by the step, or for want of memory, or
+-- because the disk failed; and where the step adds an entry and it was done, that entry is the next one.
+pub record IsTrue (founder : Key) (limit : Option ℕ) (history : List Entry) (item : Item) : Type 0 where
+  pub past : List Entry
+  pub place : item.position ≡ length past
+  pub first : Extends past history
+  pub answered : ((after : List Entry) × Answers founder limit past item.request (reading_of item) item.reply after × Extends after history) ⊎ Failed item
+
+abbrev pub AreTrue : Key → Option ℕ → List Entry → List Item → Type 0
+AreTrue founder limit history items = AllByRecursion (IsTrue founder limit history) items
+
+-- by how much the count of faults rose in the calls together
+abbrev pub rises : List Item → ℕ
+rises items = sum_by (λ item. item.rise) items
+
+-- ---- calls on a keeper
+
+-- the call as a turn of the office
+abbrev pub turn_of : Item → Turn
+turn_of item = record { request = item.request; reading = item.reading; reply = item.reply; rise = item.rise }
+
+-- the call was answered at so many entries of the settled history, after mending
+abbrev pub TakesAt : Key → Option ℕ → OfficeState → Item → Option ℤ → OfficeState → Type 0
+TakesAt founder limit before item (Some reading) after =
+    (FailsToMend before (turn_of item) after × (item.position ≡ length before.settled))
+    ⊎ ((acts : ActsMended founder limit before (turn_of item) reading after) × (item.position ≡ length acts.mended))
+TakesAt founder limit before item None after = Asks founder limit before (turn_of item) after × (item.position ≡ length before.settled)
+
+-- The keeper took this call. Its count of faults rose by as much as the call says, and the founding officer's key and the
+-- limit are as they were.
+pub record Calls (before : Office) (item : Item) (after : Office) : Type 0 where
+  pub reads : TakesReading item.request.verb item.reading
+  pub takes : TakesAt before.founder before.limit before.state item item.reading after.state
+  pub counts : RoseBy item.rise before.faults after.faults
+  pub founder : after.founder ≡ before.founder
+  pub limit : after.limit ≡ before.limit
+
+-- the keeper took these calls, the newest first
+abbrev pub Called : Office → List Item → Office → Type 0
+Called before [] after = after ≡ before
+Called before (item ∷ items) after = (between : Office) × Called before items between × Calls between item after
+
+-- the call asked this, with this reading, and was answered so
+pub record IsItemOf (before : Office) (request : Request) (reading : Option ℤ) (reply : Reply) (after : Office) (item : Item) : Type 0 where
+  pub asked : item.request ≡ request
+  pub read : item.reading ≡ reading
+  pub answered : item.reply ≡ reply
+  pub calls : Calls before item after
+
+-- one call more
+abbrev pub Noted : Office → Request → Option ℤ → Reply → Office → List Item → List Item → Type 0
+Noted before request reading reply after items noted =
+    (item : Item) × (noted ≡ item ∷ items) × IsItemOf before request reading reply after item
+
+-- the count rose by at least so much; it stands still at the greatest number that its type has
+abbrev pub RisesBy : ℕ → ℕ → ℕ → Type 0
+RisesBy rise before after = min (before + rise) (2 ^ 64 - 1) ≤ after
