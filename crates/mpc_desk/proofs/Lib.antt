@@ -3,3 +3,4 @@ pub mod Mended
 pub mod Acted
 pub mod Turned
 pub mod OpenLemmas
+pub mod Opened
