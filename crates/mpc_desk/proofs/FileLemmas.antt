@@ -1,0 +1,34 @@
+-- What a file stands for, and how many bytes its entries take.
+use Rattle.std.proofs.Common.{◌≡◌, ◌⊎◌, ℕ, ◌+◌, List, [], ◌∷◌, ◌++◌, Option, Some, None, refl, sym, ap, ◌∙◌, inl, inr, ⊎_elim, arith}
+use Rattle.obs_journal.specs.Parcels.{RawParcel, room}
+use Rattle.obs_journal.specs.Files.{row_length, IsRow}
+use Rattle.obs_journal.specs.Journals.{JournalState, IsDoubtful}
+use Rattle.act_model.specs.declared.entry.Entry.{Entry}
+use Rattle.act_model.specs.Refusals.{used}
+use Rattle.desk_core.specs.Office.{Office, Ready}
+use Rattle.mpc_desk.specs.Files.{parcel_of, parcels_in, AreActs, Stands}
+use Rattle.mpc_desk.specs.Desks.{IsDesk, RestsAt, state_of}
+
+-- a row of its parcels stands for a history of acts
+pub row_stands : (image : List ℕ) (history : List Entry) → AreActs history → IsRow image (parcels_in history) → Stands image history
+row_stands image history acts row = record { spelled = inr row; acts = acts }
+
+row_length-more : (parcels : List RawParcel) (parcel : RawParcel) → row_length (parcels ++ parcel ∷ []) ≡ row_length parcels + room parcel
+row_length-more [] parcel = omega arith
+row_length-more (first ∷ parcels) parcel = let more = row_length-more parcels parcel in omega (arith, more)
+
+-- the entries take what their parcels take, and the closed gate
+pub used_is : (history : List Entry) → used history ≡ row_length (parcels_in history) + 1
+used_is [] = refl
+used_is (entry ∷ past) = let before = used_is past in let more = row_length-more (parcels_in past) (parcel_of entry) in omega (arith, before, more)
+
+-- each image of a desk's disk is one of an office at rest
+pub rests : {D : Type 0} (leaves : D → List ℕ → Type 0)
+    (in_doubt : (file : List ℕ) (parcels : List RawParcel) (doubt : RawParcel) → IsDoubtful file parcels doubt → IsRow file parcels ⊎ IsRow file (parcels ++ doubt ∷ []))
+    (core : Office) (journal : JournalState D) (doubt : Option Ready) → IsDesk leaves core journal doubt → (image : List ℕ) → leaves journal.disk image → RestsAt (state_of core doubt) image
+rests leaves in_doubt core journal None desk image left = inl (row_stands image core.history desk.acts (desk.stands.images image left))
+rests leaves in_doubt core journal (Some ready) desk image left =
+    ⊎_elim
+    (λ row. inl (row_stands image core.history desk.acts row))
+    (λ row. inr (row_stands image (ready.entry ∷ core.history) (desk.next.act.0, desk.acts) row))
+    (in_doubt image (parcels_in core.history) (parcel_of ready.entry) (desk.stands.images image left))

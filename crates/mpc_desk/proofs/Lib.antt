@@ -1,0 +1,6 @@
+pub mod FileLemmas
+pub mod Mended
+pub mod Acted
+pub mod Turned
+pub mod OpenLemmas
+pub mod Opened

@@ -1,0 +1,116 @@
+-- Entries that are taken in again.
+use Rattle.std.proofs.Common.{◌≡◌, ℕ, ℤ, ◌+◌, ◌<◌, Bool, true, false, cond, List, [], ◌∷◌, ◌++◌, length, get_or, take, drop, Option, Some, None, Result, Ok, Err, refl, sym, ap, subst, suc, ◌∙◌, arith}
+use Rattle.std.specs.Prelude.{◌==◌, IsSomeAnd, OnOk, map, option_map}
+use Rattle.std.proofs.lemmas.Bool.Decides.{nat_tests}
+use Rattle.std.proofs.lemmas.List.{take_more, take-append-drop, map-append}
+use Rattle.std.proofs.Math.Seq.{drop-cons}
+use Rattle.std.proofs.Math.Numerals.{add-one}
+use Rattle.obs_journal.specs.declared.opening.Placed.{Placed}
+use Rattle.obs_journal.specs.Parcels.{RawParcel, room}
+use Rattle.obs_journal.specs.Files.{row_length}
+use Rattle.obs_journal.specs.Opening.{parcels_of, placed_from}
+use Rattle.act_bodies.specs.declared.key.Key.{Key}
+use Rattle.act_model.specs.declared.entry.Entry.{Entry}
+use Rattle.act_model.specs.declared.request.Verb.{Verb}
+use Rattle.act_model.specs.declared.request.Verb.TheVariants.{Enrol, Station, Code, Submit80, SubmitPsv, Retract}
+use Rattle.act_model.specs.Legal.{IsAdded, IsLegal}
+use Rattle.act_model.specs.Requests.{is_act, verb_code}
+use Rattle.desk_core.specs.Replaying.{act_with, entry_of}
+use Rattle.mpc_desk.specs.Files.{parcel_of, parcels_in, AreActs}
+use Rattle.mpc_desk.specs.Opening.{entry_in, ComesNext, IsNotNext, StopsAt}
+
+-- ---- the verb of a number
+
+pick : (code n : ℕ) (w v : Verb) (rest : Option Verb) (b : Bool) → (code == n) ≡ b → verb_code w ≡ n → is_act w ≡ true → (rest ≡ Some v → (verb_code v ≡ code) × (is_act v ≡ true)) → cond b (Some w) rest ≡ Some v
+    → (verb_code v ≡ code) × (is_act v ≡ true)
+pick code n w v rest true test numbered act next is =
+    let same : w ≡ v = cc in
+    let equal : code ≡ n = grind (arith, nat_tests) in
+    (subst (λ (x : Verb). verb_code x ≡ code) same (numbered ∙ sym equal), subst (λ (x : Verb). is_act x ≡ true) same act)
+pick code n w v rest false test numbered act next is = next is
+
+pub with_code : (code : ℕ) (v : Verb) → act_with code ≡ Some v → (verb_code v ≡ code) × (is_act v ≡ true)
+with_code code v =
+    pick code 1 Enrol v _ (code == 1) refl refl refl
+    (pick code 2 Station v _ (code == 2) refl refl refl
+    (pick code 3 Code v _ (code == 3) refl refl refl
+    (pick code 4 Submit80 v _ (code == 4) refl refl refl
+    (pick code 5 SubmitPsv v _ (code == 5) refl refl refl
+    (pick code 13 Retract v _ (code == 13) refl refl refl (λ none. absurd cc))))))
+
+module _ (founder : Key) (past : List Entry) (p : RawParcel) (now : List Entry) where
+  abbrev entry_with : Verb → Entry
+  entry_with v = record { caller = p.caller; number = p.number; moment = p.moment; verb = v; body = p.body }
+
+  by_verb : (o : Option Verb) → act_with p.verb ≡ o → IsSomeAnd (option_map entry_with o) (λ entry. IsAdded founder past entry × (now ≡ entry ∷ past)) → ComesNext founder past p now
+  by_verb None is none = absurd none
+  by_verb (Some v) is taken =
+      let (numbered, act) = with_code p.verb v is in
+      record {
+        entry = entry_with v;
+        parcel_is = ap (λ (n : ℕ). record { caller = p.caller; number = p.number; moment = p.moment; verb = n; body = p.body }) numbered;
+        act = act;
+        added = taken.0;
+        now_is = taken.1;
+      }
+
+  pub comes_next : IsSomeAnd (entry_in p) (λ entry. IsAdded founder past entry × (now ≡ entry ∷ past)) → ComesNext founder past p now
+  comes_next taken = by_verb (act_with p.verb) refl taken
+
+pub on_ok : {A E : Type 0} (r : Result A E) (P Q : Type 0) → (P → Q) → OnOk r P → OnOk r Q
+on_ok (Ok a) P Q follows holds = follows holds
+on_ok (Err e) P Q follows holds = tt
+
+pub entry_same : (a b : ℕ) (m : ℤ) (v : ℕ) (body : List ℕ) (p : RawParcel) → a ≡ p.caller → b ≡ p.number → m ≡ p.moment → v ≡ p.verb → body ≡ p.body → entry_of a b m v body ≡ entry_in p
+entry_same a b m v body p caller number moment verb bytes =
+    ap (λ (x : ℕ). entry_of x b m v body) caller ∙ ap (λ (x : ℕ). entry_of p.caller x m v body) number ∙ ap (λ (x : ℤ). entry_of p.caller p.number x v body) moment
+    ∙ ap (λ (x : ℕ). entry_of p.caller p.number p.moment x body) verb ∙ ap (λ (x : List ℕ). entry_of p.caller p.number p.moment p.verb x) bytes
+
+-- ---- the parcels one after the other
+
+pub parcels_of-more : (places : List Placed) (i : ℕ) (p : Placed) → i < length places → parcels_of (take (i + 1) places) ≡ parcels_of (take i places) ++ (get_or places i p).parcel ∷ []
+parcels_of-more places i p within = ap parcels_of (take_more places i p within) ∙ map-append (λ (x : Placed). x.parcel) (take i places) (get_or places i p ∷ [])
+
+-- one more entry was taken in
+pub taken_more : (founder : Key) (past now : List Entry) (places : List Placed) (i : ℕ) (p : Placed) → i < length places → p ≡ get_or places i p → ComesNext founder past p.parcel now → parcels_in past ≡ parcels_of (take i places)
+    → parcels_in now ≡ parcels_of (take (i + 1) places)
+taken_more founder past now places i p within here next before =
+    ap parcels_in next.now_is ∙ ap (λ (ps : List RawParcel). ps ++ parcel_of next.entry ∷ []) before ∙ ap (λ (r : RawParcel). parcels_of (take i places) ++ r ∷ []) (next.parcel_is ∙ ap (λ (x : Placed). x.parcel) here) ∙ sym (parcels_of-more places i p within)
+
+offset_at : (front : List Placed) (p : Placed) (back : List Placed) (o : ℕ) → front ++ p ∷ back ≡ placed_from o (parcels_of (front ++ p ∷ back)) → p.offset ≡ o + row_length (parcels_of front)
+offset_at [] p back o is =
+    let first : p ≡ record { offset = o; parcel = p.parcel } = cc in
+    let same = ap (λ (x : Placed). x.offset) first in omega (arith, same)
+offset_at (f ∷ front) p back o is =
+    let rest : front ++ p ∷ back ≡ placed_from (o + room f.parcel) (parcels_of (front ++ p ∷ back)) = cc in
+    let next = offset_at front p back (o + room f.parcel) rest in omega (arith, next)
+
+places_split : (places : List Placed) (i : ℕ) (p : Placed) → i < length places → p ≡ get_or places i p → places ≡ take i places ++ (p ∷ drop (i + 1) places)
+places_split places i p within here =
+    let next : drop i places ≡ p ∷ drop (i + 1) places = drop-cons places i p within ∙ rw add-one (ap (λ (g : Placed). g ∷ drop (suc i) places) (sym here)) in
+    sym (take-append-drop i places) ∙ ap (λ (rest : List Placed). take i places ++ rest) next
+
+-- an entry that isn't legal
+pub stops_at : (founder : Key) (past : List Entry) (places : List Placed) (i : ℕ) (p : Placed) → i < length places → p ≡ get_or places i p → places ≡ placed_from 0 (parcels_of places) → parcels_in past ≡ parcels_of (take i places) → IsLegal founder past → AreActs past
+    → IsNotNext founder past p.parcel → StopsAt founder (parcels_of places) p.offset
+stops_at founder past places i p within here placed taken legal acts not_next =
+    let split = places_split places i p within here in
+    let all : parcels_of places ≡ parcels_of (take i places) ++ p.parcel ∷ parcels_of (drop (i + 1) places) = ap parcels_of split ∙ map-append (λ (x : Placed). x.parcel) (take i places) (p ∷ drop (i + 1) places) in
+    let at = offset_at (take i places) p (drop (i + 1) places) 0 (subst (λ (x : List Placed). x ≡ placed_from 0 (parcels_of x)) split placed) in
+    record {
+      before = past;
+      parcel = p.parcel;
+      rest = parcels_of (drop (i + 1) places);
+      parcels_are = all ∙ ap (λ (ps : List RawParcel). ps ++ p.parcel ∷ parcels_of (drop (i + 1) places)) (sym taken);
+      legal = legal;
+      acts = acts;
+      not_next = not_next;
+      offset_is = let is : p.offset ≡ row_length (parcels_of (take i places)) = omega (arith, at) in is ∙ ap row_length (sym taken);
+    }
+
+pub legal_more : (founder founder' : Key) (past : List Entry) (p : RawParcel) (now : List Entry) → founder' ≡ founder → ComesNext founder past p now → IsLegal founder past → IsLegal founder' now
+legal_more founder founder' past p now same next legal =
+    subst (λ (k : Key). IsLegal k now) (sym same) (subst (IsLegal founder) (sym next.now_is) (next.added, legal))
+
+pub acts_more : (founder : Key) (past : List Entry) (p : RawParcel) (now : List Entry) → ComesNext founder past p now → AreActs past → AreActs now
+acts_more founder past p now next acts = subst AreActs (sym next.now_is) (next.act, acts)

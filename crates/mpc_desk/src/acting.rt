@@ -1,0 +1,88 @@
+//! Acts: an act in doubt is mended first, then the act is worked out, kept in the journal, and added.
+
+ghost use Rattle.std.specs.Prelude.{◌≡◌, ◌≤◌, true, false, Some, None};
+ghost use Rattle.obs_time.specs.Instants.{IsInstantNs};
+ghost use Rattle.act_model.specs.Keepers.{TakesTurn};
+ghost use Rattle.act_model.specs.Requests.{is_act};
+ghost use Rattle.mpc_desk.specs.Desks.{IsAtRest, ActsInTurn, TakesAct, office_of};
+
+use crate::desk::Desk;
+use crate::parcels::parcel_of;
+use act_model::{Refusal, Reply, Request};
+use desk_core::Prep;
+use disk_model::Disk;
+use obs_journal::AppendFault;
+use obs_time::Instant;
+
+impl<D: Disk> Desk<D> {
+    /// Takes the turn of an act at this reading of the clock. An act in doubt is mended first; then the request is worked
+    /// out at the history that mending left, and its entry is kept in the journal and added. It takes memory, but none
+    /// once anything was written.
+    ///
+    /// The request has the verb of an act. Answers `DiskFault` where the disk failed: `untouched` where the act in doubt
+    /// could not be mended, or the entry isn't kept; `doubt` exactly where this call's own parcel was left in doubt. Any
+    /// other answer is that of the step at the history after mending, or that memory was refused.
+    pub fn act(&mut self, request: &Request, reading: Instant) -> Reply
+        requires act { is_act request.now.verb ≡ true }
+        ensures turn { TakesTurn (office_of D.faults self.old) request.now (Some reading) result
+            (office_of D.faults self.new) }
+        // A crash at any moment of the call leaves a file that stands for the history before it, for that with the act
+        // in doubt, or for the history after mending with the entry that the act becomes there.
+        ensures inside { ActsInTurn D.moment D.since D.faults self.old request.now reading result self.new }
+        ensures at_rest { IsAtRest D.leaves self.new }
+        ensures founder { self.new.founder ≡ self.old.founder }
+        ensures limit { self.new.limit ≡ self.old.limit }
+        ensures counts { D.faults self.old.disk ≤ D.faults self.new.disk }
+    {
+        // A reading is a moment of the years 1800 to 2199.
+        let _ = reading.ns();
+        match self.mend() {
+            Ok(_) => self.act_settled(request, reading),
+            Err(_) => Reply::Refused(Refusal::DiskFault { doubt: false }),
+        }
+    }
+
+    /// Answers a query, a request whose verb is that of no act, from the settled history. No device is called. It takes
+    /// memory.
+    pub fn ask(&self, request: &Request) -> Reply
+        requires query { is_act request.now.verb ≡ false }
+        ensures turn { TakesTurn (office_of D.faults self.now) request.now None result (office_of D.faults self.now) }
+    {
+        self.core.answer(request)
+    }
+
+    /// Takes an act where nothing is in doubt.
+    fn act_settled(&mut self, request: &Request, reading: Instant) -> Reply
+        requires act { is_act request.now.verb ≡ true }
+        requires reading { IsInstantNs reading }
+        requires settled { self.old.state.doubt ≡ None }
+        ensures takes { TakesAct D.moment D.since D.faults self.old request.now reading result self.new }
+        ensures founder { self.new.founder ≡ self.old.founder }
+        ensures limit { self.new.limit ≡ self.old.limit }
+        ensures at_rest { IsAtRest D.leaves self.new }
+        ensures counts { D.faults self.old.disk ≤ D.faults self.new.disk }
+    {
+        act_model::laws::histories_are_legal();
+        obs_journal::laws::in_doubt();
+        let prepared = match self.core.prepare(request, reading, Some(self.limit)) {
+            Prep::Kept(reply) => return reply,
+            Prep::Refused(refusal) => return Reply::Refused(refusal),
+            Prep::Ready(prepared) => prepared,
+        };
+        let Ok(parcel) = parcel_of(self.alloc, prepared.entry()) else {
+            drop(prepared);
+            return Reply::Refused(Refusal::NoMemory);
+        };
+        match self.journal.append(parcel) {
+            Ok(()) => self.core.commit(prepared),
+            Err(AppendFault::Untouched) => {
+                drop(prepared);
+                Reply::Refused(Refusal::DiskFault { doubt: false })
+            }
+            Err(AppendFault::InDoubt) => {
+                self.doubt = Some(prepared);
+                Reply::Refused(Refusal::DiskFault { doubt: true })
+            }
+        }
+    }
+}
