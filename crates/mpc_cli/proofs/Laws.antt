@@ -12,6 +12,7 @@ use Rattle.act_model.specs.declared.reply.Reply.{Reply}
 use Rattle.act_model.specs.declared.reply.Reply.TheVariants.{Refused}
 use Rattle.act_model.specs.History.{EachNumberOnce}
 use Rattle.act_model.specs.Places.{OnePlace}
+use Rattle.act_model.specs.Unbroken.{UnbrokenRows, UnbrokenNumbers}
 use Rattle.act_model.specs.declared.keeper.OfficeState.{OfficeState}
 use Rattle.act_model.specs.Conducts.{HadMemory, HadNoFault, NoDiskFaults, IsStepped, EitherWay}
 use Rattle.act_model.specs.Turns.{Turn, TakesReading, Answers, IsTurn, Conduct, at_rest}
@@ -30,6 +31,8 @@ pub record RunLaws : Type 0 where
   pub once : (founder : Key) (limit : Option ℕ) (before after : OfficeState) (turns : List Turn) → Conduct founder limit before turns after → EitherWay EachNumberOnce before → EitherWay EachNumberOnce after
   -- each accepted observation stands in one place
   pub places : (history : List Entry) → OnePlace history
+  pub rows : (history : List Entry) → UnbrokenRows history
+  pub numbers : (history : List Entry) → UnbrokenNumbers history
   -- where no fault was counted and memory was never refused, a conduct is the step
   pub steps : (founder : Key) (limit : Option ℕ) (past : List Entry) (after : OfficeState) (turns : List Turn) → Conduct founder limit (at_rest past) turns after → HadNoFault turns → HadMemory turns → IsStepped founder limit past turns after.settled
   -- where no fault was counted, no reply is that a disk failed

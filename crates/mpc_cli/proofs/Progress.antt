@@ -214,7 +214,7 @@ module _ {S : Type 0} (left : S → Option (List ℕ)) (gives : Passes S) (found
           served = s;
           answered = answered;
           ended = ended;
-          left = record { entries = refl; once = (laws.once founder None (at_rest []) (at_rest history) s.turns s.conduct (tt, tt)).0; places = laws.places history };
+          left = record { entries = refl; once = (laws.once founder None (at_rest []) (at_rest history) s.turns s.conduct (tt, tt)).0; places = laws.places history; rows = laws.rows history; numbers = laws.numbers history };
           stepped = laws.steps founder None [] (at_rest history) s.turns s.conduct s.faultless;
         }
 
@@ -293,6 +293,8 @@ module _ {S : Type 0} (left : S → Option (List ℕ)) (gives : Passes S) (found
               left = record {
                 entries = refl;
                 places = laws.places next;
+                rows = laws.rows next;
+                numbers = laws.numbers next;
                 once = turn_once laws founder past next (request_of t.frame) t.answers.reply now after t.answers.turn (laws.once founder None (at_rest []) (at_rest past) p.served.turns p.served.conduct (tt, tt)).0;
               };
             },

@@ -6,6 +6,7 @@ use Rattle.act_bodies.specs.declared.key.Key.{Key}
 use Rattle.act_model.specs.declared.entry.Entry.{Entry}
 use Rattle.act_model.specs.History.{EachNumberOnce}
 use Rattle.act_model.specs.Places.{OnePlace}
+use Rattle.act_model.specs.Unbroken.{UnbrokenRows, UnbrokenNumbers}
 use Rattle.act_model.specs.Conducts.{HadMemory, IsStepped}
 use Rattle.mpc_cli.specs.declared.status.Status.{Status}
 use Rattle.mpc_cli.specs.declared.status.Status.TheVariants.{Done, Usage, BadFrame, ReadFault, WriteFault, NoMemory}
@@ -41,11 +42,13 @@ pub record Supplies {S : Type 0} (left : S → Option (List ℕ)) (gives : Passe
 -- ---- what stands at each end
 
 -- A history with so many entries, in which each caller's number stands for at most one. Each accepted observation stands in
--- exactly one place.
+-- exactly one place, the designations of each half-month follow one another without gap or repeat, and so do the numbers.
 pub record IsLeft (history : List Entry) (count : ℕ) : Type 0 where
   pub entries : count ≡ length history
   pub once : EachNumberOnce history
   pub places : OnePlace history
+  pub rows : UnbrokenRows history
+  pub numbers : UnbrokenNumbers history
 
 -- All frames of the bytes' session were answered, up to a rest at which no frame stands. Where no turn ran out of memory, the
 -- conduct is the step, one after another.

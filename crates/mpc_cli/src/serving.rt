@@ -139,6 +139,8 @@ pub fn serve<S: Source, K: Sink, C: Clock>(
     office_laws::conducts_go_on();
     office_laws::each_once();
     office_laws::one_place();
+    office_laws::unbroken_rows();
+    office_laws::unbroken_numbers();
     office_laws::no_faults();
     let mut offset = 0u64;
     'frames: loop {

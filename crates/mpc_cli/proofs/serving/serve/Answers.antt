@@ -24,6 +24,8 @@ frames-preserved g c =
       goes_on = c.conducts_go_on.ensures;
       once = c.each_once.ensures;
       places = c.one_place.ensures;
+      rows = c.unbroken_rows.ensures;
+      numbers = c.unbroken_numbers.ensures;
       steps = c.no_faults.ensures.stepped;
       none = c.no_faults.ensures.none;
     } in
@@ -47,6 +49,8 @@ returns-in-Over-clause-ends g c =
       goes_on = c.conducts_go_on.ensures;
       once = c.each_once.ensures;
       places = c.one_place.ensures;
+      rows = c.unbroken_rows.ensures;
+      numbers = c.unbroken_numbers.ensures;
       steps = c.no_faults.ensures.stepped;
       none = c.no_faults.ensures.none;
     } in
@@ -63,6 +67,8 @@ returns-in-NoMore-clause-ends g c =
       goes_on = c.conducts_go_on.ensures;
       once = c.each_once.ensures;
       places = c.one_place.ensures;
+      rows = c.unbroken_rows.ensures;
+      numbers = c.unbroken_numbers.ensures;
       steps = c.no_faults.ensures.stepped;
       none = c.no_faults.ensures.none;
     } in
@@ -79,6 +85,8 @@ returns-in-ReadFailed-clause-ends g c =
       goes_on = c.conducts_go_on.ensures;
       once = c.each_once.ensures;
       places = c.one_place.ensures;
+      rows = c.unbroken_rows.ensures;
+      numbers = c.unbroken_numbers.ensures;
       steps = c.no_faults.ensures.stepped;
       none = c.no_faults.ensures.none;
     } in
@@ -95,6 +103,8 @@ returns-in-WriteFailed-clause-ends g c =
       goes_on = c.conducts_go_on.ensures;
       once = c.each_once.ensures;
       places = c.one_place.ensures;
+      rows = c.unbroken_rows.ensures;
+      numbers = c.unbroken_numbers.ensures;
       steps = c.no_faults.ensures.stepped;
       none = c.no_faults.ensures.none;
     } in
