@@ -3,7 +3,7 @@
 ghost use Rattle.std.specs.Prelude.{◌≡◌, true};
 ghost use Rattle.act_model.specs.Requests.{is_act};
 
-use crate::{Core, Prep};
+use crate::{Core, Prep, ReplayFault};
 use act_model::{Body, Key, Reply, Request, Verb, line_feeds, reply_text};
 use item_list::{Bytes, NoMemory};
 use obs_time::Instant;
@@ -294,7 +294,7 @@ fn request(alloc: Global, case: Case) -> Result<Request, NoMemory> {
 fn act(core: &mut Core, request: &Request, reading: Instant) -> (Kind, Reply)
     requires { is_act request.now.verb ≡ true }
 {
-    match core.prepare(request, reading) {
+    match core.prepare(request, reading, None) {
         Prep::Kept(reply) => (Kind::Kept, reply),
         Prep::Refused(refusal) => (Kind::Refused, Reply::Refused(refusal)),
         Prep::Ready(prepared) => (Kind::Ready, core.commit(prepared)),
@@ -397,5 +397,47 @@ fn takes_a_long_batch(rt: HostRuntime) -> Result<(), Fail> {
     let reply = long_answer(alloc, &mut core, reading)?;
     let text = reply_text(alloc, reply)?;
     assert!(rt; is_long(text.as_slice()));
+    Ok(())
+}
+
+/// The caller, the number, the moment, the number of the verb and the body of an entry, and what becomes of it.
+type Again = (
+    u32,
+    u64,
+    i64,
+    u8,
+    &'static str,
+    Result<(), ReplayFault>,
+);
+
+/// A moment of 2024.
+const DAY: i64 = 1_711_929_600_000_000_000;
+
+/// Entries one after the other. The ones that are not legal leave the office as it was.
+const AGAIN: [Again; 11] = [
+    (1, 1, DAY, 4, LINES, Err(ReplayFault::NotLegal)),
+    (0, 1, DAY, 1, ENROL, Ok(())),
+    // The number was used, the moment is before the last entry's or no moment of the clock, nobody has the number of the
+    // caller, the verb is no act's, and the body has no such members.
+    (0, 1, DAY, 1, ENROL, Err(ReplayFault::NotLegal)),
+    (0, 2, DAY - 1, 2, STATION, Err(ReplayFault::NotLegal)),
+    (0, 2, i64::MAX, 2, STATION, Err(ReplayFault::NotLegal)),
+    (2, 2, DAY, 2, STATION, Err(ReplayFault::NotLegal)),
+    (0, 2, DAY, 0, STATION, Err(ReplayFault::NotLegal)),
+    (0, 2, DAY, 2, MODE, Err(ReplayFault::NotLegal)),
+    (0, 2, DAY, 2, STATION, Ok(())),
+    // The lines have a band that is in no row, and a batch without a line that is accepted is no entry.
+    (1, 1, DAY, 4, LINES, Err(ReplayFault::NotLegal)),
+    (0, 3, DAY + 1, 3, BAND, Ok(())),
+];
+
+#[test]
+fn takes_entries_in_again(rt: HostRuntime) -> Result<(), Fail> {
+    let mut core = Core::new(rt.alloc(), Key::new(FOUNDER))?;
+    for (caller, number, moment, verb, body, want) in AGAIN {
+        let became = core.replay(caller, number, moment, verb, body.as_bytes());
+        assert_eq!(rt; became, want, "{caller} {number} {verb}");
+    }
+    assert_eq!(rt; core.entries(), 3);
     Ok(())
 }

@@ -134,10 +134,10 @@ module _ {D : Type 0} (leaves : D → List ℕ → Type 0) (core now : CoreState
       images_are =
           during_weaker (MayLeave before core.history q t)
           (λ image row.
-            ⊎_elim
-            (λ without. inl (inl (row_stands image core.history here.acts without)))
-            (λ with. inr (e, adds, row_stands image (e ∷ core.history) (act.0, here.acts) (subst (λ (p : RawParcel). IsRow image (parcels_in core.history ++ p ∷ [])) same with)))
-            row)
+          ⊎_elim
+          (λ without. inl (inl (row_stands image core.history here.acts without)))
+          (λ with. inr (e, adds, row_stands image (e ∷ core.history) (act.0, here.acts) (subst (λ (p : RawParcel). IsRow image (parcels_in core.history ++ p ∷ [])) same with)))
+          row)
           (inside (parcels_in core.history) here.stands)
 
       -- the entry is added

@@ -4,3 +4,4 @@ pub mod Acted
 pub mod Turned
 pub mod OpenLemmas
 pub mod Opened
+pub mod OneHistory

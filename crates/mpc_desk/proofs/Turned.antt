@@ -76,19 +76,19 @@ module _ {D : Type 0} (moment : D → ℕ) (since : D → ℕ → List ℕ → T
     taken_turn =
         ⊎_elim
         (λ settles.
-          let rise : ℕ = count_of (faults new.disk) - count_of (faults old.disk) in
-          record {
-            rise = rise;
-            counts = rose_any (faults old.disk) (faults new.disk) (omega (arith, first, second));
-            acts = inr (record { mended = mid.state.settled; mends = mends; acts = inl (as_old (λ k n. Settles k (Some n) mid.state.settled (turn_of q t reply rise) t new.state) (settles rise)); images = images });
-          })
+        let rise : ℕ = count_of (faults new.disk) - count_of (faults old.disk) in
+        record {
+          rise = rise;
+          counts = rose_any (faults old.disk) (faults new.disk) (omega (arith, first, second));
+          acts = inr (record { mended = mid.state.settled; mends = mends; acts = inl (as_old (λ k n. Settles k (Some n) mid.state.settled (turn_of q t reply rise) t new.state) (settles rise)); images = images });
+        })
         (λ fails.
-          let (rise, some, counts) = rose_fault (faults old.disk) (faults new.disk) (omega (arith, first, second)) (rises_later (faults old.disk) (faults mid.disk) (faults new.disk) first fails.0) in
-          record {
-            rise = rise;
-            counts = counts;
-            acts = inr (record { mended = mid.state.settled; mends = mends; acts = inr (as_old (λ k n. FailsToKeep k (Some n) mid.state.settled (turn_of q t reply rise) t new.state) (fails.1 rise some)); images = images });
-          })
+        let (rise, some, counts) = rose_fault (faults old.disk) (faults new.disk) (omega (arith, first, second)) (rises_later (faults old.disk) (faults mid.disk) (faults new.disk) first fails.0) in
+        record {
+          rise = rise;
+          counts = counts;
+          acts = inr (record { mended = mid.state.settled; mends = mends; acts = inr (as_old (λ k n. FailsToKeep k (Some n) mid.state.settled (turn_of q t reply rise) t new.state) (fails.1 rise some)); images = images });
+        })
         takes.acts
 
   -- the turn of an act

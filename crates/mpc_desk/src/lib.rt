@@ -9,13 +9,13 @@
 mod acting;
 mod desk;
 mod keeping;
+pub mod laws;
 mod opening;
 mod parcels;
 
 pub use desk::Desk;
 pub use disk_model::Failed;
 pub use obs_journal::{OpenFault, Settled};
-
 
 #[cfg(test)]
 mod tests;

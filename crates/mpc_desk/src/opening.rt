@@ -71,12 +71,7 @@ impl<D: Disk> Desk<D> {
     /// The disk comes back beside the fault: `DiskFault` where the disk failed; `Damaged` where the file spells no list of
     /// parcels, with the offset of the gate where it stops, and else where an entry isn't legal after those before it, with
     /// the offset of its gate; `NoMemory` where memory was refused.
-    pub fn open(
-        alloc: Global,
-        founder: Key,
-        limit: u64,
-        disk: D,
-    ) -> Result<Desk<D>, (OpenFault, D)>
+    pub fn open(alloc: Global, founder: Key, limit: u64, disk: D) -> Result<Desk<D>, (OpenFault, D)>
         requires founder { IsFounder founder }
         ensures stands { IfOk result (λ desk. IfSome (D.reads disk) (λ file. Stands file desk.state.settled)) }
         ensures legal { IfOk result (λ desk. IsLegal founder desk.state.settled) }
@@ -87,6 +82,11 @@ impl<D: Disk> Desk<D> {
 
         ensures damaged { IfErr result (λ failed. (offset : ℕ) → failed.0 ≡ OpenFault.Damaged offset →
             IfSome (D.reads disk) (λ file. IsDamagedDesk founder file offset)) }
+
+        // Where each image of a disk with known reads stands for a legal history, nothing is damaged.
+        ensures sound { IfErr result (λ failed. (offset : ℕ) → failed.0 ≡ OpenFault.Damaged offset →
+            IsSome (D.reads disk) → ((image : List ℕ) → D.leaves disk image →
+            (history : List Entry) × IsLegal founder history × Stands image history) → ⊥) }
 
         // A crash at any moment of the call leaves what it could leave before, or the same history.
         ensures any_moment { IfOk result (λ desk. During D.moment D.since disk desk.disk

@@ -129,10 +129,30 @@ fn journal_bytes(rt: HostRuntime) -> Result<(), Fail> {
 // after the founder's next act, the receipts of that act and of the officer's act when it is sent again.
 const DOUBTS: [(u64, &[u8], &[u8], &[u8]); 5] = [
     (0, b"receipt 2\n", b"receipt 3\n", b"receipt 2\n"),
-    (9, b"refused 16 DiskFault untouched\n", b"receipt 2\n", b"receipt 3\n"),
-    (10, b"refused 16 DiskFault untouched\n", b"receipt 2\n", b"receipt 3\n"),
-    (11, b"refused 16 DiskFault doubt\n", b"receipt 2\n", b"receipt 3\n"),
-    (12, b"refused 16 DiskFault doubt\n", b"receipt 3\n", b"receipt 2\n"),
+    (
+        9,
+        b"refused 16 DiskFault untouched\n",
+        b"receipt 2\n",
+        b"receipt 3\n",
+    ),
+    (
+        10,
+        b"refused 16 DiskFault untouched\n",
+        b"receipt 2\n",
+        b"receipt 3\n",
+    ),
+    (
+        11,
+        b"refused 16 DiskFault doubt\n",
+        b"receipt 2\n",
+        b"receipt 3\n",
+    ),
+    (
+        12,
+        b"refused 16 DiskFault doubt\n",
+        b"receipt 3\n",
+        b"receipt 2\n",
+    ),
 ];
 
 #[test]
@@ -154,7 +174,14 @@ fn failing_mending(rt: HostRuntime) -> Result<(), Fail> {
     let mut desk = opened(&rt, b"", 1_000, &[12, 13, 14])?;
     assert!(rt; says(&rt, &mut desk, ENROLS, b"receipt 1\ncaller 1\n")?);
     assert!(rt; says(&rt, &mut desk, OFFICERS, b"refused 16 DiskFault doubt\n")?);
-    assert!(rt; says(&rt, &mut desk, OFFICERS, b"refused 16 DiskFault untouched\n")?);
+    assert!(rt;
+        says(
+            &rt,
+            &mut desk,
+            OFFICERS,
+            b"refused 16 DiskFault untouched\n"
+        )?
+    );
     assert!(rt; desk.mend().is_err());
     assert_eq!(rt; desk.mend(), Ok(Settled::Added));
     assert_eq!(rt; desk.mend(), Ok(Settled::Nothing));
@@ -256,6 +283,9 @@ fn odd_files(rt: HostRuntime) -> Result<(), Fail> {
     let mut twice = Vec::from_slice(rt.alloc(), &FILE[..77])?;
     twice.extend_from_slice(&FILE)?;
     assert!(rt; twice.len() <= CAPACITY);
-    assert_eq!(rt; opening(&rt, &twice)?, Err(OpenFault::Damaged { offset: 77 }));
+    assert_eq!(rt;
+        opening(&rt, &twice)?,
+        Err(OpenFault::Damaged { offset: 77 })
+    );
     Ok(())
 }

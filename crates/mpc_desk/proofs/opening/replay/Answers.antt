@@ -10,8 +10,8 @@ pub returns-clause-taken : goal.returns-clause-taken
 returns-clause-taken c =
     on_ok c.replay.result _ _
     (λ taken.
-      comes_next c.args.core.now.founder c.args.core.now.history c.args.parcel.now c.replay.new.self.history
-      (subst (λ (o : Option Entry). IsSomeAnd o (λ entry. IsAdded c.args.core.now.founder c.args.core.now.history entry × (c.replay.new.self.history ≡ entry ∷ c.args.core.now.history)))
-      (entry_same c.caller.result c.number.result _ c.verb.result c.body.result.now c.args.parcel.now c.caller.ensures c.number.ensures (to_z-of_z w64 c.moment.result (record { sfits = c.moment.type_inv }) ∙ c.moment.ensures) c.verb.ensures c.body.ensures)
-      taken))
+    comes_next c.args.core.now.founder c.args.core.now.history c.args.parcel.now c.replay.new.self.history
+    (subst (λ (o : Option Entry). IsSomeAnd o (λ entry. IsAdded c.args.core.now.founder c.args.core.now.history entry × (c.replay.new.self.history ≡ entry ∷ c.args.core.now.history)))
+    (entry_same c.caller.result c.number.result _ c.verb.result c.body.result.now c.args.parcel.now c.caller.ensures c.number.ensures (to_z-of_z w64 c.moment.result (record { sfits = c.moment.type_inv }) ∙ c.moment.ensures) c.verb.ensures c.body.ensures)
+    taken))
     c.replay.ensures.added

@@ -7,6 +7,9 @@ use Rattle.obs_journal.specs.Journals.{IsUnwritten}
 use Rattle.obs_journal.specs.Opening.{parcels_of}
 use Rattle.mpc_desk.specs.Opening.{StopsAt, IsDamagedDesk, StandsAlike}
 use Rattle.mpc_desk.proofs.Opened.{opened_desk, if_some, alike, kept_if, damaged_entry}
+use Rattle.act_bodies.specs.declared.key.Key.{Key}
+use Rattle.mpc_desk.specs.Files.{parcels_in}
+use Rattle.mpc_desk.proofs.OneHistory.{sound_reads}
 use Rattle.mpc_desk.proofs.desk.Desk.open.Goals as goal
 
 pub invariant_of-result : goal.invariant_of-result
@@ -35,3 +38,13 @@ pub returns-in-Err-replay_all-clause-unwritten : goal.returns-in-Err-replay_all-
 returns-in-Err-replay_all-clause-unwritten g c = λ other known.
     subst (λ (d : g.row.D.Denot). IsUnwritten {D = g.row.D.Denot} g.D.Disk.reads g.D.Disk.moment g.D.Disk.since c.args.disk d) (sym c.close.ensures)
     (kept_if c.one_list.ensures (g.D.Disk.reads c.args.disk) c.in-Ok-open.opened.1 _ (λ none. c.in-Err-replay_all.ensures.some refl (c.as_slice.ensures ∙ none)) known c.in-Ok-open.ensures.spelled c.in-Ok-open.ensures.kept)
+
+pub returns-in-Err-clause-sound : goal.returns-in-Err-clause-sound
+returns-in-Err-clause-sound g c = λ offset same known each.
+    c.in-Err.ensures.sound offset same known (λ image left. let (history, legal, stands) = each image left in (parcels_in history, stands.spelled))
+
+pub returns-in-Err-replay_all-clause-sound : goal.returns-in-Err-replay_all-clause-sound
+returns-in-Err-replay_all-clause-sound g c = λ offset same known each.
+    sound_reads c.one_list.ensures c.args.founder (g.D.Disk.reads c.args.disk) (g.D.Disk.leaves c.args.disk) (g.met.D.Disk.as_read c.args.disk) (parcels_of c.in-Ok-open.opened.1) offset
+    (subst (λ (k : Key). StopsAt k (parcels_of c.in-Ok-open.opened.1) offset) c.in-Ok.ensures.founder (subst (λ (ps : List Placed). StopsAt c.in-Ok.core.founder (parcels_of ps) offset) c.as_slice.ensures (c.in-Err-replay_all.ensures.damaged offset (cc))))
+    c.in-Ok-open.ensures.spelled known each
