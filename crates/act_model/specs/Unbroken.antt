@@ -25,7 +25,7 @@ given_by (deed ∷ past) = with_given deed (given_by past)
 -- most its limit. No designation was given twice.
 pub record UnbrokenRows (history : List Entry) : Type 0 where
   pub in_order : (half : HalfMonth) →
-    orders_in half (given_by (deeds history)) ≡ down_from (length (orders_in half (given_by (deeds history))))
+      orders_in half (given_by (deeds history)) ≡ down_from (length (orders_in half (given_by (deeds history))))
   pub within : (half : HalfMonth) → length (orders_in half (given_by (deeds history))) ≤ limit_of half
   pub once : AreDifferent (given_by (deeds history))
 
@@ -33,6 +33,6 @@ pub record UnbrokenRows (history : List Entry) : Type 0 where
 -- numbered twice.
 pub record UnbrokenNumbers (history : List Entry) : Type 0 where
   pub without_gap : numbers (numbers_of (deeds history))
-    ≡ down_to (first_number (numbers (numbers_of (deeds history)))) (length (numbers_of (deeds history)))
+      ≡ down_to (first_number (numbers (numbers_of (deeds history)))) (length (numbers_of (deeds history)))
   pub numbers_once : AllDiffer (numbers (numbers_of (deeds history)))
   pub designations_once : AllDiffer (designations (numbers_of (deeds history)))

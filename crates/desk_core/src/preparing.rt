@@ -21,8 +21,8 @@ use crate::hearing::{bytes_in, hear};
 use crate::office::Core;
 use crate::prepared::{Prep, Prepared};
 use act_model::{
-    Deed, Entry, Heard, Refusal, Request, batch_answer, enrol_answer,
-    numbers_answer, object_answer, receipt_answer,
+    Deed, Entry, Heard, Refusal, Request, batch_answer, enrol_answer, numbers_answer,
+    object_answer, receipt_answer,
 };
 use item_list::{Bytes, NoMemory};
 use obs_time::Instant;

@@ -401,14 +401,7 @@ fn takes_a_long_batch(rt: HostRuntime) -> Result<(), Fail> {
 }
 
 /// The caller, the number, the moment, the number of the verb and the body of an entry, and what becomes of it.
-type Again = (
-    u32,
-    u64,
-    i64,
-    u8,
-    &'static str,
-    Result<(), ReplayFault>,
-);
+type Again = (u32, u64, i64, u8, &'static str, Result<(), ReplayFault>);
 
 /// A moment of 2024.
 const DAY: i64 = 1_711_929_600_000_000_000;

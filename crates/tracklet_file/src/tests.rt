@@ -6,8 +6,8 @@ use item_list::NoMemory;
 use obs_record::{Coded, Shape, Short, Sighting, TrackName};
 use obs_time::Instant;
 use packed_names::{Designation, HalfMonth, Provisional};
-use std::alloc::{AllocError, Global};
 use plain::Plain;
+use std::alloc::{AllocError, Global};
 use std::test::Fail;
 
 const ENTRY: u64 = 7;
@@ -206,7 +206,11 @@ fn make_plain(plain: &mut Plain, call: Call) -> Result<(), NoMemory> {
     match call {
         Call::Track(home) => {
             let station = Short::new(b"703");
-            plain.add_track(Tracklet { name: name(), station, home })?;
+            plain.add_track(Tracklet {
+                name: name(),
+                station,
+                home,
+            })?;
         }
         Call::Add(track, ns) => {
             if let Some(s) = seen(ns) {

@@ -25,7 +25,12 @@ impl Plain {
         Ok(())
     }
 
-    pub(super) fn add(&mut self, track: u64, sighting: Sighting, entry: u64) -> Result<(), NoMemory> {
+    pub(super) fn add(
+        &mut self,
+        track: u64,
+        sighting: Sighting,
+        entry: u64,
+    ) -> Result<(), NoMemory> {
         self.observations.push(Observation {
             track,
             sighting,

@@ -14,7 +14,7 @@ returns-in-Some g c =
     let held = holdings (g.L.Ledger.deeds c.args.office.now) in
     record {
       due = inl (unknown_due held (takes_of (g.L.Ledger.deeds c.args.office.now)) c.args.tracklets c.in-Some.refusal
-        (sym (c.unknown_tracklet.ensures ∙ ap (λ (x : List _). first_row (map (tracklet_row held.tracklets) x)) c.as_slice.ensures) ∙ c.in-Some.is));
+          (sym (c.unknown_tracklet.ensures ∙ ap (λ (x : List _). first_row (map (tracklet_row held.tracklets) x)) c.as_slice.ensures) ∙ c.in-Some.is));
       kind = tt;
     }
 
@@ -25,9 +25,9 @@ returns-in-Ok g c =
     let ts = c.args.tracklets in
     record {
       due = seen_due held (takes_of past) ts c.in-Ok.seen c.designates_seen.result
-        (sym (c.unknown_tracklet.ensures ∙ ap (λ (x : List _). first_row (map (tracklet_row held.tracklets) x)) c.as_slice.ensures) ∙ c.in_default.is)
-        (subst (λ (x : List _). unless (first_row (flat_map (free_rows held) x)) (Ok (seen_in held.observations x)) ≡ Ok c.in-Ok.seen) c.as_slice-2.ensures c.in-Ok.ensures.due)
-        (subst (λ (x : List _). IsDue (designates_seen (takes_of past) ts x) c.designates_seen.result) c.as_slice-in-Ok.ensures c.designates_seen.ensures.due);
+          (sym (c.unknown_tracklet.ensures ∙ ap (λ (x : List _). first_row (map (tracklet_row held.tracklets) x)) c.as_slice.ensures) ∙ c.in_default.is)
+          (subst (λ (x : List _). unless (first_row (flat_map (free_rows held) x)) (Ok (seen_in held.observations x)) ≡ Ok c.in-Ok.seen) c.as_slice-2.ensures c.in-Ok.ensures.due)
+          (subst (λ (x : List _). IsDue (designates_seen (takes_of past) ts x) c.designates_seen.result) c.as_slice-in-Ok.ensures c.designates_seen.ensures.due);
       kind = c.designates_seen.ensures.kind;
     }
 
@@ -37,7 +37,7 @@ returns-in-Err g c =
     let held = holdings past in
     record {
       due = refused_either held (takes_of past) c.args.tracklets c.in-Err.refusal
-        (sym (c.unknown_tracklet.ensures ∙ ap (λ (x : List _). first_row (map (tracklet_row held.tracklets) x)) c.as_slice.ensures) ∙ c.in_default.is)
-        (subst (λ (x : List _). (unless (first_row (flat_map (free_rows held) x)) (Ok (seen_in held.observations x)) ≡ Err c.in-Err.refusal) ⊎ (c.in-Err.refusal ≡ NoMemory)) c.as_slice-2.ensures c.in-Err.ensures.due);
+          (sym (c.unknown_tracklet.ensures ∙ ap (λ (x : List _). first_row (map (tracklet_row held.tracklets) x)) c.as_slice.ensures) ∙ c.in_default.is)
+          (subst (λ (x : List _). (unless (first_row (flat_map (free_rows held) x)) (Ok (seen_in held.observations x)) ≡ Err c.in-Err.refusal) ⊎ (c.in-Err.refusal ≡ NoMemory)) c.as_slice-2.ensures c.in-Err.ensures.due);
       kind = tt;
     }

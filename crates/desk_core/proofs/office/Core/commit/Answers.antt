@@ -28,7 +28,7 @@ invariant_of-self c =
     let past = deeds (history_of items) in
     let deed : c.into_parts-filed.result.2 ≡ ready.deed = c.into_parts-filed.ensures.deed in
     let stands : StandFor (ready.deed ∷ past) c.note.new.self =
-        subst (λ (d : Deed). StandFor (d ∷ past) c.note.new.self) deed (c.note.ensures.stand past c.self.invariant.4 c.self.invariant.5) in
+    subst (λ (d : Deed). StandFor (d ∷ past) c.note.new.self) deed (c.note.ensures.stand past c.self.invariant.4 c.self.invariant.5) in
     rw c.push_reserved.ensures.items (
       answered items f ready at e a c.self.invariant.0,
       members_are items f ready at e a c.self.inside.members.items c.enrol.new.members.items roster c.self.invariant.1,

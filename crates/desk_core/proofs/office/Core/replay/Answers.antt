@@ -17,9 +17,9 @@ returns-then-not-is_entry-clause-not_legal c = λ fault.
     stays_out c.args.self.now.founder c.args.self.now.history c.args.caller c.args.number c.args.moment c.args.verb c.args.body.now c.in-Some.verb (sym c.act_with.ensures.found ∙ c.in-Some.is)
     c.in-Ok.request c.in-Some-new.moment at (c.in-Ok.ensures.asks (record { caller = c.args.caller; number = c.args.number; moment = c.args.moment; verb = c.in-Some.verb; body = c.args.body.now }) refl refl refl refl)
     (λ adds.
-      let same = one_entry _ c.in-Ok-come_again.prepared.entry _ c.in-Ok-come_again.ensures.ready adds in
-      let test : IsTrue false = c.if-not-is_entry.ensures.1 (c.entry.ensures.entry ∙ same ∙ ap (λ (m : ℤ). record { caller = c.args.caller; number = c.args.number; moment = m; verb = c.in-Some.verb; body = c.args.body.now }) (sym at)) in
-      absurd cc)
+    let same = one_entry _ c.in-Ok-come_again.prepared.entry _ c.in-Ok-come_again.ensures.ready adds in
+    let test : IsTrue false = c.if-not-is_entry.ensures.1 (c.entry.ensures.entry ∙ same ∙ ap (λ (m : ℤ). record { caller = c.args.caller; number = c.args.number; moment = m; verb = c.in-Some.verb; body = c.args.body.now }) (sym at)) in
+    absurd cc)
 
 pub returns-clause-added : goal.returns-clause-added
 returns-clause-added c =
