@@ -7,7 +7,7 @@ use Rattle.obs_journal.specs.Files.{Spells}
 use Rattle.act_bodies.specs.declared.key.Key.{Key}
 use Rattle.act_model.specs.declared.entry.Entry.{Entry}
 use Rattle.act_model.specs.declared.request.Verb.{Verb}
-use Rattle.act_model.specs.declared.request.Verb.TheVariants.{Enrol, Station, Code, Submit80, SubmitPsv, Retract, Receipt, Tally, Unknown}
+use Rattle.act_model.specs.declared.request.Verb.TheVariants.{Enrol, Station, Code, Submit80, SubmitPsv, Designate, Attribute, Release, Identify, Separate, Verdict, Number, Retract, Receipt, Tally, Unknown}
 use Rattle.act_model.specs.Legal.{IsAdded, IsLegal}
 use Rattle.act_model.specs.Requests.{is_act, verb_code}
 use Rattle.desk_core.specs.Replaying.{act_with, entry_of}
@@ -22,6 +22,13 @@ act_coded Station act = refl
 act_coded Code act = refl
 act_coded Submit80 act = refl
 act_coded SubmitPsv act = refl
+act_coded Designate act = refl
+act_coded Attribute act = refl
+act_coded Release act = refl
+act_coded Identify act = refl
+act_coded Separate act = refl
+act_coded Verdict act = refl
+act_coded Number act = refl
 act_coded Retract act = refl
 act_coded Receipt act = absurd cc
 act_coded Tally act = absurd cc

@@ -12,7 +12,7 @@ use Rattle.obs_journal.specs.Opening.{parcels_of, placed_from}
 use Rattle.act_bodies.specs.declared.key.Key.{Key}
 use Rattle.act_model.specs.declared.entry.Entry.{Entry}
 use Rattle.act_model.specs.declared.request.Verb.{Verb}
-use Rattle.act_model.specs.declared.request.Verb.TheVariants.{Enrol, Station, Code, Submit80, SubmitPsv, Retract}
+use Rattle.act_model.specs.declared.request.Verb.TheVariants.{Enrol, Station, Code, Submit80, SubmitPsv, Designate, Attribute, Release, Identify, Separate, Verdict, Number, Retract}
 use Rattle.act_model.specs.Legal.{IsAdded, IsLegal}
 use Rattle.act_model.specs.Requests.{is_act, verb_code}
 use Rattle.desk_core.specs.Replaying.{act_with, entry_of}
@@ -36,7 +36,14 @@ with_code code v =
     (pick code 3 Code v _ (code == 3) refl refl refl
     (pick code 4 Submit80 v _ (code == 4) refl refl refl
     (pick code 5 SubmitPsv v _ (code == 5) refl refl refl
-    (pick code 13 Retract v _ (code == 13) refl refl refl (λ none. absurd cc))))))
+    (pick code 6 Designate v _ (code == 6) refl refl refl
+    (pick code 7 Attribute v _ (code == 7) refl refl refl
+    (pick code 8 Release v _ (code == 8) refl refl refl
+    (pick code 9 Identify v _ (code == 9) refl refl refl
+    (pick code 10 Separate v _ (code == 10) refl refl refl
+    (pick code 11 Verdict v _ (code == 11) refl refl refl
+    (pick code 12 Number v _ (code == 12) refl refl refl
+    (pick code 13 Retract v _ (code == 13) refl refl refl (λ none. absurd cc)))))))))))))
 
 module _ (founder : Key) (past : List Entry) (p : RawParcel) (now : List Entry) where
   abbrev entry_with : Verb → Entry
