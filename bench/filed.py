@@ -1,6 +1,6 @@
 #!/usr/bin/env python3
 """How the time of a session grows with the observations that the office has: sessions of the office's setup and batches of 1,000
-lines, 5,000, 10,000, 20,000 .. lines in all, until one takes more than ten seconds. Prints the seconds of each, the best of
+lines, 5,000, 10,000, 20,000 .. lines in all, to 640,000, or until one takes more than ten seconds. Prints the seconds of each, the best of
 three runs, and its ratio to the one before. Each line is accepted, and tested against all that stand.
 
 Build the program first: (cd crates/mpc_cli && rt run -- run --key +founder-1 </dev/null). Then: python3 bench/filed.py
@@ -12,6 +12,7 @@ import tempfile
 from session import PROGRAM, SETUP, columns, run
 
 BATCH = 1_000
+MOST = 640_000
 FRAME = 9_000  # lines of one frame number of `columns`
 
 
@@ -33,7 +34,7 @@ def main():
     lines, before = 5_000, None
     with tempfile.TemporaryDirectory() as folder:
         path = os.path.join(folder, "session")
-        while before is None or before < 10:
+        while lines <= MOST and (before is None or before < 10):
             make(path, lines)
             words = [PROGRAM, "run", "--key", "+founder-1"]
             seconds, peak, text = min((run(words, path) for _ in range(3)), key=lambda r: r[0])

@@ -1,10 +1,10 @@
 #!/usr/bin/env python3
-"""Makes two sessions, each of the office's setup and some frames of good lines: one of 80-column lines, about 0.8 MB a frame,
+"""Makes two sessions, each of the office's setup and frames of good lines: one of 80-column lines, about 0.8 MB a frame,
 and one of ADES in PSV form, about 0.6 MB a frame. Runs the built program on each, and prints its megabytes per second and its
 peak memory beside those of `wc -l` and `sha256sum` on the same file in the same run.
 
-Two lines each are of one name and one night, so that each line is accepted. The office searches plain lists of its observations,
-so the frames are no more than it carries in some ten seconds: 4, or the first argument.
+Two lines each are of one name and one night, so that each line is accepted. There are 64 frames, or as many as the first argument
+says.
 
 With the argument `strangers` the station isn't entered, and 64 frames come: each line is read, judged and refused as T1, so that the
 time is that of reading, judging and answering alone.
@@ -19,7 +19,7 @@ import tempfile
 import time
 
 STRANGERS = "strangers" in sys.argv[1:]
-FRAMES = 64 if STRANGERS else int(sys.argv[1]) if len(sys.argv) > 1 and sys.argv[1].isdigit() else 4
+FRAMES = 64 if STRANGERS else int(sys.argv[1]) if len(sys.argv) > 1 and sys.argv[1].isdigit() else 64
 LINES = 9876  # 81 bytes each with the line feed: 0.8 MB
 PROGRAM = os.path.join(os.path.dirname(os.path.abspath(__file__)), "../crates/mpc_cli/out/mpc_cli")
 
