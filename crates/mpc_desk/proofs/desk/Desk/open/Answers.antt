@@ -1,14 +1,14 @@
 use Rattle.std.proofs.Common.{◌≡◌, ℕ, ◌<◌, List, inl, refl, sym, ap, subst, ◌∙◌, arith}
 use Rattle.std.specs.Prelude.{◌^◌}
 use Rattle.disk_model.specs.Moments.{during_weaker}
-use Rattle.obs_journal.specs.Files.{IsDamagedAt}
+use Rattle.obs_journal.specs.Files.{IsDamagedAt, Spells}
 use Rattle.obs_journal.specs.declared.opening.Placed.{Placed}
 use Rattle.obs_journal.specs.Journals.{IsUnwritten}
 use Rattle.obs_journal.specs.Opening.{parcels_of}
 use Rattle.mpc_desk.specs.Opening.{StopsAt, IsDamagedDesk, StandsAlike}
 use Rattle.mpc_desk.proofs.Opened.{opened_desk, if_some, alike, kept_if, damaged_entry}
 use Rattle.act_bodies.specs.declared.key.Key.{Key}
-use Rattle.mpc_desk.specs.Files.{parcels_in}
+use Rattle.mpc_desk.specs.Files.{parcels_in, Stands}
 use Rattle.mpc_desk.proofs.OneHistory.{sound_reads}
 use Rattle.mpc_desk.proofs.desk.Desk.open.Goals as goal
 
@@ -48,3 +48,12 @@ returns-in-Err-replay_all-clause-sound g c = λ offset same known each.
     sound_reads c.one_list.ensures c.args.founder (g.D.Disk.reads c.args.disk) (g.D.Disk.leaves c.args.disk) (g.met.D.Disk.as_read c.args.disk) (parcels_of c.in-Ok-open.opened.1) offset
     (subst (λ (k : Key). StopsAt k (parcels_of c.in-Ok-open.opened.1) offset) c.in-Ok.ensures.founder (subst (λ (ps : List Placed). StopsAt c.in-Ok.core.founder (parcels_of ps) offset) c.as_slice.ensures (c.in-Err-replay_all.ensures.damaged offset (cc))))
     c.in-Ok-open.ensures.spelled known each
+
+pub returns-in-Ok-replay_all-clause-stands : goal.returns-in-Ok-replay_all-clause-stands
+returns-in-Ok-replay_all-clause-stands g c =
+    if_some (g.D.Disk.reads c.args.disk) (λ file. Spells file (parcels_of c.in-Ok-open.opened.1)) (λ file. Stands file c.replay_all.new.core.history)
+    (λ file spelled. record {
+      spelled = subst (λ (ps : List _). Spells file ps) (sym (c.in-Ok-replay_all.ensures.taken ∙ ap parcels_of c.as_slice.ensures)) spelled;
+      acts = c.in-Ok-replay_all.ensures.acts;
+    })
+    c.in-Ok-open.ensures.spelled
