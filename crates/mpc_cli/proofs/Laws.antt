@@ -14,7 +14,7 @@ use Rattle.act_model.specs.History.{EachNumberOnce}
 use Rattle.act_model.specs.Places.{OnePlace}
 use Rattle.act_model.specs.Unbroken.{UnbrokenRows, UnbrokenNumbers}
 use Rattle.act_model.specs.declared.keeper.OfficeState.{OfficeState}
-use Rattle.act_model.specs.Conducts.{HadMemory, HadNoFault, NoDiskFaults, IsStepped, EitherWay}
+use Rattle.act_model.specs.Conducts.{HadMemory, HadNoFault, IsStepped, EitherWay}
 use Rattle.act_model.specs.Turns.{Turn, TakesReading, Answers, IsTurn, Conduct, at_rest}
 
 pub record RunLaws : Type 0 where
@@ -35,8 +35,6 @@ pub record RunLaws : Type 0 where
   pub numbers : (history : List Entry) → UnbrokenNumbers history
   -- where no fault was counted and memory was never refused, a conduct is the step
   pub steps : (founder : Key) (limit : Option ℕ) (past : List Entry) (after : OfficeState) (turns : List Turn) → Conduct founder limit (at_rest past) turns after → HadNoFault turns → HadMemory turns → IsStepped founder limit past turns after.settled
-  -- where no fault was counted, no reply is that a disk failed
-  pub none : (founder : Key) (limit : Option ℕ) (past : List Entry) (after : OfficeState) (turns : List Turn) → Conduct founder limit (at_rest past) turns after → HadNoFault turns → NoDiskFaults turns
 
 -- what is known of out of memory
 pub record WantLaws : Type 0 where

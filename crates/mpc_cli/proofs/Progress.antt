@@ -1,5 +1,5 @@
 -- How far a run has come, step by step, and what its ends leave.
-use Rattle.std.proofs.Common.{◌≡◌, ◌≢◌, Bool, ℕ, ◌+◌, ◌-◌, ◌^◌, ◌<◌, ◌≤◌, min, List, [], ◌∷◌, ◌++◌, length, take, Option, Some, None, Ok, Err, refl, sym, ap, subst, ◌∙◌, arith, inl, inr}
+use Rattle.std.proofs.Common.{◌≡◌, ℕ, ◌+◌, ◌-◌, ◌^◌, ◌<◌, ◌≤◌, min, List, [], ◌∷◌, ◌++◌, length, take, Option, Some, None, Ok, Err, refl, sym, ap, subst, ◌∙◌, arith, inl, inr}
 use Rattle.std.specs.Prelude.{IfSome}
 use Rattle.std.specs.Io.KnownBytes.{Consumes, Appends, IsAtEnd}
 use Rattle.std.proofs.KnownBytes.{Consumes-nil, Appends-nil, Appends-trans, Appends-kept, Keeps-refl}
@@ -12,9 +12,7 @@ use Rattle.frame_reader.specs.Reading.{AwaitsFrame}
 use Rattle.frame_reader.specs.Frames.{IsFrameRead, NoFrameComes}
 use Rattle.act_bodies.specs.declared.key.Key.{Key}
 use Rattle.act_model.specs.declared.entry.Entry.{Entry}
-use Rattle.act_model.specs.declared.reply.Refusal.TheVariants.{DiskFault}
 use Rattle.act_model.specs.declared.reply.Reply.{Reply}
-use Rattle.act_model.specs.declared.reply.Reply.TheVariants.{Refused}
 use Rattle.act_model.specs.declared.request.Request.{Request}
 use Rattle.act_model.specs.History.{EachNumberOnce}
 use Rattle.act_model.specs.Turns.{Turn, at_rest, request_of, written_reply}
@@ -81,12 +79,6 @@ module _ (laws : RunLaws) where
   turn_once founder past next q reply before after t once =
       let turn : Turn = record { request = q; reading = t.reading; reply = reply; rise = 0 } in
       (laws.once founder None (at_rest past) (at_rest next) (turn ∷ []) (at_rest next, laws.turn founder None past next turn t.reads t.answers, refl) (once, tt)).0
-
-  -- and its reply isn't that a disk failed
-  turn_no_disk : (founder : Key) (past next : List Entry) (q : Request) (reply : Reply) (before after : ClockState) → TakesTurn founder past q reply next before after → (doubt : Bool) → reply ≢ Refused (DiskFault doubt)
-  turn_no_disk founder past next q reply before after t =
-      let turn : Turn = record { request = q; reading = t.reading; reply = reply; rise = 0 } in
-      (laws.none founder None past (at_rest next) (turn ∷ []) (at_rest next, laws.turn founder None past next turn t.reads t.answers, refl) (refl, tt)).0
 
 module _ {S : Type 0} (left : S → Option (List ℕ)) (gives : Passes S) (founder : Key) (first : ClockState) where
   -- nothing was done, since memory was refused
@@ -285,7 +277,6 @@ module _ {S : Type 0} (left : S → Option (List ℕ)) (gives : Passes S) (found
                 served = behind.0;
                 good = t.good;
                 turn = t.answers.turn;
-                no_disk = turn_no_disk laws founder past next (request_of t.frame) t.answers.reply now after t.answers.turn;
                 part = part.1;
                 texts_are = refl;
               };

@@ -11,7 +11,6 @@ use Rattle.act_model.specs.declared.request.Request.{Request}
 use Rattle.act_model.specs.declared.entry.Entry.{Entry}
 use Rattle.act_model.specs.declared.reply.Reply.{Reply}
 use Rattle.act_model.specs.Turns.{Turn, Answers, at_rest, request_of, readings_of, written_reply, written}
-use Rattle.act_model.specs.Conducts.{HadNoFault}
 use Rattle.act_model.specs.Requests.{is_act}
 use Rattle.obs_time.specs.Instants.{IsInstantNs}
 use Rattle.mpc_cli.specs.Serving.{ClockState, Gives, TakesTurn, Served}
@@ -55,7 +54,6 @@ module _ (founder : Key) (before : ClockState) where
         requests = refl;
         conduct = refl;
         faultless = tt;
-        no_disk = tt;
         clock = gives_none before;
         texts_are = refl;
       }
@@ -73,7 +71,6 @@ module _ (founder : Key) (before : ClockState) where
         requests = s.requests;
         conduct = s.conduct;
         faultless = s.faultless;
-        no_disk = s.no_disk;
         clock = s.clock;
         texts_are = s.texts_are;
       },
@@ -87,18 +84,15 @@ module _ (founder : Key) (before : ClockState) where
     served_more between after bytes rest texts past next frame reply s good t =
         let turn : Turn = record { request = request_of frame; reading = t.reading; reply = reply; rise = 0 } in
         let readings : readings_of (s.turns ++ turn ∷ []) ≡ readings_of s.turns ++ option_to_list t.reading =
-        filter_map-append (λ (x : Turn). x.reading) s.turns (turn ∷ []) ∙ ap (λ (rs : List ℤ). readings_of s.turns ++ rs) (readings_of_one t.reading turn refl) in
-        let conduct = laws.goes_on founder None (at_rest []) (at_rest past) (at_rest next) s.turns turn s.conduct (laws.turn founder None past next turn t.reads t.answers) in
-        let faultless : HadNoFault (s.turns ++ turn ∷ []) = AllByRecursion-push (λ (x : Turn). x.rise ≡ 0) s.turns turn s.faultless refl in (
+        filter_map-append (λ (x : Turn). x.reading) s.turns (turn ∷ []) ∙ ap (λ (rs : List ℤ). readings_of s.turns ++ rs) (readings_of_one t.reading turn refl) in (
           record {
             frames = s.frames ++ frame ∷ [];
             turns = s.turns ++ turn ∷ [];
             stream = s.stream ∙ sym (laws.stream_joins s.frames (frame ∷ []) rest);
             whole = AllByRecursion-push IsFrame s.frames frame s.whole good;
             requests = map-append (λ (x : Turn). x.request) s.turns (turn ∷ []) ∙ ap (λ (qs : List Request). qs ++ request_of frame ∷ []) s.requests ∙ sym (map-append request_of s.frames (frame ∷ []));
-            conduct = conduct;
-            faultless = faultless;
-            no_disk = laws.none founder None [] (at_rest next) (s.turns ++ turn ∷ []) conduct faultless;
+            conduct = laws.goes_on founder None (at_rest []) (at_rest past) (at_rest next) s.turns turn s.conduct (laws.turn founder None past next turn t.reads t.answers);
+            faultless = AllByRecursion-push (λ (x : Turn). x.rise ≡ 0) s.turns turn s.faultless refl;
             clock = subst (Gives before after) (sym readings) (gives_more before between after (readings_of s.turns) (option_to_list t.reading) s.clock t.clock);
             texts_are = ap (λ (x : List ℕ). x ++ written_reply reply) s.texts_are ∙ ap (λ (x : List ℕ). written s.turns ++ x) (sym (append-nil (written_reply reply))) ∙ sym (flat_map-append (λ (x : Turn). written_reply x.reply) s.turns (turn ∷ []));
           },

@@ -1,15 +1,13 @@
 -- How far a run of the office came over the bytes of its source.
-use Rattle.std.specs.Prelude.{◌≡◌, ◌≢◌, Bool, ℕ, ◌+◌, ◌<◌, ℤ, pos, List, [], ◌∷◌, ◌++◌, length, map, take, Option, None, unwrap_or, option_to_list}
+use Rattle.std.specs.Prelude.{◌≡◌, ℕ, ◌+◌, ◌<◌, ℤ, pos, List, [], ◌∷◌, ◌++◌, length, map, take, Option, None, unwrap_or, option_to_list}
 use Rattle.std.specs.List.{AllByRecursion}
 use Rattle.desk_frames.specs.Frames.{Frame, IsFrame, framed, streamed}
 use Rattle.act_bodies.specs.declared.key.Key.{Key}
 use Rattle.act_model.specs.declared.request.Request.{Request}
 use Rattle.act_model.specs.declared.entry.Entry.{Entry}
-use Rattle.act_model.specs.declared.reply.Refusal.TheVariants.{DiskFault}
 use Rattle.act_model.specs.declared.reply.Reply.{Reply}
-use Rattle.act_model.specs.declared.reply.Reply.TheVariants.{Refused}
 use Rattle.act_model.specs.Turns.{Turn, TakesReading, Answers, Conduct, AreReadings, at_rest, request_of, requests_of, readings_of, written_reply, written}
-use Rattle.act_model.specs.Conducts.{HadNoFault, NoDiskFaults}
+use Rattle.act_model.specs.Conducts.{HadNoFault}
 
 -- a clock: its k-th reading to come, where it is known, and its last reading
 pub record ClockState : Type 0 where
@@ -41,7 +39,7 @@ pub record TakesTurn (founder : Key) (past : List Entry) (request : Request) (re
 
 -- The bytes are frames before a rest, and the frames were answered in their order: their requests are those of a
 -- conduct from the empty history, with the clock's readings in order, and the texts of its replies were written. No act is
--- in doubt, no turn counted a fault of a disk, and no reply is that one failed, since there is none.
+-- in doubt, and no turn counted a fault of a disk, since there is none.
 pub record Served (founder : Key) (before after : ClockState) (bytes rest texts : List ℕ) (history : List Entry) : Type 0 where
   pub frames : List Frame
   pub turns : List Turn
@@ -50,12 +48,11 @@ pub record Served (founder : Key) (before after : ClockState) (bytes rest texts 
   pub requests : requests_of turns ≡ map request_of frames
   pub conduct : Conduct founder None (at_rest []) turns (at_rest history)
   pub faultless : HadNoFault turns
-  pub no_disk : NoDiskFaults turns
   pub clock : Gives before after (readings_of turns)
   pub texts_are : texts ≡ written turns
 
 -- The frames before one frame were answered whole. The turn of that frame was taken, and of its reply the sink took a
--- front and not all of it. That reply isn't that a disk failed either.
+-- front and not all of it.
 pub record CutShort (founder : Key) (before after : ClockState) (bytes texts : List ℕ) (history : List Entry) : Type 0 where
   pub between : ClockState
   pub past : List Entry
@@ -67,6 +64,5 @@ pub record CutShort (founder : Key) (before after : ClockState) (bytes texts : L
   pub served : Served founder before between bytes (framed frame rest) whole_texts past
   pub good : IsFrame frame
   pub turn : TakesTurn founder past (request_of frame) reply history between after
-  pub no_disk : (doubt : Bool) → reply ≢ Refused (DiskFault doubt)
   pub part : taken < length (written_reply reply)
   pub texts_are : texts ≡ whole_texts ++ take taken (written_reply reply)

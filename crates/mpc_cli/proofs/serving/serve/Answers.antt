@@ -27,7 +27,6 @@ frames-preserved g c =
       rows = c.unbroken_rows.ensures;
       numbers = c.unbroken_numbers.ensures;
       steps = c.no_faults.ensures.stepped;
-      none = c.no_faults.ensures.none;
     } in
     record {
       progress = rw c.saturating_add-offset.ensures (progress_more _ _ c.args.core.now.founder _ laws _ _ _ _ _ _ _ c.frames.offset c.frames.invariant.progress _ _ _ _ _ c.in-Answered.size (step_for c.frames.invariant.founder c.in-Answered.ensures.step));
@@ -52,7 +51,6 @@ returns-in-Over-clause-ends g c =
       rows = c.unbroken_rows.ensures;
       numbers = c.unbroken_numbers.ensures;
       steps = c.no_faults.ensures.stepped;
-      none = c.no_faults.ensures.none;
     } in
     ends_over _ _ c.args.core.now.founder _ laws _ _ _ _ _ _ _ c.frames.offset c.frames.invariant.progress _ _ _ _ _ (step_for c.frames.invariant.founder c.in-Over.ensures.step)
 
@@ -70,7 +68,6 @@ returns-in-NoMore-clause-ends g c =
       rows = c.unbroken_rows.ensures;
       numbers = c.unbroken_numbers.ensures;
       steps = c.no_faults.ensures.stepped;
-      none = c.no_faults.ensures.none;
     } in
     ends_no_more _ _ c.args.core.now.founder _ laws _ _ _ _ _ _ _ c.frames.offset c.frames.invariant.progress _ _ _ _ _ (step_for c.frames.invariant.founder c.in-NoMore.ensures.step)
 
@@ -88,7 +85,6 @@ returns-in-ReadFailed-clause-ends g c =
       rows = c.unbroken_rows.ensures;
       numbers = c.unbroken_numbers.ensures;
       steps = c.no_faults.ensures.stepped;
-      none = c.no_faults.ensures.none;
     } in
     ends_reading _ _ c.args.core.now.founder _ laws _ _ _ _ _ _ _ c.frames.offset c.frames.invariant.progress _ _ _ _ _ (step_for c.frames.invariant.founder c.in-ReadFailed.ensures.step)
 
@@ -106,6 +102,5 @@ returns-in-WriteFailed-clause-ends g c =
       rows = c.unbroken_rows.ensures;
       numbers = c.unbroken_numbers.ensures;
       steps = c.no_faults.ensures.stepped;
-      none = c.no_faults.ensures.none;
     } in
     ends_writing _ _ c.args.core.now.founder _ laws _ _ _ _ _ _ _ c.frames.offset c.frames.invariant.progress _ _ _ _ _ (step_for c.frames.invariant.founder c.in-WriteFailed.ensures.step)
