@@ -1,6 +1,8 @@
 //! Designations, objects, verdicts and numbers in one session.
 
-use super::{NONE, SETUP, answers, done, expect_run, put, put_number, put_reply};
+use super::calls::{NONE, done, expect_run, put, put_number, put_reply};
+use super::session::answers;
+use super::setup::SETUP;
 use std::alloc::Global;
 use std::process::Abort;
 
