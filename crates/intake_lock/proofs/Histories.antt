@@ -52,6 +52,11 @@ two_tails (d ∷ m) (e ∷ n) a b is short = two_tails m n a b (ap tail_or is) s
 pub shorter_begins : (a b c : List Entry) → Extends a c → Extends b c → length a ≤ length b → Extends a b
 shorter_begins a b c (m, is) (n, more) short = two_tails m n a b (sym is ∙ more) short
 
+-- a beginning that is as long is the whole
+pub same_length : (a b : List Entry) → Extends a b → length b ≤ length a → a ≡ b
+same_length a b ([], is) long = sym is
+same_length a b (e ∷ newer, is) long = let l = longer_self newer e a in let same = ap length is in absurd (omega arith)
+
 -- ---- counts
 
 pub rises_none : (n : ℕ) → RisesBy 0 n n

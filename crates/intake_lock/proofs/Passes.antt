@@ -22,10 +22,10 @@ use Rattle.intake_lock.specs.declared.view.Stage.TheVariants.{Idle}
 use Rattle.intake_lock.specs.declared.view.View.{View}
 use Rattle.intake_lock.specs.Items.{AreTrue, RisesBy, rises}
 use Rattle.intake_lock.specs.Views.{seen, live, one_if_live, ticketed, one_if_ticketed, made_by, rises_by, HasTicketAt, HasTicket, HasTurnAt, HasTurn, stem, branch, joined, spent, longer_office, shorter_office, one_in, first_view}
-use Rattle.intake_lock.specs.Rule.{MOST, word, FitsStage, IsKnown, Fits, At, Apart, Rooted, IsCall, Comes, IsHome, IsOut, Standing, Closes}
-use Rattle.intake_lock.proofs.Histories.{StepLaw, extends_refl, extends_on, extends_length, comes_kept, are_true_later, are_true_both, rises_none}
+use Rattle.intake_lock.specs.Rule.{MOST, word, FitsStage, IsKnown, Fits, At, Apart, Rooted, Latest, IsCall, Comes, IsHome, IsOut, Standing, Closes}
+use Rattle.intake_lock.proofs.Histories.{same_length, extends_length, StepLaw, extends_refl, extends_on, comes_kept, are_true_later, are_true_both, rises_none}
 use Rattle.intake_lock.proofs.Sums.{sum_set, sum_push, sum_two, sum_none, at_below}
-use Rattle.intake_lock.proofs.Views.{fits_live, live_known, one_there, here, each, apart_set, sum_same, calls_set, kept_set}
+use Rattle.intake_lock.proofs.Views.{latest_set, here, fits_live, live_known, one_there, each, apart_set, sum_same, calls_set, kept_set}
 
 -- ---- one view more
 
@@ -114,12 +114,14 @@ module _ (steps : StepLaw) {V : Type 0} (office_of : V → Office) (opening : Of
             out = out + 1;
             most = omega arith;
             count = omega arith;
+            there = (w, at_longer vs (b ∷ []) id w (here s.views id v w at), one_out_is);
             one = λ j n u at' is.
                 each_more vs b (λ u. (j n : ℕ) → At (vs ++ b ∷ []) j u → u.role ≡ Root n → (j ≡ id) × (n ≡ out + 1))
                 (λ j n at' is. absurd cc)
                 (λ _ u there j n at' is. roots j n u (only_there j u n at' is) is)
                 j u at' j n at' is;
           };
+          latest = let l = latest_set s.views id v w at h.office refl h.latest in (l.0, l.1, at_longer vs (b ∷ []) l.0 l.1 l.2, l.3);
           kept = kept_more vs b office_of h.office s.homes (λ has. has) (kept_set s.views id v w at office_of h.office s.homes (λ has. subst HasTurnAt rests has) quiet h.kept);
           made = omega arith;
           legal = h.legal;
@@ -211,6 +213,25 @@ module _ (steps : StepLaw) {V : Type 0} (office_of : V → Office) (opening : Of
           (λ same. (id, both, at_both, Contains-append_right w.mine v.mine item (subst (λ (x : View). Contains x.mine item) (sym (one_there s.views id j v u (sym same) at there)) has)))
           (λ not_id. (j, u, set_else first other j spent not_other ∙ (set_else s.views id j both not_id ∙ there), has)))
 
+      both_latest : (b : Bool) → nat_lt (length (seen v)) (length (seen w)) ≡ b → (seen v ≡ h.office.state.settled) ⊎ (seen w ≡ h.office.state.settled)
+          → (cond b w.office v.office).state.settled ≡ h.office.state.settled
+      both_latest true is (inl all) =
+          let whole = ap length all in
+          let within = extends_length (seen w) h.office.state.settled known_w.first in
+          absurd (grind (arith, nat_tests))
+      both_latest true is (inr all) = all
+      both_latest false is (inl all) = all
+      both_latest false is (inr all) =
+          let whole = ap length all in
+          same_length (seen v) h.office.state.settled known_v.first (grind (arith, nat_tests))
+
+      join_latest : Latest h.office s.views → Latest h.office second
+      join_latest (j, u, there, is) = dite (ℕ_discrete j other)
+          (λ same. (id, both, at_both, both_latest (nat_lt (length (seen v)) (length (seen w))) refl (inr (ap seen (one_there s.views other j w u (sym same) at' there) ∙ is))))
+          (λ not_other. dite (ℕ_discrete j id)
+          (λ same. (id, both, at_both, both_latest (nat_lt (length (seen v)) (length (seen w))) refl (inl (ap seen (one_there s.views id j v u (sym same) at there) ∙ is))))
+          (λ not_id. (j, u, set_else first other j spent not_other ∙ (set_else s.views id j both not_id ∙ there), is)))
+
       join_roots : (j n : ℕ) (u : View) → At second j u → u.role ≡ Root n → (j ≡ id) × (n ≡ out - 1)
       join_roots j n u there is =
           each first other w spent join_at (λ j u. (n : ℕ) → u.role ≡ Root n → (j ≡ id) × (n ≡ out - 1))
@@ -259,7 +280,8 @@ module _ (steps : StepLaw) {V : Type 0} (office_of : V → Office) (opening : Of
                 j u there);
             apart = apart_set first other w spent join_at (λ j u ticket not_other there has has'. has)
                 (apart_set s.views id v both at (λ j u ticket not_id there has has'. has) h.apart);
-            rooted = record { root = id; out = out - 1; most = omega arith; count = omega arith; one = λ j n u there is. join_roots j n u there is };
+            rooted = record { root = id; out = out - 1; most = omega arith; count = omega arith; there = (both, at_both, both_role); one = λ j n u there is. join_roots j n u there is };
+            latest = join_latest h.latest;
             kept = kept_set first other w spent join_at office_of h.office s.homes (λ has. subst HasTurnAt rests' has) (λ has. has)
                 (kept_set s.views id v both at office_of h.office s.homes (λ has. subst HasTurnAt rests has) (λ has. has) h.kept);
             made = omega arith;
@@ -304,8 +326,10 @@ module _ {V : Type 0} (office_of : V → Office) where
           out = 0;
           most = omega arith;
           count = refl;
+          there = (v, refl, refl);
           one = λ id n u at is. ((only id u at).0, sym (root_number 0 n (ap (λ (x : View). x.role) (only id u at).1 ∙ is)));
         };
+        latest = (0, v, refl, refl);
         kept = inl (record {
           keeper = keeper;
           home = refl;

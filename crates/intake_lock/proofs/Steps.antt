@@ -23,7 +23,7 @@ use Rattle.intake_lock.specs.Rule.{word, FitsStage, IsKnown, Fits, At, IsHome, I
 use Rattle.intake_lock.specs.Plays.{Mine, Draws, Gets, Looks, Publishes, Leaves, Tells}
 use Rattle.intake_lock.proofs.Histories.{StepLaw, extends_refl, extends_on, extends_length, shorter_begins, comes_kept, comes_more, called_same, called_extends, called_true, called_counts, LegalLaw, called_legal, are_true_later, are_true_both}
 use Rattle.intake_lock.proofs.Sums.{sum_set, sum_le}
-use Rattle.intake_lock.proofs.Views.{fits_live, live_known, ticket_range, turn_ticket, ticket_weighs, fits_later, one_there, here, each, apart_set, sum_same, rooted_set, calls_set, calls_same, kept_set}
+use Rattle.intake_lock.proofs.Views.{fits_live, live_known, ticket_range, turn_ticket, ticket_weighs, fits_later, one_there, here, each, apart_set, sum_same, rooted_set, latest_set, calls_set, calls_same, kept_set}
 
 -- a pass waits for one ticket
 one_ticket : (t u : ℕ) → Waiting t ≡ Waiting u → t ≡ u
@@ -90,6 +90,7 @@ module _ (steps : StepLaw) {V : Type 0} (office_of : V → Office) (opening : Of
               (λ j u ticket other at' has has'. let range = ticket_range opening h.office h.drawn h.served u ticket (h.fits j u at') has' in let low = range.1 in let same : h.drawn ≡ ticket = has in absurd (omega arith))
               h.apart;
           rooted = rooted_set s.views id v w at refl h.rooted;
+          latest = latest_set s.views id v w at h.office refl h.latest;
           kept = kept_set s.views id v w at office_of h.office s.homes (λ turn. subst HasTurnAt rests turn) (λ turn. turn) h.kept;
           made = h.made ∙ ap (λ (n : ℕ). length opening.state.settled + n) (sym (sum_same s.views id v w at made_by refl));
           legal = h.legal;
@@ -160,6 +161,7 @@ module _ (steps : StepLaw) {V : Type 0} (office_of : V → Office) (opening : Of
                   (λ j u t other at' has has'. other (h.apart j id u v t at' at has' (subst (λ (st : Stage). HasTicketAt st t) (sym waits) has)))
                   h.apart;
               rooted = rooted_set s.views id v got at refl h.rooted;
+              latest = (id, got, here s.views id v got at, refl);
               kept = inr (record { home = ap (λ (hs : List (slot.Option (Option V))). slice_set hs 0 slot.none) home; id = id; view = got; at = here s.views id v got at; turn = tt });
               made = h.made ∙ ap (λ (n : ℕ). length opening.state.settled + n) (sym (sum_same s.views id v got at made_by refl));
               legal = h.legal;
@@ -282,6 +284,7 @@ module _ (steps : StepLaw) {V : Type 0} (office_of : V → Office) (opening : Of
                 (λ j u other at'. fits_later opening h.office later h.drawn h.drawn h.served h.served u grows (publish_others j u other at' u.stage (λ has. has)) (h.fits j u at'));
             apart = apart_set s.views id m.0 told at (λ j u t other at' has has'. other (h.apart j id u m.0 t at' at has' has)) h.apart;
             rooted = rooted_set s.views id m.0 told at refl h.rooted;
+            latest = (id, told, here s.views id m.0 told at, refl);
             kept = inr (record { home = publish_home h.kept; id = id; view = told; at = here s.views id m.0 told at; turn = publish_has });
             made = omega arith;
             legal = λ was. subst (λ (f : Key). EitherWay (IsLegal f) later.state) h.founder (called_legal steps law h.office later items (subst (λ (f : Key). EitherWay (IsLegal f) h.office.state) (sym h.founder) (h.legal was)) publish_called);
@@ -339,6 +342,7 @@ module _ (steps : StepLaw) {V : Type 0} (office_of : V → Office) (opening : Of
                 (λ j u other at'. fits_later opening h.office h.office h.drawn h.drawn h.served (h.served + 1) u (extends_refl h.office.state.settled) (next_others j u other at' u.stage (λ has. has)) (h.fits j u at'));
             apart = apart_set s.views id m.0 w at (λ j u t other at' has has'. has) h.apart;
             rooted = rooted_set s.views id m.0 w at refl h.rooted;
+            latest = latest_set s.views id m.0 w at h.office refl h.latest;
             kept = inl (record {
               keeper = keeper;
               home = ap (λ (c : List (ℕ × Option V)). Rattle.atomic_table.specs.Table.put_back s.homes c) held ∙ ap (λ (hs : List (slot.Option (Option V))). slice_set hs 0 (slot.some (Some keeper))) (next_home h.kept);

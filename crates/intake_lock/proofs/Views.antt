@@ -15,7 +15,7 @@ use Rattle.intake_lock.specs.declared.view.Stage.{Stage}
 use Rattle.intake_lock.specs.declared.view.Stage.TheVariants.{Idle, Waiting, Holding}
 use Rattle.intake_lock.specs.declared.view.View.{View}
 use Rattle.intake_lock.specs.Views.{seen, live, one_if_live, ticketed, one_if_ticketed, HasTicketAt, HasTicket, HasTurnAt, HasTurn}
-use Rattle.intake_lock.specs.Rule.{FitsStage, IsKnown, FitsRole, Fits, At, Apart, Rooted, IsCall, IsHome, IsOut}
+use Rattle.intake_lock.specs.Rule.{FitsStage, IsKnown, FitsRole, Fits, At, Apart, Rooted, Latest, IsCall, IsHome, IsOut}
 use Rattle.intake_lock.proofs.Histories.{extends_on}
 use Rattle.intake_lock.proofs.Sums.{sum_set, at_below}
 
@@ -155,9 +155,17 @@ module _ (views : List View) (id : ℕ) (v w : View) (at : At views id v) where
         out = r.out;
         most = r.most;
         count = sum_same live (ap one_if_live same) ∙ r.count;
+        there = dite (ℕ_discrete r.root id)
+            (λ is. (w, ap (λ (k : ℕ). get_elem? changed k) is ∙ here, same ∙ ap (λ (x : View). x.role) (one_there views id r.root v r.there.0 (sym is) at r.there.1) ∙ r.there.2))
+            (λ other. (r.there.0, set_else views id r.root w other ∙ r.there.1, r.there.2));
         one = λ j n u at' is.
             each (λ j u. (n : ℕ) → u.role ≡ Root n → (j ≡ r.root) × (n ≡ r.out)) (λ n is. r.one id n v at (sym same ∙ is)) (λ j u other at n is. r.one j n u at is) j u at' n is;
       }
+
+  pub latest_set : (office : Office) → seen w ≡ seen v → Latest office views → Latest office changed
+  latest_set office same (j, u, there, is) = dite (ℕ_discrete j id)
+      (λ j_is. (id, w, here, same ∙ ap seen (one_there views id j v u (sym j_is) at there) ∙ is))
+      (λ other. (j, u, set_else views id j w other ∙ there, is))
 
   pub calls_set : ((item : Item) → Contains v.mine item → Contains w.mine item) → (item : Item) → IsCall views item → IsCall changed item
   calls_set kept item (j, u, at', has) = dite (ℕ_discrete j id)

@@ -73,7 +73,12 @@ pub record Rooted (views : List View) : Type 0 where
   pub out : ℕ
   pub most : out ≤ MOST
   pub count : sum_by live views ≡ out + 1
+  pub there : (v : View) × At views root v × (v.role ≡ Root out)
   pub one : (id n : ℕ) (v : View) → At views id v → v.role ≡ Root n → (id ≡ root) × (n ≡ out)
+
+-- some pass has seen the whole history
+abbrev pub Latest : Office → List View → Type 0
+Latest office views = (id : ℕ) × (v : View) × At views id v × (seen v ≡ office.state.settled)
 
 -- the call of some pass
 abbrev pub IsCall : List View → Item → Type 0
@@ -131,6 +136,7 @@ module _ {V : Type 0} (office_of : V → Office) where
     pub fits : (id : ℕ) (v : View) → At s.views id v → Fits opening office drawn served v
     pub apart : Apart s.views
     pub rooted : Rooted s.views
+    pub latest : Latest office s.views
     pub kept : IsHome office s.homes s.views ⊎ IsOut s.homes s.views
     pub made : length office.state.settled ≡ length opening.state.settled + sum_by made_by s.views
     pub legal : StaysLegal opening office
