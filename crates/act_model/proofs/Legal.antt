@@ -228,11 +228,11 @@ kept_newer [] earlier caller number k once found = found
 kept_newer (e ∷ newer) earlier caller number k (unused, once) found = kept_behind e (newer ++ earlier) caller number k unused (kept_newer newer earlier caller number k once found)
 
 -- the newest entry stands for its number
-kept_newest : (e : Entry) (past : List Entry) → kept (e ∷ past) e.caller e.number ≡ Some (record { entry = e; before = past })
+pub kept_newest : (e : Entry) (past : List Entry) → kept (e ∷ past) e.caller e.number ≡ Some (record { entry = e; before = past })
 kept_newest e past = ap (λ (b : Bool). cond b (Some (record { entry = e; before = past })) (kept past e.caller e.number)) (numbered_itself e)
 
 -- a request is sent again where it is sent twice
-resent : (code : ℕ) (bytes : List ℕ) → (code == code) && bytes_eq bytes bytes ≡ true
+pub resent : (code : ℕ) (bytes : List ℕ) → (code == code) && bytes_eq bytes bytes ≡ true
 resent code bytes = by (code == code) refl
   where
     by : (b : Bool) → (code == code) ≡ b → b && bytes_eq bytes bytes ≡ true

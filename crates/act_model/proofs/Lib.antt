@@ -4,6 +4,8 @@ pub mod Hearing
 pub mod Legal
 pub mod Places
 mod Designating
+mod DiskFaults
+mod Acknowledged
 mod RowLemmas
 mod DeedCases
 mod Years

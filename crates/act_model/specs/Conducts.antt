@@ -1,5 +1,5 @@
 -- What holds of every conduct.
-use Rattle.std.specs.Prelude.{◌≡◌, ◌≢◌, ◌⊎◌, Bool, ℕ, pos, List, [], ◌∷◌, ◌++◌, Option, IfSome, unwrap_or}
+use Rattle.std.specs.Prelude.{◌≡◌, ◌≢◌, ◌⊎◌, Bool, true, ℕ, pos, List, [], ◌∷◌, ◌++◌, Option, Some, IfSome, unwrap_or}
 use Rattle.std.specs.List.{AllByRecursion}
 use Rattle.act_bodies.specs.declared.key.Key.{Key}
 use Rattle.act_model.specs.declared.entry.Entry.{Entry}
@@ -8,7 +8,13 @@ use Rattle.act_model.specs.declared.reply.Refusal.TheVariants.{DiskFault, NoMemo
 use Rattle.act_model.specs.declared.reply.Reply.{Reply}
 use Rattle.act_model.specs.declared.reply.Reply.TheVariants.{Done, Refused}
 use Rattle.act_model.specs.Replies.{entry_answer}
-use Rattle.act_model.specs.Step.{Outcome, Adds, step}
+use Rattle.act_model.specs.declared.request.Body.TheVariants.{Whole}
+use Rattle.act_model.specs.declared.request.Request.{Request}
+use Rattle.act_model.specs.declared.roster.Caller.{Caller}
+use Rattle.act_model.specs.Roster.{members, caller_of}
+use Rattle.act_model.specs.Deeds.{deeds}
+use Rattle.act_model.specs.History.{Kept, kept}
+use Rattle.act_model.specs.Step.{Outcome, Adds, is_resend, step}
 use Rattle.act_model.specs.Turns.{Turn, Answers}
 
 -- the later history is the earlier one with newer entries before it
@@ -40,6 +46,20 @@ IsAnswered founder limit past [] after = after ≡ past
 IsAnswered founder limit past (turn ∷ turns) after =
     (between : List Entry) × Answers founder limit past turn.request (unwrap_or turn.reading (pos 0)) turn.reply between
     × IsAnswered founder limit between turns after
+
+-- The act is in a later history: whoever asked for it had the key at the earlier one, and the entry that stands for the
+-- asker's number in the later one is that of the same verb and body. The text is the answer of the entry's own time.
+pub record IsAcknowledged (founder : Key) (earlier : List Entry) (request : Request) (text : List ℕ) (later : List Entry) : Type 0 where
+  pub bytes : List ℕ
+  pub caller : Caller
+  pub number : ℕ
+  pub entry : Kept
+  pub body : request.body ≡ Whole bytes
+  pub asks : caller_of founder (members (deeds earlier)) request.key ≡ Some caller
+  pub numbered : request.number ≡ Some number
+  pub found : kept later caller.number number ≡ Some entry
+  pub same : is_resend request.verb bytes entry.entry ≡ true
+  pub answer : text ≡ entry_answer entry.before entry.entry
 
 -- this holds of the settled history, and also with the act in doubt
 abbrev pub EitherWay : (List Entry → Type 0) → OfficeState → Type 0

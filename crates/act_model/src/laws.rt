@@ -1,6 +1,6 @@
 //! Laws of histories and conducts, each the contract of a function that does nothing.
 
-ghost use Rattle.std.specs.Prelude.{◌≡◌, ◌+◌, true, ℕ, ℤ, pos, List, [], ◌∷◌, ◌++◌, Option, Some, None, Ok, unwrap_or};
+ghost use Rattle.std.specs.Prelude.{◌≡◌, ◌+◌, ◌<◌, Bool, true, ℕ, ℤ, pos, List, [], ◌∷◌, ◌++◌, Option, Some, None, IsSomeAnd, Ok, unwrap_or};
 ghost use Rattle.obs_time.specs.Instants.{IsInstantNs};
 ghost use Rattle.act_bodies.specs.declared.key.Key.{Key};
 ghost use Rattle.act_bodies.specs.Keys.{key_text, begins_with_plus};
@@ -9,20 +9,21 @@ ghost use Rattle.act_model.specs.declared.entry.Entry.{Entry};
 ghost use Rattle.act_model.specs.declared.heard.Heard.{Heard};
 ghost use Rattle.act_model.specs.declared.keeper.OfficeState.{OfficeState};
 ghost use Rattle.act_model.specs.declared.reply.Refusal.{Refusal};
-ghost use Rattle.act_model.specs.declared.reply.Refusal.TheVariants.{NoMemory};
+ghost use Rattle.act_model.specs.declared.reply.Refusal.TheVariants.{DiskFault, NoMemory};
 ghost use Rattle.act_model.specs.declared.reply.Reply.{Reply};
 ghost use Rattle.act_model.specs.declared.reply.Reply.TheVariants.{Done, Refused};
 ghost use Rattle.act_model.specs.declared.request.Body.TheVariants.{NoRoom};
 ghost use Rattle.act_model.specs.declared.request.Request.{Request};
 ghost use Rattle.act_model.specs.declared.roster.Caller.{Caller};
+ghost use Rattle.act_model.specs.Requests.{is_act};
 ghost use Rattle.act_model.specs.Roster.{members, caller_of};
 ghost use Rattle.act_model.specs.Deeds.{deed_of, deeds};
 ghost use Rattle.act_model.specs.History.{Kept, kept, EachNumberOnce};
 ghost use Rattle.act_model.specs.Hearing.{asked_of};
 ghost use Rattle.act_model.specs.Refusals.{work_out, work_within};
-ghost use Rattle.act_model.specs.Step.{new_entry, outcome, step};
+ghost use Rattle.act_model.specs.Step.{Adds, new_entry, outcome, step};
 ghost use Rattle.act_model.specs.Turns.{Turn, TakesReading, Answers, IsTurn, Conduct, at_rest, Mends};
-ghost use Rattle.act_model.specs.Conducts.{Extends, HadMemory, HadNoFault, NoDiskFaults, IsStepped, IsAnswered, EitherWay, Makes};
+ghost use Rattle.act_model.specs.Conducts.{Extends, HadMemory, HadNoFault, NoDiskFaults, IsStepped, IsAnswered, IsAcknowledged, EitherWay, Makes};
 ghost use Rattle.act_model.specs.Legal.{IsLegal};
 ghost use Rattle.tracklet_file.specs.declared.observation.Observation.{Observation};
 ghost use Rattle.tracklet_file.specs.Numbering.{numbered};
@@ -110,14 +111,38 @@ pub fn each_once()
         Conduct founder limit before turns after → EitherWay EachNumberOnce before → EitherWay EachNumberOnce after }
 {}
 
+/// The step never answers that a disk failed. So a turn answers it only where the count of faults rose in that turn; and
+/// where it answers that its act is in doubt, the act in doubt is what the request becomes at the settled history.
+pub fn disk_faults_have_a_cause()
+    ensures step { (founder : Key) (limit : Option ℕ) (past after : List Entry) (request : Request) (reading : ℤ)
+        (doubt : Bool) → step founder limit past request reading ≡ (Refused (DiskFault doubt), after) → ⊥ }
+    ensures turn { (founder : Key) (limit : Option ℕ) (before after : OfficeState) (turn : Turn) (doubt : Bool) →
+        IsTurn founder limit before turn after → turn.reply ≡ Refused (DiskFault doubt) → 0 < turn.rise }
+    ensures doubt { (founder : Key) (limit : Option ℕ) (before after : OfficeState) (turn : Turn) (reading : ℤ) →
+        IsTurn founder limit before turn after → turn.reading ≡ Some reading → turn.reply ≡ Refused (DiskFault true) →
+        IsSomeAnd after.doubt (λ entry. outcome founder limit after.settled turn.request reading ≡ Adds entry) }
+{}
+
+/// An act that was answered is in the settled history, under its caller's number, and the answer is that entry's. Since
+/// settled histories only grow, and numbers stand for one entry, it stays there.
+pub fn acknowledged_acts_are_kept()
+    ensures { (founder : Key) (limit : Option ℕ) (before after : OfficeState) (turn : Turn) (text : List ℕ) →
+        IsTurn founder limit before turn after → is_act turn.request.verb ≡ true → turn.reply ≡ Done text →
+        (mended : List Entry) × Mends before.settled before.doubt mended ×
+        IsAcknowledged founder mended turn.request text after.settled }
+{}
+
 /// Where the disk's count of faults rose in no turn and nothing was in doubt, nothing is, and the replies are those
-/// of the step, one after another, or out of memory; where no turn ran out of memory, they are those of the step.
+/// of the step, one after another, or out of memory, and none is that the disk failed; where no turn ran out of memory,
+/// they are those of the step.
 pub fn no_faults()
     ensures settled { (founder : Key) (limit : Option ℕ) (past : List Entry) (after : OfficeState) (turns : List Turn) →
         Conduct founder limit (at_rest past) turns after → HadNoFault turns → after ≡ at_rest after.settled }
     ensures answered { (founder : Key) (limit : Option ℕ) (past : List Entry) (after : OfficeState) (turns : List Turn) →
         Conduct founder limit (at_rest past) turns after → HadNoFault turns →
         IsAnswered founder limit past turns after.settled }
+    ensures none { (founder : Key) (limit : Option ℕ) (past : List Entry) (after : OfficeState) (turns : List Turn) →
+        Conduct founder limit (at_rest past) turns after → HadNoFault turns → NoDiskFaults turns }
     ensures stepped { (founder : Key) (limit : Option ℕ) (past : List Entry) (after : OfficeState) (turns : List Turn) →
         Conduct founder limit (at_rest past) turns after → HadNoFault turns → HadMemory turns →
         IsStepped founder limit past turns after.settled }

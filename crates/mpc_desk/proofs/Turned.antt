@@ -29,6 +29,10 @@ rose_any a b later = omega arith
 pub rose_fault : (a b : ℕ) → a ≤ b → Rises a b → (rise : ℕ) × (0 < rise) × RoseBy rise (count_of a) (count_of b)
 rose_fault a b later rises = (max 1 (count_of b - count_of a), omega arith, omega arith)
 
+-- a count that rose by something
+pub rose_rises : (a b rise : ℕ) → a ≤ b → 0 < rise → RoseBy rise (count_of a) (count_of b) → Rises a b
+rose_rises a b rise later some counts = omega arith
+
 pub rises_later : (a m b : ℕ) → a ≤ m → Rises m b → Rises a b
 rises_later a m b later rises = omega arith
 

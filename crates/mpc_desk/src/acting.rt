@@ -1,9 +1,16 @@
 //! Acts: an act in doubt is mended first, then the act is worked out, kept in the journal, and added.
 
-ghost use Rattle.std.specs.Prelude.{◌≡◌, ◌≤◌, true, false, Some, None};
+ghost use Rattle.std.specs.Prelude.{◌≡◌, ◌≤◌, Bool, true, false, ℕ, List, Some, None, IsSomeAnd};
+ghost use Rattle.disk_model.specs.Counts.{Rises};
 ghost use Rattle.obs_time.specs.Instants.{IsInstantNs};
+ghost use Rattle.act_model.specs.declared.entry.Entry.{Entry};
+ghost use Rattle.act_model.specs.declared.reply.Refusal.TheVariants.{DiskFault};
+ghost use Rattle.act_model.specs.declared.reply.Reply.TheVariants.{Done, Refused};
+ghost use Rattle.act_model.specs.Conducts.{IsAcknowledged};
 ghost use Rattle.act_model.specs.Keepers.{TakesTurn};
 ghost use Rattle.act_model.specs.Requests.{is_act};
+ghost use Rattle.act_model.specs.Step.{Adds, outcome};
+ghost use Rattle.act_model.specs.Turns.{Mends};
 ghost use Rattle.mpc_desk.specs.Desks.{IsAtRest, ActsInTurn, TakesAct, office_of};
 
 use crate::desk::Desk;
@@ -30,10 +37,23 @@ impl<D: Disk> Desk<D> {
         // in doubt, or for the history after mending with the entry that the act becomes there.
         ensures inside { ActsInTurn D.moment D.since D.faults self.old request.now reading result self.new }
         ensures at_rest { IsAtRest D.leaves self.new }
+
+        // An act that is answered is in the settled history, under its caller's number; and its answer is that entry's.
+        ensures acknowledged { (text : List ℕ) → result ≡ Done text → (mended : List Entry) ×
+            Mends self.old.state.settled self.old.state.doubt mended ×
+            IsAcknowledged self.old.founder mended request.now text self.new.state.settled }
+        // The disk failed in this call; and where the answer is that the act is in doubt, it is this request's own.
+        ensures cause { (doubt : Bool) → result ≡ Refused (DiskFault doubt) →
+            Rises (D.faults self.old.disk) (D.faults self.new.disk) }
+        ensures doubt { result ≡ Refused (DiskFault true) → IsSomeAnd self.new.state.doubt (λ entry.
+            outcome self.old.founder (Some self.old.limit) self.new.state.settled request.now reading ≡ Adds entry) }
+
         ensures founder { self.new.founder ≡ self.old.founder }
         ensures limit { self.new.limit ≡ self.old.limit }
         ensures counts { D.faults self.old.disk ≤ D.faults self.new.disk }
     {
+        act_model::laws::acknowledged_acts_are_kept();
+        act_model::laws::disk_faults_have_a_cause();
         // A reading is a moment of the years 1800 to 2199.
         let _ = reading.ns();
         match self.mend() {

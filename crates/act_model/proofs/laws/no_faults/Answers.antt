@@ -1,4 +1,6 @@
+use Rattle.act_model.specs.Turns.{at_rest}
 use Rattle.act_model.proofs.Conducts.{rest_conduct, answered_steps}
+use Rattle.act_model.proofs.DiskFaults.{conduct_knows_no_disk}
 use Rattle.act_model.proofs.laws.no_faults.Goals as goal
 
 pub returns-clause-settled : goal.returns-clause-settled
@@ -6,6 +8,9 @@ returns-clause-settled c = λ founder limit past after turns conduct none. (rest
 
 pub returns-clause-answered : goal.returns-clause-answered
 returns-clause-answered c = λ founder limit past after turns conduct none. (rest_conduct founder limit past turns after conduct none).0
+
+pub returns-clause-none : goal.returns-clause-none
+returns-clause-none c = λ founder limit past after turns conduct none. conduct_knows_no_disk founder limit (at_rest past) turns after conduct none
 
 pub returns-clause-stepped : goal.returns-clause-stepped
 returns-clause-stepped c =

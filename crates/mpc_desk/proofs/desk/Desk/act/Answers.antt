@@ -1,7 +1,7 @@
-use Rattle.std.proofs.Common.{false, refl, ◌∙◌}
+use Rattle.std.proofs.Common.{false, Some, refl, ◌∙◌, arith}
 use Rattle.act_model.specs.declared.reply.Refusal.TheVariants.{DiskFault}
 use Rattle.act_model.specs.declared.reply.Reply.TheVariants.{Refused}
-use Rattle.mpc_desk.proofs.Turned.{some_is, failed_turn, taken_turn, act_turn}
+use Rattle.mpc_desk.proofs.Turned.{some_is, failed_turn, taken_turn, act_turn, rose_rises}
 use Rattle.mpc_desk.proofs.desk.Desk.act.Goals as goal
 
 pub returns-in-Ok-clause-inside : goal.returns-in-Ok-clause-inside
@@ -23,3 +23,31 @@ pub returns-in-Err-clause-turn : goal.returns-in-Err-clause-turn
 returns-in-Err-clause-turn g c =
     act_turn g.D.Disk.moment g.D.Disk.since g.D.Disk.faults c.args.self.now c.mend.new.self c.args.request.now c.args.reading (Refused (DiskFault false)) c.requires.act c.ns.ensures.range
     c.in-Err.ensures.founder c.in-Err.ensures.limit (returns-in-Err-clause-inside g c)
+
+pub returns-in-Ok-clause-acknowledged : goal.returns-in-Ok-clause-acknowledged
+returns-in-Ok-clause-acknowledged g c = λ text is.
+    c.acknowledged_acts_are_kept.ensures c.args.self.now.founder (Some c.args.self.now.limit) c.args.self.now.state c.act_settled.new.self.state _ text (returns-in-Ok-clause-turn g c).turn c.requires.act is
+
+pub returns-in-Ok-clause-cause : goal.returns-in-Ok-clause-cause
+returns-in-Ok-clause-cause g c = λ doubt is.
+    let turn = returns-in-Ok-clause-turn g c in
+    rose_rises (g.D.Disk.faults c.args.self.now.disk) (g.D.Disk.faults c.act_settled.new.self.disk) turn.rise (omega (arith, c.mend.ensures.counts, c.act_settled.ensures.counts))
+    (c.disk_faults_have_a_cause.ensures.turn c.args.self.now.founder (Some c.args.self.now.limit) c.args.self.now.state c.act_settled.new.self.state _ doubt turn.turn is) turn.counts
+
+pub returns-in-Ok-clause-doubt : goal.returns-in-Ok-clause-doubt
+returns-in-Ok-clause-doubt g c = λ is.
+    c.disk_faults_have_a_cause.ensures.doubt c.args.self.now.founder (Some c.args.self.now.limit) c.args.self.now.state c.act_settled.new.self.state _ c.args.reading (returns-in-Ok-clause-turn g c).turn refl is
+
+pub returns-in-Err-clause-acknowledged : goal.returns-in-Err-clause-acknowledged
+returns-in-Err-clause-acknowledged g c = λ text is.
+    c.acknowledged_acts_are_kept.ensures c.args.self.now.founder (Some c.args.self.now.limit) c.args.self.now.state c.mend.new.self.state _ text (returns-in-Err-clause-turn g c).turn c.requires.act is
+
+pub returns-in-Err-clause-cause : goal.returns-in-Err-clause-cause
+returns-in-Err-clause-cause g c = λ doubt is.
+    let turn = returns-in-Err-clause-turn g c in
+    rose_rises (g.D.Disk.faults c.args.self.now.disk) (g.D.Disk.faults c.mend.new.self.disk) turn.rise (omega (arith, c.mend.ensures.counts))
+    (c.disk_faults_have_a_cause.ensures.turn c.args.self.now.founder (Some c.args.self.now.limit) c.args.self.now.state c.mend.new.self.state _ doubt turn.turn is) turn.counts
+
+pub returns-in-Err-clause-doubt : goal.returns-in-Err-clause-doubt
+returns-in-Err-clause-doubt g c = λ is.
+    c.disk_faults_have_a_cause.ensures.doubt c.args.self.now.founder (Some c.args.self.now.limit) c.args.self.now.state c.mend.new.self.state _ c.args.reading (returns-in-Err-clause-turn g c).turn refl is
