@@ -1,0 +1,113 @@
+-- An act that was answered is kept.
+use Rattle.std.proofs.Common.{◌≡◌, ℕ, ℤ, Bool, true, false, cond, List, ◌∷◌, Option, Some, None, Result, Ok, Err, refl, sym, ap, subst, ◌∙◌, inl, inr}
+use Rattle.std.specs.Prelude.{◌⊎◌}
+use Rattle.act_bodies.specs.declared.key.Key.{Key}
+use Rattle.act_model.specs.declared.deed.Deed.{Deed}
+use Rattle.act_model.specs.declared.entry.Entry.{Entry}
+use Rattle.act_model.specs.declared.heard.Heard.{Heard}
+use Rattle.act_model.specs.declared.keeper.OfficeState.{OfficeState}
+use Rattle.act_model.specs.declared.reply.Refusal.{Refusal}
+use Rattle.act_model.specs.declared.reply.Refusal.TheVariants.{DiskFault, OtherRequest, NoMemory}
+use Rattle.act_model.specs.declared.reply.Reply.{Reply}
+use Rattle.act_model.specs.declared.reply.Reply.TheVariants.{Done, Refused}
+use Rattle.act_model.specs.declared.request.Body.{Body}
+use Rattle.act_model.specs.declared.request.Body.TheVariants.{Whole, TooLong, NoRoom}
+use Rattle.act_model.specs.declared.request.Request.{Request}
+use Rattle.act_model.specs.Rows.{first_row, unless, ◌>>=◌}
+use Rattle.act_model.specs.Requests.{is_act}
+use Rattle.act_model.specs.Roster.{members, caller_of}
+use Rattle.act_model.specs.Deeds.{deeds}
+use Rattle.act_model.specs.History.{Kept, kept, next_moment, next_receipt}
+use Rattle.act_model.specs.Hearing.{size_rows, bytes_in, hear}
+use Rattle.act_model.specs.Refusals.{work_within}
+use Rattle.act_model.specs.Replies.{entry_answer}
+use Rattle.act_model.specs.Step.{Outcome, Refuses, Adds, is_resend, kept_reply, unless_kept, unless_refused, new_entry, query_step, heard_step, unless_unheard, outcome, after, step}
+use Rattle.act_model.specs.Turns.{Turn, TakesReading, Answers, FailsToKeep, Settles, Mends, Takes, IsTurn}
+use Rattle.act_model.specs.Conducts.{IsAcknowledged}
+use Rattle.act_model.proofs.Conducts.{bound, unless_ok, hearing, heard_outcome, outcome_is, step_is}
+use Rattle.act_model.proofs.Hearing.{Hears, hears, number_some}
+use Rattle.act_model.proofs.Legal.{kept_newest, resent}
+
+whole_is : (body : Body) (bytes : List ℕ) → bytes_in body ≡ Ok bytes → body ≡ Whole bytes
+whole_is (Whole b) bytes is =
+    let found = unless_ok (first_row (size_rows b)) (Ok b) bytes is in
+    let same : b ≡ bytes = let e = found.1 in cc in
+    ap (λ (x : List ℕ). Whole x) same
+whole_is (TooLong size) bytes is = absurd cc
+whole_is NoRoom bytes is = absurd cc
+
+-- a kept reply that is an answer is that to the same request
+kept_done : (same : Bool) (answer text : List ℕ) (receipt : ℕ) → cond same (Done answer) (Refused (OtherRequest receipt)) ≡ Done text → (same ≡ true) × (text ≡ answer)
+kept_done true answer text receipt is = (refl, cc)
+kept_done false answer text receipt is = absurd cc
+
+module _ (founder : Key) (limit : Option ℕ) (past : List Entry) (q : Request) (t : ℤ) (text : List ℕ) (next : List Entry) (act : is_act q.verb ≡ true) where
+  module _ (bytes : List ℕ) (heard : Heard) (body : bytes_in q.body ≡ Ok bytes) (h : Hears founder (members (deeds past)) q bytes heard) where
+    newest : Entry
+    newest = new_entry heard bytes (next_moment past t)
+
+    -- the history has the entry under the caller's number
+    has : (k : Kept) → kept next heard.caller.number heard.number ≡ Some k → is_resend heard.verb bytes k.entry ≡ true → text ≡ entry_answer k.before k.entry → IsAcknowledged founder past q text next
+    has k found same answer = record {
+      bytes = bytes;
+      caller = heard.caller;
+      number = heard.number;
+      entry = k;
+      body = whole_is q.body bytes body;
+      asks = h.caller;
+      numbered = number_some q.verb q.number heard.number h.number;
+      found = found;
+      same = ap (λ verb. is_resend verb bytes k.entry) (sym h.verb) ∙ same;
+      answer = answer;
+    }
+
+    acted : (used : Option Kept) (work : Result Deed Refusal) → kept past heard.caller.number heard.number ≡ used → after past (unless_kept used heard bytes (unless_refused work newest)) ≡ (Done text, next)
+        → IsAcknowledged founder past q text next
+    acted (Some k) work found is =
+        let here = ap (λ (p : Reply × List Entry). p.1) is in
+        let answers = kept_done (is_resend heard.verb bytes k.entry) (entry_answer k.before k.entry) text (next_receipt k.before) (ap (λ (p : Reply × List Entry). p.0) is) in
+        has k (ap (λ (h : List Entry). kept h heard.caller.number heard.number) (sym here) ∙ found) answers.0 answers.1
+    acted None (Ok deed) found is =
+        let here = ap (λ (p : Reply × List Entry). p.1) is in
+        has (record { entry = newest; before = past }) (ap (λ (h : List Entry). kept h heard.caller.number heard.number) (sym here) ∙ kept_newest newest past) (resent _ bytes)
+        (let reply = ap (λ (p : Reply × List Entry). p.0) is in cc)
+    acted None (Err r) found is = let reply = ap (λ (p : Reply × List Entry). p.0) is in absurd cc
+
+    of_act : (b : Bool) → b ≡ true → after past (cond b (unless_kept (kept past heard.caller.number heard.number) heard bytes (unless_refused (work_within limit past bytes (next_moment past t) heard) newest)) (query_step past heard)) ≡ (Done text, next)
+        → IsAcknowledged founder past q text next
+    of_act true acts is = acted (kept past heard.caller.number heard.number) (work_within limit past bytes (next_moment past t) heard) refl is
+    of_act false acts is = absurd cc
+
+    of_heard : after past (heard_step limit past heard bytes (next_moment past t)) ≡ (Done text, next) → IsAcknowledged founder past q text next
+    of_heard is = of_act (is_act heard.verb) (ap is_act h.verb ∙ act) is
+
+  of_hearing : (bytes : List ℕ) (heard : Result Heard Refusal) → bytes_in q.body ≡ Ok bytes → hear founder (members (deeds past)) q bytes ≡ heard
+      → after past (unless_unheard (heard >>= heard_outcome founder limit past q t bytes)) ≡ (Done text, next) → IsAcknowledged founder past q text next
+  of_hearing bytes (Ok heard) body h is = of_heard bytes heard body (hears founder (members (deeds past)) q bytes heard h) is
+  of_hearing bytes (Err r) body h is = let reply = ap (λ (p : Reply × List Entry). p.0) is in absurd cc
+
+  of_bytes : (bytes : Result (List ℕ) Refusal) → bytes_in q.body ≡ bytes → after past (unless_unheard (bytes >>= hearing founder limit past q t)) ≡ (Done text, next) → IsAcknowledged founder past q text next
+  of_bytes (Ok bytes) body is = of_hearing bytes (hear founder (members (deeds past)) q bytes) body refl is
+  of_bytes (Err r) body is = let reply = ap (λ (p : Reply × List Entry). p.0) is in absurd cc
+
+  step_acknowledges : step founder limit past q t ≡ (Done text, next) → IsAcknowledged founder past q text next
+  step_acknowledges is =
+      of_bytes (bytes_in q.body) refl (ap (λ (o : Outcome). after past o) (sym (outcome_is founder limit past q t)) ∙ sym (step_is founder limit past q t) ∙ is)
+
+module _ (founder : Key) (limit : Option ℕ) (before : OfficeState) (turn : Turn) (next : OfficeState) (text : List ℕ) (act : is_act turn.request.verb ≡ true) (reply : turn.reply ≡ Done text) where
+  answer_acknowledges : (past : List Entry) (t : ℤ) → Answers founder limit past turn.request t turn.reply next.settled → IsAcknowledged founder past turn.request text next.settled
+  answer_acknowledges past t (inl is) = step_acknowledges founder limit past turn.request t text next.settled act (is ∙ ap (λ (r : Reply). (r, next.settled)) reply)
+  answer_acknowledges past t (inr (wants, same)) = let both = sym reply ∙ wants in absurd cc
+
+  acts_acknowledge : (past : List Entry) (t : ℤ) → Settles founder limit past turn t next ⊎ FailsToKeep founder limit past turn t next → IsAcknowledged founder past turn.request text next.settled
+  acts_acknowledge past t (inl s) = answer_acknowledges past t s.answers
+  acts_acknowledge past t (inr f) = let both = sym reply ∙ f.reply in absurd cc
+
+  takes_acknowledges : (reading : Option ℤ) → TakesReading turn.request.verb reading → Takes founder limit before turn reading next
+      → (mended : List Entry) × Mends before.settled before.doubt mended × IsAcknowledged founder mended turn.request text next.settled
+  takes_acknowledges (Some t) reads (inl f) = let both = sym reply ∙ f.reply in absurd cc
+  takes_acknowledges (Some t) reads (inr a) = (a.mended, a.mends, acts_acknowledge a.mended t a.acts)
+  takes_acknowledges None reads a = let both = sym act ∙ reads in absurd cc
+
+  pub turn_acknowledges : IsTurn founder limit before turn next → (mended : List Entry) × Mends before.settled before.doubt mended × IsAcknowledged founder mended turn.request text next.settled
+  turn_acknowledges is = takes_acknowledges turn.reading is.reads is.takes
