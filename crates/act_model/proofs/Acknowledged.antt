@@ -43,7 +43,7 @@ kept_done false answer text receipt is = absurd cc
 
 module _ (founder : Key) (limit : Option ℕ) (past : List Entry) (q : Request) (t : ℤ) (text : List ℕ) (next : List Entry) (act : is_act q.verb ≡ true) where
   module _ (bytes : List ℕ) (heard : Heard) (body : bytes_in q.body ≡ Ok bytes) (h : Hears founder (members (deeds past)) q bytes heard) where
-    newest : Entry
+    abbrev newest : Entry
     newest = new_entry heard bytes (next_moment past t)
 
     -- the history has the entry under the caller's number

@@ -102,7 +102,7 @@ tracklets_other tracklets (t ∷ ts) = (tt, tracklets_other tracklets ts)
 
 free_other : (held : Holdings) (ts : List ℕ) → AreOther (flat_map (free_rows held) ts)
 free_other held [] = tt
-free_other held (t ∷ ts) = (tt, tt, free_other held ts)
+free_other held (t ∷ ts) = (tt, (tt, free_other held ts))
 
 next_other : (next : Option ℕ) (first : ℕ) → AreOther (next_rows next first)
 next_other None first = tt
@@ -111,12 +111,12 @@ next_other (Some next) first = (tt, tt)
 seen_other : (takes : List Take) (ts : List ℕ) (seen : List Seen) → ErrsOther (designates_seen takes ts seen)
 seen_other takes ts [] = tt
 seen_other takes ts (first ∷ more) =
-    refuses_other (object_rows takes (span first more) (half_of (earliest first more).time)) (Ok (Designated ts (next_in (half_of (earliest first more).time) takes) (earliest first more).number)) (tt, tt, tt) tt
+    refuses_other (object_rows takes (span first more) (half_of (earliest first more).time)) (Ok (Designated ts (next_in (half_of (earliest first more).time) takes) (earliest first more).number)) (tt, (tt, tt)) tt
 
 module _ (past : List Deed) (moment : ℤ) where
   does_other : (a : Act) → ErrsOther (does past moment a)
   unfolding does
-  does_other (act.Enrol key name role) = refuses_other (enrol_rows (members past) key) (Ok _) (tt, tt, tt) tt
+  does_other (act.Enrol key name role) = refuses_other (enrol_rows (members past) key) (Ok _) (tt, (tt, tt)) tt
   does_other (act.Station code name from to) = refuses_other (row_rows _) (Ok _) (tt, tt) tt
   does_other (act.Code kind letter word) = refuses_other (row_rows _) (Ok _) (tt, tt) tt
   does_other (act.Submit80 lines) = refuses_other (batch_rows (taken_after past moment lines)) (Ok _) (tt, tt) tt
@@ -125,15 +125,15 @@ module _ (past : List Deed) (moment : ℤ) where
       refuses_other (designate_rows (holdings past) ts) (designates_seen (takes_of past) ts (seen_in (holdings past).observations ts))
       (both_other (map (tracklet_row (holdings past).tracklets) ts) (flat_map (free_rows (holdings past)) ts) (tracklets_other (holdings past).tracklets ts) (free_other (holdings past) ts))
       (seen_other (takes_of past) ts (seen_in (holdings past).observations ts))
-  does_other (act.Attribute t to) = refuses_other (attribute_rows (holdings past) (links_of past) t to) (Ok _) (tt, tt, tt, tt, tt) tt
-  does_other (act.Release t) = refuses_other (release_rows (holdings past) t) (Ok _) (tt, tt, tt) tt
-  does_other (act.Identify p s) = refuses_other (identify_rows (links_of past) (numbers_of past) p s) (Ok _) (tt, tt, tt, tt, tt, tt, tt, tt) tt
-  does_other (act.Separate s) = refuses_other (separate_rows (links_of past) s) (Ok _) (tt, tt, tt) tt
-  does_other (act.Verdict d u oppositions) = refuses_other (verdict_rows (links_of past) d) (Ok _) (tt, tt, tt) tt
+  does_other (act.Attribute t to) = refuses_other (attribute_rows (holdings past) (links_of past) t to) (Ok _) (tt, (tt, (tt, (tt, tt)))) tt
+  does_other (act.Release t) = refuses_other (release_rows (holdings past) t) (Ok _) (tt, (tt, tt)) tt
+  does_other (act.Identify p s) = refuses_other (identify_rows (links_of past) (numbers_of past) p s) (Ok _) (tt, (tt, (tt, (tt, (tt, (tt, (tt, tt))))))) tt
+  does_other (act.Separate s) = refuses_other (separate_rows (links_of past) s) (Ok _) (tt, (tt, tt)) tt
+  does_other (act.Verdict d u oppositions) = refuses_other (verdict_rows (links_of past) d) (Ok _) (tt, (tt, tt)) tt
   does_other (act.Number first most) =
       refuses_other (number_rows (numbers_of past) first most (eligible_after past)) (Ok _)
-      (both_other (next_rows (next_number (numbers_of past)) first) _ (next_other (next_number (numbers_of past)) first) (tt, tt, tt)) tt
-  does_other (act.Retract k) = refuses_other (retract_rows (holdings past).observations k) (Ok _) (tt, tt, tt) tt
+      (both_other (next_rows (next_number (numbers_of past)) first) _ (next_other (next_number (numbers_of past)) first) (tt, (tt, tt))) tt
+  does_other (act.Retract k) = refuses_other (retract_rows (holdings past).observations k) (Ok _) (tt, (tt, tt)) tt
 
 asked_act_other : (a : Asked) → ErrsOther (act_in a)
 asked_act_other (asked.Act a) = tt
@@ -148,7 +148,7 @@ module _ (past : List Entry) (moment : ℤ) (heard : Heard) where
   work_other : ErrsOther (work_out past moment heard)
   unfolding work_out
   work_other =
-      refuses_other (role_rows past heard) (act_in heard.asked >>= does (deeds past) moment) (tt, tt, tt)
+      refuses_other (role_rows past heard) (act_in heard.asked >>= does (deeds past) moment) (tt, (tt, tt))
       (bound_other (act_in heard.asked) (does (deeds past) moment) (asked_act_other heard.asked) (does_other (deeds past) moment))
 
   within_other : (limit : Option ℕ) (body : List ℕ) → ErrsOther (work_within limit past body moment heard)
@@ -177,7 +177,7 @@ caller_other (Some c) = tt
 caller_other None = tt
 
 bytes_other : (body : Body) → ErrsOther (bytes_in body)
-bytes_other (Whole bytes) = refuses_other (size_rows bytes) (Ok bytes) (tt, tt, tt) tt
+bytes_other (Whole bytes) = refuses_other (size_rows bytes) (Ok bytes) (tt, (tt, tt)) tt
 bytes_other (TooLong size) = tt
 bytes_other NoRoom = tt
 
