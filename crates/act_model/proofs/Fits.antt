@@ -29,6 +29,7 @@ use Rattle.act_model.specs.declared.entry.Entry.{Entry}
 use Rattle.act_model.specs.declared.reply.Refusal.{Refusal}
 use Rattle.act_model.specs.declared.request.Verb.{Verb}
 use Rattle.act_model.specs.declared.request.Verb.TheVariants.{Enrol, Station, Code, Submit80, SubmitPsv, Designate, Attribute, Release, Identify, Separate, Verdict, Number, Retract, Receipt, Tally, Unknown}
+use Rattle.act_model.specs.declared.request.Verb.TheVariants as verbs
 use Rattle.act_model.specs.Acts.{read_as, enrol_act, station_act, code_act, designate_act, attribute_act, release_act, identify_act, separate_act, verdict_act, number_act, retract_act, psv_act, act_of, IsRead}
 use Rattle.act_model.specs.Rows.{first_row, unless}
 use Rattle.act_model.specs.Roster.{members}
@@ -121,6 +122,11 @@ module _ (firsts : AreFirst) where
   first_read Retract body = first_asked retract_act (retract_of body) (λ _. tt)
   first_read Receipt body = tt
   first_read Tally body = tt
+  first_read verbs.Object body = tt
+  first_read verbs.Tracklet body = tt
+  first_read verbs.Isolated body = tt
+  first_read verbs.HalfMonth body = tt
+  first_read verbs.Name body = tt
   first_read Unknown body = tt
 
 -- ---- what designations are sure of

@@ -49,6 +49,7 @@ use Rattle.act_model.specs.declared.reply.Refusal.{Refusal}
 use Rattle.act_model.specs.declared.reply.Refusal.TheVariants.{NotPrincipal, SameObject, BothNumbered, NumberedSecondary, NotSecondary}
 use Rattle.act_model.specs.declared.request.Verb.{Verb}
 use Rattle.act_model.specs.declared.request.Verb.TheVariants.{Enrol, Station, Code, Submit80, SubmitPsv, Designate, Attribute, Release, Identify, Separate, Verdict, Number, Retract, Receipt, Tally, Unknown}
+use Rattle.act_model.specs.declared.request.Verb.TheVariants as verbs
 use Rattle.act_model.specs.declared.ruling.Ruling.{Ruling}
 use Rattle.act_model.specs.declared.seen.Seen.{Seen}
 use Rattle.act_model.specs.declared.taken.Placed.{Placed}
@@ -460,6 +461,11 @@ module _ (equal : EqualIsSame) (stay : StayOwn) where
     act_fits Retract body = retraction_fits (retract_of body)
     act_fits Receipt body = tt
     act_fits Tally body = tt
+    act_fits verbs.Object body = tt
+    act_fits verbs.Tracklet body = tt
+    act_fits verbs.Isolated body = tt
+    act_fits verbs.HalfMonth body = tt
+    act_fits verbs.Name body = tt
     act_fits Unknown body = tt
 
   deed_fits : (past : List Deed) (e : Entry) → Sound past → Fits past (deed_of past e)

@@ -17,8 +17,9 @@ use Rattle.obs_record.specs.declared.line.Line.{Line}
 use Rattle.obs_record.specs.declared.rule.HeaderFault.{HeaderFault}
 use Rattle.col80_format.specs.Batch.{lines_of}
 use Rattle.ades_psv.specs.Batch.{psv_lines_of}
+use Rattle.act_model.specs.Queries.{IsReadQuery}
 use Rattle.act_model.specs.declared.request.Verb.{Verb}
-use Rattle.act_model.specs.declared.request.Verb.TheVariants.{Enrol, Station, Code, Submit80, SubmitPsv, Designate, Attribute, Release, Identify, Separate, Verdict, Number, Retract, Receipt, Tally, Unknown}
+use Rattle.act_model.specs.declared.request.Verb.TheVariants.{Enrol, Station, Code, Submit80, SubmitPsv, Designate, Attribute, Release, Identify, Separate, Verdict, Number, Retract, Receipt, Tally, Object, Tracklet, Isolated, HalfMonth, Name, Unknown}
 use Rattle.act_model.specs.declared.act.Act.{Act}
 use Rattle.act_model.specs.declared.act.Act.TheVariants as act
 use Rattle.act_model.specs.declared.heard.Asked.{Asked}
@@ -87,6 +88,11 @@ act_of Number body = read_as number_act (number_of_body body)
 act_of Retract body = read_as retract_act (retract_of body)
 act_of Receipt body = Err Unread
 act_of Tally body = Err Unread
+act_of Object body = Err Unread
+act_of Tracklet body = Err Unread
+act_of Isolated body = Err Unread
+act_of HalfMonth body = Err Unread
+act_of Name body = Err Unread
 act_of Unknown body = Err Unread
 
 -- What reading a body makes sure of: a station's last day isn't before its first; the tracklets that are to become an
@@ -100,4 +106,4 @@ IsRead _ = Unit {0}
 abbrev pub IsReadAsked : Asked → Type 0
 IsReadAsked (asked.Act act) = IsRead act
 IsReadAsked (asked.Header fault line) = Unit {0}
-IsReadAsked (asked.Query query) = Unit {0}
+IsReadAsked (asked.Query query) = IsReadQuery query

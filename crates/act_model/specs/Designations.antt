@@ -1,5 +1,5 @@
 -- The designations that the office gave, and the principal ones among them.
-use Rattle.std.specs.Prelude.{ℕ, Bool, is_some, List, [], ◌∷◌, filter, Option, option_map}
+use Rattle.std.specs.Prelude.{Bool, is_some, List, [], ◌∷◌, filter, Option, option_map}
 use Rattle.packed_names.specs.declared.name.Designation.{Designation}
 use Rattle.packed_names.specs.declared.name.Designation.TheVariants.{Provisional}
 use Rattle.designate_core.specs.Takes.{Take}

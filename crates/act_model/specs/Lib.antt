@@ -26,6 +26,8 @@ pub mod Tallies
 pub mod Places
 pub mod Replies
 pub mod Refusals
+pub mod Shelves
+pub mod QueryTexts
 pub mod Step
 pub mod Turns
 pub mod Keepers

@@ -1,7 +1,6 @@
 -- The numbers that the office gave, and the objects that can be numbered.
-use Rattle.std.specs.Prelude.{ℕ, ◌+◌, ◌-◌, min, Bool, ◌&&◌, is_none, List, [], ◌∷◌, ◌++◌, length, reverse, take, filter}
+use Rattle.std.specs.Prelude.{ℕ, ◌+◌, ◌-◌, Bool, ◌&&◌, is_none, List, [], ◌∷◌, ◌++◌, length, reverse, filter}
 use Rattle.std.specs.List.{list_any}
-use Rattle.std.specs.Option.{option_and_then}
 use Rattle.packed_names.specs.declared.name.Designation.{Designation}
 use Rattle.identify_core.specs.Acts.{LinkAct, is_principal_of}
 use Rattle.numbering_core.specs.declared.numbering.Numbering.{Numbering}

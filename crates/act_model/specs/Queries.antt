@@ -1,10 +1,19 @@
 -- The query that a request asks for. It is a function of the verb and the body alone.
 use Rattle.std.specs.Prelude.{ℕ, ◌==◌, if◌then◌else◌, List, [], ◌∷◌, Option, Some, None, option_map}
+use Rattle.std.specs.Option.{option_or}
+use Rattle.std.specs.Result.{result_ok}
 use Rattle.ascii_text.specs.Reading.{number_at}
+use Rattle.packed_names.specs.declared.half_month.HalfMonth.{HalfMonth}
+use Rattle.packed_names.specs.declared.name.Name.{Name}
+use Rattle.packed_names.specs.Ranges.{IsHalfMonth}
+use Rattle.packed_names.specs.Judging.{is_in_range, is_half_month, answered}
+use Rattle.packed_names.specs.PackedReading.{packed_in}
+use Rattle.packed_names.specs.PrintedReading.{printed_in, half_in}
+use Rattle.act_bodies.specs.Members.{designation_of}
 use Rattle.act_model.specs.declared.query.Query.{Query}
 use Rattle.act_model.specs.declared.query.Query.TheVariants as query
 use Rattle.act_model.specs.declared.request.Verb.{Verb}
-use Rattle.act_model.specs.declared.request.Verb.TheVariants.{Receipt, Tally}
+use Rattle.act_model.specs.declared.request.Verb.TheVariants as verbs
 
 -- a number from 1 on, with nothing after its digits
 abbrev pub from_one : Option (ℕ × List ℕ) → Option ℕ
@@ -16,6 +25,15 @@ from_one (Some (number, byte ∷ rest)) = None
 abbrev pub counted_by : List ℕ → Option ℕ
 counted_by text = from_one (number_at 18 text)
 
+-- the half-month that a text spells
+abbrev pub half_month_by : List ℕ → Option HalfMonth
+half_month_by text = result_ok (answered is_half_month (half_in text))
+
+-- the name that a text spells: a number or a designation as it is printed, or else as it is packed
+abbrev pub name_by : List ℕ → Option Name
+name_by text =
+    option_or (result_ok (answered is_in_range (printed_in text))) (result_ok (answered is_in_range (packed_in text)))
+
 -- a body that is empty
 abbrev pub if_empty : Query → List ℕ → Option Query
 if_empty asked [] = Some asked
@@ -23,6 +41,16 @@ if_empty asked (byte ∷ rest) = None
 
 -- the query of a verb and a body; no other verb is that of a query
 unfoldable pub query_of : Verb → List ℕ → Option Query
-query_of Receipt body = option_map query.Receipt (counted_by body)
-query_of Tally body = if_empty query.Tally body
+query_of verbs.Receipt body = option_map query.Receipt (counted_by body)
+query_of verbs.Tally body = if_empty query.Tally body
+query_of verbs.Object body = option_map query.Object (designation_of body)
+query_of verbs.Tracklet body = option_map query.Tracklet (counted_by body)
+query_of verbs.Isolated body = if_empty query.Isolated body
+query_of verbs.HalfMonth body = option_map query.HalfMonth (half_month_by body)
+query_of verbs.Name body = option_map query.Name (name_by body)
 query_of _ body = None
+
+-- what reading a body makes sure of: a half-month is one of the years 1925 to 2099
+abbrev pub IsReadQuery : Query → Type 0
+IsReadQuery (query.HalfMonth half) = IsHalfMonth half
+IsReadQuery _ = Unit {0}

@@ -1,7 +1,7 @@
 -- Requests: their verbs and their bodies.
 use Rattle.std.specs.Prelude.{ℕ, ◌==◌, Bool, true, false, bytes_eq, codes, if◌then◌else◌, List, length, nat_lt, count_by}
 use Rattle.act_model.specs.declared.request.Verb.{Verb}
-use Rattle.act_model.specs.declared.request.Verb.TheVariants.{Enrol, Station, Code, Submit80, SubmitPsv, Designate, Attribute, Release, Identify, Separate, Verdict, Number, Retract, Receipt, Tally, Unknown}
+use Rattle.act_model.specs.declared.request.Verb.TheVariants.{Enrol, Station, Code, Submit80, SubmitPsv, Designate, Attribute, Release, Identify, Separate, Verdict, Number, Retract, Receipt, Tally, Object, Tracklet, Isolated, HalfMonth, Name, Unknown}
 use Rattle.act_model.specs.declared.request.Body.{Body}
 use Rattle.act_model.specs.declared.request.Body.TheVariants.{Whole, TooLong}
 use Rattle.act_model.specs.declared.request.TheConstants.{BODY_BYTES}
@@ -24,7 +24,12 @@ verb_of word =
     else (if bytes_eq word (codes "retract") then Retract
     else (if bytes_eq word (codes "receipt") then Receipt
     else (if bytes_eq word (codes "tally") then Tally
-    else Unknown))))))))))))))
+    else (if bytes_eq word (codes "object") then Object
+    else (if bytes_eq word (codes "tracklet") then Tracklet
+    else (if bytes_eq word (codes "isolated") then Isolated
+    else (if bytes_eq word (codes "halfmonth") then HalfMonth
+    else (if bytes_eq word (codes "name") then Name
+    else Unknown)))))))))))))))))))
 
 -- a verb that names nothing
 abbrev pub is_unknown : Verb → Bool
@@ -43,6 +48,11 @@ is_unknown Number = false
 is_unknown Retract = false
 is_unknown Receipt = false
 is_unknown Tally = false
+is_unknown Object = false
+is_unknown Tracklet = false
+is_unknown Isolated = false
+is_unknown HalfMonth = false
+is_unknown Name = false
 is_unknown Unknown = true
 
 -- a verb of an act, which may become an entry; any other is that of a query, which only reads
@@ -62,6 +72,11 @@ is_act Number = true
 is_act Retract = true
 is_act Receipt = false
 is_act Tally = false
+is_act Object = false
+is_act Tracklet = false
+is_act Isolated = false
+is_act HalfMonth = false
+is_act Name = false
 is_act Unknown = false
 
 -- a verb of officers alone
@@ -81,6 +96,11 @@ is_officers Number = true
 is_officers Retract = false
 is_officers Receipt = false
 is_officers Tally = false
+is_officers Object = false
+is_officers Tracklet = false
+is_officers Isolated = false
+is_officers HalfMonth = false
+is_officers Name = false
 is_officers Unknown = false
 
 -- the number of a verb of an act, and 0 for no act
@@ -100,6 +120,11 @@ verb_code Number = 12
 verb_code Retract = 13
 verb_code Receipt = 0
 verb_code Tally = 0
+verb_code Object = 0
+verb_code Tracklet = 0
+verb_code Isolated = 0
+verb_code HalfMonth = 0
+verb_code Name = 0
 verb_code Unknown = 0
 
 abbrev pub same_verb : Verb → Verb → Bool

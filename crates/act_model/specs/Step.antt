@@ -1,6 +1,7 @@
 -- The step of the office: what becomes of one request, what it is answered, and the history that it leaves.
 use Rattle.std.specs.Prelude.{ℕ, ℤ, Bool, ◌&&◌, bytes_eq, if◌then◌else◌, List, ◌∷◌, Option, Some, None, Result, Ok, Err}
 use Rattle.act_bodies.specs.declared.key.Key.{Key}
+use Rattle.identify_core.specs.Acts.{principal}
 use Rattle.act_model.specs.declared.deed.Deed.{Deed}
 use Rattle.act_model.specs.declared.entry.Entry.{Entry}
 use Rattle.act_model.specs.declared.heard.Asked.{Asked}
@@ -13,6 +14,7 @@ use Rattle.act_model.specs.declared.reply.Refusal.{Refusal}
 use Rattle.act_model.specs.declared.reply.Refusal.TheVariants.{Unread, OtherRequest, UnknownThing}
 use Rattle.act_model.specs.declared.reply.Reply.{Reply}
 use Rattle.act_model.specs.declared.reply.Reply.TheVariants.{Done, Refused}
+use Rattle.act_model.specs.declared.reply.Thing.{Thing}
 use Rattle.act_model.specs.declared.reply.Thing.TheVariants as thing
 use Rattle.act_model.specs.declared.request.Request.{Request}
 use Rattle.act_model.specs.declared.request.Verb.{Verb}
@@ -25,6 +27,11 @@ use Rattle.act_model.specs.Replies.{entry_answer}
 use Rattle.act_model.specs.Hearing.{bytes_in, hear}
 use Rattle.act_model.specs.Refusals.{work_within}
 use Rattle.act_model.specs.Tallies.{tally, tally_text}
+use Rattle.act_model.specs.Holdings.{holdings}
+use Rattle.act_model.specs.Designations.{takes_of, links_of}
+use Rattle.act_model.specs.Numbers.{numbers_of}
+use Rattle.act_model.specs.Shelves.{track_head}
+use Rattle.act_model.specs.QueryTexts.{object_text, tracklet_text, isolated_text, half_month_line, name_text}
 
 -- what becomes of a request: it is refused; its number was used, and this is the reply that is kept for it; it is a query,
 -- and this text tells what it asks; or it becomes an entry
@@ -70,10 +77,24 @@ abbrev pub told_receipt : ℕ → Option Kept → Result (List ℕ) Refusal
 told_receipt number (Some k) = Ok (entry_answer k.before k.entry)
 told_receipt number None = Err (UnknownThing (thing.Receipt number))
 
+-- the text of a thing that is there, or the refusal of one that isn't
+abbrev pub told_thing : {A : Type 0} → Thing → (A → List ℕ) → Option A → Result (List ℕ) Refusal
+told_thing what text (Some found) = Ok (text found)
+told_thing what text None = Err (UnknownThing what)
+
 -- what a caller's query is told at this history
 unfoldable pub told : List Entry → ℕ → Query → Result (List ℕ) Refusal
 told past caller (query.Receipt number) = told_receipt number (kept past caller number)
 told past caller query.Tally = Ok (tally_text (tally past))
+told past caller (query.Object d) =
+    told_thing (thing.Designation d) (object_text (holdings (deeds past)) (links_of (deeds past)) (numbers_of (deeds past)))
+    (principal (links_of (deeds past)) d)
+told past caller (query.Tracklet t) =
+    told_thing (thing.Tracklet t) (tracklet_text (holdings (deeds past)) (links_of (deeds past)) t)
+    (track_head (holdings (deeds past)).tracklets t)
+told past caller query.Isolated = Ok (isolated_text (holdings (deeds past)))
+told past caller (query.HalfMonth half) = Ok (half_month_line (takes_of (deeds past)) half)
+told past caller (query.Name name) = Ok (name_text (links_of (deeds past)) (numbers_of (deeds past)) name)
 
 -- the query that is asked; an act is none
 abbrev pub query_in : Asked → Result Query Refusal

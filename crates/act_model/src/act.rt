@@ -340,6 +340,13 @@ pub fn read_act(alloc: Global, verb: Verb, body: &[u8]) -> Result<Act, ActFault>
         Verb::Verdict => read_judgement(alloc, body),
         Verb::Number => read_numbering(alloc, body),
         Verb::Retract => read_retraction(alloc, body),
-        Verb::Receipt | Verb::Tally | Verb::Unknown => Err(ActFault::Unread),
+        Verb::Receipt
+        | Verb::Tally
+        | Verb::Object
+        | Verb::Tracklet
+        | Verb::Isolated
+        | Verb::HalfMonth
+        | Verb::Name
+        | Verb::Unknown => Err(ActFault::Unread),
     }
 }

@@ -19,6 +19,7 @@ mod request;
 mod roster;
 mod ruling;
 mod seen;
+mod shelf;
 mod taken;
 mod tally;
 mod texts;
@@ -39,6 +40,10 @@ pub use request::{BODY_BYTES, BODY_LINES, Body, Request, Verb, is_resend, line_f
 pub use roster::{CALLERS, Caller, Member};
 pub use ruling::Ruling;
 pub use seen::Seen;
+pub use shelf::{Names, Place, Shelf, TrackHead};
 pub use taken::{Placed, Taken, accepted_in, faults_in, name_of};
 pub use tally::{Tally, tally_answer};
-pub use texts::{batch_answer, enrol_answer, numbers_answer, object_answer, receipt_answer};
+pub use texts::{
+    batch_answer, enrol_answer, numbers_answer, object_answer, push_decimal, push_designation,
+    push_packed, receipt_answer,
+};

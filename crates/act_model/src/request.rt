@@ -45,6 +45,16 @@ pub enum Verb {
     Receipt,
     /// To ask how many entries and observations the office has, by the word `tally`. It is a query.
     Tally,
+    /// To ask what the office has of an object, by the word `object`. It is a query.
+    Object,
+    /// To ask what the office has of a tracklet, by the word `tracklet`. It is a query.
+    Tracklet,
+    /// To ask for the isolated tracklets, by the word `isolated`. It is a query.
+    Isolated,
+    /// To ask how many designations a half-month has, by the word `halfmonth`. It is a query.
+    HalfMonth,
+    /// To ask for both forms of a name and whose it is, by the word `name`. It is a query.
+    Name,
     /// A word that names nothing. It is no act.
     Unknown,
 }
@@ -84,6 +94,11 @@ impl Verb {
             | Verb::Retract
             | Verb::Receipt
             | Verb::Tally
+            | Verb::Object
+            | Verb::Tracklet
+            | Verb::Isolated
+            | Verb::HalfMonth
+            | Verb::Name
             | Verb::Unknown => false,
         }
     }
@@ -106,7 +121,14 @@ impl Verb {
             Verb::Verdict => 11,
             Verb::Number => 12,
             Verb::Retract => 13,
-            Verb::Receipt | Verb::Tally | Verb::Unknown => 0,
+            Verb::Receipt
+            | Verb::Tally
+            | Verb::Object
+            | Verb::Tracklet
+            | Verb::Isolated
+            | Verb::HalfMonth
+            | Verb::Name
+            | Verb::Unknown => 0,
         }
     }
 }
@@ -145,6 +167,16 @@ pub fn read_verb(word: &[u8]) -> Verb
         Verb::Receipt
     } else if word == b"tally".as_slice() {
         Verb::Tally
+    } else if word == b"object".as_slice() {
+        Verb::Object
+    } else if word == b"tracklet".as_slice() {
+        Verb::Tracklet
+    } else if word == b"isolated".as_slice() {
+        Verb::Isolated
+    } else if word == b"halfmonth".as_slice() {
+        Verb::HalfMonth
+    } else if word == b"name".as_slice() {
+        Verb::Name
     } else {
         Verb::Unknown
     }

@@ -14,7 +14,12 @@ use obs_record::RuleCode;
 use packed_names::{Designation, Name, is_name, pack, print};
 use std::alloc::Global;
 
-fn push_decimal(out: &mut Bytes, n: u64) -> Result<(), NoMemory>
+/// Writes a number in decimal digits.
+///
+/// # Errors
+///
+/// Memory was refused.
+pub fn push_decimal(out: &mut Bytes, n: u64) -> Result<(), NoMemory>
     ensures { OnOk result (out.new ≡ out.old ++ decimal n) }
 {
     let mut buffer = Buffer::new();
@@ -159,8 +164,12 @@ pub fn enrol_answer(alloc: Global, receipt: u64, caller: u64) -> Result<Bytes, N
     Ok(out)
 }
 
-// The printed form of a designation, and no text for a value that is none.
-fn push_designation(out: &mut Bytes, d: Designation) -> Result<(), NoMemory>
+/// Writes the printed form of a designation, and no text for a value that is none.
+///
+/// # Errors
+///
+/// Memory was refused.
+pub fn push_designation(out: &mut Bytes, d: Designation) -> Result<(), NoMemory>
     ensures { OnOk result (out.new ≡ out.old ++ designation_text d) }
 {
     let name = Name::Designation(d);
@@ -170,8 +179,12 @@ fn push_designation(out: &mut Bytes, d: Designation) -> Result<(), NoMemory>
     Ok(())
 }
 
-// The packed form of a designation, and no text for a value that is none.
-fn push_packed(out: &mut Bytes, d: Designation) -> Result<(), NoMemory>
+/// Writes the packed form of a designation, and no text for a value that is none.
+///
+/// # Errors
+///
+/// Memory was refused.
+pub fn push_packed(out: &mut Bytes, d: Designation) -> Result<(), NoMemory>
     ensures { OnOk result (out.new ≡ out.old ++ packed_designation d) }
 {
     let name = Name::Designation(d);
