@@ -22,6 +22,8 @@ use Rattle.act_model.specs.declared.reply.Refusal.{Refusal}
 use Rattle.act_model.specs.declared.reply.Refusal.TheVariants.{Unread, Role, OtherRequest, DiskFault, NoMemory}
 use Rattle.act_model.specs.declared.reply.Part.TheVariants as part
 use Rattle.act_model.specs.declared.reply.Reply.{Reply}
+use Rattle.act_model.specs.declared.reply.Thing.{Thing}
+use Rattle.act_model.specs.declared.reply.Thing.TheVariants as thing
 use Rattle.act_model.specs.declared.reply.Reply.TheVariants.{Done, Refused}
 use Rattle.act_model.specs.declared.request.Body.{Body}
 use Rattle.act_model.specs.declared.request.Body.TheVariants.{Whole, TooLong, NoRoom}
@@ -44,7 +46,7 @@ use Rattle.act_model.specs.History.{Kept, kept, next_moment}
 use Rattle.act_model.specs.Hearing.{size_rows, bytes_in, verb_rows, is_number_of, number_in, asked_in, queried_in, asked_of, caller_in, hear}
 use Rattle.act_model.specs.Doing.{enrol_rows, row_rows, batch_rows, retract_rows, tracklet_row, free_rows, designate_rows, object_rows, attribute_rows, release_rows, identify_rows, separate_rows, verdict_rows, next_rows, number_rows, designates_seen, eligible_after, taken_after, does}
 use Rattle.act_model.specs.Refusals.{role_rows, act_in, work_out, full_rows, work_within}
-use Rattle.act_model.specs.Step.{Outcome, Refuses, Keeps, Tells, Adds, is_resend, kept_reply, unless_kept, unless_refused, new_entry, told_receipt, told, query_in, tells, act_step, query_step, heard_step, unless_unheard, outcome, after, step}
+use Rattle.act_model.specs.Step.{Outcome, Refuses, Keeps, Tells, Adds, is_resend, kept_reply, unless_kept, unless_refused, new_entry, told_receipt, told_thing, told, query_in, tells, act_step, query_step, heard_step, unless_unheard, outcome, after, step}
 use Rattle.act_model.specs.Turns.{Turn, unless_untouched, Answers, FailsToMend, FailsToKeep, Settles, ActsMended, Asks, Takes, IsTurn, Conduct, at_rest}
 use Rattle.act_model.specs.Conducts.{HadNoFault, NoDiskFaults}
 use Rattle.act_model.proofs.Conducts.{outcome_is, hearing, heard_outcome, step_is}
@@ -217,10 +219,19 @@ receipt_other : (number : ℕ) (used : Option Kept) → ErrsOther (told_receipt 
 receipt_other number (Some k) = tt
 receipt_other number None = tt
 
+thing_other : {A : Type 0} (what : Thing) (text : A → List ℕ) (found : Option A) → ErrsOther (told_thing what text found)
+thing_other what text (Some found) = tt
+thing_other what text None = tt
+
 told_other : (past : List Entry) (caller : ℕ) (q : Query) → ErrsOther (told past caller q)
 unfolding told
 told_other past caller (query.Receipt number) = receipt_other number (kept past caller number)
 told_other past caller query.Tally = tt
+told_other past caller (query.Object d) = thing_other (thing.Designation d) _ _
+told_other past caller (query.Tracklet t) = thing_other (thing.Tracklet t) _ _
+told_other past caller query.Isolated = tt
+told_other past caller (query.HalfMonth half) = tt
+told_other past caller (query.Name name) = tt
 
 query_other : (a : Asked) → ErrsOther (query_in a)
 query_other (asked.Query q) = tt
