@@ -1,34 +1,42 @@
--- The newest of what was taken.
-use Rattle.std.proofs.Common.{◌≡◌, ℕ, ◌+◌, ◌-◌, ◌<◌, ◌≤◌, true, List, [], ◌∷◌, map, reverse, take, get_or, length, ap, sym, subst, ◌∙◌, arith}
+-- What was taken, the newest first, and its indexes.
+use Rattle.std.proofs.Common.{◌≡◌, ◌+◌, ◌≤◌, Bool, true, false, cond, List, [], ◌∷◌, map, Some, IsSome, refl, ap, sym, subst, inl, inr, arith}
 use Rattle.std.specs.Ordering.{eq_by_cmp}
+use Rattle.std.proofs.lemmas.Bool.{cases_Bool, false≢true}
 use Rattle.packed_names.specs.declared.half_month.HalfMonth.{HalfMonth}
 use Rattle.packed_names.specs.declared.provisional.Provisional.{Provisional}
-use Rattle.packed_names.specs.Order.{half_cmp}
+use Rattle.packed_names.specs.declared.name.Designation.{Designation}
+use Rattle.packed_names.specs.declared.name.Designation.TheVariants as designations
+use Rattle.packed_names.specs.Order.{half_cmp, designation_cmp}
 use Rattle.packed_names.specs.Laws.{OrderLaws}
-use Rattle.std.proofs.lemmas.List.{take_more, reverse-append}
+use Rattle.packed_names.specs.Ranges.{IsProvisional, IsDesignation, limit_of}
 use Rattle.designate_core.specs.declared.taken.Taken.{Taken}
-use Rattle.designate_core.specs.Takes.{given_in}
-use Rattle.designate_core.specs.Taken.{take_of, takes_of, AreGivenInRow}
-use Rattle.designate_core.proofs.RowLemmas.{given_in-yes}
-
-pub newest_first : (taken : List Taken) (place : ℕ) (t : Taken) → place < length taken → reverse (take (place + 1) taken) ≡ get_or taken place t ∷ reverse (take place taken)
-newest_first taken place t within = ap reverse (take_more taken place t within) ∙ reverse-append (take place taken) (get_or taken place t ∷ [])
+use Rattle.designate_core.specs.Takes.{given_in, next_in, discovery_of}
+use Rattle.designate_core.specs.Taken.{take_of, AreGivenInRow}
+use Rattle.designate_core.proofs.RowLemmas.{given_in-yes, given_in-no}
 
 module _ (orders : OrderLaws) where
-  -- the newest designation of a half-month has its count for an order
-  newest_order : (half : HalfMonth) (t : Taken) (older : List Taken) → AreGivenInRow (t ∷ older) → eq_by_cmp half_cmp t.given.half half ≡ true
-      → t.given.order ≡ given_in half (map take_of (t ∷ older))
-  newest_order half t older row same =
-      ap (λ (p : Provisional). p.order) row.0
-      ∙ ap (λ (h : HalfMonth). given_in h (map take_of older) + 1) ((orders.halves t.given.half half).0 same)
-      ∙ sym (given_in-yes half (take_of t) (map take_of older) same)
+  -- the count of a half-month is at most its limit
+  pub given_within : (half : HalfMonth) (taken : List Taken) → AreGivenInRow taken → given_in half (map take_of taken) ≤ limit_of half
+  given_within half [] row = omega arith
+  given_within half (t ∷ older) row =
+      elim (cases_Bool (eq_by_cmp half_cmp t.given.half half)) [
+        | inl same ↦
+            let count = given_in-yes half (take_of t) (map take_of older) same in
+            let order : t.given.order ≡ given_in t.given.half (map take_of older) + 1 = ap (λ (p : Provisional). p.order) row.0 in
+            let most : given_in t.given.half (map take_of older) + 1 ≤ limit_of t.given.half = omega (arith, order, row.1.order_to) in
+            let own : given_in half (map take_of older) + 1 ≤ limit_of half = subst (λ (h : HalfMonth). given_in h (map take_of older) + 1 ≤ limit_of h) ((orders.halves t.given.half half).0 same) most in
+            omega (arith, count, own)
+        | inr apart ↦ let count = given_in-no half (take_of t) (map take_of older) apart in let rest = given_within half older row.2 in omega (arith, count, rest)
+      ]
 
-  pub order_here : (taken : List Taken) (half : HalfMonth) (last : ℕ) (t : Taken) → 0 < last → last ≤ length taken → eq_by_cmp half_cmp (get_or taken (last - 1) t).given.half half ≡ true
-      → AreGivenInRow (reverse (take last taken)) → (get_or taken (last - 1) t).given.order ≡ given_in half (takes_of (take last taken))
-  order_here taken half last t some within same row =
-      let below : last - 1 < length taken = omega arith in
-      let last_is : last ≡ (last - 1) + 1 = omega arith in
-      let newest : Taken = get_or taken (last - 1) t in
-      let order : reverse (take last taken) ≡ newest ∷ reverse (take (last - 1) taken) = ap (λ (k : ℕ). reverse (take k taken)) last_is ∙ newest_first taken (last - 1) t below in
-      newest_order half newest (reverse (take (last - 1) taken)) (subst AreGivenInRow order row) same
-      ∙ ap (λ (ts : List Taken). given_in half (map take_of ts)) (sym order)
+  -- what was given is a designation
+  pub given_named : (d : Designation) (taken : List Taken) → AreGivenInRow taken → IsSome (discovery_of d (map take_of taken)) → IsDesignation d
+  given_named d [] row some = absurd (false≢true some)
+  given_named d (t ∷ older) row some = by (eq_by_cmp designation_cmp d newest) refl (given_named d older row.2)
+    where
+      newest : Designation
+      newest = designations.Provisional (next_in t.given.half (map take_of older))
+
+      by : (b : Bool) → eq_by_cmp designation_cmp d newest ≡ b → (IsSome (discovery_of d (map take_of older)) → IsDesignation d) → IsDesignation d
+      by true same rest = subst IsDesignation (sym ((orders.designations d newest).0 same)) (subst IsProvisional row.0 row.1)
+      by false apart rest = rest (subst IsSome (ap (λ (b : Bool). cond b (Some t.discovery) (discovery_of d (map take_of older))) apart) some)

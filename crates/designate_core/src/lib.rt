@@ -12,6 +12,8 @@
 //! ```
 #![tactic(auto)]
 
+mod count;
+mod discovery;
 pub mod laws;
 mod rows;
 mod taken;

@@ -6,8 +6,11 @@ ghost use Rattle.packed_names.specs.Ranges.{IsHalfMonth, IsProvisional, IsDesign
 ghost use Rattle.packed_names.specs.declared.name.Designation.TheVariants as designations;
 ghost use Rattle.designate_core.specs.Takes.{given_in, next_in, next_of, discovery_of, designations_given};
 
-use crate::taken::{self, Taken};
+use crate::count::{Count, given_in};
+use crate::discovery::{Discovery, discovery_of};
+use crate::taken::Taken;
 use item_list::NoMemory;
+use ordered_list::OrderedList;
 use packed_names::{Designation, HalfMonth, Provisional, limit};
 use std::alloc::Global;
 use std::marker::Model;
@@ -19,19 +22,27 @@ use std::marker::Model;
 #[derive(Drop)]
 pub struct Rows {
     taken: Vec<Taken>,
+    counts: OrderedList<Count>,
+    discoveries: OrderedList<Discovery>,
 }
 
 impl Model for Rows {
-    ghost use Rattle.std.specs.Prelude.{◌-◌, reverse, vec_len, vec_capacity};
+    ghost use Rattle.std.specs.Prelude.{◌-◌, min, reverse, vec_len, vec_capacity};
     ghost use Rattle.designate_core.specs.Takes.{RowsValue};
 
     ghost Value = { RowsValue };
 
-    ghost use Rattle.designate_core.specs.Taken.{takes_of, AreGivenInRow};
+    ghost use Rattle.designate_core.specs.Taken.{takes_of};
+    ghost use Rattle.designate_core.specs.Indexes.{IsKept};
 
-    ghost view = { λ r. record { takes = takes_of r.taken.items; spare = vec_capacity r.taken - vec_len r.taken } };
+    ghost view = { λ r. record {
+      takes = takes_of r.taken.items;
+      spare = min (vec_capacity r.taken - vec_len r.taken) (min r.counts.room r.discoveries.room);
+    } };
 
-    ghost invariant = { λ r. AreGivenInRow (reverse r.taken.items) };
+    ghost invariant = { λ r.
+        IsKept ⟦<Count as Ord>⟧.cmp ⟦<Discovery as Ord>⟧.cmp (reverse r.taken.items)
+        r.counts.items r.discoveries.items };
 }
 
 impl Rows {
@@ -45,6 +56,8 @@ impl Rows {
     {
         Ok(Rows {
             taken: Vec::new(alloc),
+            counts: OrderedList::new(alloc)?,
+            discoveries: OrderedList::new(alloc)?,
         })
     }
 
@@ -58,7 +71,9 @@ impl Rows {
         ensures kept { self.old.spare ≤ self.new.spare }
         ensures takes { self.new.takes ≡ self.old.takes }
     {
-        self.taken.reserve(1)
+        self.taken.reserve(1)?;
+        self.counts.reserve(1)?;
+        self.discoveries.reserve(1)
     }
 
     /// The designation that is given next in a half-month: its order is one more than the count of those that were
@@ -92,10 +107,14 @@ impl Rows {
         ensures spare { self.old.spare ≤ self.new.spare + 1 }
         ensures name { IsProvisional result }
     {
-        let given = Provisional {
-            half,
-            order: self.given(half) + 1,
-        };
+        packed_names::laws::orders();
+        let order = self.given(half) + 1;
+        let given = Provisional { half, order };
+        self.counts.insert(Count { half, given: order });
+        self.discoveries.insert(Discovery {
+            designation: Designation::Provisional(given),
+            observation: discovery,
+        });
         self.taken.push_reserved(Taken { given, discovery });
         given
     }
@@ -106,7 +125,8 @@ impl Rows {
         ensures count { result ≡ given_in half self.now.takes }
         ensures within { result ≤ limit_of half }
     {
-        taken::given_in(self.taken.as_slice(), half)
+        packed_names::laws::orders();
+        given_in(&self.counts, half)
     }
 
     /// The number of the observation by which the object of a designation was discovered. None exactly for designations
@@ -117,6 +137,6 @@ impl Rows {
         ensures name { IfSome result (λ _. IsDesignation d) }
     {
         packed_names::laws::orders();
-        taken::discovery_of(self.taken.as_slice(), d)
+        discovery_of(&self.discoveries, d)
     }
 }

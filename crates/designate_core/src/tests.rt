@@ -1,8 +1,11 @@
 ghost use Rattle.packed_names.specs.Ranges.{IsHalfMonth};
 
+mod plain;
+
 use super::*;
 use item_list::NoMemory;
 use packed_names::{Designation, HalfMonth, Name, read, read_half};
+use plain::Plain;
 use std::test::Fail;
 
 // The order of the designation that is given in the half-month, or 0 where it is full.
@@ -32,6 +35,26 @@ fn discovery(rows: &Rows, name: &[u8]) -> u64 {
     }
 }
 
+// The same in the plain form.
+fn plain_order_given_in(plain: &mut Plain, half: &[u8], discovery: u64) -> Result<u32, NoMemory> {
+    match read_half(half) {
+        Ok(half) => plain.take(half, discovery),
+        Err(_) => Ok(0),
+    }
+}
+
+fn plain_discovery(plain: &Plain, name: &[u8]) -> u64 {
+    match read(name) {
+        Ok(Name::Designation(d)) => plain.find(d).unwrap_or(0),
+        _ => 0,
+    }
+}
+
+const NAMES: [&[u8]; 9] = [
+    b"2024 EA", b"2024 EB", b"2024 EC", b"2024 ED", b"2024 FA", b"2024 FB", b"2023 EA", b"2023 EB",
+    b"1 P-L",
+];
+
 #[test]
 fn half_months_have_rows_of_their_own(rt: HostRuntime) -> Result<(), Fail> {
     let mut rows = Rows::new(rt.alloc())?;
@@ -43,22 +66,15 @@ fn half_months_have_rows_of_their_own(rt: HostRuntime) -> Result<(), Fail> {
         (b"2024 E", 2, 3),
         (b"2024 F", 8, 2),
     ];
+    let mut plain = Plain::new(rt.alloc());
     for (half, observation, order) in takes {
         assert_eq!(rt; order_given_in(&mut rows, half, observation)?, order);
+        assert_eq!(rt; plain_order_given_in(&mut plain, half, observation)?, order);
     }
-    let names: [(&[u8], u64); 9] = [
-        (b"2024 EA", 7),
-        (b"2024 EB", 9),
-        (b"2024 EC", 2),
-        (b"2024 ED", 0),
-        (b"2024 FA", 3),
-        (b"2024 FB", 8),
-        (b"2023 EA", 4),
-        (b"2023 EB", 0),
-        (b"1 P-L", 0),
-    ];
-    for (name, observation) in names {
-        assert_eq!(rt; discovery(&rows, name), observation);
+    let discoveries = [7, 9, 2, 0, 3, 8, 4, 0, 0];
+    for (place, observation) in discoveries.into_iter().enumerate() {
+        assert_eq!(rt; discovery(&rows, NAMES[place]), observation);
+        assert_eq!(rt; plain_discovery(&plain, NAMES[place]), observation);
     }
     Ok(())
 }
