@@ -1,0 +1,99 @@
+-- What a query is told.
+use Rattle.std.proofs.Common.{◌≡◌, ℕ, List, Option, Some, None, Result, Ok, Err, refl, sym, ap, ◌∙◌}
+use Rattle.std.specs.Prelude.{IfOk}
+use Rattle.packed_names.specs.declared.half_month.HalfMonth.{HalfMonth}
+use Rattle.packed_names.specs.declared.name.Designation.{Designation}
+use Rattle.packed_names.specs.declared.name.Name.{Name}
+use Rattle.identify_core.specs.Acts.{principal}
+use Rattle.act_model.specs.declared.entry.Entry.{Entry}
+use Rattle.act_model.specs.declared.query.Query.TheVariants as query
+use Rattle.act_model.specs.declared.reply.Refusal.{Refusal}
+use Rattle.act_model.specs.declared.reply.Refusal.TheVariants.{UnknownThing}
+use Rattle.act_model.specs.declared.reply.Reply.TheVariants.{Done, Refused}
+use Rattle.act_model.specs.declared.reply.Thing.TheVariants as thing
+use Rattle.act_model.specs.declared.shelf.TrackHead.{TrackHead}
+use Rattle.act_model.specs.Deeds.{deeds}
+use Rattle.act_model.specs.Designations.{takes_of, links_of}
+use Rattle.act_model.specs.History.{Kept, kept}
+use Rattle.act_model.specs.Holdings.{holdings}
+use Rattle.act_model.specs.Numbers.{numbers_of}
+use Rattle.act_model.specs.QueryTexts.{object_text, tracklet_text, isolated_text, half_month_line, name_text}
+use Rattle.act_model.specs.Replies.{entry_answer}
+use Rattle.act_model.specs.Shelves.{track_head, reply_kept}
+use Rattle.act_model.specs.Step.{told_receipt, told_thing, told}
+use Rattle.act_model.specs.Tallies.{tally, tally_text}
+
+-- what holds of a text that was made holds of what follows from it
+pub if_made : {A E : Type 0} (r : Result A E) (P Q : A → Type 0) → ((a : A) → P a → Q a) → IfOk r P → IfOk r Q
+if_made (Ok a) P Q follows holds = follows a holds
+if_made (Err e) P Q follows holds = tt
+
+-- the reply that is kept is an answer
+kept_done : (number : ℕ) (o : Option Kept) (text : List ℕ) → Some (Done text) ≡ reply_kept o → told_receipt number o ≡ Ok text
+kept_done number (Some k) text is = let same : text ≡ entry_answer k.before k.entry = cc in ap (λ (t : List ℕ). Ok t) (sym same)
+kept_done number None text is = absurd cc
+
+pub never_refused : (o : Option Kept) (refusal : Refusal) → Some (Refused refusal) ≡ reply_kept o → ⊥
+never_refused (Some k) refusal is = cc
+never_refused None refusal is = cc
+
+kept_none : (number : ℕ) (o : Option Kept) → None ≡ reply_kept o → told_receipt number o ≡ Err (UnknownThing (thing.Receipt number))
+kept_none number None is = refl
+kept_none number (Some k) is = absurd cc
+
+module _ (past : List Entry) (caller : ℕ) where
+  pub receipt_told : (number : ℕ) (text : List ℕ) → Some (Done text) ≡ reply_kept (kept past caller number)
+      → told past caller (query.Receipt number) ≡ Ok text
+  unfolding told
+  receipt_told number text is = kept_done number (kept past caller number) text is
+
+  pub receipt_unknown : (number : ℕ) → None ≡ reply_kept (kept past caller number)
+      → told past caller (query.Receipt number) ≡ Err (UnknownThing (thing.Receipt number))
+  unfolding told
+  receipt_unknown number is = kept_none number (kept past caller number) is
+
+  pub tally_told : (text : List ℕ) → text ≡ tally_text (tally past) → told past caller query.Tally ≡ Ok text
+  unfolding told
+  tally_told text is = ap (λ (t : List ℕ). Ok t) (sym is)
+
+  pub object_told : (d p : Designation) (text : List ℕ) → Some p ≡ principal (links_of (deeds past)) d
+      → text ≡ object_text (holdings (deeds past)) (links_of (deeds past)) (numbers_of (deeds past)) p
+      → told past caller (query.Object d) ≡ Ok text
+  unfolding told
+  object_told d p text found is =
+      ap (told_thing (thing.Designation d) (object_text (holdings (deeds past)) (links_of (deeds past)) (numbers_of (deeds past)))) (sym found)
+      ∙ ap (λ (t : List ℕ). Ok t) (sym is)
+
+  pub object_unknown : (d : Designation) → None ≡ principal (links_of (deeds past)) d
+      → told past caller (query.Object d) ≡ Err (UnknownThing (thing.Designation d))
+  unfolding told
+  object_unknown d none =
+      ap (told_thing (thing.Designation d) (object_text (holdings (deeds past)) (links_of (deeds past)) (numbers_of (deeds past)))) (sym none)
+
+  pub tracklet_told : (t : ℕ) (head : TrackHead) (text : List ℕ) → Some head ≡ track_head (holdings (deeds past)).tracklets t
+      → text ≡ tracklet_text (holdings (deeds past)) (links_of (deeds past)) t head
+      → told past caller (query.Tracklet t) ≡ Ok text
+  unfolding told
+  tracklet_told t head text found is =
+      ap (told_thing (thing.Tracklet t) (tracklet_text (holdings (deeds past)) (links_of (deeds past)) t)) (sym found)
+      ∙ ap (λ (t : List ℕ). Ok t) (sym is)
+
+  pub tracklet_unknown : (t : ℕ) → None ≡ track_head (holdings (deeds past)).tracklets t
+      → told past caller (query.Tracklet t) ≡ Err (UnknownThing (thing.Tracklet t))
+  unfolding told
+  tracklet_unknown t none =
+      ap (told_thing (thing.Tracklet t) (tracklet_text (holdings (deeds past)) (links_of (deeds past)) t)) (sym none)
+
+  pub isolated_told : (text : List ℕ) → text ≡ isolated_text (holdings (deeds past)) → told past caller query.Isolated ≡ Ok text
+  unfolding told
+  isolated_told text is = ap (λ (t : List ℕ). Ok t) (sym is)
+
+  pub half_month_told : (half : HalfMonth) (text : List ℕ) → text ≡ half_month_line (takes_of (deeds past)) half
+      → told past caller (query.HalfMonth half) ≡ Ok text
+  unfolding told
+  half_month_told half text is = ap (λ (t : List ℕ). Ok t) (sym is)
+
+  pub name_told : (name : Name) (text : List ℕ) → text ≡ name_text (links_of (deeds past)) (numbers_of (deeds past)) name
+      → told past caller (query.Name name) ≡ Ok text
+  unfolding told
+  name_told name text is = ap (λ (t : List ℕ). Ok t) (sym is)

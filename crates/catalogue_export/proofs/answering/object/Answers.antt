@@ -1,0 +1,26 @@
+use Rattle.std.proofs.Common.{◌≡◌, Ok, inl, sym, ◌∙◌}
+use Rattle.act_model.specs.declared.query.Query.TheVariants as query
+use Rattle.act_model.specs.Deeds.{deeds}
+use Rattle.act_model.specs.Designations.{links_of}
+use Rattle.act_model.specs.Holdings.{holdings}
+use Rattle.act_model.specs.Numbers.{numbers_of}
+use Rattle.act_model.specs.QueryTexts.{object_text}
+use Rattle.act_model.specs.Step.{told}
+use Rattle.catalogue_export.proofs.Telling.{if_made, object_told, object_unknown}
+use Rattle.catalogue_export.proofs.answering.object.Goals as goal
+
+pub returns-in-Some : goal.returns-in-Some
+returns-in-Some g c =
+    let past = g.V.Shelf.history c.args.shelf.now in
+    let asked = query.Object c.args.d in
+    let p = c.in-Some.p in
+    c.text_or_refusal.ensures (told past c.args.caller asked)
+    (if_made c.object_text.result
+    (λ text. text ≡ object_text (holdings (deeds past)) (links_of (deeds past)) (numbers_of (deeds past)) p)
+    (λ text. told past c.args.caller asked ≡ Ok text)
+    (λ text is. object_told past c.args.caller c.args.d p text (sym c.in-Some.is ∙ c.principal.ensures) is)
+    c.object_text.ensures)
+
+pub returns-in-None : goal.returns-in-None
+returns-in-None g c =
+    inl (object_unknown (g.V.Shelf.history c.args.shelf.now) c.args.caller c.args.d (sym c.in-None.is ∙ c.principal.ensures))

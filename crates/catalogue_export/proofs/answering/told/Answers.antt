@@ -1,0 +1,51 @@
+use Rattle.std.proofs.Common.{◌≡◌, Ok, ◌∙◌, ap, sym, subst}
+use Rattle.act_model.specs.declared.query.Query.{Query}
+use Rattle.act_model.specs.declared.query.Query.TheVariants as query
+use Rattle.act_model.specs.Deeds.{deeds}
+use Rattle.act_model.specs.Designations.{takes_of, links_of}
+use Rattle.act_model.specs.Holdings.{holdings}
+use Rattle.act_model.specs.Numbers.{numbers_of}
+use Rattle.act_model.specs.QueryTexts.{isolated_text, half_month_line, name_text}
+use Rattle.act_model.specs.Rows.{IsDue}
+use Rattle.act_model.specs.Step.{told}
+use Rattle.act_model.specs.Tallies.{tally_text}
+use Rattle.catalogue_export.proofs.Telling.{if_made, tally_told, isolated_told, half_month_told, name_told}
+use Rattle.catalogue_export.proofs.answering.told.Goals as goal
+
+pub returns-in-Tally : goal.returns-in-Tally
+returns-in-Tally g c =
+    let past = g.V.Shelf.history c.args.shelf.now in
+    subst (λ (q : Query). IsDue (told past c.args.caller q) c.text_or_refusal.result) (sym c.in-Tally.is)
+    (c.text_or_refusal.ensures (told past c.args.caller query.Tally)
+    (if_made c.tally_answer.result (λ text. text ≡ tally_text c.tally.result) (λ text. told past c.args.caller query.Tally ≡ Ok text)
+    (λ text is. tally_told past c.args.caller text (is ∙ ap tally_text c.tally.ensures))
+    c.tally_answer.ensures))
+
+pub returns-in-Isolated : goal.returns-in-Isolated
+returns-in-Isolated g c =
+    let past = g.V.Shelf.history c.args.shelf.now in
+    subst (λ (q : Query). IsDue (told past c.args.caller q) c.text_or_refusal-in-Isolated.result) (sym c.in-Isolated.is)
+    (c.text_or_refusal-in-Isolated.ensures (told past c.args.caller query.Isolated)
+    (if_made c.isolated_text.result (λ text. text ≡ isolated_text (holdings (deeds past))) (λ text. told past c.args.caller query.Isolated ≡ Ok text)
+    (λ text is. isolated_told past c.args.caller text is)
+    c.isolated_text.ensures))
+
+pub returns-in-HalfMonth : goal.returns-in-HalfMonth
+returns-in-HalfMonth g c =
+    let past = g.V.Shelf.history c.args.shelf.now in
+    let asked = query.HalfMonth c.in-HalfMonth.half in
+    subst (λ (q : Query). IsDue (told past c.args.caller q) c.text_or_refusal-in-HalfMonth.result) (sym c.in-HalfMonth.is)
+    (c.text_or_refusal-in-HalfMonth.ensures (told past c.args.caller asked)
+    (if_made c.half_month_text.result (λ text. text ≡ half_month_line (takes_of (deeds past)) c.in-HalfMonth.half) (λ text. told past c.args.caller asked ≡ Ok text)
+    (λ text is. half_month_told past c.args.caller c.in-HalfMonth.half text is)
+    c.half_month_text.ensures))
+
+pub returns-in-Name : goal.returns-in-Name
+returns-in-Name g c =
+    let past = g.V.Shelf.history c.args.shelf.now in
+    let asked = query.Name c.in-Name.name in
+    subst (λ (q : Query). IsDue (told past c.args.caller q) c.text_or_refusal-in-Name.result) (sym c.in-Name.is)
+    (c.text_or_refusal-in-Name.ensures (told past c.args.caller asked)
+    (if_made c.name_text.result (λ text. text ≡ name_text (links_of (deeds past)) (numbers_of (deeds past)) c.in-Name.name) (λ text. told past c.args.caller asked ≡ Ok text)
+    (λ text is. name_told past c.args.caller c.in-Name.name text is)
+    c.name_text.ensures))
