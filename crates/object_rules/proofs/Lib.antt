@@ -3,3 +3,4 @@ mod SeenLemmas
 mod NumberLemmas
 mod HomeLemmas
 mod ObjectLemmas
+pub mod TimeLemmas

@@ -31,6 +31,11 @@ chain_next observations t k None own is rest =
     sym (none_first (later_of_track observations t k) (sym (is ∙ ap (option_and_then (λ (u : ℕ). slice_get (later_of_track observations u k) 0)) own)))
 chain_next observations t k (Some n) own is rest = sym (rest t own)
 
+-- with one number more
+pub number_more : (numbers all : List ℕ) (k : ℕ) (rest chain : List ℕ) → chain ≡ rest → numbers ++ (k ∷ rest) ≡ all → (numbers ++ k ∷ []) ++ chain ≡ all
+number_more numbers all k rest chain same is =
+    ap (λ (c : List ℕ). (numbers ++ k ∷ []) ++ c) same ∙ append_assoc numbers (k ∷ []) rest ∙ is
+
 seen_first : (see : ℕ → Option Seen) (k : ℕ) (rest : List ℕ) → filter_map see (k ∷ rest) ≡ option_to_list (see k) ++ filter_map see rest
 seen_first see k rest = by (see k)
   where

@@ -1,3 +1,4 @@
 pub mod Seeing
 pub mod Noting
 pub mod Numbering
+pub mod Timing

@@ -13,9 +13,11 @@ ghost use Rattle.act_model.specs.Designations.{links_of, is_given, is_principal,
 ghost use Rattle.act_model.specs.Doing.{is_numbered};
 ghost use Rattle.act_model.specs.Knowing.{stands_for};
 ghost use Rattle.act_model.specs.Numbers.{numbers_of};
+ghost use Rattle.act_model.specs.Shelves.{place_at_home, place_of, track_head};
 ghost use Rattle.act_model.specs.Verdicts.{object_of_track};
 
 use crate::ledger::Ledger;
+use act_model::{Place, TrackHead};
 use packed_names::{Designation, Name, Number};
 
 /// Whether two designations are the same.
@@ -109,5 +111,43 @@ pub fn stands_for<L: Ledger>(office: &L, name: Name) -> Option<Designation>
             Some(_) => Some(d),
             None => None,
         },
+    }
+}
+
+/// What is known of a tracklet beside its observations. None exactly for a tracklet that isn't there.
+pub fn track_head<L: Ledger>(office: &L, t: u64) -> Option<TrackHead>
+    ensures { result ≡ track_head (holdings (L.deeds office.now)).tracklets t }
+{
+    match (office.file().name(t), office.file().station(t)) {
+        (Some(name), Some(station)) => Some(TrackHead {
+            name,
+            station,
+            home: home(office, t),
+        }),
+        _ => None,
+    }
+}
+
+/// The place of a live observation whose tracklet has this home.
+fn place_at_home<L: Ledger>(office: &L, home: Option<Designation>) -> Place
+    ensures { result ≡ place_at_home (links_of (L.deeds office.now)) home }
+{
+    match home {
+        Some(home) => Place::Object(principal_of(office, home).unwrap_or(home)),
+        None => Place::Isolated,
+    }
+}
+
+/// Where an observation stands. None exactly for an observation that isn't there.
+pub fn place<L: Ledger>(office: &L, k: u64) -> Option<Place>
+    ensures { result ≡ place_of (holdings (L.deeds office.now)) (links_of (L.deeds office.now)) k }
+{
+    match office.file().track_of(k) {
+        Some(t) => Some(if office.file().is_live(k) {
+            place_at_home(office, home(office, t))
+        } else {
+            Place::Retracted
+        }),
+        None => None,
     }
 }

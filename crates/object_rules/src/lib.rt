@@ -8,12 +8,17 @@ mod acting;
 mod asking;
 mod discovering;
 mod ledger;
+mod listing;
+mod living;
 mod noting;
 mod numbering;
 mod seeing;
+mod timed;
 
 pub use acting::{attributes, designates, identifies, judges, releases, separates};
-pub use asking::{number_named, principal_of, stands_for};
+pub use asking::{number_named, place, principal_of, stands_for, track_head};
 pub use ledger::Ledger;
+pub use listing::{items, members, principals};
+pub use living::live;
 pub use noting::{home_tracklets, link, note_verdicts, registered_by, take};
 pub use numbering::numbers;

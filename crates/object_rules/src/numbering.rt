@@ -25,7 +25,7 @@ use std::alloc::Global;
 const GREATEST_NUMBER: u64 = 15_396_335;
 
 /// Whether the observation with this number is live, and of the object with this principal.
-fn is_in_object_at<L: Ledger>(office: &L, p: Designation, k: u64) -> bool
+pub(crate) fn is_in_object_at<L: Ledger>(office: &L, p: Designation, k: u64) -> bool
     ensures { result ≡ is_in_object_at (holdings (L.deeds office.now)) (links_of (L.deeds office.now)) p k }
 {
     match office.file().track_of(k) {

@@ -1,4 +1,4 @@
-use Rattle.std.proofs.Common.{◌≡◌, List, Option, Some, None, Result, Ok, Err, map, ◌∙◌, sym, ap, subst, inl, ◌⊎◌}
+use Rattle.std.proofs.Common.{◌≡◌, List, Ok, Err, map, ◌∙◌, sym, ap, subst, inl, ◌⊎◌}
 use Rattle.std.specs.Prelude.{flat_map}
 use Rattle.act_model.specs.declared.reply.Refusal.TheVariants.{NoMemory}
 use Rattle.act_model.specs.Designations.{takes_of}
