@@ -5,6 +5,7 @@ use Rattle.std.proofs.lemmas.List.{reverse-append}
 use Rattle.station_tables.specs.Rows.{TableRows}
 use Rattle.act_model.specs.declared.deed.Deed.{Deed}
 use Rattle.act_model.specs.declared.entry.Entry.{Entry}
+use Rattle.act_model.specs.declared.reply.Reply.TheVariants.{Done}
 use Rattle.act_model.specs.declared.roster.Member.{Member}
 use Rattle.act_model.specs.declared.roster.TheConstants.{CALLERS}
 use Rattle.act_model.specs.Deeds.{deeds}
@@ -25,7 +26,7 @@ deeds_length : (past : List Entry) → length (deeds past) ≡ length past
 deeds_length [] = refl
 deeds_length (entry ∷ past) = ap suc (deeds_length past)
 
-module _ (items : List Filed) (f : Filed) (ready : Ready) (at : IsReadyAt (history_of items) ready) (entry : f.entry ≡ ready.entry) (answer : f.answer ≡ ready.answer) where
+module _ (items : List Filed) (f : Filed) (ready : Ready) (at : IsReadyAt (history_of items) ready) (entry : f.entry ≡ ready.entry) (answer : f.reply ≡ Done ready.answer) where
   abbrev past : List Entry
   past = history_of items
 
@@ -37,7 +38,7 @@ module _ (items : List Filed) (f : Filed) (ready : Ready) (at : IsReadyAt (histo
 
   pub answered : AreAnswered (reverse items) → AreAnswered (reverse now)
   answered before =
-      subst AreAnswered (sym (reverse-append items (f ∷ []))) (answer ∙ at.answer ∙ ap (entry_answer past) (sym entry), before)
+      subst AreAnswered (sym (reverse-append items (f ∷ []))) (answer ∙ ap (λ (t : List ℕ). Done t) (at.answer ∙ ap (entry_answer past) (sym entry)), before)
 
   deeds_are : deeds (history_of now) ≡ ready.deed ∷ deeds past
   deeds_are = ap deeds history_is ∙ ap (λ (d : Deed). d ∷ deeds past) (sym at.deed)

@@ -1,10 +1,10 @@
 -- The answers that are kept are those of the entries' own time.
-use Rattle.std.proofs.Common.{◌≡◌, ℕ, ◌+◌, ◌<◌, Bool, true, false, cond, List, [], ◌∷◌, ◌++◌, length, get_or, take, drop, Some, suc, ap, sym, subst, ◌∙◌, append_assoc, arith}
+use Rattle.std.proofs.Common.{◌≡◌, ℕ, ◌+◌, ◌<◌, Bool, true, false, cond, List, [], ◌∷◌, ◌++◌, length, get_or, take, drop, Some, suc, refl, ap, sym, subst, ◌∙◌, append_assoc, arith}
 use Rattle.std.specs.Prelude.{slice_get, reverse}
 use Rattle.std.proofs.lemmas.List.{reverse-append, take-append-drop, length-take, length-map, length-reverse}
 use Rattle.std.proofs.Math.Seq.{drop-cons}
 use Rattle.std.proofs.Math.Numerals.{add-one}
-use Rattle.std.proofs.lemmas.Option.{get_or_from_slice_get, slice_get_within}
+use Rattle.std.proofs.lemmas.Option.{get_or_from_slice_get, slice_get_read, slice_get_within}
 use Rattle.act_model.specs.declared.entry.Entry.{Entry}
 use Rattle.act_model.specs.declared.request.Verb.{Verb}
 use Rattle.act_model.specs.declared.reply.Reply.TheVariants.{Done, Refused}
@@ -13,7 +13,7 @@ use Rattle.act_model.specs.History.{Kept, next_receipt}
 use Rattle.act_model.specs.Replies.{entry_answer}
 use Rattle.act_model.specs.Step.{is_resend, kept_reply}
 use Rattle.desk_core.specs.declared.filed.Filed.{Filed}
-use Rattle.desk_core.specs.Filed.{entries_of, history_of, AreAnswered, IsFiledAt}
+use Rattle.desk_core.specs.Filed.{entries_of, history_of, done_reply, AreAnswered, IsDone, IsFiledAt}
 
 -- what was filed, cut at one place
 split_at : (filed : List Filed) (place : ℕ) (f : Filed) → slice_get filed place ≡ Some f → filed ≡ take place filed ++ (f ∷ drop (place + 1) filed)
@@ -23,12 +23,12 @@ split_at filed place f there =
     let next : drop place filed ≡ f ∷ drop (place + 1) filed = drop-cons filed place f within ∙ rw add-one (ap (λ (g : Filed). g ∷ drop (suc place) filed) is) in
     sym (take-append-drop place filed) ∙ ap (λ (rest : List Filed). take place filed ++ rest) next
 
-answered_behind : (newer : List Filed) (f : Filed) (older : List Filed) → AreAnswered (newer ++ f ∷ older) → f.answer ≡ entry_answer (entries_of older) f.entry
+answered_behind : (newer : List Filed) (f : Filed) (older : List Filed) → AreAnswered (newer ++ f ∷ older) → f.reply ≡ Done (entry_answer (entries_of older) f.entry)
 answered_behind [] f older answered = answered.0
 answered_behind (g ∷ newer) f older answered = answered_behind newer f older answered.1
 
 pub answered_at : (filed : List Filed) (place : ℕ) (f : Filed) → slice_get filed place ≡ Some f → AreAnswered (reverse filed)
-    → f.answer ≡ entry_answer (history_of (take place filed)) f.entry
+    → f.reply ≡ Done (entry_answer (history_of (take place filed)) f.entry)
 answered_at filed place f there answered =
     let behind = drop (place + 1) filed in
     let turned : reverse filed ≡ reverse behind ++ (f ∷ reverse (take place filed)) =
@@ -39,14 +39,22 @@ pub receipt_at : (filed : List Filed) (place : ℕ) → place < length filed →
 receipt_at filed place within =
     simp (length-map, length-reverse, length-take) (omega arith)
 
--- a copy of what is filed is the answer of its entry
-pub kept_given : (filed : List Filed) (place : ℕ) (f : Filed) (text : List ℕ) → AreAnswered (reverse filed) → f ≡ get_or filed place f → text ≡ f.answer
-    → (k : Kept) → IsFiledAt filed place k → text ≡ entry_answer k.before k.entry
-kept_given filed place f text answered here is k at =
+-- what is filed is the reply to the act of its entry
+pub reply_given : (filed : List Filed) (place : ℕ) (f : Filed) → AreAnswered (reverse filed) → f ≡ get_or filed place f → (k : Kept) → IsFiledAt filed place k → f.reply ≡ done_reply k
+reply_given filed place f answered here k at =
     let same : at.at ≡ f = sym (get_or_from_slice_get filed place at.at f at.there) ∙ sym here in
     let entry : k.entry ≡ f.entry = at.entry ∙ ap (λ (g : Filed). g.entry) same in
-    let old : f.answer ≡ entry_answer (history_of (take place filed)) f.entry = answered_at filed place f (at.there ∙ ap (λ (g : Filed). Some g) same) answered in
-    is ∙ old ∙ ap (λ (e : Entry). entry_answer (history_of (take place filed)) e) (sym entry) ∙ ap (λ (h : List Entry). entry_answer h k.entry) (sym at.before)
+    let old : f.reply ≡ Done (entry_answer (history_of (take place filed)) f.entry) = answered_at filed place f (at.there ∙ ap (λ (g : Filed). Some g) same) answered in
+    old ∙ ap (λ (e : Entry). Done (entry_answer (history_of (take place filed)) e)) (sym entry) ∙ ap (λ (h : List Entry). Done (entry_answer h k.entry)) (sym at.before)
+
+pub reply_done : (filed : List Filed) (place : ℕ) (f : Filed) → AreAnswered (reverse filed) → place < length filed → f ≡ get_or filed place f → IsDone f.reply
+reply_done filed place f answered within here =
+    let there : slice_get filed place ≡ Some f = slice_get_read filed (length filed) place f refl within here in
+    subst IsDone (sym (answered_at filed place f there answered)) tt
+
+-- a copy of its text is the answer of its entry
+pub kept_given : (k : Kept) (given text copy : List ℕ) → Done given ≡ done_reply k → text ≡ given → copy ≡ text → copy ≡ entry_answer k.before k.entry
+kept_given k given text copy is same copied = cc
 
 pub kept_again : (filed : List Filed) (place : ℕ) (f : Filed) (verb : Verb) (bytes : List ℕ) (text : List ℕ) → f ≡ get_or filed place f → is_resend verb bytes f.entry ≡ true
     → ((k : Kept) → IsFiledAt filed place k → text ≡ entry_answer k.before k.entry)

@@ -1,6 +1,8 @@
--- What the office keeps of each entry: the entry, and its answer as it was given.
+-- What the office keeps of each entry: the entry, and the reply to its act as it was given.
 use Rattle.std.specs.Prelude.{◌≡◌, ℕ, List, [], ◌∷◌, map, reverse, take, slice_get, Some}
 use Rattle.act_model.specs.declared.entry.Entry.{Entry}
+use Rattle.act_model.specs.declared.reply.Reply.{Reply}
+use Rattle.act_model.specs.declared.reply.Reply.TheVariants.{Done, Refused}
 use Rattle.act_model.specs.History.{Kept}
 use Rattle.act_model.specs.Replies.{entry_answer}
 use Rattle.desk_core.specs.declared.filed.Filed.{Filed}
@@ -12,10 +14,19 @@ entries_of filed = map (λ f. f.entry) filed
 abbrev pub history_of : List Filed → List Entry
 history_of filed = entries_of (reverse filed)
 
--- each answer is that of its entry at the history before it; the newest first
+-- each reply is that to its entry's act at the history before it; the newest first
 abbrev pub AreAnswered : List Filed → Type 0
 AreAnswered [] = Unit {0}
-AreAnswered (newest ∷ older) = (newest.answer ≡ entry_answer (entries_of older) newest.entry) × AreAnswered older
+AreAnswered (newest ∷ older) = (newest.reply ≡ Done (entry_answer (entries_of older) newest.entry)) × AreAnswered older
+
+-- the reply to the act that became an entry
+abbrev pub done_reply : Kept → Reply
+done_reply k = Done (entry_answer k.before k.entry)
+
+-- the request was done
+abbrev pub IsDone : Reply → Type 0
+IsDone (Done text) = Unit {0}
+IsDone (Refused refusal) = ⊥
 
 -- the entry at this place, and the history of what was filed before it
 pub record IsFiledAt (filed : List Filed) (place : ℕ) (k : Kept) : Type 0 where

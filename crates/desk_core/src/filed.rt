@@ -1,9 +1,9 @@
-ghost use Rattle.std.specs.Prelude.{◌≡◌, ◌<◌, length, option_map, IfOk, IfSome, IfNone, reverse, int_lt, if◌then◌else◌};
+ghost use Rattle.std.specs.Prelude.{◌≡◌, ◌<◌, length, option_map, option_copied, IfOk, IfSome, IfNone, reverse, int_lt, if◌then◌else◌};
 ghost use Rattle.tracklet_file.specs.Numbering.{numbered};
 ghost use Rattle.act_model.specs.History.{Kept, kept, is_numbered, next_moment};
 ghost use Rattle.act_model.specs.Replies.{entry_answer};
 ghost use Rattle.act_model.specs.Step.{kept_reply};
-ghost use Rattle.desk_core.specs.Filed.{history_of, AreAnswered, IsFiledAt};
+ghost use Rattle.desk_core.specs.Filed.{history_of, done_reply, AreAnswered, IsDone, IsFiledAt};
 
 use act_model::{Entry, Refusal, Reply, Verb, is_resend};
 use item_list::{Bytes, NoMemory};
@@ -11,13 +11,13 @@ use obs_time::Instant;
 use std::alloc::Global;
 use tracklet_file::numbered;
 
-/// An entry with its answer, as it was given.
+/// An entry with the reply to its act, as it was given.
 #[derive(Debug, Drop)]
 pub struct Filed {
     /// The entry.
     pub entry: Entry,
-    /// The text that its caller was answered.
-    pub answer: Bytes,
+    /// The reply to its caller: the act was done.
+    pub reply: Reply,
 }
 
 fn is_numbered(entry: &Entry, caller: u32, number: u64) -> bool
@@ -52,6 +52,27 @@ pub fn caller_at(filed: &[Filed], receipt: u64) -> Option<u32>
     }
 }
 
+/// The reply of the entry at this place.
+pub fn reply_at(filed: &[Filed], place: usize) -> &Reply
+    requires within { place < length filed.now }
+    requires answered { AreAnswered (reverse filed.now) }
+    ensures reply { (k : Kept) → IsFiledAt filed.now place k → result.now ≡ done_reply k }
+    ensures done { IsDone result.now }
+{
+    &filed[place].reply
+}
+
+/// The reply that is kept for the caller's number. None for a number that the caller has not used.
+pub fn kept(filed: &[Filed], caller: u32, number: u64) -> Option<&Reply>
+    requires { AreAnswered (reverse filed.now) }
+    ensures { option_copied result ≡ option_map done_reply (kept (history_of filed.now) caller number) }
+{
+    match find(filed, caller, number) {
+        Some(place) => Some(reply_at(filed, place)),
+        None => None,
+    }
+}
+
 /// A copy of the answer of the entry at this place.
 ///
 /// # Errors
@@ -62,8 +83,10 @@ pub fn kept_answer(alloc: Global, filed: &[Filed], place: usize) -> Result<Bytes
     requires answered { AreAnswered (reverse filed.now) }
     ensures { IfOk result (λ text. (k : Kept) → IsFiledAt filed.now place k → text ≡ entry_answer k.before k.entry) }
 {
-    let copy = Bytes::from_slice(alloc, filed[place].answer.as_slice())?;
-    Ok(copy)
+    match reply_at(filed, place) {
+        Reply::Done(text) => Bytes::from_slice(alloc, text.as_slice()),
+        Reply::Refused(_) => unreachable!("what is filed was done"),
+    }
 }
 
 /// The answer to a request under a number that stands for the entry at this place: the entry's own

@@ -17,6 +17,7 @@ mod preparing;
 mod refusals;
 mod replaying;
 mod roster;
+mod shelving;
 mod taking;
 
 pub use office::Core;

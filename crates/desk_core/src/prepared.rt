@@ -22,19 +22,20 @@ pub struct Prepared {
 
 impl Model for Prepared {
     ghost use Rattle.std.specs.Prelude.{◌≡◌};
+    ghost use Rattle.act_model.specs.declared.reply.Reply.TheVariants.{Done};
     ghost use Rattle.desk_core.specs.Office.{Ready, IsOfAct};
 
     ghost Value = { Ready };
 
     ghost view = { λ p. record { entry = p.filed.entry; answer = p.answer; deed = p.deed; tables = p.tables } };
 
-    ghost invariant = { λ p. (p.filed.answer ≡ p.answer) × IsOfAct p.filed.entry };
+    ghost invariant = { λ p. (p.filed.reply ≡ Done p.answer) × IsOfAct p.filed.entry };
 }
 
 impl Prepared {
     /// An act that is filed so, with a second copy of its answer.
     pub(crate) fn new(filed: Filed, answer: Bytes, deed: Deed, tables: Option<Tables>) -> Prepared
-        requires kept { filed.answer ≡ answer }
+        requires kept { filed.reply ≡ Reply.Done answer }
         requires act { IsOfAct filed.entry }
         ensures entry { result.entry ≡ filed.entry }
         ensures answer { result.answer ≡ answer }
@@ -61,7 +62,7 @@ impl Prepared {
     /// The entry with its answer, the answer, the deed, and the tables with it.
     pub(crate) fn into_parts(self) -> (Filed, Bytes, Deed, Option<Tables>)
         ensures entry { result.0.entry ≡ self.entry }
-        ensures kept { result.0.answer ≡ self.answer }
+        ensures kept { result.0.reply ≡ Reply.Done self.answer }
         ensures answer { result.1 ≡ self.answer }
         ensures deed { result.2 ≡ self.deed }
         ensures tables { result.3 ≡ self.tables }

@@ -21,7 +21,7 @@ use crate::hearing::{bytes_in, hear};
 use crate::office::Core;
 use crate::prepared::{Prep, Prepared};
 use act_model::{
-    Deed, Entry, Heard, Refusal, Request, batch_answer, enrol_answer, numbers_answer,
+    Deed, Entry, Heard, Refusal, Reply, Request, batch_answer, enrol_answer, numbers_answer,
     object_answer, receipt_answer,
 };
 use item_list::{Bytes, NoMemory};
@@ -167,7 +167,7 @@ impl Core {
         self.reserve_for(&deed)?;
         let filed = Filed {
             entry,
-            answer: kept,
+            reply: Reply::Done(kept),
         };
         Ok(Prepared::new(filed, answer, deed, tables))
     }
