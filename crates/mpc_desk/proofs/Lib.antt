@@ -5,3 +5,4 @@ pub mod Turned
 pub mod OpenLemmas
 pub mod Opened
 pub mod OneHistory
+pub mod MemoryTurns

@@ -1,3 +1,4 @@
 pub mod Files
 pub mod Desks
 pub mod Opening
+pub mod Plain
