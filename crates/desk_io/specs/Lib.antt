@@ -4,3 +4,4 @@ pub mod Calls
 pub mod Memory
 pub mod Ticks
 pub mod Streams
+pub mod Doors

@@ -1,15 +1,21 @@
-//! The outside of the desk: where bytes come from, where they go, and what time it is.
+//! The outside of the desk: where bytes come from, where they go, what time it is, and where links come from.
 #![tactic(auto)]
 
+mod calls;
 mod clocks;
+mod doors;
 mod memory;
 mod outside;
 mod streams;
+mod tcp;
 
+pub use calls::NoMemory;
 pub use clocks::{SystemClock, TickClock};
-pub use memory::{MemSink, MemSource, NoMemory};
+pub use doors::{Door, MemDoor, Next};
+pub use memory::{MemSink, MemSource};
 pub use outside::{Clock, Failed, Sink, Source, write_all};
 pub use streams::{StreamSink, StreamSource};
+pub use tcp::{HalfStream, TcpDoor};
 
 #[cfg(test)]
 mod tests;

@@ -6,60 +6,10 @@ ghost use Rattle.desk_io.specs.Outside.{Rises};
 ghost use Rattle.desk_io.specs.Calls.{no_calls, FailsNext, passed, failed};
 ghost use Rattle.desk_io.specs.Memory.{given_length, after_giving, GivesOnce, room, WriteFails, after_taking};
 
-use crate::{Failed, Sink, Source};
-use std::alloc::{AllocError, Global};
+use crate::calls::CallLog;
+use crate::{Failed, NoMemory, Sink, Source};
+use std::alloc::Global;
 use std::marker::Model;
-
-/// Memory was refused.
-pub type NoMemory = AllocError;
-
-// The calls so far, and those that are to fail.
-#[derive(Drop)]
-struct CallLog {
-    fails: Vec<u64>,
-    made: u64,
-    faults: u64,
-}
-
-impl Model for CallLog {
-    ghost use Rattle.desk_io.specs.Calls.{Calls};
-
-    ghost Value = { Calls };
-
-    ghost view = { λ log. record { fails = log.fails.items; made = log.made; faults = log.faults } };
-}
-
-impl CallLog {
-    fn new(alloc: Global, fails: &[u64]) -> Result<CallLog, NoMemory>
-        ensures { IfOk result (λ log. log ≡ no_calls fails.now) }
-    {
-        Ok(CallLog {
-            fails: Vec::from_slice(alloc, fails)?,
-            made: 0,
-            faults: 0,
-        })
-    }
-
-    fn fails_next(&self) -> bool
-        ensures { IsTrue result ↔ FailsNext self.now }
-    {
-        self.fails.contains(&self.made.saturating_add(1))
-    }
-
-    fn pass(&mut self)
-        ensures { self.new ≡ passed self.old }
-    {
-        self.made = self.made.saturating_add(1);
-    }
-
-    fn fail(&mut self)
-        ensures after { self.new ≡ failed self.old }
-        ensures counts { self.old.faults ≤ self.new.faults }
-    {
-        self.made = self.made.saturating_add(1);
-        self.faults = self.faults.saturating_add(1);
-    }
-}
 
 /// A source that gives bytes from memory.
 #[derive(Drop)]

@@ -1,8 +1,9 @@
 use crate::{
-    Clock, Failed, MemSink, MemSource, Sink, Source, StreamSink, StreamSource, SystemClock,
-    TickClock, write_all,
+    Clock, Door, Failed, MemDoor, MemSink, MemSource, Next, NoMemory, Sink, Source, StreamSink,
+    StreamSource, SystemClock, TickClock, write_all,
 };
 use obs_time::Instant;
+use std::alloc::Global;
 use std::io;
 use std::io::{ErrorKind, Read};
 use std::process::Abort;
@@ -30,6 +31,16 @@ fn expect_write<K: Sink>(rt: &impl Abort, sink: &mut K, piece: &str, want: Optio
 // Reads the clock, which gives this moment.
 fn expect_reading<C: Clock>(rt: &impl Abort, clock: &mut C, ns: i64) {
     assert_eq!(rt; clock.now().ns(), ns);
+}
+
+// Calls the door, which gives a link with this text, or another answer.
+fn expect_next<G: Door>(rt: &impl Abort, door: &mut G, want: &str) {
+    match door.next() {
+        Next::Link(mut source, _) => expect_read(rt, &mut source, 16, Some(want)),
+        Next::Shut => assert_eq!(rt; "shut", want),
+        Next::Failed => assert_eq!(rt; "failed", want),
+        Next::NoMemory => assert_eq!(rt; "no memory", want),
+    }
 }
 
 #[test]
@@ -64,6 +75,29 @@ fn sink_in_memory(rt: HostRuntime) -> Result<(), Fail> {
         expect_write(&rt, &mut sink, piece, want);
     }
     assert_eq!(rt; sink.bytes(), b"abcde".as_slice());
+    Ok(())
+}
+
+// A link whose source has this text.
+fn link_with(alloc: Global, text: &str) -> Result<(MemSource, MemSink), NoMemory> {
+    let source = MemSource::new(alloc, text.as_bytes(), 16, &[])?;
+    let sink = MemSink::new(alloc, 16, &[])?;
+    Ok((source, sink))
+}
+
+fn door_with_two(alloc: Global, fails: &[u64]) -> Result<MemDoor, NoMemory> {
+    let mut links = Vec::new(alloc);
+    links.push(link_with(alloc, "first")?)?;
+    links.push(link_with(alloc, "second")?)?;
+    MemDoor::new(alloc, links, fails)
+}
+
+#[test]
+fn door_in_memory(rt: HostRuntime) -> Result<(), Fail> {
+    let mut door = door_with_two(rt.alloc(), &[2, 5])?;
+    for want in ["first", "failed", "second", "shut", "failed", "shut"] {
+        expect_next(&rt, &mut door, want);
+    }
     Ok(())
 }
 
