@@ -22,8 +22,8 @@ abbrev pub NoLinkLeft : {L : Type 0} → Option (List L) → Type 0
 NoLinkLeft None = ⊤
 NoLinkLeft (Some links) = links ≡ []
 
--- the links to come before and after an answer: a link is the first of them, a door is shut only where there are none, and nothing
--- is lost by a failure or a want of memory
+-- the links to come before and after an answer: a link is the first of them, a door is shut only where there are none,
+-- and nothing is lost by a failure or a want of memory
 abbrev pub LinksAfter : {I O : Type 0} → Option (List (I × O)) → Option (List (I × O)) → Next I O → Type 0
 LinksAfter old new (answers.Link source sink) = Gives old new ((source, sink) ∷ [])
 LinksAfter old new answers.Shut = NoLinkLeft old × Gives old new []
@@ -45,7 +45,8 @@ Gives-nil None = tt
 Gives-nil (Some links) = refl
 
 -- links behind links
-pub Gives-trans : {L : Type 0} (a b c : Option (List L)) (xs ys : List L) → Gives a b xs → Gives b c ys → Gives a c (xs ++ ys)
+pub Gives-trans : {L : Type 0} (a b c : Option (List L)) (xs ys : List L) → Gives a b xs → Gives b c ys
+    → Gives a c (xs ++ ys)
 Gives-trans None b c xs ys first second = tt
 Gives-trans (Some links) None c xs ys first second = absurd first
 Gives-trans (Some links) (Some rest) None xs ys first second = absurd second
@@ -61,7 +62,8 @@ pub record DoorState : Type 0 where
 
 -- one call: the first link that is left, or shut where none is, or a call that failed
 abbrev pub AnswersOnce : DoorState → DoorState → Next SourceState SinkState → Type 0
-AnswersOnce before after (answers.Link source sink) = (before.links ≡ (source, sink) ∷ after.links) × (after.calls ≡ passed before.calls)
+AnswersOnce before after (answers.Link source sink) =
+    (before.links ≡ (source, sink) ∷ after.links) × (after.calls ≡ passed before.calls)
 AnswersOnce before after answers.Shut = (before.links ≡ []) × (after ≡ record before { calls = passed before.calls })
 AnswersOnce before after answers.Failed = after ≡ record before { calls = failed before.calls }
 AnswersOnce before after answers.NoMemory = ⊥
@@ -75,11 +77,14 @@ pub record TcpDoorState : Type 0 where
 
 -- a source and a sink that nobody has called yet
 abbrev pub IsUncalled : StreamSourceState → StreamSinkState → Type 0
-IsUncalled source sink = (source ≡ record { is_open = true; faults = 0; reads = 2 ^ 64 - 1 }) × (sink ≡ record { is_open = true; faults = 0 })
+IsUncalled source sink =
+    (source ≡ record { is_open = true; faults = 0; reads = 2 ^ 64 - 1 })
+    × (sink ≡ record { is_open = true; faults = 0 })
 
 -- one call: a link that nobody has used yet, or a failure that was counted, or a want of memory
 abbrev pub AcceptsOnce : TcpDoorState → TcpDoorState → Next StreamSourceState StreamSinkState → Type 0
-AcceptsOnce before after (answers.Link source sink) = (after ≡ record before { is_bound = true }) × IsUncalled source sink
+AcceptsOnce before after (answers.Link source sink) =
+    (after ≡ record before { is_bound = true }) × IsUncalled source sink
 AcceptsOnce before after answers.Shut = ⊥
 AcceptsOnce before after answers.Failed = after.faults ≡ one_more before.faults
 AcceptsOnce before after answers.NoMemory = after ≡ record before { is_bound = true }
