@@ -5,4 +5,3 @@ pub mod Turned
 pub mod OpenLemmas
 pub mod Opened
 pub mod OneHistory
-pub mod MemoryTurns

@@ -1,4 +1,3 @@
 pub mod Files
 pub mod Desks
 pub mod Opening
-pub mod Plain

@@ -12,12 +12,7 @@ mod keeping;
 pub mod laws;
 mod opening;
 mod parcels;
-mod plain;
 
 pub use desk::Desk;
 pub use disk_model::Failed;
 pub use obs_journal::{OpenFault, Settled};
-pub use plain::PlainKeeper;
-
-#[cfg(test)]
-mod tests;
