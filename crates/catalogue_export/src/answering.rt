@@ -71,9 +71,9 @@ fn told<V: Shelf>(alloc: Global, shelf: &V, caller: u32, query: &Query) -> Resul
     }
 }
 
-/// The reply to a caller's query: the text that tells what is asked, or `UnknownThing` exactly where the thing isn't there;
-/// `NoMemory` where memory was refused for the text. A half-month that is asked for is one of the years 1925 to 2099, as
-/// [`read_query`](act_model::read_query) gives it.
+/// The reply to a caller's query: the text that tells what is asked, or `UnknownThing` exactly where the thing isn't
+/// there; `NoMemory` where memory was refused for the text. A half-month that is asked for is one of the years 1925 to
+/// 2099, as [`read_query`](act_model::read_query) gives it.
 pub fn answer<V: Shelf>(alloc: Global, shelf: &V, caller: u32, query: &Query) -> Reply
     requires read { IsReadQuery query.now }
     ensures told { Tells (told (V.history shelf.now) caller query.now) result }

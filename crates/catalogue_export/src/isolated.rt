@@ -14,7 +14,8 @@ use std::alloc::Global;
 
 /// How many of these observations are live.
 fn live_in<V: Shelf>(shelf: &V, items: &[u64]) -> u64
-    ensures count { result ≡ length (filter_map (seen_at (holdings (deeds (V.history shelf.now))).observations) items.now) }
+    ensures count { result
+        ≡ length (filter_map (seen_at (holdings (deeds (V.history shelf.now))).observations) items.now) }
     ensures within { result ≤ length items.now }
 {
     let mut live = 0;

@@ -69,8 +69,8 @@ fn push_observed_lines<V: Shelf>(shelf: &V, out: &mut Bytes, live: &[u64]) -> Re
     Ok(())
 }
 
-/// The text of the object with this principal designation: the principal, the number, the designations in their order, and
-/// the live observations by time.
+/// The text of the object with this principal designation: the principal, the number, the designations in their order,
+/// and the live observations by time.
 pub(crate) fn object_text<V: Shelf>(
     alloc: Global,
     shelf: &V,

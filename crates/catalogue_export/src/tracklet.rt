@@ -4,7 +4,8 @@ ghost use Rattle.std.specs.Prelude.{◌≡◌, ◌++◌, flat_map, IfOk, OnOk};
 ghost use Rattle.act_model.specs.Deeds.{deeds};
 ghost use Rattle.act_model.specs.Designations.{links_of};
 ghost use Rattle.act_model.specs.Holdings.{holdings};
-ghost use Rattle.act_model.specs.QueryTexts.{track_line, home_line, state_text, position_text, observation_line, tracklet_text};
+ghost use Rattle.act_model.specs.QueryTexts.{track_line, home_line, state_text, position_text};
+ghost use Rattle.act_model.specs.QueryTexts.{observation_line, tracklet_text};
 
 use crate::reading::is_live;
 use crate::writing::{push_short, push_track_name};
@@ -69,7 +70,8 @@ fn push_position(out: &mut Bytes, s: &Sighting) -> Result<(), NoMemory>
 }
 
 fn push_observation_line<V: Shelf>(shelf: &V, out: &mut Bytes, k: u64) -> Result<(), NoMemory>
-    ensures { OnOk result (out.new ≡ out.old ++ observation_line (holdings (deeds (V.history shelf.now))).observations k) }
+    ensures { OnOk result
+        (out.new ≡ out.old ++ observation_line (holdings (deeds (V.history shelf.now))).observations k) }
 {
     let Some(s) = shelf.sighting(k) else {
         return Ok(());
@@ -87,7 +89,8 @@ fn push_observation_lines<V: Shelf>(
     items: &[u64],
 ) -> Result<(), NoMemory>
     ensures { OnOk result
-        (out.new ≡ out.old ++ flat_map (observation_line (holdings (deeds (V.history shelf.now))).observations) items.now) }
+        (out.new ≡ out.old
+        ++ flat_map (observation_line (holdings (deeds (V.history shelf.now))).observations) items.now) }
 {
     for k in items {
         push_observation_line(shelf, out, *k)?;
