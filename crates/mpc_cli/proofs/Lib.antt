@@ -1,1 +1,11 @@
 pub mod Founders
+pub mod Laws
+pub mod Clocks
+pub mod DeskTurns
+pub mod Conducting
+pub mod Served
+pub mod Answered
+pub mod Progress
+pub mod Closings
+pub mod Running
+pub mod Complete

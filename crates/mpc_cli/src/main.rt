@@ -1,8 +1,8 @@
-//! The clearing house for minor planet astrometry as a program: `run --key K` reads request frames
-//! from standard input and writes reply frames to standard output. The office stands on the journal in the current folder.
+//! The clearing house for minor planet astrometry as a program: `run --key K` reads request frames from standard input
+//! and writes reply frames to standard output. The office stands on the journal in the current folder.
 //!
-//! `top` does all that the program does, over any source, sink, disk and clock, and carries the theorem. `main` hands it
-//! the real ones.
+//! `top` does all that the program does, over any source, sink, disk and clock, and carries the theorem. `main` hands
+//! it the real ones.
 #![tactic(auto)]
 
 ghost use Rattle.std.specs.Prelude.{◌≡◌, List, map, IfOk, string_bytes};
@@ -32,7 +32,8 @@ pub use words::Words;
 fn words_in<A: Iterator<Item = String> + Drop>(alloc: Global, args: A) -> Result<Words, NoMemory>
     requires can { A.can_next args }
     requires ends { IsFinite (A.remaining args) }
-    ensures { IfOk result (λ words. (taken : List _) × Drains A.next_gives args taken × (words ≡ map string_bytes taken)) }
+    ensures { IfOk result (λ words. (taken : List _) × Drains A.next_gives args taken
+        × (words ≡ map string_bytes taken)) }
 {
     let mut words = Words::new(alloc);
     'words: for word in args {
@@ -54,8 +55,8 @@ fn exit_code(status: &Status) -> ExitCode
     ExitCode::from(status.number())
 }
 
-/// Runs the program over standard input, standard output, the file `desk.journal` of the current folder and the system's
-/// clock.
+/// Runs the program over standard input, standard output, the file `desk.journal` of the current folder and the
+/// system's clock.
 fn run(rt: HostRuntime, words: &Words) -> Status {
     let mut source = StreamSource::new(rt.stdin());
     let mut sink = StreamSink::new(rt.stdout());

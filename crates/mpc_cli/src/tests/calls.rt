@@ -107,7 +107,8 @@ pub(super) fn call<R: Abort>(
     top(alloc, words, &mut source, sink, disk, &mut clock)
 }
 
-/// Runs the program over these bytes, of which a read gives at most `greatest`, and looks at its end and at what it wrote.
+/// Runs the program over these bytes, of which a read gives at most `greatest`, and looks at its end and at what it
+/// wrote.
 pub(super) fn expect_run<R: Abort>(
     rt: &R,
     alloc: Global,
