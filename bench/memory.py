@@ -53,7 +53,8 @@ def replies(text):
 def run(library, number, frames):
     env = dict(os.environ, LD_PRELOAD=library, REFUSE_AT=str(number))
     words = [PROGRAM, "run", "--key", "+founder-1"]
-    done = subprocess.run(words, input=frames, capture_output=True, env=env)
+    with tempfile.TemporaryDirectory() as folder:
+        done = subprocess.run(words, input=frames, capture_output=True, env=env, cwd=folder)
     return done.returncode, done.stderr.decode().strip(), replies(done.stdout.decode())
 
 

@@ -78,10 +78,10 @@ def make(path, verb):
 
 
 def run(words, path):
-    """Seconds and peak kilobytes of a command with the file as its input."""
-    with open(path, "rb") as source, tempfile.TemporaryFile() as sink:
+    """Seconds and peak kilobytes of a command with the file as its input, in a folder of its own."""
+    with open(path, "rb") as source, tempfile.TemporaryFile() as sink, tempfile.TemporaryDirectory() as folder:
         begun = time.monotonic()
-        child = subprocess.Popen(words, stdin=source, stdout=sink)
+        child = subprocess.Popen(words, stdin=source, stdout=sink, cwd=folder)
         _, status, used = os.wait4(child.pid, 0)
         seconds = time.monotonic() - begun
         if status != 0:

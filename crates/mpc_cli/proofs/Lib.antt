@@ -1,8 +1,11 @@
 pub mod Founders
 pub mod Laws
 pub mod Clocks
-pub mod Acts
+pub mod DeskTurns
+pub mod Conducting
 pub mod Served
 pub mod Answered
 pub mod Progress
+pub mod Closings
+pub mod Running
 pub mod Complete

@@ -1,6 +1,8 @@
 pub mod Words
 pub mod Serving
+pub mod Conducted
 pub mod Spoken
 pub mod Runs
+pub mod Closing
 pub mod Numbers
 pub mod Steps

@@ -1,21 +1,34 @@
 -- What a run of the program leaves, by the status with which it ended.
-use Rattle.std.specs.Prelude.{◌≡◌, ℕ, ◌-◌, ◌^◌, ◌<◌, ◌≤◌, min, List, [], ◌++◌, length, Option, Some, None, IfSome}
+use Rattle.std.specs.Prelude.{◌≡◌, ◌⊎◌, ℕ, ◌+◌, ◌-◌, ◌^◌, ◌<◌, ◌≤◌, min, List, [], ◌∷◌, ◌++◌, length, take, Option, Some, None, IfSome, IsSome}
+use Rattle.disk_model.specs.Counts.{Rises}
+use Rattle.disk_model.specs.Crashes.{During}
 use Rattle.desk_io.specs.Reads.{Passes, Comes}
 use Rattle.desk_frames.specs.Frames.{Frame, NoFrame, NeverFrame, IsSession, reached}
+use Rattle.obs_journal.specs.Journals.{IsUnwritten}
+use Rattle.obs_journal.specs.Opening.{SpellsAlike}
 use Rattle.act_bodies.specs.declared.key.Key.{Key}
 use Rattle.act_model.specs.declared.entry.Entry.{Entry}
+use Rattle.act_model.specs.declared.keeper.OfficeState.{OfficeState}
 use Rattle.act_model.specs.History.{EachNumberOnce}
+use Rattle.act_model.specs.Legal.{IsLegal}
 use Rattle.act_model.specs.Places.{OnePlace}
 use Rattle.act_model.specs.Unbroken.{UnbrokenRows, UnbrokenNumbers}
 use Rattle.act_model.specs.Conducts.{HadMemory, IsStepped}
+use Rattle.act_model.specs.Turns.{Turn, Conduct, Mends, at_rest, rises_of, written_reply, written}
+use Rattle.mpc_desk.specs.Desks.{RestsAt}
+use Rattle.mpc_desk.specs.Files.{Stands}
+use Rattle.mpc_desk.specs.Opening.{IsDamagedDesk}
+use Rattle.mpc_cli.specs.declared.serving.Stop.{Stop}
+use Rattle.mpc_cli.specs.declared.serving.Stop.TheVariants.{Over, NoFrameAt, ReadFailed, WriteFailed}
 use Rattle.mpc_cli.specs.declared.status.Status.{Status}
-use Rattle.mpc_cli.specs.declared.status.Status.TheVariants.{Done, Usage, BadFrame, ReadFault, WriteFault, NoMemory}
-use Rattle.mpc_cli.specs.Serving.{ClockState, Served, CutShort}
+use Rattle.mpc_cli.specs.declared.status.Status.TheVariants.{Done, Usage, BadFrame, DiskFault, Damaged, ReadFault, WriteFault, NoMemory}
+use Rattle.mpc_cli.specs.Serving.{ClockState, Serves}
+use Rattle.mpc_cli.specs.Conducted.{DiskWords, DiskRose, LeavesIn, Grows}
 
 -- ---- what a run took from its source and wrote
 
--- The bytes that came from the source, and behind them those that are left there, none where that isn't known; how many frames
--- were answered, each with its whole reply; and the bytes that were written.
+-- The bytes that came from the source, and behind them those that are left there, none where that isn't known; how many
+-- frames were answered, each with its whole reply; and the bytes that were written.
 pub record Run : Type 0 where
   pub came : List ℕ
   pub more : List ℕ
@@ -30,35 +43,26 @@ Remains (Some left) more = left ≡ more
 -- behind the frames that have come, which were all answered, a further frame may still come
 abbrev pub AwaitsNext : ℕ → List ℕ → Type 0
 AwaitsNext answered came =
-    (frames : List Frame) × (rest : List ℕ) × IsSession came frames rest × (length frames ≤ answered) × ¬ NeverFrame rest
+    (frames : List Frame) × (rest : List ℕ) × IsSession came frames rest × (length frames ≤ answered)
+    × ¬ NeverFrame rest
 
--- The run's bytes came out of the source, and all bytes that the source held, where they are known, are those and what is left.
--- No read was made but while the next frame was awaited, so that no byte was taken without need.
-pub record Supplies {S : Type 0} (left : S → Option (List ℕ)) (gives : Passes S) (before after : S) (run : Run) : Type 0 where
+-- The run's bytes came out of the source, and all bytes that the source held, where they are known, are those and what
+-- is left. No read was made but while the next frame was awaited, so that no byte was taken without need.
+pub record Supplies {S : Type 0} (left : S → Option (List ℕ)) (gives : Passes S) (before after : S) (run : Run)
+    : Type 0 where
   pub whole : IfSome (left before) (λ bytes. bytes ≡ run.came ++ run.more)
   pub rest : Remains (left after) run.more
   pub comes : Comes left gives (AwaitsNext run.answered) before after run.came
 
--- ---- what stands at each end
+-- ---- which frames were answered
 
--- A history with so many entries, in which each caller's number stands for at most one. Each accepted observation stands in
--- exactly one place, the designations of each half-month follow one another without gap or repeat, and so do the numbers.
-pub record IsLeft (history : List Entry) (count : ℕ) : Type 0 where
-  pub entries : count ≡ length history
-  pub once : EachNumberOnce history
-  pub places : OnePlace history
-  pub rows : UnbrokenRows history
-  pub numbers : UnbrokenNumbers history
-
--- All frames of the bytes' session were answered, up to a rest at which no frame stands. Where no turn ran out of memory, the
--- conduct is the step, one after another.
-pub record RunsOver (founder : Key) (before after : ClockState) (bytes rest : List ℕ) (run : Run) (count : ℕ) : Type 0 where
-  pub history : List Entry
-  pub served : Served founder before after bytes rest run.texts history
-  pub answered : run.answered ≡ length served.frames
+-- the frames of the bytes' session were answered, up to a rest at which no frame stands, and their replies were written
+pub record AnswersFrames (before after : ClockState) (bytes rest : List ℕ) (run : Run) (turns : List Turn)
+    : Type 0 where
+  pub serves : Serves before after bytes rest turns
+  pub answered : run.answered ≡ length serves.frames
   pub ended : NoFrame rest
-  pub left : IsLeft history count
-  pub stepped : HadMemory served.turns → IsStepped founder None [] served.turns history
+  pub texts : run.texts ≡ written turns
 
 -- the bytes are frames and nothing else
 abbrev pub IsWhole : List ℕ → Type 0
@@ -69,39 +73,138 @@ abbrev pub offset_at : ℕ → ℕ
 offset_at place = min place (2 ^ 64 - 1)
 
 -- the source was read to its end, and its bytes are frames, which were answered
-abbrev pub IsDone : Key → ClockState → ClockState → Run → ℕ → Type 0
-IsDone founder before after run count = (run.more ≡ []) × RunsOver founder before after run.came [] run count
+abbrev pub AnswersAll : ClockState → ClockState → Run → List Turn → Type 0
+AnswersAll before after run turns = (run.more ≡ []) × AnswersFrames before after run.came [] run turns
 
 -- the frames before the bytes' first place at which no frame stands were answered, and that place is the offset
-pub record StopsAt (founder : Key) (before after : ClockState) (run : Run) (count offset : ℕ) : Type 0 where
+pub record StopsAt (before after : ClockState) (run : Run) (turns : List Turn) (offset : ℕ) : Type 0 where
   pub rest : List ℕ
-  pub over : RunsOver founder before after (run.came ++ run.more) rest run count
+  pub over : AnswersFrames before after (run.came ++ run.more) rest run turns
   pub some : 0 < length rest
   pub place : offset ≡ offset_at (reached (run.came ++ run.more) rest)
 
 -- the source failed: the frames of the bytes that came were answered
-abbrev pub StopsReading : Key → ClockState → ClockState → Run → ℕ → Type 0
-StopsReading founder before after run count = (rest : List ℕ) × RunsOver founder before after run.came rest run count
+abbrev pub StopsReading : ClockState → ClockState → Run → List Turn → Type 0
+StopsReading before after run turns = (rest : List ℕ) × AnswersFrames before after run.came rest run turns
 
--- the sink failed inside a reply
-pub record StopsWriting (founder : Key) (before after : ClockState) (run : Run) (count : ℕ) : Type 0 where
-  pub history : List Entry
-  pub cut : CutShort founder before after run.came run.texts history
-  pub answered : run.answered ≡ length cut.served.frames
-  pub left : IsLeft history count
+-- The sink failed inside a reply: the frames before one frame were answered whole, and of the reply of that frame's
+-- turn the sink took a front and not all of it.
+pub record StopsWriting (before after : ClockState) (run : Run) (turns : List Turn) : Type 0 where
+  pub whole : List Turn
+  pub last : Turn
+  pub rest : List ℕ
+  pub taken : ℕ
+  pub turns_are : turns ≡ whole ++ last ∷ []
+  pub serves : Serves before after run.came rest turns
+  pub answered : run.answered + 1 ≡ length serves.frames
+  pub part : taken < length (written_reply last.reply)
+  pub texts : run.texts ≡ written whole ++ take taken (written_reply last.reply)
 
--- nothing was done
-abbrev pub DoesNothing : Run → ℕ → Type 0
-DoesNothing run count = (run.came ≡ []) × (run.texts ≡ []) × (count ≡ 0)
+-- which frames were answered where serving stopped so
+abbrev pub Stops : ClockState → ClockState → Run → List Turn → Stop → Type 0
+Stops before after run turns Over = AnswersAll before after run turns
+Stops before after run turns (NoFrameAt offset) = StopsAt before after run turns offset
+Stops before after run turns ReadFailed = StopsReading before after run turns
+Stops before after run turns WriteFailed = StopsWriting before after run turns
 
--- what stands at each end of a run, and how many entries the history then has
-abbrev pub Ends : Key → ClockState → ClockState → Run → ℕ → Status → Type 0
-Ends founder before after run count Done = IsDone founder before after run count
-Ends founder before after run count (BadFrame offset) = StopsAt founder before after run count offset
-Ends founder before after run count ReadFault = StopsReading founder before after run count
-Ends founder before after run count WriteFault = StopsWriting founder before after run count
-Ends founder before after run count NoMemory = DoesNothing run count
-Ends founder before after run count Usage = DoesNothing run count
+-- ---- the end of an act in doubt
+
+-- how many bytes the journal may have
+abbrev pub journal_bytes : ℕ
+journal_bytes = 268435456
+
+-- From what the turns left to what is there at the end, with the rise of the count of faults in the last mending.
+-- Nothing is mended.
+abbrev pub IsNotMended : OfficeState → ℕ → OfficeState → Type 0
+IsNotMended left rise last = (last ≡ left) × (rise ≡ 0)
+
+-- an act in doubt is mended once, and nothing is in doubt; where nothing was there is nothing to mend
+pub record IsMended (left : OfficeState) (rise : ℕ) (last : OfficeState) : Type 0 where
+  pub mends : Mends left.settled left.doubt last.settled
+  pub settled : last.doubt ≡ None
+  pub nothing : left.doubt ≡ None → rise ≡ 0
+
+-- the disk failed in mending, and the act stays in doubt
+pub record IsStillInDoubt (left : OfficeState) (rise : ℕ) (last : OfficeState) : Type 0 where
+  pub doubted : IsSome left.doubt
+  pub stays : last ≡ left
+  pub rose : 0 < rise
+
+-- ---- the office
+
+-- The history at the end has so many entries more, and each caller's number stands for at most one. Each accepted
+-- observation stands in exactly one place, the designations of each half-month follow one another without gap or
+-- repeat, and so do the numbers.
+pub record IsLeft (first last : List Entry) (added : ℕ) : Type 0 where
+  pub entries : length last ≡ length first + added
+  pub once : EachNumberOnce last
+  pub places : OnePlace last
+  pub rows : UnbrokenRows last
+  pub numbers : UnbrokenNumbers last
+
+-- The office of a run, from the disk at its start to the disk at its end. The disk stood for a legal history, and the
+-- turns are a conduct from there, each of whose settled histories is an end of every later one. What is in doubt then
+-- is closed. The disk's count of faults rose by what it rose in opening, in the turns and in the last mending. Each
+-- image at some moment of the run was one at its start, or one that the conduct allows; at the end the disk is at rest.
+-- Where the count didn't rise and no turn ran out of memory, the conduct is the step, one after another.
+pub record RunsOn {D : Type 0} (on : DiskWords D) (founder : Key) (disk now : D) (turns : List Turn)
+    (Closes : OfficeState → ℕ → OfficeState → Type 0) (added : ℕ) : Type 0 where
+  pub first : List Entry
+  pub left : OfficeState
+  pub last : OfficeState
+  pub opening : ℕ
+  pub mending : ℕ
+  pub stood : IfSome (on.reads disk) (λ file. Stands file first)
+  pub legal : IsLegal founder first
+  pub conduct : Conduct founder (Some journal_bytes) (at_rest first) turns left
+  pub grows : Grows founder (Some journal_bytes) (at_rest first) turns left conduct
+  pub closes : Closes left mending last
+  pub counts : DiskRose on (opening + rises_of turns + mending) disk now
+  pub images : During on.moment on.since disk now
+      (LeavesIn founder (Some journal_bytes) (at_rest first) turns left conduct)
+  pub stands : (image : List ℕ) → on.leaves now image → RestsAt last image
+  pub is_left : IsLeft first last.settled added
+  pub stepped : ¬ Rises (on.faults disk) (on.faults now) → HadMemory turns
+      → IsStepped founder (Some journal_bytes) first turns last.settled
+
+-- Nothing was served, since the office wasn't opened: nothing but the disk was called, no byte came and none was
+-- written. Each image at some moment was one at the start, or spells the parcels that the file spelled as it was read.
+pub record IsUnopened {D : Type 0} (on : DiskWords D) (disk now : D) (run : Run) (Uncalled : Type 0) (added rise : ℕ)
+    : Type 0 where
+  pub uncalled : Uncalled
+  pub came : run.came ≡ []
+  pub texts : run.texts ≡ []
+  pub added_is : added ≡ 0
+  pub counts : DiskRose on rise disk now
+  pub images : During on.moment on.since disk now (SpellsAlike (on.reads disk))
+
+-- Nothing was served, and the disk, where its reads are known, was not written.
+abbrev pub IsAsItWas : {D : Type 0} → DiskWords D → D → D → Run → Type 0 → ℕ → Type 0
+IsAsItWas on disk now run Uncalled added =
+    (rise : ℕ) × IsUnopened on disk now run Uncalled added rise
+    × (IsSome (on.reads disk) → IsUnwritten on.reads on.moment on.since disk now)
+
+-- ---- what stands at each end
+
+-- What stands at each end of a run, with the number of entries by which the history grew. `Uncalled` says that the
+-- source, the sink and the clock were not called.
+abbrev pub Ends : {D : Type 0} → DiskWords D → Key → D → D → ClockState → ClockState → Run → Type 0 → ℕ → Status
+    → Type 0
+Ends on founder disk now before after run Uncalled added Done =
+    (turns : List Turn) × AnswersAll before after run turns × RunsOn on founder disk now turns IsMended added
+Ends on founder disk now before after run Uncalled added (BadFrame offset) =
+    (turns : List Turn) × StopsAt before after run turns offset × RunsOn on founder disk now turns IsNotMended added
+Ends on founder disk now before after run Uncalled added ReadFault =
+    (turns : List Turn) × StopsReading before after run turns × RunsOn on founder disk now turns IsNotMended added
+Ends on founder disk now before after run Uncalled added WriteFault =
+    (turns : List Turn) × StopsWriting before after run turns × RunsOn on founder disk now turns IsNotMended added
+Ends on founder disk now before after run Uncalled added DiskFault =
+    ((rise : ℕ) × (0 < rise) × IsUnopened on disk now run Uncalled added rise)
+    ⊎ ((turns : List Turn) × AnswersAll before after run turns × RunsOn on founder disk now turns IsStillInDoubt added)
+Ends on founder disk now before after run Uncalled added (Damaged offset) =
+    IfSome (on.reads disk) (λ file. IsDamagedDesk founder file offset) × IsAsItWas on disk now run Uncalled added
+Ends on founder disk now before after run Uncalled added NoMemory = IsAsItWas on disk now run Uncalled added
+Ends on founder disk now before after run Uncalled added Usage = ⊥
 
 -- the run came to its end, or memory was refused before it began
 abbrev pub IsDoneOrNoMemory : Status → Type 0
@@ -109,23 +212,7 @@ IsDoneOrNoMemory Done = Unit {0}
 IsDoneOrNoMemory NoMemory = Unit {0}
 IsDoneOrNoMemory Usage = ⊥
 IsDoneOrNoMemory (BadFrame offset) = ⊥
+IsDoneOrNoMemory DiskFault = ⊥
+IsDoneOrNoMemory (Damaged offset) = ⊥
 IsDoneOrNoMemory ReadFault = ⊥
 IsDoneOrNoMemory WriteFault = ⊥
-
--- a status with which serving ends, once it has begun
-abbrev pub IsServed : Status → Type 0
-IsServed Done = Unit {0}
-IsServed (BadFrame offset) = Unit {0}
-IsServed ReadFault = Unit {0}
-IsServed WriteFault = Unit {0}
-IsServed NoMemory = ⊥
-IsServed Usage = ⊥
-
--- a status with which a call ends before the first frame
-abbrev pub IsNotBegun : Status → Type 0
-IsNotBegun Usage = Unit {0}
-IsNotBegun NoMemory = Unit {0}
-IsNotBegun Done = ⊥
-IsNotBegun (BadFrame offset) = ⊥
-IsNotBegun ReadFault = ⊥
-IsNotBegun WriteFault = ⊥

@@ -5,7 +5,8 @@ use Rattle.std.specs.List.{list_all}
 -- the bytes that a founder's key may have behind its plus sign: A to Z, a to z, 0 to 9 and the hyphen
 abbrev pub is_key_byte : ℕ → Bool
 is_key_byte byte =
-    (nat_le 48 byte && nat_le byte 57) || (nat_le 65 byte && nat_le byte 90) || (nat_le 97 byte && nat_le byte 122) || (byte == 45)
+    (nat_le 48 byte && nat_le byte 57) || (nat_le 65 byte && nat_le byte 90) || (nat_le 97 byte && nat_le byte 122)
+    || (byte == 45)
 
 abbrev pub has_key_length : List ℕ → Bool
 has_key_length rest = nat_le 8 (length rest) && nat_le (length rest) 32

@@ -1,8 +1,8 @@
-//! The clearing house for minor planet astrometry as a program: `run --key K` reads request frames
-//! from standard input and writes reply frames to standard output.
+//! The clearing house for minor planet astrometry as a program: `run --key K` reads request frames from standard input
+//! and writes reply frames to standard output. The office stands on the journal in the current folder.
 //!
-//! `top` does all that the program does, over any source, sink and clock, and carries the theorem.
-//! `main` hands it the real ones.
+//! `top` does all that the program does, over any source, sink, disk and clock, and carries the theorem. `main` hands
+//! it the real ones.
 #![tactic(auto)]
 
 ghost use Rattle.std.specs.Prelude.{◌≡◌, List, map, IfOk, string_bytes};
@@ -19,6 +19,7 @@ mod words;
 
 pub use act_model as model;
 use desk_io::{NoMemory, StreamSink, StreamSource, SystemClock};
+use disk_model::FileDisk;
 use item_list::Bytes;
 pub use status::{Ended, Status};
 use std::alloc::{AllocError, Global};
@@ -31,7 +32,8 @@ pub use words::Words;
 fn words_in<A: Iterator<Item = String> + Drop>(alloc: Global, args: A) -> Result<Words, NoMemory>
     requires can { A.can_next args }
     requires ends { IsFinite (A.remaining args) }
-    ensures { IfOk result (λ words. (taken : List _) × Drains A.next_gives args taken × (words ≡ map string_bytes taken)) }
+    ensures { IfOk result (λ words. (taken : List _) × Drains A.next_gives args taken
+        × (words ≡ map string_bytes taken)) }
 {
     let mut words = Words::new(alloc);
     'words: for word in args {
@@ -53,12 +55,14 @@ fn exit_code(status: &Status) -> ExitCode
     ExitCode::from(status.number())
 }
 
-/// Runs the program over standard input, standard output and the system's clock.
+/// Runs the program over standard input, standard output, the file `desk.journal` of the current folder and the
+/// system's clock.
 fn run(rt: HostRuntime, words: &Words) -> Status {
     let mut source = StreamSource::new(rt.stdin());
     let mut sink = StreamSink::new(rt.stdout());
     let mut clock = SystemClock::new(rt);
-    top(rt.alloc(), words, &mut source, &mut sink, &mut clock).status
+    let disk = FileDisk::new(rt);
+    top(rt.alloc(), words, &mut source, &mut sink, disk, &mut clock).status
 }
 
 fn main(rt: HostRuntime) -> ExitCode {

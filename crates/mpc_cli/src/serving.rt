@@ -1,23 +1,38 @@
 //! Reading frames and answering them, one after the other.
 
-ghost use Rattle.std.specs.Prelude.{◌≡◌, ◌≤◌, ◌<◌, ◌^◌, ℕ, List, [], length, IfOk, OnOk, OnErr};
+ghost use Rattle.std.specs.Prelude.{◌≡◌, ◌≤◌, ◌<◌, ℕ, List, [], IfOk, OnOk, OnErr};
 ghost use Rattle.std.specs.Io.KnownBytes.{Appends};
 ghost use Rattle.desk_io.specs.Outside.{Rises};
 ghost use Rattle.frame_reader.specs.Frames.{IsFrameRead};
-ghost use Rattle.mpc_cli.specs.Steps.{request_read, AnswersFrame, TakesStep, OnAnswered, SourceFaults, SinkFaults};
-ghost use Rattle.mpc_cli.specs.Serving.{clock_of};
 ghost use Rattle.frame_reader.specs.Reading.{work};
-ghost use Rattle.mpc_cli.specs.Runs.{Run, Supplies, Ends, IsServed};
+ghost use Rattle.act_model.specs.Turns.{Turn};
+ghost use Rattle.mpc_cli.specs.Serving.{clock_of};
+ghost use Rattle.mpc_cli.specs.Conducted.{disk_words, TakesTurns};
+ghost use Rattle.mpc_cli.specs.Steps.{request_read, AnswersFrame, TakesStep, OnAnswered, SourceFaults, SinkFaults};
+ghost use Rattle.mpc_cli.specs.Runs.{Run, Supplies, Stops};
 
 use crate::spoken::{speak, write_spoken};
-use crate::status::Status;
 use crate::turns::take_turn;
 use act_model::{Body, Key, Request, laws as office_laws, read_verb};
-use desk_core::Core;
 use desk_frames::laws as frame_laws;
 use desk_io::{Clock, Failed, Sink, Source};
+use disk_model::Disk;
 use frame_reader::{FrameBody, FrameReader, NextFrame, ReadFrame};
+use mpc_desk::Desk;
 use std::alloc::Global;
+
+/// Why serving stopped.
+#[derive(Debug, Drop)]
+pub enum Stop {
+    /// The source ended behind the last frame, and all were answered.
+    Over,
+    /// From this offset on the bytes are no frame.
+    NoFrameAt(u64),
+    /// The source failed.
+    ReadFailed,
+    /// The sink failed inside a reply.
+    WriteFailed,
+}
 
 /// What became of the next frame.
 #[derive(Debug, Drop)]
@@ -50,17 +65,18 @@ fn request_of(read: ReadFrame) -> Request
 }
 
 /// Answers a frame that was read. Says how many bytes it has.
-fn answer_frame<K: Sink, C: Clock>(
+fn answer_frame<K: Sink, D: Disk, C: Clock>(
     alloc: Global,
-    core: &mut Core,
+    desk: &mut Desk<D>,
     read: ReadFrame,
     sink: &mut K,
     clock: &mut C,
 ) -> Result<u64, Failed>
-    ensures answers { (front rest : List ℕ) (r : IsFrameRead front read rest) → AnswersFrame core.old.founder core.old.history core.new.history
-        (clock_of C.reading C.last clock.old) (clock_of C.reading C.last clock.new) (K.taken sink.old) (K.taken sink.new) r.frame result }
+    ensures answers { (front rest : List ℕ) (r : IsFrameRead front read rest) →
+        AnswersFrame (disk_words D.reads D.leaves D.moment D.since D.faults) desk.old desk.new
+        (clock_of C.reading C.last clock.old) (clock_of C.reading C.last clock.new)
+        (K.taken sink.old) (K.taken sink.new) r.frame result }
     ensures size { IfOk result (λ size. size ≡ read.size) }
-    ensures founder { core.new.founder ≡ core.old.founder }
     ensures counts { K.faults sink.old ≤ K.faults sink.new }
     ensures faultless { OnOk result (K.faults sink.new ≡ K.faults sink.old) }
     ensures cause { OnErr result (Rises (K.faults sink.old) (K.faults sink.new)) }
@@ -70,7 +86,7 @@ fn answer_frame<K: Sink, C: Clock>(
     office_laws::no_room_no_step();
     let size = read.size;
     let request = request_of(read);
-    let reply = take_turn(core, &request, clock);
+    let reply = take_turn(desk, &request, clock);
     let spoken = speak(alloc, reply);
     match write_spoken(sink, &spoken) {
         Ok(()) => Ok(size),
@@ -79,18 +95,17 @@ fn answer_frame<K: Sink, C: Clock>(
 }
 
 /// Reads the next frame and answers it.
-fn serve_next<S: Source, K: Sink, C: Clock>(
+fn serve_next<S: Source, K: Sink, D: Disk, C: Clock>(
     alloc: Global,
-    core: &mut Core,
+    desk: &mut Desk<D>,
     reader: &mut FrameReader,
     source: &mut S,
     sink: &mut K,
     clock: &mut C,
 ) -> Turned
-    ensures step { TakesStep S.left S.gives core.old.founder core.old.history core.new.history
+    ensures step { TakesStep S.left S.gives (disk_words D.reads D.leaves D.moment D.since D.faults) desk.old desk.new
         (clock_of C.reading C.last clock.old) (clock_of C.reading C.last clock.new)
         (K.taken sink.old) (K.taken sink.new) source.old source.new reader.old reader.new result }
-    ensures founder { core.new.founder ≡ core.old.founder }
     ensures source_counts { S.faults source.old ≤ S.faults source.new }
     ensures sink_counts { K.faults sink.old ≤ K.faults sink.new }
     ensures source_faults { SourceFaults result (S.faults source.old) (S.faults source.new) }
@@ -101,7 +116,7 @@ fn serve_next<S: Source, K: Sink, C: Clock>(
 {
     frame_laws::never_a_frame();
     match reader.next_frame(source) {
-        NextFrame::Frame(read) => match answer_frame(alloc, core, read, sink, clock) {
+        NextFrame::Frame(read) => match answer_frame(alloc, desk, read, sink, clock) {
             Ok(size) => Turned::Answered(size),
             Err(Failed) => Turned::WriteFailed,
         },
@@ -112,44 +127,37 @@ fn serve_next<S: Source, K: Sink, C: Clock>(
 }
 
 /// Answers the frames of the source to its end, or to where it has none.
-pub fn serve<S: Source, K: Sink, C: Clock>(
+pub fn serve<S: Source, K: Sink, D: Disk, C: Clock>(
     alloc: Global,
-    core: &mut Core,
+    desk: &mut Desk<D>,
     reader: &mut FrameReader,
     source: &mut S,
     sink: &mut K,
     clock: &mut C,
-) -> Status
-    requires empty { core.old.history ≡ [] }
+) -> Stop
     requires unread { reader.old ≡ [] }
-    ensures ends { (run : Run) × Supplies S.left S.gives source.old source.new run × Appends (K.taken sink.old) (K.taken sink.new) run.texts
-        × Ends core.old.founder (clock_of C.reading C.last clock.old) (clock_of C.reading C.last clock.new) run (length core.new.history) result }
-    ensures read_cause { result ≡ Status.ReadFault → Rises (S.faults source.old) (S.faults source.new) }
-    ensures read_faultless { (result ≡ Status.ReadFault → ⊥) → S.faults source.new ≡ S.faults source.old }
-    ensures write_cause { result ≡ Status.WriteFault → Rises (K.faults sink.old) (K.faults sink.new) }
-    ensures write_faultless { (result ≡ Status.WriteFault → ⊥) → K.faults sink.new ≡ K.faults sink.old }
+    ensures stops { (run : Run) × (turns : List Turn) × Supplies S.left S.gives source.old source.new run
+        × Appends (K.taken sink.old) (K.taken sink.new) run.texts
+        × Stops (clock_of C.reading C.last clock.old) (clock_of C.reading C.last clock.new) run turns result
+        × TakesTurns (disk_words D.reads D.leaves D.moment D.since D.faults) desk.old turns desk.new }
+    ensures read_cause { result ≡ Stop.ReadFailed → Rises (S.faults source.old) (S.faults source.new) }
+    ensures read_faultless { (result ≡ Stop.ReadFailed → ⊥) → S.faults source.new ≡ S.faults source.old }
+    ensures write_cause { result ≡ Stop.WriteFailed → Rises (K.faults sink.old) (K.faults sink.new) }
+    ensures write_faultless { (result ≡ Stop.WriteFailed → ⊥) → K.faults sink.new ≡ K.faults sink.old }
     ensures counts { (S.faults source.old ≤ S.faults source.new) × (K.faults sink.old ≤ K.faults sink.new) }
     ensures stays { (S.is_open source.new ≡ S.is_open source.old) × (K.is_open sink.new ≡ K.is_open sink.old) }
-    ensures served { IsServed result }
 {
     frame_laws::goes_on();
     frame_laws::session_behind();
     frame_laws::no_frame_yet();
-    office_laws::answers_are_turns();
-    office_laws::conducts_go_on();
-    office_laws::each_once();
-    office_laws::one_place();
-    office_laws::unbroken_rows();
-    office_laws::unbroken_numbers();
-    office_laws::no_faults();
     let mut offset = 0u64;
     'frames: loop {
-        match serve_next(alloc, core, reader, source, sink, clock) {
+        match serve_next(alloc, desk, reader, source, sink, clock) {
             Turned::Answered(size) => offset = offset.saturating_add(size),
-            Turned::Over => return Status::Done,
-            Turned::NoMore => return Status::BadFrame { offset },
-            Turned::ReadFailed => return Status::ReadFault,
-            Turned::WriteFailed => return Status::WriteFault,
+            Turned::Over => return Stop::Over,
+            Turned::NoMore => return Stop::NoFrameAt(offset),
+            Turned::ReadFailed => return Stop::ReadFailed,
+            Turned::WriteFailed => return Stop::WriteFailed,
         }
     }
 }

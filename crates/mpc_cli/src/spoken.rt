@@ -29,8 +29,8 @@ fn out_of_memory(alloc: Global) -> Spoken
     }
 }
 
-/// A reply with its text. Where there is no memory for the lines of a refusal, `NoMemory`
-/// stands in its place, since a refusal changes nothing.
+/// A reply with its text. Where there is no memory for the lines of a `NoLine`, `NoMemory` stands in its place, since a
+/// refusal changes nothing.
 pub fn speak(alloc: Global, reply: Reply) -> Spoken
     ensures { Speaks reply result }
 {
@@ -43,8 +43,10 @@ pub fn speak(alloc: Global, reply: Reply) -> Spoken
 
 /// Writes a reply frame.
 pub fn write_spoken<K: Sink>(sink: &mut K, spoken: &Spoken) -> Result<(), Failed>
-    ensures whole { OnOk result (Appends (K.taken sink.old) (K.taken sink.new) (reply_frame spoken.now.status (text_bytes spoken.now.text))) }
-    ensures part { OnErr result (AppendsPart (K.taken sink.old) (K.taken sink.new) (reply_frame spoken.now.status (text_bytes spoken.now.text))) }
+    ensures whole { OnOk result (Appends (K.taken sink.old) (K.taken sink.new)
+        (reply_frame spoken.now.status (text_bytes spoken.now.text))) }
+    ensures part { OnErr result (AppendsPart (K.taken sink.old) (K.taken sink.new)
+        (reply_frame spoken.now.status (text_bytes spoken.now.text))) }
     ensures counts { K.faults sink.old ≤ K.faults sink.new }
     ensures faultless { OnOk result (K.faults sink.new ≡ K.faults sink.old) }
     ensures cause { OnErr result (Rises (K.faults sink.old) (K.faults sink.new)) }

@@ -3,6 +3,7 @@
 ghost use Rattle.std.specs.Prelude.{◌≡◌};
 ghost use Rattle.mpc_cli.specs.Numbers.{number_of};
 
+use disk_model::Disk;
 use thiserror::Error;
 
 /// How a call of the program ended.
@@ -17,6 +18,12 @@ pub enum Status {
     /// From this offset on the bytes are no frame.
     #[error("BadFrame at {offset}")]
     BadFrame { offset: u64 },
+    /// The disk failed while the journal was opened, or at the end, when an act in doubt was mended.
+    #[error("DiskFault")]
+    DiskFault,
+    /// The journal is damaged at this offset.
+    #[error("Damaged at {offset}")]
+    Damaged { offset: u64 },
     /// The source failed.
     #[error("ReadFault")]
     ReadFault,
@@ -37,6 +44,8 @@ impl Status {
             Status::Done => 0,
             Status::Usage => 2,
             Status::BadFrame { .. } => 3,
+            Status::DiskFault => 4,
+            Status::Damaged { .. } => 5,
             Status::ReadFault => 6,
             Status::WriteFault => 7,
             Status::NoMemory => 8,
@@ -44,9 +53,10 @@ impl Status {
     }
 }
 
-/// How a call ended, and how many entries the office's history then has.
-#[derive(Debug, Drop)]
-pub struct Ended {
+/// How a call ended, the disk, and by how many entries the office's history grew.
+#[derive(Drop)]
+pub struct Ended<D: Disk> {
     pub status: Status,
+    pub disk: D,
     pub added: u64,
 }

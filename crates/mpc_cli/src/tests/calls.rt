@@ -2,6 +2,7 @@
 
 use crate::{Ended, Words, top};
 use desk_io::{MemSink, MemSource, TickClock};
+use disk_model::MemDisk;
 use item_list::Bytes;
 use obs_time::Instant;
 use std::alloc::Global;
@@ -77,14 +78,17 @@ pub(super) const FIRST: &str = concat!(
 
 pub(super) const FIRST_ANSWER: &str = "200 10\nreceipt 1\n";
 
-pub(super) fn expect_end<R: Abort>(rt: &R, alloc: Global, ended: &Ended, want: Want) {
+pub(super) fn expect_end<R: Abort>(rt: &R, alloc: Global, ended: &Ended<MemDisk>, want: Want) {
     let text = format!(in alloc; "{}", ended.status).expect(rt, "memory");
     assert_eq!(rt; text.as_str(), want.status);
     assert_eq!(rt; ended.status.number(), want.number);
     assert_eq!(rt; ended.added, want.added);
 }
 
-/// A call over these bytes, of which a read gives at most `greatest`.
+/// How many bytes a disk of these tests may have.
+const DISK_BYTES: usize = 1_048_576;
+
+/// A call over these bytes, of which a read gives at most `greatest`, on an empty disk.
 pub(super) fn call<R: Abort>(
     rt: &R,
     alloc: Global,
@@ -93,16 +97,18 @@ pub(super) fn call<R: Abort>(
     greatest: usize,
     faults: Faults,
     sink: &mut MemSink,
-) -> Ended {
+) -> Ended<MemDisk> {
     let mut source = MemSource::new(alloc, bytes, greatest.max(1), &[faults.read]).expect(
         rt, "memory",
     );
     let first = Instant::new(1_711_929_600_000_000_000).expect(rt, "in range");
     let mut clock = TickClock::new(first, 1_000_000_000);
-    top(alloc, words, &mut source, sink, &mut clock)
+    let disk = MemDisk::new(alloc, &[], DISK_BYTES, &[]).expect(rt, "memory");
+    top(alloc, words, &mut source, sink, disk, &mut clock)
 }
 
-/// Runs the program over these bytes, of which a read gives at most `greatest`, and looks at its end and at what it wrote.
+/// Runs the program over these bytes, of which a read gives at most `greatest`, and looks at its end and at what it
+/// wrote.
 pub(super) fn expect_run<R: Abort>(
     rt: &R,
     alloc: Global,

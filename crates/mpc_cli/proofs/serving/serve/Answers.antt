@@ -1,12 +1,12 @@
 use Rattle.std.proofs.Common.{refl, ◌∙◌}
-use Rattle.mpc_cli.proofs.Laws.{RunLaws}
-use Rattle.mpc_cli.proofs.Progress.{progress_start, progress_more, step_for, ends_over, ends_no_more, ends_reading, ends_writing}
+use Rattle.mpc_cli.specs.Conducted.{disk_words}
+use Rattle.mpc_cli.proofs.Laws.{FrameLaws}
+use Rattle.mpc_cli.proofs.Progress.{progress_start, progress_more, stops_over, stops_no_more, stops_reading, stops_writing}
 use Rattle.mpc_cli.proofs.serving.serve.Goals as goal
 
 pub frames-init : goal.frames-init
 frames-init g c = record {
-  progress = progress_start _ _ c.args.core.now.founder _ _ _ c.args.reader.now c.args.core.now.history c.requires.unread c.requires.empty;
-  founder = refl;
+  progress = progress_start _ _ (disk_words g.D.Disk.reads g.D.Disk.leaves g.D.Disk.moment g.D.Disk.since g.D.Disk.faults) c.args.desk.now _ _ _ c.args.reader.now c.requires.unread;
   source_faultless = refl;
   sink_faultless = refl;
   source_stays = refl;
@@ -15,92 +15,56 @@ frames-init g c = record {
 
 pub frames-preserved : goal.frames-preserved
 frames-preserved g c =
-    let laws : RunLaws = record {
+    let laws : FrameLaws = record {
       frame_goes_on = c.goes_on.ensures.frames;
       stream_goes_on = c.goes_on.ensures.streams;
       stream_joins = c.session_behind.ensures.streams;
       nothing = c.no_frame_yet.ensures.nothing;
-      turn = c.answers_are_turns.ensures;
-      goes_on = c.conducts_go_on.ensures;
-      once = c.each_once.ensures;
-      places = c.one_place.ensures;
-      rows = c.unbroken_rows.ensures;
-      numbers = c.unbroken_numbers.ensures;
-      steps = c.no_faults.ensures.stepped;
     } in
     record {
-      progress = rw c.saturating_add-offset.ensures (progress_more _ _ c.args.core.now.founder _ laws _ _ _ _ _ _ _ c.frames.offset c.frames.invariant.progress _ _ _ _ _ c.in-Answered.size (step_for c.frames.invariant.founder c.in-Answered.ensures.step));
-      founder = c.in-Answered.ensures.founder ∙ c.frames.invariant.founder;
+      progress = rw c.saturating_add-offset.ensures (progress_more _ _ (disk_words g.D.Disk.reads g.D.Disk.leaves g.D.Disk.moment g.D.Disk.since g.D.Disk.faults) c.args.desk.now _ laws _ _ _ _ _ _ _ c.frames.offset c.frames.invariant.progress _ _ _ _ _ c.in-Answered.size c.in-Answered.ensures.step);
       source_faultless = c.in-Answered.ensures.source_faults ∙ c.frames.invariant.source_faultless;
       sink_faultless = c.in-Answered.ensures.sink_faults ∙ c.frames.invariant.sink_faultless;
       source_stays = c.in-Answered.ensures.source_stays ∙ c.frames.invariant.source_stays;
       sink_stays = c.in-Answered.ensures.sink_stays ∙ c.frames.invariant.sink_stays;
     }
 
-pub returns-in-Over-clause-ends : goal.returns-in-Over-clause-ends
-returns-in-Over-clause-ends g c =
-    let laws : RunLaws = record {
+pub returns-in-Over-clause-stops : goal.returns-in-Over-clause-stops
+returns-in-Over-clause-stops g c =
+    let laws : FrameLaws = record {
       frame_goes_on = c.goes_on.ensures.frames;
       stream_goes_on = c.goes_on.ensures.streams;
       stream_joins = c.session_behind.ensures.streams;
       nothing = c.no_frame_yet.ensures.nothing;
-      turn = c.answers_are_turns.ensures;
-      goes_on = c.conducts_go_on.ensures;
-      once = c.each_once.ensures;
-      places = c.one_place.ensures;
-      rows = c.unbroken_rows.ensures;
-      numbers = c.unbroken_numbers.ensures;
-      steps = c.no_faults.ensures.stepped;
     } in
-    ends_over _ _ c.args.core.now.founder _ laws _ _ _ _ _ _ _ c.frames.offset c.frames.invariant.progress _ _ _ _ _ (step_for c.frames.invariant.founder c.in-Over.ensures.step)
+    stops_over _ _ (disk_words g.D.Disk.reads g.D.Disk.leaves g.D.Disk.moment g.D.Disk.since g.D.Disk.faults) c.args.desk.now _ laws _ _ _ _ _ _ _ c.frames.offset c.frames.invariant.progress _ _ _ _ _ c.in-Over.ensures.step
 
-pub returns-in-NoMore-clause-ends : goal.returns-in-NoMore-clause-ends
-returns-in-NoMore-clause-ends g c =
-    let laws : RunLaws = record {
+pub returns-in-NoMore-clause-stops : goal.returns-in-NoMore-clause-stops
+returns-in-NoMore-clause-stops g c =
+    let laws : FrameLaws = record {
       frame_goes_on = c.goes_on.ensures.frames;
       stream_goes_on = c.goes_on.ensures.streams;
       stream_joins = c.session_behind.ensures.streams;
       nothing = c.no_frame_yet.ensures.nothing;
-      turn = c.answers_are_turns.ensures;
-      goes_on = c.conducts_go_on.ensures;
-      once = c.each_once.ensures;
-      places = c.one_place.ensures;
-      rows = c.unbroken_rows.ensures;
-      numbers = c.unbroken_numbers.ensures;
-      steps = c.no_faults.ensures.stepped;
     } in
-    ends_no_more _ _ c.args.core.now.founder _ laws _ _ _ _ _ _ _ c.frames.offset c.frames.invariant.progress _ _ _ _ _ (step_for c.frames.invariant.founder c.in-NoMore.ensures.step)
+    stops_no_more _ _ (disk_words g.D.Disk.reads g.D.Disk.leaves g.D.Disk.moment g.D.Disk.since g.D.Disk.faults) c.args.desk.now _ laws _ _ _ _ _ _ _ c.frames.offset c.frames.invariant.progress _ _ _ _ _ c.in-NoMore.ensures.step
 
-pub returns-in-ReadFailed-clause-ends : goal.returns-in-ReadFailed-clause-ends
-returns-in-ReadFailed-clause-ends g c =
-    let laws : RunLaws = record {
+pub returns-in-ReadFailed-clause-stops : goal.returns-in-ReadFailed-clause-stops
+returns-in-ReadFailed-clause-stops g c =
+    let laws : FrameLaws = record {
       frame_goes_on = c.goes_on.ensures.frames;
       stream_goes_on = c.goes_on.ensures.streams;
       stream_joins = c.session_behind.ensures.streams;
       nothing = c.no_frame_yet.ensures.nothing;
-      turn = c.answers_are_turns.ensures;
-      goes_on = c.conducts_go_on.ensures;
-      once = c.each_once.ensures;
-      places = c.one_place.ensures;
-      rows = c.unbroken_rows.ensures;
-      numbers = c.unbroken_numbers.ensures;
-      steps = c.no_faults.ensures.stepped;
     } in
-    ends_reading _ _ c.args.core.now.founder _ laws _ _ _ _ _ _ _ c.frames.offset c.frames.invariant.progress _ _ _ _ _ (step_for c.frames.invariant.founder c.in-ReadFailed.ensures.step)
+    stops_reading _ _ (disk_words g.D.Disk.reads g.D.Disk.leaves g.D.Disk.moment g.D.Disk.since g.D.Disk.faults) c.args.desk.now _ laws _ _ _ _ _ _ _ c.frames.offset c.frames.invariant.progress _ _ _ _ _ c.in-ReadFailed.ensures.step
 
-pub returns-in-WriteFailed-clause-ends : goal.returns-in-WriteFailed-clause-ends
-returns-in-WriteFailed-clause-ends g c =
-    let laws : RunLaws = record {
+pub returns-in-WriteFailed-clause-stops : goal.returns-in-WriteFailed-clause-stops
+returns-in-WriteFailed-clause-stops g c =
+    let laws : FrameLaws = record {
       frame_goes_on = c.goes_on.ensures.frames;
       stream_goes_on = c.goes_on.ensures.streams;
       stream_joins = c.session_behind.ensures.streams;
       nothing = c.no_frame_yet.ensures.nothing;
-      turn = c.answers_are_turns.ensures;
-      goes_on = c.conducts_go_on.ensures;
-      once = c.each_once.ensures;
-      places = c.one_place.ensures;
-      rows = c.unbroken_rows.ensures;
-      numbers = c.unbroken_numbers.ensures;
-      steps = c.no_faults.ensures.stepped;
     } in
-    ends_writing _ _ c.args.core.now.founder _ laws _ _ _ _ _ _ _ c.frames.offset c.frames.invariant.progress _ _ _ _ _ (step_for c.frames.invariant.founder c.in-WriteFailed.ensures.step)
+    stops_writing _ _ (disk_words g.D.Disk.reads g.D.Disk.leaves g.D.Disk.moment g.D.Disk.since g.D.Disk.faults) c.args.desk.now _ laws _ _ _ _ _ _ _ c.frames.offset c.frames.invariant.progress _ _ _ _ _ c.in-WriteFailed.ensures.step

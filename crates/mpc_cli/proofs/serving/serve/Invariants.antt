@@ -1,15 +1,16 @@
 use Rattle.std.proofs.Common.{◌≡◌}
 use Rattle.frame_reader.specs.Reading.{work}
 use Rattle.mpc_cli.specs.Serving.{clock_of}
+use Rattle.mpc_cli.specs.Conducted.{disk_words}
 use Rattle.mpc_cli.specs.Steps.{Progress}
 use Rattle.mpc_cli.proofs.serving.serve.Given as goal
 
--- the run has come so far, its founder is the same, no fault was counted, and what was open is open
+-- serving has come so far, no fault of the source or the sink was counted, and what was open is open
 abbrev pub invariant-frames : goal.invariant-frames
 invariant-frames g l = record {
-  progress : Progress g.S.Source.left g.S.Source.gives l.initial.core.founder (clock_of g.C.Clock.reading g.C.Clock.last l.initial.clock) (clock_of g.C.Clock.reading g.C.Clock.last l.clock)
-      (g.K.Sink.taken l.initial.sink) (g.K.Sink.taken l.sink) l.initial.source l.source l.reader l.core.history l.offset;
-  founder : l.core.founder ≡ l.initial.core.founder;
+  progress : Progress g.S.Source.left g.S.Source.gives (disk_words g.D.Disk.reads g.D.Disk.leaves g.D.Disk.moment g.D.Disk.since g.D.Disk.faults) l.initial.desk l.desk
+      (clock_of g.C.Clock.reading g.C.Clock.last l.initial.clock) (clock_of g.C.Clock.reading g.C.Clock.last l.clock)
+      (g.K.Sink.taken l.initial.sink) (g.K.Sink.taken l.sink) l.initial.source l.source l.reader l.offset;
   source_faultless : g.S.Source.faults l.source ≡ g.S.Source.faults l.initial.source;
   sink_faultless : g.K.Sink.faults l.sink ≡ g.K.Sink.faults l.initial.sink;
   source_stays : g.S.Source.is_open l.source ≡ g.S.Source.is_open l.initial.source;

@@ -1,12 +1,77 @@
-use Rattle.mpc_cli.proofs.Complete.{begun}
-use Rattle.mpc_cli.proofs.Progress.{nothing_done}
+use Rattle.std.proofs.Common.{◌≡◌, ◌-◌, length, refl, ◌∙◌}
+use Rattle.mpc_cli.specs.Conducted.{disk_words}
+use Rattle.mpc_cli.proofs.Laws.{OfficeLaws}
+use Rattle.mpc_cli.proofs.Closings.{finish_mends}
+use Rattle.mpc_cli.proofs.Running.{Opens, fewer_before, served_ends, nothing_served, nothing_called}
 use Rattle.mpc_cli.proofs.top.run.Goals as goal
 
 pub returns-in_default-clause-ends : goal.returns-in_default-clause-ends
-returns-in_default-clause-ends g c = nothing_done _ _ c.args.founder _ _ _ _ _ c.not_begun.ensures.added c.not_begun.ensures.status
+returns-in_default-clause-ends g c =
+    nothing_called _ _ _ _ (disk_words g.D.Disk.reads g.D.Disk.leaves g.D.Disk.moment g.D.Disk.since g.D.Disk.faults) c.args.founder c.args.disk c.not_begun.result.disk _ _ (refl, refl, refl) c.not_begun.result.added c.not_begun.result.status
+    c.not_begun.ensures.status c.not_begun.ensures.added c.not_begun.ensures.disk
 
-pub returns-in_default-new-clause-ends : goal.returns-in_default-new-clause-ends
-returns-in_default-new-clause-ends g c = nothing_done _ _ c.args.founder _ _ _ _ _ c.not_begun-in_default-new.ensures.added c.not_begun-in_default-new.ensures.status
+pub returns-in-Err-clause-ends : goal.returns-in-Err-clause-ends
+returns-in-Err-clause-ends g c =
+    rw c.not_begun-in-Err.ensures.disk
+    (nothing_served _ _ _ _ (disk_words g.D.Disk.reads g.D.Disk.leaves g.D.Disk.moment g.D.Disk.since g.D.Disk.faults) c.args.founder c.args.disk c.in-Err.disk _ _ (refl, refl, refl) c.in-Err.fault c.not_begun-in-Err.result.added c.not_begun-in-Err.result.status
+    (c.not_begun-in-Err.ensures.status ∙ c.unopened.ensures) c.not_begun-in-Err.ensures.added c.in-Err.ensures.counts c.in-Err.ensures.any_moment_failed c.in-Err.ensures.cause c.in-Err.ensures.damaged c.in-Err.ensures.unwritten)
 
-pub returns-clause-not_begun : goal.returns-clause-not_begun
-returns-clause-not_begun g c = λ none. absurd (begun c.serve-status.result c.serve-status.ensures.served none)
+pub overflow_sub-added : goal.overflow_sub-added
+overflow_sub-added g c =
+    let on = (disk_words g.D.Disk.reads g.D.Disk.leaves g.D.Disk.moment g.D.Disk.since g.D.Disk.faults) in
+    let laws : OfficeLaws = record {
+      grow = c.histories_grow.ensures;
+      once = c.each_once.ensures;
+      legal_once = c.legal_numbers_once.ensures;
+      places = c.one_place.ensures;
+      rows = c.unbroken_rows.ensures;
+      numbers = c.unbroken_numbers.ensures;
+      rests = c.no_faults.ensures.settled;
+      steps = c.no_faults.ensures.stepped;
+    } in
+    let opens : Opens on c.args.founder c.args.disk c.in-Ok.desk = record {
+      founder_is = c.in-Ok.ensures.founder;
+      limit_is = c.in-Ok.ensures.limit;
+      settled = c.in-Ok.ensures.settled;
+      stood = c.in-Ok.ensures.stands;
+      legal = c.in-Ok.ensures.legal;
+      later = c.in-Ok.ensures.counts;
+      images = c.in-Ok.ensures.any_moment;
+      at_rest = c.in-Ok.ensures.at_rest;
+    } in
+    let s = c.serve-stop.ensures.stops in
+    let mends = finish_mends on c.serve-stop.new.desk c.finish-status.new.desk c.serve-stop.result c.finish-status.result c.finish-status.ensures in
+    let fewer = fewer_before laws on c.args.founder c.args.disk c.in-Ok.desk c.serve-stop.new.desk s.1 opens s.5 c.finish-status.new.desk mends in
+    rw (c.entries-before.ensures, c.entries.ensures) fewer
+
+pub returns-clause-ends : goal.returns-clause-ends
+returns-clause-ends g c =
+    let on = (disk_words g.D.Disk.reads g.D.Disk.leaves g.D.Disk.moment g.D.Disk.since g.D.Disk.faults) in
+    let laws : OfficeLaws = record {
+      grow = c.histories_grow.ensures;
+      once = c.each_once.ensures;
+      legal_once = c.legal_numbers_once.ensures;
+      places = c.one_place.ensures;
+      rows = c.unbroken_rows.ensures;
+      numbers = c.unbroken_numbers.ensures;
+      rests = c.no_faults.ensures.settled;
+      steps = c.no_faults.ensures.stepped;
+    } in
+    let opens : Opens on c.args.founder c.args.disk c.in-Ok.desk = record {
+      founder_is = c.in-Ok.ensures.founder;
+      limit_is = c.in-Ok.ensures.limit;
+      settled = c.in-Ok.ensures.settled;
+      stood = c.in-Ok.ensures.stands;
+      legal = c.in-Ok.ensures.legal;
+      later = c.in-Ok.ensures.counts;
+      images = c.in-Ok.ensures.any_moment;
+      at_rest = c.in-Ok.ensures.at_rest;
+    } in
+    let s = c.serve-stop.ensures.stops in
+    let counted : c.sub-added.result ≡ length c.finish-status.new.desk.state.settled - length c.in-Ok.desk.state.settled = ? in (
+      s.0,
+      s.2,
+      s.3,
+      served_ends laws on c.args.founder c.args.disk c.in-Ok.desk c.serve-stop.new.desk s.1 opens s.5 _ _ s.0 _ c.finish-status.new.desk c.close.result c.sub-added.result c.close.ensures counted
+      c.serve-stop.result c.finish-status.result s.4 c.finish-status.ensures,
+    )
