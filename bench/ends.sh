@@ -1,16 +1,18 @@
 #!/usr/bin/env bash
 # Runs the built program to its ends that one stored run can't show, and compares the exit status and what it says with what
-# docs/RULES.md says. Build it first: (cd crates/mpc_cli && rt run -- run --key +founder-1 </dev/null).
+# docs/RULES.md says. Each run has a folder of its own, for its journal. Build it first: (cd crates/mpc_cli && rt run -- run --key +founder-1 </dev/null).
 set -u
 cd "$(dirname "$0")/.."
-program=crates/mpc_cli/out/mpc_cli
+program=$PWD/crates/mpc_cli/out/mpc_cli
 [ -x "$program" ] || { echo "build the program first"; exit 1; }
 failed=0
 ends() { # ends STATUS WORDS-ON-STANDARD-ERROR INPUT WORD..
-  local want=$1 said=$2 input=$3 status text
+  local want=$1 said=$2 input=$3 folder status text
   shift 3
-  text=$(printf '%b' "$input" | "$program" "$@" 2>&1 >/dev/null)
+  folder=$(mktemp -d)
+  text=$(cd "$folder" && printf '%b' "$input" | "$program" "$@" 2>&1 >/dev/null)
   status=$?
+  rm -r "$folder"
   if [ "$status" = "$want" ] && [ "$text" = "$said" ]; then
     echo "ok: ${*:-no words} ends with $want"
   else

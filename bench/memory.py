@@ -10,7 +10,7 @@ import subprocess
 import sys
 import tempfile
 
-TOP = os.path.join(os.path.dirname(os.path.abspath(__file__)), "..")
+TOP = os.path.dirname(os.path.dirname(os.path.abspath(__file__)))
 PROGRAM = os.path.join(TOP, "crates/mpc_cli/out/mpc_cli")
 FARTHEST = 600
 
@@ -53,7 +53,8 @@ def replies(text):
 def run(library, number, frames):
     env = dict(os.environ, LD_PRELOAD=library, REFUSE_AT=str(number))
     words = [PROGRAM, "run", "--key", "+founder-1"]
-    done = subprocess.run(words, input=frames, capture_output=True, env=env)
+    with tempfile.TemporaryDirectory() as folder:
+        done = subprocess.run(words, input=frames, capture_output=True, env=env, cwd=folder)
     return done.returncode, done.stderr.decode().strip(), replies(done.stdout.decode())
 
 

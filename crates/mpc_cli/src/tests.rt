@@ -4,6 +4,7 @@ mod ades;
 mod batches;
 mod calls;
 mod command_lines;
+mod disks;
 mod exchange;
 mod large;
 mod objects;
