@@ -21,7 +21,7 @@ import time
 STRANGERS = "strangers" in sys.argv[1:]
 FRAMES = 64 if STRANGERS else int(sys.argv[1]) if len(sys.argv) > 1 and sys.argv[1].isdigit() else 64
 LINES = 9876  # 81 bytes each with the line feed: 0.8 MB
-PROGRAM = os.path.join(os.path.dirname(os.path.abspath(__file__)), "../crates/mpc_cli/out/mpc_cli")
+PROGRAM = os.path.join(os.path.dirname(os.path.dirname(os.path.abspath(__file__))), "crates/mpc_cli/out/mpc_cli")
 
 
 SETUP = [
@@ -77,9 +77,13 @@ def make(path, verb):
     return os.path.getsize(path)
 
 
-def run(words, path):
-    """Seconds and peak kilobytes of a command with the file as its input, in a folder of its own."""
-    with open(path, "rb") as source, tempfile.TemporaryFile() as sink, tempfile.TemporaryDirectory() as folder:
+def run(words, path, folder=None):
+    """Seconds, peak kilobytes and output of a command with the file as its input, in this folder, else in an empty one: the program
+    keeps its journal in the folder that it runs in."""
+    if folder is None:
+        with tempfile.TemporaryDirectory() as empty:
+            return run(words, path, empty)
+    with open(path, "rb") as source, tempfile.TemporaryFile() as sink:
         begun = time.monotonic()
         child = subprocess.Popen(words, stdin=source, stdout=sink, cwd=folder)
         _, status, used = os.wait4(child.pid, 0)

@@ -7,7 +7,7 @@ use std::alloc::Global;
 use std::process::Abort;
 
 /// A request, by whom it is sent, its number, its verb and its body; and the status and the text of its reply.
-type Row = (
+pub(super) type Row = (
     &'static str,
     u64,
     &'static str,
@@ -16,12 +16,12 @@ type Row = (
     &'static str,
 );
 
-const FOUNDER: &str = "+founder-1";
+pub(super) const FOUNDER: &str = "+founder-1";
 
-const OBSERVER: &str = "observer-1";
+pub(super) const OBSERVER: &str = "observer-1";
 
 /// Two tracklets of one object, of which the first observation falls a thousandth of a second before midnight.
-const MIDNIGHT: &str = concat!(
+pub(super) const MIDNIGHT: &str = concat!(
     "# version=2017\n",
     "# observatory\n",
     "! mpcCode 703\n",
@@ -32,7 +32,7 @@ const MIDNIGHT: &str = concat!(
     "AAA2|CCD|703|2024-03-16T12:30:00Z|150.21|-5.5|Gaia3\n",
 );
 
-const MIDNIGHT_TEXT: &str = concat!(
+pub(super) const MIDNIGHT_TEXT: &str = concat!(
     "receipt 6\n",
     "accepted 4 refused 0\n",
     "line 5 obs 1 track 1\n",
@@ -459,7 +459,7 @@ const RELEASES: [Row; 13] = [
 ];
 
 /// Five tracklets of two observations each, of which each second one is 13 hours after the one before.
-const FIVE: &str = concat!(
+pub(super) const FIVE: &str = concat!(
     "# version=2017\n",
     "# observatory\n",
     "! mpcCode 703\n",
@@ -476,7 +476,7 @@ const FIVE: &str = concat!(
     "A5|CCD|703|2024-03-03T00:10:00Z|14.1|1.0|Gaia3\n",
 );
 
-const FIVE_TEXT: &str = concat!(
+pub(super) const FIVE_TEXT: &str = concat!(
     "receipt 6\n",
     "accepted 10 refused 0\n",
     "line 5 obs 1 track 1\n",
@@ -492,7 +492,7 @@ const FIVE_TEXT: &str = concat!(
 );
 
 /// Two tracklets more.
-const TWO: &str = concat!(
+pub(super) const TWO: &str = concat!(
     "# version=2017\n",
     "# observatory\n",
     "! mpcCode 703\n",
@@ -521,9 +521,9 @@ const BOTH_NAMES: &str = concat!(
     "620000|2024 EC|CCD|703|2024-03-05T00:00:00Z|17.0|1.0|Gaia3\n",
 );
 
-const EA_EB: &str = "{\"principal\":\"2024 EA\",\"secondary\":\"2024 EB\"}";
+pub(super) const EA_EB: &str = "{\"principal\":\"2024 EA\",\"secondary\":\"2024 EB\"}";
 
-const EA_EC: &str = "{\"principal\":\"2024 EA\",\"secondary\":\"2024 EC\"}";
+pub(super) const EA_EC: &str = "{\"principal\":\"2024 EA\",\"secondary\":\"2024 EC\"}";
 
 /// The observations of two objects, and of a tracklet that comes into one of them, stand in one place each.
 const PLACES: [Row; 15] = [
@@ -792,7 +792,7 @@ const NUMBERED: [Row; 14] = [
 ];
 
 /// A frame of each request, and the replies to them.
-fn put_rows<R: Abort>(
+pub(super) fn put_rows<R: Abort>(
     rt: &R,
     alloc: Global,
     bytes: &mut Vec<u8>,
@@ -814,7 +814,7 @@ fn put_rows<R: Abort>(
 }
 
 /// A session that begins with the founder's five requests.
-fn begin<R: Abort>(rt: &R, alloc: Global) -> Vec<u8> {
+pub(super) fn begin<R: Abort>(rt: &R, alloc: Global) -> Vec<u8> {
     let mut bytes = Vec::new(alloc);
     for next in SETUP {
         put(rt, &mut bytes, next.head);
