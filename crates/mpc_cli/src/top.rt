@@ -55,7 +55,7 @@ fn unopened(fault: OpenFault) -> Status
 
 /// Mends an act in doubt, at the end of the source.
 fn mend_at_end<D: Disk>(desk: &mut Desk<D>) -> Status
-    ensures ends { MendsLast (disk_words D.reads D.leaves D.moment D.since D.faults) desk.old result desk.new }
+    ensures { MendsLast (disk_words D.reads D.leaves D.moment D.since D.faults) desk.old result desk.new }
 {
     match desk.mend() {
         Ok(_) => Status::Done,
@@ -66,7 +66,7 @@ fn mend_at_end<D: Disk>(desk: &mut Desk<D>) -> Status
 /// What is done when serving has stopped: an act in doubt is mended where the source was read to its end, and the
 /// status says how the call ended.
 fn finish<D: Disk>(desk: &mut Desk<D>, stop: Stop) -> Status
-    ensures ends { Finishes (disk_words D.reads D.leaves D.moment D.since D.faults) desk.old stop result desk.new }
+    ensures { Finishes (disk_words D.reads D.leaves D.moment D.since D.faults) desk.old stop result desk.new }
 {
     match stop {
         Stop::Over => mend_at_end(desk),

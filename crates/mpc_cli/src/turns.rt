@@ -10,7 +10,7 @@ use mpc_desk::Desk;
 
 /// Takes one turn. A request whose verb is an act takes one reading of the clock, whatever its answer.
 pub fn take_turn<D: Disk, C: Clock>(desk: &mut Desk<D>, request: &Request, clock: &mut C) -> Reply
-    ensures turn { TakesTurn (disk_words D.reads D.leaves D.moment D.since D.faults)
+    ensures { TakesTurn (disk_words D.reads D.leaves D.moment D.since D.faults)
         desk.old request.now result desk.new
         (clock_of C.reading C.last clock.old) (clock_of C.reading C.last clock.new) }
 {

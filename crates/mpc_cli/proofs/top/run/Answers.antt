@@ -1,4 +1,4 @@
-use Rattle.std.proofs.Common.{◌≡◌, ◌-◌, length, refl, ◌∙◌}
+use Rattle.std.proofs.Common.{◌≡◌, ◌-◌, length, refl, ◌∙◌, arith}
 use Rattle.mpc_cli.specs.Conducted.{disk_words}
 use Rattle.mpc_cli.proofs.Laws.{OfficeLaws}
 use Rattle.mpc_cli.proofs.Closings.{finish_mends}
@@ -29,20 +29,22 @@ overflow_sub-added g c =
       rests = c.no_faults.ensures.settled;
       steps = c.no_faults.ensures.stepped;
     } in
-    let opens : Opens on c.args.founder c.args.disk c.in-Ok.desk = record {
-      founder_is = c.in-Ok.ensures.founder;
-      limit_is = c.in-Ok.ensures.limit;
-      settled = c.in-Ok.ensures.settled;
-      stood = c.in-Ok.ensures.stands;
-      legal = c.in-Ok.ensures.legal;
-      later = c.in-Ok.ensures.counts;
-      images = c.in-Ok.ensures.any_moment;
-      at_rest = c.in-Ok.ensures.at_rest;
+    let opens : Opens on c.args.founder c.args.disk c.in-Ok-open.desk = record {
+      founder_is = c.in-Ok-open.ensures.founder;
+      limit_is = c.in-Ok-open.ensures.limit;
+      settled = c.in-Ok-open.ensures.settled;
+      stood = c.in-Ok-open.ensures.stands;
+      legal = c.in-Ok-open.ensures.legal;
+      later = c.in-Ok-open.ensures.counts;
+      images = c.in-Ok-open.ensures.any_moment;
+      at_rest = c.in-Ok-open.ensures.at_rest;
     } in
     let s = c.serve-stop.ensures.stops in
     let mends = finish_mends on c.serve-stop.new.desk c.finish-status.new.desk c.serve-stop.result c.finish-status.result c.finish-status.ensures in
-    let fewer = fewer_before laws on c.args.founder c.args.disk c.in-Ok.desk c.serve-stop.new.desk s.1 opens s.5 c.finish-status.new.desk mends in
-    rw (c.entries-before.ensures, c.entries.ensures) fewer
+    let fewer = fewer_before laws on c.args.founder c.args.disk c.in-Ok-open.desk c.serve-stop.new.desk s.1 opens s.5 c.finish-status.new.desk mends in
+    let after = c.entries.ensures in
+    let before = c.entries-before.ensures in
+    omega (arith, fewer, after, before)
 
 pub returns-clause-ends : goal.returns-clause-ends
 returns-clause-ends g c =
@@ -57,21 +59,23 @@ returns-clause-ends g c =
       rests = c.no_faults.ensures.settled;
       steps = c.no_faults.ensures.stepped;
     } in
-    let opens : Opens on c.args.founder c.args.disk c.in-Ok.desk = record {
-      founder_is = c.in-Ok.ensures.founder;
-      limit_is = c.in-Ok.ensures.limit;
-      settled = c.in-Ok.ensures.settled;
-      stood = c.in-Ok.ensures.stands;
-      legal = c.in-Ok.ensures.legal;
-      later = c.in-Ok.ensures.counts;
-      images = c.in-Ok.ensures.any_moment;
-      at_rest = c.in-Ok.ensures.at_rest;
+    let opens : Opens on c.args.founder c.args.disk c.in-Ok-open.desk = record {
+      founder_is = c.in-Ok-open.ensures.founder;
+      limit_is = c.in-Ok-open.ensures.limit;
+      settled = c.in-Ok-open.ensures.settled;
+      stood = c.in-Ok-open.ensures.stands;
+      legal = c.in-Ok-open.ensures.legal;
+      later = c.in-Ok-open.ensures.counts;
+      images = c.in-Ok-open.ensures.any_moment;
+      at_rest = c.in-Ok-open.ensures.at_rest;
     } in
     let s = c.serve-stop.ensures.stops in
-    let counted : c.sub-added.result ≡ length c.finish-status.new.desk.state.settled - length c.in-Ok.desk.state.settled = ? in (
+    let after = c.entries.ensures in
+    let before = c.entries-before.ensures in
+    let counted : c.entries.result - c.entries-before.result ≡ length c.finish-status.new.desk.state.settled - length c.in-Ok-open.desk.state.settled = omega (arith, after, before) in (
       s.0,
       s.2,
       s.3,
-      served_ends laws on c.args.founder c.args.disk c.in-Ok.desk c.serve-stop.new.desk s.1 opens s.5 _ _ s.0 _ c.finish-status.new.desk c.close.result c.sub-added.result c.close.ensures counted
+      served_ends laws on c.args.founder c.args.disk c.in-Ok-open.desk c.serve-stop.new.desk s.1 opens s.5 _ _ s.0 _ c.finish-status.new.desk c.close.result (c.entries.result - c.entries-before.result) c.close.ensures counted
       c.serve-stop.result c.finish-status.result s.4 c.finish-status.ensures,
     )
