@@ -166,9 +166,13 @@ module _ (laws : OfficeLaws) {D : Type 0} (on : DiskWords D) (founder : Key) (di
     served_ends stop.Over Done stops (rise, mended, closed) =
         (turns, stops, runs_on IsMended rise last now added mended mended.mends closed disk_is counted)
     served_ends stop.Over DiskFault stops (rise, doubted, closed) =
-        inr (turns, stops, runs_on IsStillInDoubt rise last now added doubted
-        (subst (λ (s : OfficeState). Mends served.state.settled served.state.doubt s.settled) (sym doubted.stays) (nothing_mended served.state.settled served.state.doubt))
-        closed disk_is counted)
+        inr (
+          turns,
+          stops,
+          runs_on IsStillInDoubt rise last now added doubted
+              (subst (λ (s : OfficeState). Mends served.state.settled served.state.doubt s.settled) (sym doubted.stays) (nothing_mended served.state.settled served.state.doubt))
+              closed disk_is counted,
+        )
     served_ends stop.Over Usage stops ends = absurd ends
     served_ends stop.Over (BadFrame offset) stops ends = absurd ends
     served_ends stop.Over (Damaged offset) stops ends = absurd ends
@@ -216,7 +220,7 @@ nothing_served left gives source taken on founder disk now clock Uncalled uncall
       u.1,
       Appends-nil taken,
       subst (λ (s : Status). Ends on founder disk now clock clock run Uncalled added s) (sym is)
-      (unopened_ends on founder disk now clock Uncalled uncalled u.0 fault added none later images cause damaged unwritten),
+          (unopened_ends on founder disk now clock Uncalled uncalled u.0 fault added none later images cause damaged unwritten),
     )
 
 -- and no device was called

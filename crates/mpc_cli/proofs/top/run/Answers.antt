@@ -77,5 +77,5 @@ returns-clause-ends g c =
       s.2,
       s.3,
       served_ends laws on c.args.founder c.args.disk c.in-Ok-open.desk c.serve-stop.new.desk s.1 opens s.5 _ _ s.0 _ c.finish-status.new.desk c.close.result (c.entries.result - c.entries-before.result) c.close.ensures counted
-      c.serve-stop.result c.finish-status.result s.4 c.finish-status.ensures,
+          c.serve-stop.result c.finish-status.result s.4 c.finish-status.ensures,
     )
