@@ -1,12 +1,18 @@
 -- Heads and messages at the front of bytes: there is one at most, whatever may follow.
 use Rattle.std.proofs.Common.{◌≡◌, ℕ, ◌+◌, ◌<◌, ◌≤◌, Bool, true, false, List, [], ◌∷◌, ◌++◌, length, take, drop, Option, Some, None, inl, inr, refl, sym, ap, ◌∙◌, subst, append_assoc, arith}
 use Rattle.std.proofs.lemmas.List.{append-nil, length-append, take_at, drop_at, take-append-drop, take-append-le}
-use Rattle.httparse.specs.Grammar.{RequestHead, print_request, ReadsRequest, HasNoRequest}
+use Rattle.std.specs.Prelude.{IsTrue, codes, slice_index}
+use Rattle.std.proofs.Common.{zero, suc, lit<, lit≤}
+use Rattle.std.proofs.lemmas.List.Elements.{All-from_recursion, All-nil}
+use Rattle.std.proofs.lemmas.Str.{IsUtf8-from_ascii}
+use Rattle.httparse.specs.Ascii.{space}
+use Rattle.httparse.specs.Grammar.{is_token_byte, is_uri_byte, print_blank, print_version, print_end, print_section, crlf, IsField, IsRequestHead, RequestHead, print_request, ReadsRequest, HasNoRequest}
+use Rattle.act_bodies.specs.Keys.{key_of}
 use Rattle.httparse.specs.Spans.{RequestOverflows}
 use Rattle.httparse.proofs.GrammarLemmas.{request_unique, request_prefix_free, ReadsRequest-append}
 use Rattle.desk_http.specs.declared.TheConstants.{HEAD_BYTES, HEAD_FIELDS}
 use Rattle.desk_http.specs.declared.head.HeadParts.{HeadParts}
-use Rattle.desk_http.specs.Heads.{said_by, IsHead, Message, IsMessage, NoHead, NoMessage, NeverMessage, Behind, IsStream}
+use Rattle.desk_http.specs.Heads.{names_close, asked_of, said_of, said_by, IsHead, Message, IsMessage, NoHead, NoMessage, NeverMessage, Behind, IsStream}
 
 -- ---- one head
 
@@ -67,6 +73,50 @@ never_now bytes never = subst NoMessage (append-nil bytes) (never [])
 
 pub never_later : (bytes more : List ℕ) → NeverMessage bytes → NeverMessage (bytes ++ more)
 never_later bytes more never later = subst NoMessage (sym (append_assoc bytes more later)) (never (more ++ later))
+
+-- where there are no bytes, there is no head
+pub nothing_stands : NoMessage []
+unfolding print_request
+nothing_stands m rest a =
+    let some = a.head.reads.0.method.0 in
+    absurd (omega (arith, simp length-append at (ap length a.head.reads.1)))
+
+-- the request `GET / HTTP/1.1`
+plain_head : RequestHead
+plain_head = record { blank = []; method = codes "GET"; target = codes "/"; minor = 1; line_end = crlf; fields = []; last = crlf }
+
+slash_ascii : (i : ℕ) → slice_index (codes "/") i < 128
+slash_ascii zero = lit< tt
+slash_ascii (suc i) = lit< tt
+
+plain_is : IsRequestHead plain_head
+unfolding plain_head is_token_byte
+plain_is =
+    let token : ℕ → Type 0 = λ b. IsTrue (is_token_byte b) in
+    let uri : ℕ → Type 0 = λ b. IsTrue (is_uri_byte b) in
+    record {
+      method = (lit< tt, All-from_recursion token (codes "GET") (refl, (refl, (refl, tt))));
+      target = (lit< tt, All-from_recursion uri (codes "/") (refl, tt));
+      target_text = IsUtf8-from_ascii (codes "/") slash_ascii;
+      minor = lit≤ tt;
+      fields = All-nil IsField;
+    }
+
+plain_parts : HeadParts
+plain_parts = record { key = key_of []; asked = asked_of (codes "GET") (codes "/"); length = 0; closes = names_close [] }
+
+plain_message : IsMessage (print_request plain_head) (record { parts = plain_parts; body = [] }) []
+unfolding plain_head plain_parts print_request said_of
+plain_message =
+    record {
+      head = record { head = plain_head; reads = (plain_is, sym (append-nil (print_request plain_head))); short = lit≤ tt; few = lit≤ tt; says = refl };
+      long = refl;
+    }
+
+-- before the first byte any message can come
+pub never_some : (bytes : List ℕ) → NeverMessage bytes → 0 < length bytes
+never_some (byte ∷ bytes) never = omega arith
+never_some [] never = absurd (never (print_request plain_head) (record { parts = plain_parts; body = [] }) [] plain_message)
 
 -- a head that breaks a rule
 pub never_bad : (bytes : List ℕ) (head : RequestHead) (rest : List ℕ) → ReadsRequest bytes head rest → said_by head ≡ None → NeverMessage bytes

@@ -1,5 +1,5 @@
 -- The answer to a request, as HTTP/1.1 writes it.
-use Rattle.std.specs.Prelude.{ℕ, Bool, List, [], ◌∷◌, ◌++◌, length, codes, decimal, if◌then◌else◌, ◌==◌}
+use Rattle.std.specs.Prelude.{ℕ, Bool, true, List, [], ◌∷◌, ◌++◌, length, codes, decimal, if◌then◌else◌, ◌==◌}
 use Rattle.act_model.specs.declared.reply.Reply.{Reply}
 use Rattle.act_model.specs.Replies.{status_of, text_of}
 
@@ -39,3 +39,11 @@ answer_text status text last = answer_head status (length text) last ++ text
 -- the answer of a reply
 abbrev pub answer_of : Reply → Bool → List ℕ
 answer_of reply last = answer_text (status_of reply) (text_of reply) last
+
+-- the line that says that a head can't be read
+abbrev pub unread_text : List ℕ
+unread_text = codes "refused 1 Unread head\n"
+
+-- the answer to bytes that are no request, after which no more answers come
+abbrev pub unread_answer : List ℕ
+unread_answer = answer_text 400 unread_text true

@@ -1,7 +1,7 @@
 //! Laws of heads, messages and streams, each the contract of a function that does nothing: a caller
 //! that calls it may use it.
 
-ghost use Rattle.std.specs.Prelude.{◌≡◌, ◌<◌, ℕ, List, ◌++◌, length};
+ghost use Rattle.std.specs.Prelude.{◌≡◌, ◌<◌, ℕ, List, [], ◌++◌, length};
 ghost use Rattle.httparse.specs.Grammar.{HasNoRequest};
 ghost use Rattle.desk_http.specs.declared.head.HeadParts.{HeadParts};
 ghost use Rattle.desk_http.specs.Heads.{IsHead, Message, IsMessage, NoHead, NoMessage, NeverMessage, IsStream};
@@ -28,16 +28,20 @@ pub fn goes_on()
         IsMessage bytes m rest → IsMessage (bytes ++ more) m (rest ++ more) }
 {}
 
-/// Where no head stands, or a head behind which fewer bytes have come than its body has, no message stands.
+/// Where no head stands, or a head behind which fewer bytes have come than its body has, no message stands. None stands where
+/// there are no bytes.
 pub fn no_message_yet()
     ensures request { (bytes : List ℕ) → HasNoRequest bytes → NoMessage bytes }
     ensures head { (bytes : List ℕ) → NoHead bytes → NoMessage bytes }
     ensures body { (bytes : List ℕ) (h : HeadParts) (rest : List ℕ) →
         IsHead bytes h rest → length rest < h.length → NoMessage bytes }
+    ensures nothing { NoMessage [] }
 {}
 
-/// Where no message can come, none stands, and none can come behind bytes that come later.
+/// Where no message can come, none stands, and none can come behind bytes that come later. A byte has come: before the first
+/// one any message can.
 pub fn never_a_message()
     ensures now { (bytes : List ℕ) → NeverMessage bytes → NoMessage bytes }
     ensures later { (bytes more : List ℕ) → NeverMessage bytes → NeverMessage (bytes ++ more) }
+    ensures some { (bytes : List ℕ) → NeverMessage bytes → 0 < length bytes }
 {}

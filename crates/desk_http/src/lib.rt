@@ -1,7 +1,8 @@
 //! HTTP requests out of a source of bytes, and answers into a sink.
 //!
 //! A source gives its bytes in whatever pieces it likes. A `Wire` takes the messages that they make, one
-//! after the other, through one buffer; `write_reply` writes the answer to one.
+//! after the other, through one buffer; `write_reply` writes the answer to one, and `write_unread` that to bytes that are
+//! no message.
 #![tactic(auto)]
 
 mod head;
@@ -16,7 +17,7 @@ mod wire;
 
 pub use head::{Front, HeadParts, read_head};
 pub use heard::Heard;
-pub use replies::{SendFault, write_reply};
+pub use replies::{SendFault, write_reply, write_unread};
 pub use route::Asked;
 pub use wire::Wire;
 

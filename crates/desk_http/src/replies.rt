@@ -5,7 +5,7 @@ ghost use Rattle.ascii_text.specs.ArrayVec.{array_vec_len};
 ghost use Rattle.std.specs.Io.KnownBytes.{Appends};
 ghost use Rattle.desk_io.specs.Outside.{Rises, AppendsPart};
 ghost use Rattle.act_model.specs.Replies.{refusal_status, refusal_text};
-ghost use Rattle.desk_http.specs.ReplyTexts.{reason_of, closing_field, answer_head, answer_text, answer_of};
+ghost use Rattle.desk_http.specs.ReplyTexts.{reason_of, closing_field, answer_head, answer_text, answer_of, unread_text, unread_answer};
 ghost use Rattle.desk_http.specs.Sent.{IsSent, CountsSent, IfWanting};
 
 use act_model::{Refusal, Reply, no_line_text, refusal_line, refusal_status};
@@ -118,6 +118,30 @@ fn send<K: Sink>(sink: &mut K, status: u16, text: &[u8], last: bool) -> Result<(
         Ok(()) => Ok(()),
         Err(Failed) => Err(SendFault::WriteFault),
     }
+}
+
+// The line that says that a head can't be read.
+fn unread_text() -> &'static [u8]
+    ensures { result.now ≡ unread_text }
+{
+    b"refused 1 Unread head\n"
+}
+
+/// Writes the answer to bytes that are no request: the status 400, the line `refused 1 Unread head`, and that no more
+/// answers come. It takes no memory.
+///
+/// # Errors
+///
+/// The sink failed, and took a front of the answer and not all of it.
+pub fn write_unread<K: Sink>(sink: &mut K) -> Result<(), Failed>
+    ensures whole { OnOk result (Appends (K.taken sink.old) (K.taken sink.new) unread_answer) }
+    ensures part { OnErr result (AppendsPart (K.taken sink.old) (K.taken sink.new) unread_answer) }
+    ensures counts { K.faults sink.old ≤ K.faults sink.new }
+    ensures faultless { OnOk result (K.faults sink.new ≡ K.faults sink.old) }
+    ensures cause { OnErr result (Rises (K.faults sink.old) (K.faults sink.new)) }
+    ensures stays { K.is_open sink.new ≡ K.is_open sink.old }
+{
+    write_answer(sink, 400, unread_text(), true)
 }
 
 /// Writes the answer of a reply: the status line, `Content-Length`, `Content-Type: text/plain`, where it is

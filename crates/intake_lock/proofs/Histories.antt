@@ -57,6 +57,10 @@ pub same_length : (a b : List Entry) → Extends a b → length b ≤ length a �
 same_length a b ([], is) long = sym is
 same_length a b (e ∷ newer, is) long = let l = longer_self newer e a in let same = ap length is in absurd (omega arith)
 
+-- two beginnings that are as long are one
+pub one_beginning : (a b c : List Entry) → Extends a c → Extends b c → length a ≡ length b → a ≡ b
+one_beginning a b c first then long = same_length a b (shorter_begins a b c first then (omega arith)) (omega arith)
+
 -- ---- counts
 
 pub rises_none : (n : ℕ) → RisesBy 0 n n
@@ -132,6 +136,12 @@ module _ (steps : StepLaw) (founder : Key) (limit : Option ℕ) where
           first = extends_same mended after.settled (settled_is f.leaves);
           answered = inr (record { doubt = f.doubt; act = act; reply = f.reply; rose = f.rose });
         }
+
+    -- a call comes no earlier than at the end of the history before it
+    pub takes_place : (reading : Option ℤ) → TakesAt founder limit before item reading after → length before.settled ≤ item.position
+    takes_place (Some reading) (inl (f, place)) = omega arith
+    takes_place (Some reading) (inr (a, place)) = let l = extends_length before.settled a.mended (mends_extends before.settled before.doubt a.mended a.mends) in omega arith
+    takes_place None (a, place) = omega arith
 
     pub takes_true : (reading : Option ℤ) → item.reading ≡ reading → TakesReading item.request.verb reading → TakesAt founder limit before item reading after → IsTrue founder limit after.settled item
     takes_true (Some reading) is reads (inl (f, place)) =

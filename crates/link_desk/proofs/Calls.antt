@@ -1,0 +1,121 @@
+-- Calls that are true of a history, and where they stand in it.
+use Rattle.std.proofs.Common.{◌≡◌, ℕ, ℤ, ◌+◌, ◌≤◌, ◌<◌, List, [], ◌∷◌, ◌++◌, length, Option, refl, sym, ap, subst, ◌∙◌, inl, inr, arith}
+use Rattle.std.specs.Prelude.{◌⊎◌}
+use Rattle.std.specs.List.{AllByRecursion}
+use Rattle.act_bodies.specs.declared.key.Key.{Key}
+use Rattle.act_model.specs.declared.entry.Entry.{Entry}
+use Rattle.act_model.specs.declared.keeper.Office.{Office}
+use Rattle.act_model.specs.declared.reply.Reply.{Reply}
+use Rattle.act_model.specs.declared.request.Request.{Request}
+use Rattle.act_model.specs.Conducts.{Extends}
+use Rattle.act_model.specs.Step.{Outcome, Adds, outcome, after, step}
+use Rattle.act_model.specs.Turns.{Answers}
+use Rattle.intake_lock.specs.declared.view.Item.{Item}
+use Rattle.intake_lock.specs.Items.{reading_of, IsTrue, AreTrue, Failed, Calls}
+use Rattle.link_desk.specs.Calls.{IsAdded, StandsBehind, AreInOrder, HadNoRise, IsStepped}
+
+-- what the lock's laws say of histories and calls
+pub record CallLaws : Type 0 where
+  pub follow : (a b c : List Entry) → Extends a b → Extends b c → Extends a c
+  pub longer : (a b : List Entry) → Extends a b → length a ≤ length b
+  pub one : (a b c : List Entry) → Extends a c → Extends b c → length a ≡ length b → a ≡ b
+  pub here : (before after : Office) (item : Item) → Calls before item after → IsTrue before.founder before.limit after.state.settled item
+  pub grows : (before after : Office) (item : Item) → Calls before item after → Extends before.state.settled after.state.settled
+  pub place : (before after : Office) (item : Item) → Calls before item after → length before.state.settled ≤ item.position
+  pub later : (founder : Key) (limit : Option ℕ) (history later : List Entry) (item : Item) → Extends history later → IsTrue founder limit history item → IsTrue founder limit later item
+
+-- where the step adds an entry, the history has it
+step_adds : (founder : Key) (limit : Option ℕ) (past : List Entry) (q : Request) (t : ℤ) (e : Entry) (reply : Reply) (next : List Entry) → outcome founder limit past q t ≡ Adds e
+    → step founder limit past q t ≡ (reply, next) → next ≡ e ∷ past
+unfolding step
+step_adds founder limit past q t e reply next adds is = sym (ap (λ (p : Reply × List Entry). p.1) is) ∙ ap (λ (o : Outcome). (after past o).1) adds
+
+module _ (laws : CallLaws) (founder : Key) (limit : Option ℕ) where
+  -- ---- where a call stands
+
+  module _ (history : List Entry) (item : Item) (is : IsTrue founder limit history item) where
+    place_within : item.position ≤ length history
+    place_within = let l = laws.longer is.past history is.first in let p = is.place in omega arith
+
+    -- a call that added an entry stands before that
+    added_within : IsAdded founder limit history item → item.position < length history
+    added_within a = by is.answered
+      where
+        same : is.past ≡ a.past
+        same = laws.one is.past a.past history is.first a.first (sym is.place ∙ a.place)
+
+        adds : outcome founder limit is.past item.request (reading_of item) ≡ Adds a.entry
+        adds = subst (λ (h : List Entry). outcome founder limit h item.request (reading_of item) ≡ Adds a.entry) (sym same) a.adds
+
+        next_is : (next : List Entry) → Answers founder limit is.past item.request (reading_of item) item.reply next → next ≡ a.entry ∷ is.past
+        next_is next (inl stepped) = step_adds founder limit is.past item.request (reading_of item) a.entry item.reply next adds stepped
+        next_is next (inr (wants, stays)) = let done = a.done in absurd cc
+
+        by : ((next : List Entry) × Answers founder limit is.past item.request (reading_of item) item.reply next × Extends next history) ⊎ Failed item → item.position < length history
+        by (inl (next, answers, goes_on)) =
+            let l = laws.longer next history goes_on in
+            let n = ap length (next_is next answers) in
+            let p = is.place in
+            omega arith
+        by (inr failed) = let done = a.done in let reply = failed.reply in absurd cc
+
+  -- a call that was true before added its entry before
+  added_earlier : (history later : List Entry) (item : Item) → Extends history later → IsTrue founder limit history item → IsAdded founder limit later item → IsAdded founder limit history item
+  added_earlier history later item goes_on is a =
+      let same = laws.one is.past a.past later (laws.follow is.past history later is.first goes_on) a.first (sym is.place ∙ a.place) in
+      record {
+        past = a.past;
+        place = a.place;
+        first = subst (λ (h : List Entry). Extends h history) same is.first;
+        entry = a.entry;
+        adds = a.adds;
+        text = a.text;
+        done = a.done;
+      }
+
+  -- ---- calls in their order
+
+  all_behind_later : (history later : List Entry) (item : Item) (items : List Item) → Extends history later → AreTrue founder limit history items
+      → AllByRecursion (StandsBehind founder limit history item) items → AllByRecursion (StandsBehind founder limit later item) items
+  all_behind_later history later item [] goes_on are behind = tt
+  all_behind_later history later item (earlier ∷ items) goes_on (is, are) ((no_earlier, added), behind) =
+      ((no_earlier, λ a. added (added_earlier history later earlier goes_on is a)), all_behind_later history later item items goes_on are behind)
+
+  order_later : (history later : List Entry) (from : ℕ) (items : List Item) → Extends history later → AreTrue founder limit history items
+      → AreInOrder founder limit history from items → AreInOrder founder limit later from items
+  order_later history later from [] goes_on are order = tt
+  order_later history later from (item ∷ items) goes_on (is, are) (place, behind, order) =
+      (place, all_behind_later history later item items goes_on are behind, order_later history later from items goes_on are order)
+
+  all_before : (history later : List Entry) (item : Item) (items : List Item) → Extends history later → length history ≤ item.position → AreTrue founder limit history items
+      → AllByRecursion (StandsBehind founder limit later item) items
+  all_before history later item [] goes_on place are = tt
+  all_before history later item (earlier ∷ items) goes_on place (is, are) =
+      let within = place_within history earlier is in (
+        (omega arith, λ a. let added = added_within history earlier is (added_earlier history later earlier goes_on is a) in omega arith),
+        all_before history later item items goes_on place are,
+      )
+
+  pub are_true_later : (history later : List Entry) (items : List Item) → Extends history later → AreTrue founder limit history items → AreTrue founder limit later items
+  are_true_later history later [] goes_on are = tt
+  are_true_later history later (item ∷ items) goes_on (is, are) = (laws.later founder limit history later item goes_on is, are_true_later history later items goes_on are)
+
+  -- one call more, at a place that isn't before the end of what was seen
+  pub order_more : (from : ℕ) (history later : List Entry) (item : Item) (items : List Item) → from ≤ length history → Extends history later → length history ≤ item.position
+      → AreTrue founder limit history items → AreInOrder founder limit history from items → AreInOrder founder limit later from (item ∷ items)
+  order_more from history later item items least goes_on place are order =
+      (omega arith, all_before history later item items goes_on place are, order_later history later from items goes_on are order)
+
+-- ---- calls without a rise
+
+stepped : (founder : Key) (limit : Option ℕ) (history : List Entry) (item : Item) → item.rise ≡ 0 → IsTrue founder limit history item → IsStepped founder limit history item
+stepped founder limit history item none is = by is.answered
+  where
+    by : ((next : List Entry) × Answers founder limit is.past item.request (reading_of item) item.reply next × Extends next history) ⊎ Failed item → IsStepped founder limit history item
+    by (inl (next, answers, goes_on)) = record { past = is.past; place = is.place; first = is.first; after = next; answers = answers; rest = goes_on }
+    by (inr failed) = let rose = failed.rose in absurd (omega arith)
+
+pub all_stepped : (founder : Key) (limit : Option ℕ) (history : List Entry) (items : List Item) → AreTrue founder limit history items → HadNoRise items
+    → AllByRecursion (IsStepped founder limit history) items
+all_stepped founder limit history [] are none = tt
+all_stepped founder limit history (item ∷ items) (is, are) (none, others) = (stepped founder limit history item none is, all_stepped founder limit history items are others)

@@ -1,0 +1,6 @@
+mod Clocks
+mod Streams
+mod Calls
+mod Turned
+mod Attends
+mod Progress

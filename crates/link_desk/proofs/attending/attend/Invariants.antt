@@ -1,0 +1,18 @@
+use Rattle.std.proofs.Common.{◌≡◌}
+use Rattle.link_desk.specs.Clocks.{clock_of}
+use Rattle.link_desk.proofs.Progress.{Progress}
+use Rattle.link_desk.proofs.attending.attend.Given as goal
+
+-- the connection has come so far, the pass is the same, no fault was counted, and what was open is open
+abbrev pub invariant-messages : goal.invariant-messages
+invariant-messages g l = record {
+  progress : Progress g.S.Source.left g.S.Source.gives l.fn.pass.view l.mine.view (clock_of g.C.Clock.reading g.C.Clock.last l.initial.clock) (clock_of g.C.Clock.reading g.C.Clock.last l.clock)
+      (g.K.Sink.taken l.initial.sink) (g.K.Sink.taken l.sink) l.initial.source l.source l.wire l.answered;
+  lock : l.mine.lock ≡ l.fn.pass.lock;
+  id : l.mine.id ≡ l.fn.pass.id;
+  role : l.mine.view.role ≡ l.fn.pass.view.role;
+  source_faultless : g.S.Source.faults l.source ≡ g.S.Source.faults l.initial.source;
+  sink_faultless : g.K.Sink.faults l.sink ≡ g.K.Sink.faults l.initial.sink;
+  source_stays : g.S.Source.is_open l.source ≡ g.S.Source.is_open l.initial.source;
+  sink_stays : g.K.Sink.is_open l.sink ≡ g.K.Sink.is_open l.initial.sink;
+}

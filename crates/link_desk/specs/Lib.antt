@@ -1,0 +1,5 @@
+pub mod Clocks
+pub mod Calls
+pub mod Streams
+pub mod Attending
+pub mod Steps
