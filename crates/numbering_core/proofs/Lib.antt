@@ -1,3 +1,2 @@
 mod VerdictLemmas
-mod PlaceLemmas
 mod NumberLemmas

@@ -13,7 +13,6 @@
 //! ```
 #![tactic(auto)]
 
-mod entry;
 pub mod laws;
 mod lists;
 mod numbering;

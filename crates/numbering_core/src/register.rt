@@ -7,11 +7,10 @@ ghost use Rattle.numbering_core.specs.Verdicts.{VerdictAct, verdict_of, verdict_
 ghost use Rattle.numbering_core.specs.Verdicts.VerdictAct.{Set, Voided};
 ghost use Rattle.numbering_core.specs.Numbers.{number_of, named, next_number, IsUnbroken};
 
-use crate::entry::{NumberEntry, VerdictEntry};
 use crate::lists;
 use crate::numbering::Numbering;
+use crate::verdict::Verdict;
 use item_list::NoMemory;
-use ordered_list::OrderedList;
 use packed_names::{Designation, Number};
 use std::alloc::Global;
 use std::marker::Model;
@@ -22,9 +21,8 @@ use std::marker::Model;
 /// first, and for how many more of each memory is there.
 #[derive(Drop)]
 pub struct Register {
-    verdicts: OrderedList<VerdictEntry>,
+    verdicts: Vec<Verdict>,
     numbered: Vec<Numbering>,
-    entries: OrderedList<NumberEntry>,
 }
 
 impl Model for Register {
@@ -33,15 +31,15 @@ impl Model for Register {
 
     ghost Value = { RegisterValue };
 
-    ghost use Rattle.numbering_core.specs.Indexes.{IsKept, verdicts_in};
+    ghost use Rattle.numbering_core.specs.Numbers.{IsUnbroken};
 
     ghost view = { λ r. record {
-      verdicts = verdicts_in r.verdicts.items;
+      verdicts = r.verdicts.items;
       numbered = reverse r.numbered.items;
-      spare = min r.verdicts.room (min (vec_capacity r.numbered - vec_len r.numbered) r.entries.room);
+      spare = min (vec_capacity r.verdicts - vec_len r.verdicts) (vec_capacity r.numbered - vec_len r.numbered);
     } };
 
-    ghost invariant = { λ r. IsKept ⟦<NumberEntry as Ord>⟧.cmp (reverse r.numbered.items) r.entries.items };
+    ghost invariant = { λ r. IsUnbroken (reverse r.numbered.items) };
 }
 
 impl Register {
@@ -55,9 +53,8 @@ impl Register {
         ensures numbered { IfOk result (λ register. register.numbered ≡ []) }
     {
         Ok(Register {
-            verdicts: OrderedList::new(alloc)?,
+            verdicts: Vec::new(alloc),
             numbered: Vec::new(alloc),
-            entries: OrderedList::new(alloc)?,
         })
     }
 
@@ -73,9 +70,8 @@ impl Register {
         ensures verdicts { self.new.verdicts ≡ self.old.verdicts }
         ensures numbered { self.new.numbered ≡ self.old.numbered }
     {
-        self.verdicts.reserve(more)?;
-        self.numbered.reserve(more as usize)?;
-        self.entries.reserve(more)
+        self.verdicts.reserve(more as usize)?;
+        self.numbered.reserve(more as usize)
     }
 
     /// Sets the verdict on a principal designation: its uncertainty parameter and its oppositions. An earlier one is no
@@ -89,7 +85,8 @@ impl Register {
         ensures spare { self.old.spare ≤ self.new.spare + 1 }
     {
         packed_names::laws::orders();
-        self.verdicts.insert(VerdictEntry {
+        lists::remove(&mut self.verdicts, p);
+        self.verdicts.push_reserved(Verdict {
             principal: p,
             u,
             oppositions,
@@ -105,11 +102,7 @@ impl Register {
         ensures spare { self.old.spare ≤ self.new.spare }
     {
         packed_names::laws::orders();
-        let _ = self.verdicts.remove(&VerdictEntry {
-            principal: p,
-            u: 0,
-            oppositions: 0,
-        });
+        lists::remove(&mut self.verdicts, p);
     }
 
     /// Whether a verdict on the designation is in force and is good: U is at most 2, and the oppositions are at least
@@ -119,8 +112,7 @@ impl Register {
         ensures acts { (acts : List VerdictAct)
             → StandFor self.now.verdicts acts → result ≡ is_good (verdict_in_force acts p) }
     {
-        packed_names::laws::orders();
-        lists::is_good(lists::verdict_of(&self.verdicts, p))
+        lists::is_good(lists::verdict_of(self.verdicts.as_slice(), p))
     }
 
     /// The number that is given next: one more than the last. None exactly where no number was given.
@@ -142,11 +134,6 @@ impl Register {
         ensures verdicts { self.new.verdicts ≡ self.old.verdicts }
         ensures spare { self.old.spare ≤ self.new.spare + 1 }
     {
-        packed_names::laws::orders();
-        self.entries.insert(NumberEntry {
-            designation: d,
-            number: n,
-        });
         self.numbered.push_reserved(Numbering {
             designation: d,
             number: n,
@@ -160,7 +147,7 @@ impl Register {
         ensures range { IfSome result (λ n. IsNumber n.0) }
     {
         packed_names::laws::orders();
-        lists::number_of(&self.entries, d)
+        lists::number_of(self.numbered.as_slice(), d)
     }
 
     /// The designation that a number was given to. None exactly where it was given to none.

@@ -1,12 +1,9 @@
 ghost use Rattle.std.specs.Prelude.{◌≡◌, ◌↔◌, IsTrue, IfSome};
 ghost use Rattle.numbering_core.specs.Numbers.{next_number};
 
-mod plain;
-
 use super::*;
 use item_list::NoMemory;
 use packed_names::{Designation, HalfMonth, Number, Provisional};
-use plain::Plain;
 use std::test::Fail;
 
 // 2024 EA, EB and EC have the orders 1 to 3.
@@ -51,11 +48,6 @@ fn good_after(
     Ok(register.good(given(order)))
 }
 
-// Whether the verdict on the designation is good, by both forms.
-fn are_good(register: &Register, plain: &Plain, order: u32) -> (bool, bool) {
-    (register.good(given(order)), plain.good(given(order)))
-}
-
 #[test]
 fn verdicts_until_they_are_voided(rt: HostRuntime) -> Result<(), Fail> {
     let mut register = Register::new(rt.alloc())?;
@@ -67,23 +59,14 @@ fn verdicts_until_they_are_voided(rt: HostRuntime) -> Result<(), Fail> {
         (2, 9, 1, false),
         (2, 1, 5, true),
     ];
-    let mut plain = Plain::new(rt.alloc());
     for (order, u, oppositions, good) in verdicts {
         assert_eq!(rt; good_after(&mut register, order, u, oppositions)?, good);
-        plain.set(Verdict {
-            principal: given(order),
-            u,
-            oppositions,
-        })?;
-        assert_eq!(rt; plain.good(given(order)), good);
     }
-    for order in [4, 2, 3] {
-        register.void(given(order));
-        plain.void(given(order));
-    }
-    for (order, good) in [(1, true), (2, false), (3, false), (4, false)] {
-        assert_eq!(rt; are_good(&register, &plain, order), (good, good));
-    }
+    assert!(rt; register.good(given(1)));
+    register.void(given(2));
+    assert!(rt; !register.good(given(2)));
+    assert!(rt; register.good(given(1)));
+    assert!(rt; !register.good(given(3)));
     Ok(())
 }
 
@@ -100,24 +83,16 @@ fn numbers_in_a_row(rt: HostRuntime) -> Result<(), Fail> {
         (1, 620_001, false),
         (2, 620_001, true),
     ];
-    let mut plain = Plain::new(rt.alloc());
     for (order, n, is_given) in numbers {
         assert_eq!(rt; numbered(&mut register, order, n)?, is_given);
-        if is_given {
-            plain.take(given(order), Number(n))?;
-        }
     }
     assert_eq!(rt; register.next(), Some(620_002));
-    for order in 1..=3 {
-        assert_eq!(rt;
-            register.number_of(given(order)),
-            plain.number_of(given(order))
-        );
+    for order in [1, 2] {
+        let n = Number(619_999 + order);
+        assert_eq!(rt; register.number_of(given(order)), Some(n));
+        assert_eq!(rt; register.named(n), Some(given(order)));
     }
-    assert_eq!(rt; register.number_of(given(2)), Some(Number(620_001)));
-    for n in 619_999..=620_002 {
-        assert_eq!(rt; register.named(Number(n)), plain.named(Number(n)));
-    }
-    assert_eq!(rt; register.named(Number(620_001)), Some(given(2)));
+    assert_eq!(rt; register.number_of(given(3)), None);
+    assert_eq!(rt; register.named(Number(620_002)), None);
     Ok(())
 }
