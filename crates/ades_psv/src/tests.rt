@@ -1,34 +1,19 @@
-ghost use Rattle.std.specs.Prelude.{◌≡◌, ◌<◌, length};
-ghost use Rattle.ades_psv.specs.Feeding.{HasRoom, unfed};
-
 use super::*;
 use obs_record::{Coded, HeaderFault, Line, Lines, RuleCode, Shape, Short, Sighting, TrackName};
 use packed_names::{Designation, HalfMonth, Number, Provisional, Survey};
 use std::alloc::Global;
 use std::test::*;
 
-/// What is said of a batch that isn't long.
-fn said(alloc: Global, body: &[u8]) -> Result<Lines, PsvFault> {
+/// What is said of a batch that isn't long and has these parts, one behind the other.
+fn said(alloc: Global, parts: &[&[u8]]) -> Result<Lines, PsvFault> {
+    let mut body = Vec::new(alloc);
+    for part in parts {
+        body.extend_from_slice(part)?;
+    }
     if body.len() > 9999 {
         return Ok(Lines::new(alloc));
     }
-    read_psv(alloc, body)
-}
-
-/// The fault of a batch; none where it has none.
-fn fault_of(alloc: Global, body: &[u8]) -> Option<PsvFault> {
-    said(alloc, body).err()
-}
-
-/// These parts, one behind the other.
-fn joined(alloc: Global, parts: &[&[u8]]) -> Option<Vec<u8>> {
-    let mut body = Vec::new(alloc);
-    for part in parts {
-        if body.extend_from_slice(part).is_err() {
-            return None;
-        }
-    }
-    Some(body)
+    read_psv(alloc, &body)
 }
 
 /// The only line of a batch; none where it has a fault, or not one line.
@@ -39,17 +24,9 @@ fn only_line(said: &Result<Lines, PsvFault>) -> Option<Line> {
     }
 }
 
-/// The only line of a batch of these parts; none where it has a fault, or not one line.
-fn only_line_of(alloc: Global, parts: &[&[u8]]) -> Option<Line> {
-    match joined(alloc, parts) {
-        Some(body) => only_line(&said(alloc, &body)),
-        None => None,
-    }
-}
-
 /// The number of the only line of a batch, and the rule that it breaks.
 fn only_rule(alloc: Global, parts: &[&[u8]]) -> Option<(u32, Option<RuleCode>)> {
-    let line = only_line_of(alloc, parts)?;
+    let line = only_line(&said(alloc, parts))?;
     Some((line.number, line.read.err()))
 }
 
@@ -278,7 +255,7 @@ fn name_of(s: Sighting) -> Option<TrackName> {
 
 /// The name of the only line of a batch, or the rule that the line breaks.
 fn only_name(alloc: Global, parts: &[&[u8]]) -> Option<Result<TrackName, RuleCode>> {
-    let line = only_line_of(alloc, parts)?;
+    let line = only_line(&said(alloc, parts))?;
     match line.read {
         Ok(sighting) => Some(Ok(name_of(sighting)?)),
         Err(rule) => Some(Err(rule)),
@@ -309,17 +286,12 @@ fn word(text: &[u8]) -> Coded {
     Coded::Word(Short::new(text))
 }
 
-/// The observation in a place of what is said.
-fn sighting_in(said: &Result<Lines, PsvFault>, place: u64) -> Option<Sighting> {
+/// The observation in a place of a batch.
+fn sighting_at(said: &Result<Lines, PsvFault>, place: u64) -> Option<Sighting> {
     match said {
         Ok(lines) => lines.get(place)?.read.ok(),
         Err(_) => None,
     }
-}
-
-/// The observation in a place of a batch.
-fn sighting_at(alloc: Global, body: &[u8], place: u64) -> Option<Sighting> {
-    sighting_in(&said(alloc, body), place)
 }
 
 /// The observation in the first line of that batch: 2024-03-15T23:59:59.999Z, 150 and -5.5 degrees of 9,000,000,000,000
@@ -332,8 +304,9 @@ fn is_first(s: &Sighting) -> bool {
 
 #[test]
 fn reads_the_fields(rt: HostRuntime) -> Result<(), Fail> {
-    let first = sighting_at(rt.alloc(), BATCH, 0).ok_or("the first line is read")?;
-    let third = sighting_at(rt.alloc(), BATCH, 2).ok_or("the third line is read")?;
+    let lines = said(rt.alloc(), &[BATCH]);
+    let first = sighting_at(&lines, 0).ok_or("the first line is read")?;
+    let third = sighting_at(&lines, 2).ok_or("the third line is read")?;
     assert!(rt; is_first(&first));
     assert_eq!(rt;
         (first.perm, first.prov, first.sub),
@@ -443,8 +416,11 @@ const FAULTY: [(&[u8], HeaderFault, u32); 32] = [
 #[test]
 fn finds_the_first_fault(rt: HostRuntime) {
     for &(body, fault, line) in &FAULTY {
-        let found = fault_of(rt.alloc(), body);
-        assert_eq!(rt; found, Some(PsvFault::Header { fault, line }), "{body:?}");
+        assert_eq!(rt;
+            said(rt.alloc(), &[body]).err(),
+            Some(PsvFault::Header { fault, line }),
+            "{body:?}"
+        );
     }
 }
 
@@ -476,8 +452,8 @@ const SOUND: [(&[u8], [u32; 4]); 9] = [
     ),
 ];
 
-/// The numbers of the lines of what is said, 0 for none; none of them for a fault or more than four lines.
-fn numbers_in(said: &Result<Lines, PsvFault>) -> Option<[u32; 4]> {
+/// The numbers of the lines of a batch, 0 for none; none of them where it has a fault or more than four lines.
+fn numbers(said: &Result<Lines, PsvFault>) -> Option<[u32; 4]> {
     match said {
         Ok(lines) if lines.len() <= 4 => Some([
             number_at(lines, 0),
@@ -489,11 +465,6 @@ fn numbers_in(said: &Result<Lines, PsvFault>) -> Option<[u32; 4]> {
     }
 }
 
-/// The numbers of the lines of a batch, 0 for none; none of them where it has a fault or more than four lines.
-fn numbers(alloc: Global, body: &[u8]) -> Option<[u32; 4]> {
-    numbers_in(&said(alloc, body))
-}
-
 /// The number of a line, 0 where there is none.
 fn number_at(lines: &Lines, place: u64) -> u32 {
     lines.get(place).map_or(0, |line| line.number)
@@ -502,7 +473,7 @@ fn number_at(lines: &Lines, place: u64) -> u32 {
 #[test]
 fn passes_over_headers_and_blank_lines(rt: HostRuntime) {
     for &(body, wanted) in &SOUND {
-        let found = numbers(rt.alloc(), body);
+        let found = numbers(&said(rt.alloc(), &[body]));
         assert_eq!(rt; found, Some(wanted), "{body:?}");
     }
 }
@@ -520,25 +491,12 @@ ra|notes|dec| trkSub |astCat|stn|  mode|obsTime|remarks
 
 #[test]
 fn reads_each_line_below_its_columns(rt: HostRuntime) {
+    let lines = said(rt.alloc(), &[TWO_HEADERS]);
     for place in 0..3 {
-        let found = sighting_at(rt.alloc(), TWO_HEADERS, place);
+        let found = sighting_at(&lines, place);
         assert!(rt; found.is_some_and(|s| is_first(&s)), "line {place}");
     }
-    assert_eq!(rt; numbers(rt.alloc(), TWO_HEADERS), Some([3, 7, 8, 0]));
-}
-
-/// Feeds a text in pieces of this size.
-fn feed_pieces(reader: &mut PsvReader, text: &[u8], size: usize) -> Result<(), PsvFault>
-    requires room { HasRoom reader.old (length text.now) }
-    requires some { 0 < size }
-{
-    let mut rest = text;
-    'pieces: while !rest.is_empty() {
-        let (piece, behind) = rest.split_at(rest.len().min(size));
-        reader.feed(piece)?;
-        rest = behind;
-    }
-    Ok(())
+    assert_eq!(rt; numbers(&lines), Some([3, 7, 8, 0]));
 }
 
 /// What is said of a batch that isn't long and comes in pieces of this size.
@@ -547,15 +505,13 @@ fn said_in_pieces(alloc: Global, body: &[u8], size: usize) -> Result<Lines, PsvF
         return Ok(Lines::new(alloc));
     }
     let mut reader = PsvReader::new(alloc)?;
-    match feed_pieces(&mut reader, body, size) {
-        Ok(()) => reader.finish(),
-        Err(fault) => Err(fault),
+    let mut rest = body;
+    'pieces: while !rest.is_empty() {
+        let (piece, behind) = rest.split_at(rest.len().min(size));
+        reader.feed(piece)?;
+        rest = behind;
     }
-}
-
-/// The fault of a batch that comes in pieces of this size; none where it has none.
-fn fault_in_pieces(alloc: Global, body: &[u8], size: usize) -> Option<PsvFault> {
-    said_in_pieces(alloc, body, size).err()
+    reader.finish()
 }
 
 /// Whether the same is said.
@@ -577,7 +533,7 @@ const FED_BATCHES: [&[u8]; 4] = [
 
 /// Whether a batch says the same in pieces of this size as whole.
 fn is_same_in_pieces(alloc: Global, body: &[u8], size: usize) -> bool {
-    is_same(&said_in_pieces(alloc, body, size), &said(alloc, body))
+    is_same(&said_in_pieces(alloc, body, size), &said(alloc, &[body]))
 }
 
 #[test]
@@ -593,8 +549,12 @@ fn says_the_same_in_any_pieces(rt: HostRuntime) {
 #[test]
 fn finds_the_first_fault_in_any_pieces(rt: HostRuntime) {
     for &(body, fault, line) in &FAULTY {
-        let found = fault_in_pieces(rt.alloc(), body, 3);
-        assert_eq!(rt; found, Some(PsvFault::Header { fault, line }), "{body:?}");
+        let fed = said_in_pieces(rt.alloc(), body, 3);
+        assert_eq!(rt;
+            fed.err(),
+            Some(PsvFault::Header { fault, line }),
+            "{body:?}"
+        );
     }
 }
 
@@ -619,40 +579,20 @@ const ENDINGS: [(&[u8], Option<(u32, Option<RuleCode>)>); 4] = [
     ),
 ];
 
-/// The lines above those ends.
-const ABOVE_ENDINGS: &[u8] = b"# version=2017\ntrkSub|mode|stn|obsTime|ra|dec|astCat\n";
-
-/// Feeds a new reader the lines above an end, and the end in two pieces.
-fn feed_end(reader: &mut PsvReader, front: &[u8], back: &[u8]) -> Result<(), PsvFault>
-    requires new { reader.old ≡ unfed }
-    requires front { length front.now < 100 }
-    requires back { length back.now < 100 }
-{
-    reader.feed(ABOVE_ENDINGS)?;
-    reader.feed(front)?;
-    reader.feed(back)
-}
-
-/// What is said of a batch that ends in these two pieces, where these are short.
-fn said_in_two(alloc: Global, front: &[u8], back: &[u8]) -> Result<Lines, PsvFault> {
-    if front.len() > 99 || back.len() > 99 {
-        return Ok(Lines::new(alloc));
-    }
-    let mut reader = PsvReader::new(alloc)?;
-    match feed_end(&mut reader, front, back) {
-        Ok(()) => reader.finish(),
-        Err(fault) => Err(fault),
-    }
-}
-
-/// The number of the only line of a batch that ends so, fed in pieces, the last of which has so many bytes, and the rule
-/// that the line breaks.
+/// The number of the only line of a batch that ends so, fed in two pieces, the second of which has so many bytes, and the
+/// rule that the line breaks.
 fn rule_cut_apart(alloc: Global, end: &[u8], last: usize) -> Option<(u32, Option<RuleCode>)> {
-    if last > end.len() {
+    let mut reader = PsvReader::new(alloc).ok()?;
+    reader
+        .feed(b"# version=2017\ntrkSub|mode|stn|obsTime|ra|dec|astCat\n")
+        .ok()?;
+    if end.len() > 99 || last > end.len() {
         return None;
     }
     let (front, back) = end.split_at(end.len() - last);
-    let line = only_line(&said_in_two(alloc, front, back))?;
+    reader.feed(front).ok()?;
+    reader.feed(back).ok()?;
+    let line = only_line(&reader.finish())?;
     Some((line.number, line.read.err()))
 }
 

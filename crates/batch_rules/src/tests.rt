@@ -111,78 +111,41 @@ fn seen(who: Who, station: &[u8], time: i64, dec: i64) -> Option<Sighting> {
 // A line of a batch: who, where, when, at which declination, and the rule that it breaks.
 type Row = (Who, &'static [u8], i64, i64, Option<RuleCode>);
 
-fn add(lines: &mut Lines, row: &Row) -> bool {
-    let (who, station, time, dec, _fault) = *row;
-    match seen(who, station, time, dec) {
-        Some(s) => {
-            let line = Line {
-                number: 1,
-                read: Ok(s),
-            };
-            lines.push(line).is_ok()
-        }
-        None => false,
-    }
-}
-
-fn lines(alloc: Global, rows: &[Row]) -> Option<Lines> {
+fn lines(alloc: Global, rows: &[Row]) -> Result<Lines, NoMemory> {
     let mut lines = ItemList::new(alloc);
-    for row in rows {
-        if !add(&mut lines, row) {
-            return None;
-        }
+    for (who, station, time, dec, _fault) in rows {
+        let Some(s) = seen(*who, station, *time, *dec) else {
+            return Err(AllocError);
+        };
+        lines.push(Line {
+            number: 1,
+            read: Ok(s),
+        })?;
     }
-    Some(lines)
+    Ok(lines)
 }
 
-// Enters a station that serves on all days; false where it has days already or memory was refused.
-fn enter(tables: &mut Tables, code: [u8; 3]) -> bool {
-    if tables.overlaps(code, FROM, TO) {
-        return false;
-    }
-    match tables.with_station(code, FROM, TO) {
-        Ok(more) => {
-            *tables = more;
-            true
-        }
-        Err(_) => false,
-    }
-}
-
-// Tables with two stations.
 fn tables(alloc: Global) -> Result<Tables, NoMemory> {
     let mut tables = Tables::new(alloc)?;
-    if enter(&mut tables, *b"703") && enter(&mut tables, *b"W84") {
-        Ok(tables)
-    } else {
-        Err(AllocError)
-    }
-}
-
-// The rulings on the lines of a batch that comes at this moment.
-fn ruled(alloc: Global, tables: &Tables, moment: Instant, rows: &[Row]) -> Option<Rulings> {
-    match lines(alloc, rows) {
-        Some(batch) => judge(alloc, tables, &Office, moment, &batch).ok(),
-        None => None,
-    }
-}
-
-// Whether the rulings find the faults beside the lines.
-fn are_wanted(rulings: &[Ruling], rows: &[Row]) -> bool {
-    for (ruling, row) in rulings.iter().zip(rows) {
-        if ruling.fault != row.4 {
-            return false;
+    for code in [*b"703", *b"W84"] {
+        if tables.overlaps(code, FROM, TO) {
+            return Err(AllocError);
         }
+        tables = tables.with_station(code, FROM, TO)?;
     }
-    rulings.len() == rows.len()
+    Ok(tables)
 }
 
 // Whether the lines break the rules beside them, in a batch that comes at this moment.
-fn breaks(alloc: Global, tables: &Tables, moment: Instant, rows: &[Row]) -> bool {
-    match ruled(alloc, tables, moment, rows) {
-        Some(rulings) => are_wanted(rulings.as_slice(), rows),
-        None => false,
-    }
+fn breaks(alloc: Global, tables: &Tables, moment: Instant, rows: &[Row]) -> Result<bool, NoMemory> {
+    let batch = lines(alloc, rows)?;
+    let rulings = judge(alloc, tables, &Office, moment, &batch)?;
+    let same = rulings
+        .as_slice()
+        .iter()
+        .zip(rows)
+        .all(|(ruling, row)| ruling.fault == row.4);
+    Ok(same && rulings.len() == rows.len() as u64)
 }
 
 const A: Who = Who::Sub(b'A');
@@ -269,60 +232,41 @@ const BATCHES: &[&[Row]] = &[
     &[(A, b"W85", NIGHT, 0, Some(RuleCode::T1))],
 ];
 
-// The first batch whose lines break other rules than those beside them.
-fn wrong_batch(alloc: Global, tables: &Tables, moment: Instant) -> Option<usize> {
-    for (place, rows) in BATCHES.iter().enumerate() {
-        if !breaks(alloc, tables, moment, rows) {
-            return Some(place);
-        }
-    }
-    None
-}
-
 #[test]
 fn rules_at_their_edges(rt: HostRuntime) -> Result<(), Fail> {
-    let moment = Instant::new(FROM_2100 + DAY).ok_or("a moment")?;
     let tables = tables(rt.alloc())?;
-    assert_eq!(rt; wrong_batch(rt.alloc(), &tables, moment), None);
+    let moment = Instant::new(FROM_2100 + DAY);
+    for (place, rows) in BATCHES.iter().enumerate() {
+        if let Some(moment) = moment {
+            assert!(rt; breaks(rt.alloc(), &tables, moment, rows)?, "batch {place}");
+        }
+    }
     Ok(())
 }
 
 // Groups that alternate, with a refused line before them.
-const ALTERNATING: [Row; 4] = [
-    (Who::Order(3), S703, NIGHT, 0, None),
-    (Who::Order(2), S703, NIGHT, 1, None),
-    (Who::Order(1), S703, NIGHT, 2, None),
-    (Who::Order(2), S703, NIGHT + 1, 1, None),
-];
-
-fn group_at(rulings: &[Ruling], place: usize) -> Option<u32> {
-    Some(rulings.get(place)?.group)
-}
-
-// How many groups those lines have, and the group of each.
-fn groups(alloc: Global, tables: &Tables, moment: Instant) -> Option<(u32, [Option<u32>; 4])> {
-    match ruled(alloc, tables, moment, &ALTERNATING) {
-        Some(rulings) => {
-            let list = rulings.as_slice();
-            let places = [
-                group_at(list, 0),
-                group_at(list, 1),
-                group_at(list, 2),
-                group_at(list, 3),
-            ];
-            Some((rulings.groups(), places))
-        }
-        None => None,
-    }
+fn groups(alloc: Global, tables: &Tables) -> Result<(u32, [Option<u32>; 4]), NoMemory> {
+    let rows = [
+        (Who::Order(3), S703, NIGHT, 0, None),
+        (Who::Order(2), S703, NIGHT, 1, None),
+        (Who::Order(1), S703, NIGHT, 2, None),
+        (Who::Order(2), S703, NIGHT + 1, 1, None),
+    ];
+    let batch = lines(alloc, &rows)?;
+    let Some(moment) = Instant::new(FROM_2100) else {
+        return Err(AllocError);
+    };
+    let rulings = judge(alloc, tables, &Office, moment, &batch)?;
+    let of = |place: usize| rulings.as_slice().get(place).map(|ruling| ruling.group);
+    Ok((rulings.groups(), [of(0), of(1), of(2), of(3)]))
 }
 
 #[test]
 fn groups_by_their_first_accepted_lines(rt: HostRuntime) -> Result<(), Fail> {
-    let moment = Instant::new(FROM_2100).ok_or("a moment")?;
     let tables = tables(rt.alloc())?;
     assert_eq!(rt;
-        groups(rt.alloc(), &tables, moment),
-        Some((2, [Some(0), Some(0), Some(1), Some(0)]))
+        groups(rt.alloc(), &tables)?,
+        (2, [Some(0), Some(0), Some(1), Some(0)])
     );
     Ok(())
 }

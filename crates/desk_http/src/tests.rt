@@ -3,6 +3,7 @@ use act_model::{Body, Excess, Part, Refusal, Reply, Request, read_verb};
 use desk_io::{MemSink, MemSource};
 use item_list::Bytes;
 use std::alloc::Global;
+use std::process::Abort;
 use std::test::Fail;
 
 // What is heard first of a text: a request with its key, its number, the word of its verb (an empty one for an unknown
@@ -310,43 +311,43 @@ fn hears_all(alloc: Global, source: &mut MemSource, wants: &[Want]) -> bool {
     true
 }
 
-// Whether these are heard of a text that comes in pieces of at most so many bytes.
-fn is_heard(alloc: Global, text: &[u8], greatest: usize, wants: &[Want]) -> bool {
-    if greatest == 0 {
-        return false;
-    }
-    match MemSource::new(alloc, text, greatest, &[]) {
-        Ok(mut source) => hears_all(alloc, &mut source, wants),
-        Err(_) => false,
-    }
+fn expect(
+    rt: &impl Abort,
+    alloc: Global,
+    text: &str,
+    greatest: usize,
+    wants: &[Want],
+) -> Result<(), Fail> {
+    assert!(rt; greatest > 0);
+    let mut source = MemSource::new(alloc, text.as_bytes(), greatest, &[])?;
+    assert!(rt;
+        hears_all(alloc, &mut source, wants),
+        "{text} by {greatest}"
+    );
+    Ok(())
 }
 
-// Whether a message is heard so in pieces of several sizes.
-fn is_heard_in_pieces(alloc: Global, text: &str, want: Want) -> bool {
-    let text = text.as_bytes();
-    is_heard(alloc, text, 1, &[want])
-        && is_heard(alloc, text, 7, &[want])
-        && is_heard(alloc, text, 4_096, &[want])
-}
-
-// The first text of which something else is heard.
-fn wrong_text(alloc: Global, rows: &[Row]) -> Option<&'static str> {
-    for (text, want) in rows {
-        if !is_heard_in_pieces(alloc, text, *want) {
-            return Some(*text);
-        }
-    }
-    None
+/// A message that comes in pieces of several sizes.
+fn expect_in_pieces(rt: &impl Abort, alloc: Global, text: &str, want: Want) -> Result<(), Fail> {
+    expect(rt, alloc, text, 1, &[want])?;
+    expect(rt, alloc, text, 7, &[want])?;
+    expect(rt, alloc, text, 4_096, &[want])
 }
 
 #[test]
-fn routes(rt: HostRuntime) {
-    assert_eq!(rt; wrong_text(rt.alloc(), &ROUTES), None);
+fn routes(rt: HostRuntime) -> Result<(), Fail> {
+    for (text, want) in ROUTES {
+        expect_in_pieces(&rt, rt.alloc(), text, want)?;
+    }
+    Ok(())
 }
 
 #[test]
-fn fields(rt: HostRuntime) {
-    assert_eq!(rt; wrong_text(rt.alloc(), &FIELDS), None);
+fn fields(rt: HostRuntime) -> Result<(), Fail> {
+    for (text, want) in FIELDS {
+        expect_in_pieces(&rt, rt.alloc(), text, want)?;
+    }
+    Ok(())
 }
 
 // Three messages, one at once after the other.
@@ -354,265 +355,195 @@ const STREAM: &str = "POST /v1/act/7/submit80 HTTP/1.1\r\nContent-Length: 3\r\n\
     \nPOST /v1/act/7/submit80 HTTP/1.1\nContent-Length: 2\n\nxy\
     POST /v1/act/7/submit80 HTTP/1.1\r\nConnection: close\r\n\r\n";
 
-const STREAM_HEARD: [Want; 4] = [
-    Want::Asks("", Some(7), "submit80", "abc", false),
-    Want::Asks("", Some(7), "submit80", "xy", false),
-    Want::Asks("", Some(7), "submit80", "", true),
-    Want::End,
-];
-
 #[test]
-fn pipelined(rt: HostRuntime) {
+fn pipelined(rt: HostRuntime) -> Result<(), Fail> {
+    let all = [
+        Want::Asks("", Some(7), "submit80", "abc", false),
+        Want::Asks("", Some(7), "submit80", "xy", false),
+        Want::Asks("", Some(7), "submit80", "", true),
+        Want::End,
+    ];
     for greatest in [1, 2, 3, 50, 4_096] {
-        let heard = is_heard(rt.alloc(), STREAM.as_bytes(), greatest, &STREAM_HEARD);
-        assert!(rt; heard, "by {greatest}");
+        expect(&rt, rt.alloc(), STREAM, greatest, &all)?;
     }
-}
-
-// A line end behind the last body is a part of a further message.
-#[test]
-fn line_end_behind_a_body(rt: HostRuntime) {
-    let heard = is_heard(
+    // A line end behind the last body is a part of a further message.
+    expect(
+        &rt,
         rt.alloc(),
-        b"POST /v1/act/7/submit80 HTTP/1.1\r\nContent-Length: 2\r\n\r\nab\r\n",
+        "POST /v1/act/7/submit80 HTTP/1.1\r\nContent-Length: 2\r\n\r\nab\r\n",
         4_096,
         &[
             Want::Asks("", Some(7), "submit80", "ab", false),
             Want::Unread,
         ],
-    );
-    assert!(rt; heard);
+    )
 }
-
-// Whether these are heard of the three messages where this read fails.
-fn is_heard_past(alloc: Global, fails: u64, wants: &[Want]) -> bool {
-    match MemSource::new(alloc, STREAM.as_bytes(), 40, &[fails]) {
-        Ok(mut source) => hears_all(alloc, &mut source, wants),
-        Err(_) => false,
-    }
-}
-
-const PAST_FAULTS: [(u64, [Want; 2]); 2] = [
-    (
-        1,
-        [
-            Want::Fault,
-            Want::Asks("", Some(7), "submit80", "abc", false),
-        ],
-    ),
-    (
-        3,
-        [
-            Want::Asks("", Some(7), "submit80", "abc", false),
-            Want::Fault,
-        ],
-    ),
-];
 
 #[test]
-fn source_fails(rt: HostRuntime) {
-    for (fails, wants) in PAST_FAULTS {
-        let heard = is_heard_past(rt.alloc(), fails, &wants);
-        assert!(rt; heard, "read {fails}");
+fn source_fails(rt: HostRuntime) -> Result<(), Fail> {
+    for (fails, wants) in [
+        (
+            1,
+            [
+                Want::Fault,
+                Want::Asks("", Some(7), "submit80", "abc", false),
+            ],
+        ),
+        (
+            3,
+            [
+                Want::Asks("", Some(7), "submit80", "abc", false),
+                Want::Fault,
+            ],
+        ),
+    ] {
+        let mut source = MemSource::new(rt.alloc(), STREAM.as_bytes(), 40, &[fails])?;
+        assert!(&rt; hears_all(rt.alloc(), &mut source, &wants), "read {fails}");
     }
+    Ok(())
 }
 
-// Puts a request line, so many fields of five bytes, and more text; false where memory was refused.
-fn put_head(bytes: &mut Vec<u8>, fields: usize, more: &str) -> bool {
-    if bytes
-        .extend_from_slice(b"POST /v1/act/7/submit80 HTTP/1.1\r\n")
-        .is_err()
-    {
-        return false;
-    }
+// A request line, so many fields of five bytes, and more text, in 8 pieces or more.
+fn long_head(alloc: Global, fields: usize, more: &str, size: usize) -> Result<Vec<u8>, Fail> {
+    let mut bytes = Vec::from_slice(alloc, b"POST /v1/act/7/submit80 HTTP/1.1\r\n")?;
     for _ in 0..fields {
-        if bytes.extend_from_slice(b"a:b\r\n").is_err() {
-            return false;
-        }
+        bytes.extend_from_slice(b"a:b\r\n")?;
     }
-    bytes.extend_from_slice(more.as_bytes()).is_ok()
-}
-
-// Fills the bytes up to this length, and puts more text; false where memory was refused.
-fn fill(bytes: &mut Vec<u8>, length: usize, more: &str) -> bool {
-    if bytes.len() < length && bytes.resize(length, b'x').is_err() {
-        return false;
+    bytes.extend_from_slice(more.as_bytes())?;
+    if bytes.len() < size {
+        bytes.resize(size, b'x')?;
     }
-    bytes.extend_from_slice(more.as_bytes()).is_ok()
+    Ok(bytes)
 }
 
-// What is heard of a head: so many fields, more text, bytes up to this length, and its end.
-type HeadRow = (usize, &'static str, usize, &'static str, Want);
-
-const LIMITS: [HeadRow; 5] = [
-    (
-        32,
-        "\r\n",
-        0,
-        "",
-        Want::Asks("", Some(7), "submit80", "", false),
-    ),
-    (33, "\r\n", 0, "", Want::Unread),
-    // Heads of 8,192 and of 8,193 bytes, and 8,192 bytes in which none ends.
-    (
-        0,
-        "a:",
-        8_188,
-        "\r\n\r\n",
-        Want::Asks("", Some(7), "submit80", "", false),
-    ),
-    (0, "a:", 8_189, "\r\n\r\n", Want::Unread),
-    (0, "a:", 8_192, "", Want::Unread),
-];
-
-fn is_limit(alloc: Global, row: &HeadRow) -> bool {
-    let (fields, more, length, end, want) = *row;
-    let mut bytes = Vec::new(alloc);
-    put_head(&mut bytes, fields, more)
-        && fill(&mut bytes, length, end)
-        && is_heard(alloc, &bytes, 1_000, &[want])
-}
-
-// The place of the first of these heads of which something else is heard.
-fn wrong_limit(alloc: Global) -> Option<usize> {
-    for (place, row) in LIMITS.iter().enumerate() {
-        if !is_limit(alloc, row) {
-            return Some(place);
-        }
-    }
-    None
-}
-
-#[test]
-fn limits_of_heads(rt: HostRuntime) {
-    assert_eq!(rt; wrong_limit(rt.alloc()), None);
-}
-
-// What is said of a long body.
-fn body_size(wire: &mut Wire, source: &mut MemSource) -> Option<u64> {
-    match wire.read_request(source) {
-        Heard::Request { request, .. } => match &request.body {
-            Body::Whole(bytes) => Some(bytes.len()),
-            Body::TooLong(size) => Some(*size),
-            Body::NoRoom => None,
-        },
-        Heard::End => None,
-        Heard::Unread => None,
-        Heard::ReadFault => None,
-    }
-}
-
-// Whether a body of this length is said to have it, and the next message is heard.
-fn is_body_passed(alloc: Global, source: &mut MemSource, size: u64) -> bool {
-    match Wire::new(alloc) {
-        Ok(mut wire) => {
-            body_size(&mut wire, source) == Some(size)
-                && hears(
-                    &mut wire,
-                    source,
-                    Want::Asks("", Some(7), "submit80", "", false),
-                )
-        }
-        Err(_) => false,
-    }
-}
-
-fn is_text_passed(alloc: Global, text: &[u8], size: u64) -> bool {
-    match MemSource::new(alloc, text, 60_000, &[]) {
-        Ok(mut source) => is_body_passed(alloc, &mut source, size),
-        Err(_) => false,
-    }
-}
-
-// Whether a message with this field and a body of this length is passed, and the next one heard.
-fn is_long_passed(alloc: Global, field: &str, size: u32) -> bool {
-    let mut bytes = Vec::new(alloc);
-    if !put_head(&mut bytes, 0, field) {
-        return false;
-    }
-    let length = bytes.len().saturating_add(size as usize);
-    fill(
-        &mut bytes,
-        length,
-        "POST /v1/act/7/submit80 HTTP/1.1\r\n\r\n",
-    ) && is_text_passed(alloc, &bytes, size as u64)
-}
-
-const LONG_BODIES: [(&str, u32); 2] = [
-    ("Content-Length: 1048576\r\n\r\n", 1_048_576),
-    ("Content-Length: 1048577\r\n\r\n", 1_048_577),
-];
-
-#[test]
-fn long_bodies(rt: HostRuntime) {
-    for (field, size) in LONG_BODIES {
-        assert!(rt; is_long_passed(rt.alloc(), field, size), "{size} bytes");
-    }
-}
-
-// Whether the answer to this reply is this text.
-fn is_answered(alloc: Global, reply: &Reply, last: bool, want: &str) -> bool {
-    match MemSink::new(alloc, 400, &[]) {
-        Ok(mut sink) => {
-            write_reply(alloc, &mut sink, reply, last).is_ok() && sink.bytes() == want.as_bytes()
-        }
-        Err(_) => false,
-    }
-}
-
-fn is_refusal(alloc: Global, refusal: Refusal, last: bool, want: &str) -> bool {
-    is_answered(alloc, &Reply::Refused(refusal), last, want)
-}
-
-#[test]
-fn answer_of_an_act(rt: HostRuntime) -> Result<(), Fail> {
-    let done = Reply::Done(Bytes::from_slice(rt.alloc(), b"receipt 1\n")?);
-    let text =
-        "HTTP/1.1 200 OK\r\nContent-Length: 10\r\nContent-Type: text/plain\r\n\r\nreceipt 1\n";
-    assert!(rt; is_answered(rt.alloc(), &done, false, text));
+fn expect_long(rt: &impl Abort, alloc: Global, bytes: &[u8], want: Want) -> Result<(), Fail> {
+    let mut source = MemSource::new(alloc, bytes, 1_000, &[])?;
+    assert!(rt;
+        hears_all(alloc, &mut source, &[want]),
+        "{} bytes",
+        bytes.len()
+    );
     Ok(())
 }
 
 #[test]
-fn answers_of_refusals(rt: HostRuntime) {
-    assert!(rt;
-        is_refusal(
-            rt.alloc(),
-            Refusal::Unread(Part::Verb),
-            true,
-            "HTTP/1.1 400 Bad Request\r\nContent-Length: 22\r\nContent-Type: text/plain\r\nConnection: close\r\n\r\nrefused 1 Unread verb\n"
-        )
-    );
-    assert!(rt;
-        is_refusal(
-            rt.alloc(),
-            Refusal::TooLarge(Excess::Lines(10_001)),
-            false,
-            "HTTP/1.1 413 Content Too Large\r\nContent-Length: 32\r\nContent-Type: text/plain\r\n\r\nrefused 14 TooLarge lines 10001\n"
-        )
-    );
-    assert!(rt;
-        is_refusal(
-            rt.alloc(),
-            Refusal::NoMemory,
-            false,
-            "HTTP/1.1 507 Insufficient Storage\r\nContent-Length: 20\r\nContent-Type: text/plain\r\n\r\nrefused 17 NoMemory\n"
-        )
-    );
+fn limits_of_heads(rt: HostRuntime) -> Result<(), Fail> {
+    let few = long_head(rt.alloc(), 32, "\r\n", 0)?;
+    expect_long(
+        &rt,
+        rt.alloc(),
+        &few,
+        Want::Asks("", Some(7), "submit80", "", false),
+    )?;
+    let many = long_head(rt.alloc(), 33, "\r\n", 0)?;
+    expect_long(&rt, rt.alloc(), &many, Want::Unread)?;
+    // Heads of 8,192 and of 8,193 bytes, and 8,192 bytes in which none ends.
+    for (size, want) in [
+        (8_192, Want::Asks("", Some(7), "submit80", "", false)),
+        (8_193, Want::Unread),
+    ] {
+        let mut head = long_head(rt.alloc(), 0, "a:", size - 4)?;
+        head.extend_from_slice(b"\r\n\r\n")?;
+        expect_long(&rt, rt.alloc(), &head, want)?;
+    }
+    let endless = long_head(rt.alloc(), 0, "a:", 8_192)?;
+    expect_long(&rt, rt.alloc(), &endless, Want::Unread)
 }
 
-// Whether an answer into a sink that takes so many bytes is a failed write, and the sink took this text.
-fn is_cut(alloc: Global, capacity: usize, want: &[u8]) -> bool {
-    match MemSink::new(alloc, capacity, &[]) {
-        Ok(mut sink) => {
-            let sent = write_reply(alloc, &mut sink, &Reply::Refused(Refusal::Role), false);
-            sent == Err(SendFault::WriteFault) && sink.bytes() == want
-        }
-        Err(_) => false,
-    }
+// What is said of a long body, and whether the next message is heard.
+fn body_of(alloc: Global, source: &mut MemSource) -> Option<(u64, bool)> {
+    let mut wire = Wire::new(alloc).ok()?;
+    let size = match wire.read_request(source) {
+        Heard::Request { request, .. } => match &request.body {
+            Body::Whole(bytes) => bytes.len(),
+            Body::TooLong(size) => *size,
+            Body::NoRoom => 0,
+        },
+        _ => return None,
+    };
+    Some((
+        size,
+        hears(
+            &mut wire,
+            source,
+            Want::Asks("", Some(7), "submit80", "", false),
+        ),
+    ))
 }
 
 #[test]
-fn answer_into_a_narrow_sink(rt: HostRuntime) {
-    assert!(rt; is_cut(rt.alloc(), 12, b"HTTP/1.1 403"));
+fn long_bodies(rt: HostRuntime) -> Result<(), Fail> {
+    for (field, size) in [
+        ("Content-Length: 1048576\r\n\r\n", 1_048_576),
+        ("Content-Length: 1048577\r\n\r\n", 1_048_577),
+    ] {
+        let head = long_head(rt.alloc(), 0, field, 0)?;
+        let mut bytes = long_head(rt.alloc(), 0, field, head.len() + size)?;
+        bytes.extend_from_slice(b"POST /v1/act/7/submit80 HTTP/1.1\r\n\r\n")?;
+        let mut source = MemSource::new(rt.alloc(), &bytes, 60_000, &[])?;
+        let told = body_of(rt.alloc(), &mut source);
+        assert_eq!(&rt; told, Some((size as u64, true)), "{size} bytes");
+    }
+    Ok(())
+}
+
+fn expect_answer(
+    rt: &impl Abort,
+    alloc: Global,
+    reply: &Reply,
+    last: bool,
+    want: &str,
+) -> Result<(), Fail> {
+    let mut sink = MemSink::new(alloc, 400, &[])?;
+    let sent = write_reply(alloc, &mut sink, reply, last);
+    assert_eq!(rt; sent, Ok(()), "{want}");
+    assert_eq!(rt; sink.bytes(), want.as_bytes());
+    Ok(())
+}
+
+#[test]
+fn answers(rt: HostRuntime) -> Result<(), Fail> {
+    let done = Reply::Done(Bytes::from_slice(rt.alloc(), b"receipt 1\n")?);
+    expect_answer(
+        &rt,
+        rt.alloc(),
+        &done,
+        false,
+        "HTTP/1.1 200 OK\r\nContent-Length: 10\r\nContent-Type: text/plain\r\n\r\nreceipt 1\n",
+    )?;
+    expect_answer(
+        &rt,
+        rt.alloc(),
+        &Reply::Refused(Refusal::Unread(Part::Verb)),
+        true,
+        "HTTP/1.1 400 Bad Request\r\nContent-Length: 22\r\nContent-Type: text/plain\r\nConnection: close\r\n\r\nrefused 1 Unread verb\n",
+    )?;
+    expect_answer(
+        &rt,
+        rt.alloc(),
+        &Reply::Refused(Refusal::TooLarge(Excess::Lines(10_001))),
+        false,
+        "HTTP/1.1 413 Content Too Large\r\nContent-Length: 32\r\nContent-Type: text/plain\r\n\r\nrefused 14 TooLarge lines 10001\n",
+    )?;
+    expect_answer(
+        &rt,
+        rt.alloc(),
+        &Reply::Refused(Refusal::NoMemory),
+        false,
+        "HTTP/1.1 507 Insufficient Storage\r\nContent-Length: 20\r\nContent-Type: text/plain\r\n\r\nrefused 17 NoMemory\n",
+    )
+}
+
+#[test]
+fn answer_into_a_narrow_sink(rt: HostRuntime) -> Result<(), Fail> {
+    let mut narrow = MemSink::new(rt.alloc(), 12, &[])?;
+    let sent = write_reply(
+        rt.alloc(),
+        &mut narrow,
+        &Reply::Refused(Refusal::Role),
+        false,
+    );
+    assert_eq!(&rt; sent, Err(SendFault::WriteFault));
+    assert_eq!(&rt; narrow.bytes(), b"HTTP/1.1 403".as_slice());
+    Ok(())
 }

@@ -1,6 +1,7 @@
 use super::*;
+use item_list::NoMemory;
 use obs_record::Short;
-use std::alloc::Global;
+use std::alloc::{AllocError, Global};
 use std::test::Fail;
 
 // Days since 1970-01-01 of the dates beside them.
@@ -22,58 +23,19 @@ const FROM_2016: i32 = 16_801; // 2016-01-01
 
 const TO_2020: i32 = 18_627; // 2020-12-31
 
-// Enters a station row; false where it may not be entered or memory was refused.
-fn enter(tables: &mut Tables, code: [u8; 3], from: i32, to: i32) -> bool {
+// The tables with a row more, where the row may be entered.
+fn entered(tables: Tables, code: [u8; 3], from: i32, to: i32) -> Result<Tables, NoMemory> {
     if from > to || tables.overlaps(code, from, to) {
-        return false;
+        return Err(AllocError);
     }
-    match tables.with_station(code, from, to) {
-        Ok(more) => {
-            *tables = more;
-            true
-        }
-        Err(_) => false,
-    }
+    tables.with_station(code, from, to)
 }
 
 // One station with one span of days, and one with two.
-fn enter_spans(tables: &mut Tables) -> bool {
-    enter(tables, *b"W84", FROM_2012, TO_2014)
-        && enter(tables, *b"703", FROM_1998, TO_2199)
-        && enter(tables, *b"W84", FROM_2016, TO_2020)
-}
-
-// The tables with a code row more; None where it may not be entered or memory was refused.
-fn coded(tables: &Tables, kind: Kind, letter: u8, word: &[u8]) -> Option<Tables> {
-    let word = Short::new(word);
-    if tables.has_code(kind, letter, word) {
-        return None;
-    }
-    tables.with_code(kind, letter, word).ok()
-}
-
-fn enter_code(tables: &mut Tables, kind: Kind, letter: u8, word: &[u8]) -> bool {
-    match coded(tables, kind, letter, word) {
-        Some(more) => {
-            *tables = more;
-            true
-        }
-        None => false,
-    }
-}
-
-// A row of each kind.
-fn enter_codes(tables: &mut Tables) -> bool {
-    enter_code(tables, Kind::Catalogue, b'V', b"Gaia2")
-        && enter_code(tables, Kind::Band, b'V', b"Vj")
-        && enter_code(tables, Kind::Mode, b'C', b"CCD")
-}
-
-// The tables with these rows.
-fn filled(alloc: Global) -> Option<Tables> {
-    let mut tables = Tables::new(alloc).ok()?;
-    let done = enter_spans(&mut tables) && enter_codes(&mut tables);
-    done.then_some(tables)
+fn three_spans(alloc: Global) -> Result<Tables, NoMemory> {
+    let first = entered(Tables::new(alloc)?, *b"W84", FROM_2012, TO_2014)?;
+    let second = entered(first, *b"703", FROM_1998, TO_2199)?;
+    entered(second, *b"W84", FROM_2016, TO_2020)
 }
 
 const DAYS: [(&[u8], i32, Serving); 10] = [
@@ -89,16 +51,13 @@ const DAYS: [(&[u8], i32, Serving); 10] = [
     (b"W841", FROM_2016, Serving::Unknown),
 ];
 
-fn standing(alloc: Global, code: &[u8], date: i32) -> Option<Serving> {
-    Some(filled(alloc)?.station(Short::new(code), date))
-}
-
 #[test]
-fn stations_on_days(rt: HostRuntime) {
+fn stations_on_days(rt: HostRuntime) -> Result<(), Fail> {
+    let tables = three_spans(rt.alloc())?;
     for (code, date, want) in DAYS {
-        let found = standing(rt.alloc(), code, date);
-        assert_eq!(rt; found, Some(want), "on {date}");
+        assert_eq!(rt; tables.station(Short::new(code), date), want, "on {date}");
     }
+    Ok(())
 }
 
 const SPANS: [([u8; 3], i32, i32, bool); 5] = [
@@ -109,16 +68,33 @@ const SPANS: [([u8; 3], i32, i32, bool); 5] = [
     (*b"W85", FROM_1998, TO_2199, false),
 ];
 
-fn overlaps(alloc: Global, code: [u8; 3], from: i32, to: i32) -> Option<bool> {
-    Some(filled(alloc)?.overlaps(code, from, to))
+#[test]
+fn spans_overlap(rt: HostRuntime) -> Result<(), Fail> {
+    let tables = three_spans(rt.alloc())?;
+    for (code, from, to, want) in SPANS {
+        assert_eq!(rt;
+            tables.overlaps(code, from, to),
+            want,
+            "from {from} to {to}"
+        );
+    }
+    Ok(())
 }
 
-#[test]
-fn spans_overlap(rt: HostRuntime) {
-    for (code, from, to, want) in SPANS {
-        let found = overlaps(rt.alloc(), code, from, to);
-        assert_eq!(rt; found, Some(want), "from {from} to {to}");
+// The tables with a row more, where the row may be entered.
+fn coded(tables: Tables, kind: Kind, letter: u8, word: &[u8]) -> Result<Tables, NoMemory> {
+    let word = Short::new(word);
+    if tables.has_code(kind, letter, word) {
+        return Err(AllocError);
     }
+    tables.with_code(kind, letter, word)
+}
+
+// A row of each kind.
+fn three_codes(alloc: Global) -> Result<Tables, NoMemory> {
+    let first = coded(Tables::new(alloc)?, Kind::Catalogue, b'V', b"Gaia2")?;
+    let second = coded(first, Kind::Band, b'V', b"Vj")?;
+    coded(second, Kind::Mode, b'C', b"CCD")
 }
 
 // A kind with a letter and its word, or with an empty word where no row has the letter.
@@ -130,25 +106,18 @@ const LETTERS: [(Kind, u8, &[u8]); 5] = [
     (Kind::Band, b'C', b""),
 ];
 
-// The word of a letter, None within where no row has the letter.
-fn word_of(alloc: Global, kind: Kind, letter: u8) -> Option<Option<Short>> {
-    Some(filled(alloc)?.word(kind, letter))
-}
-
-fn word_wanted(word: &[u8]) -> Option<Short> {
-    if word.is_empty() {
-        None
-    } else {
-        Some(Short::new(word))
-    }
-}
-
 #[test]
-fn words_of_letters(rt: HostRuntime) {
+fn words_of_letters(rt: HostRuntime) -> Result<(), Fail> {
+    let tables = three_codes(rt.alloc())?;
     for (kind, letter, word) in LETTERS {
-        let found = word_of(rt.alloc(), kind, letter);
-        assert_eq!(rt; found, Some(word_wanted(word)), "of {letter}");
+        let want = if word.is_empty() {
+            None
+        } else {
+            Some(Short::new(word))
+        };
+        assert_eq!(rt; tables.word(kind, letter), want, "of {letter}");
     }
+    Ok(())
 }
 
 // A kind with a word and its letter, or with 0 where no row has the word.
@@ -159,16 +128,17 @@ const WORDS: [(Kind, &[u8], u8); 4] = [
     (Kind::Mode, b"CC", 0),
 ];
 
-fn letter_of(alloc: Global, kind: Kind, word: &[u8]) -> Option<u8> {
-    Some(filled(alloc)?.letter(kind, Short::new(word)).unwrap_or(0))
-}
-
 #[test]
-fn letters_of_words(rt: HostRuntime) {
+fn letters_of_words(rt: HostRuntime) -> Result<(), Fail> {
+    let tables = three_codes(rt.alloc())?;
     for (kind, word, letter) in WORDS {
-        let found = letter_of(rt.alloc(), kind, word);
-        assert_eq!(rt; found, Some(letter), "for {letter}");
+        assert_eq!(rt;
+            tables.letter(kind, Short::new(word)).unwrap_or(0),
+            letter,
+            "for {letter}"
+        );
     }
+    Ok(())
 }
 
 const CODES: [(Kind, u8, &[u8], bool); 4] = [
@@ -178,35 +148,33 @@ const CODES: [(Kind, u8, &[u8], bool); 4] = [
     (Kind::Mode, b'V', b"Vj", false),
 ];
 
-fn is_there(tables: &Tables, kind: Kind, letter: u8, word: &[u8]) -> bool {
-    tables.has_code(kind, letter, Short::new(word))
-}
-
-fn has_code(alloc: Global, kind: Kind, letter: u8, word: &[u8]) -> Option<bool> {
-    Some(is_there(&filled(alloc)?, kind, letter, word))
-}
-
 #[test]
-fn codes_are_there(rt: HostRuntime) {
+fn codes_are_there(rt: HostRuntime) -> Result<(), Fail> {
+    let tables = three_codes(rt.alloc())?;
     for (kind, letter, word, want) in CODES {
-        let found = has_code(rt.alloc(), kind, letter, word);
-        assert_eq!(rt; found, Some(want), "of {letter}");
+        assert_eq!(rt;
+            tables.has_code(kind, letter, Short::new(word)),
+            want,
+            "of {letter}"
+        );
     }
+    Ok(())
 }
 
 // Whether an addition leaves the tables that it was made from without the row, and has it itself.
-fn leaves_the_old(before: &Tables) -> bool {
-    match coded(before, Kind::Band, b'V', b"Vj") {
-        Some(after) => {
-            is_there(&after, Kind::Band, b'V', b"Vj") && !is_there(before, Kind::Band, b'V', b"Vj")
-        }
-        None => false,
+fn leaves_the_old(before: &Tables) -> Result<bool, NoMemory> {
+    let word = Short::new(b"Vj");
+    if before.has_code(Kind::Band, b'V', word) {
+        return Ok(false);
     }
+    let after = before.with_code(Kind::Band, b'V', word)?;
+    Ok(after.has_code(Kind::Band, b'V', word) && !before.has_code(Kind::Band, b'V', word))
 }
 
 #[test]
 fn additions_leave_the_old_rows(rt: HostRuntime) -> Result<(), Fail> {
     let before = Tables::new(rt.alloc())?;
-    assert!(rt; leaves_the_old(&before));
+    let left = leaves_the_old(&before)?;
+    assert!(rt; left);
     Ok(())
 }
