@@ -23,6 +23,7 @@ answers() { # answers TEXT FRAME-WORDS..: after the session, the last answer end
   if [ "$got" = "$want" ]; then echo "ok: $*"; else echo "NOT ok: $*: $got, not $want"; failed=1; fi
 }
 answers "line 10 obs 4 track 1" observer-1 0 receipt examples/receipt
+answers "obs 4 live 2024-03-15T03:40:58.080000000Z 93.150750000000 +23.753500000000" observer-1 0 tracklet examples/receipt
 answers "refused 11 AlreadyRetracted 1" observer-1 4 retract examples/retract.json
 answers "refused 4 Role" observer-1 4 station examples/station.json
 answers "refused 13 AlreadyThere" +founder-1 6 station examples/station.json

@@ -596,10 +596,5 @@ fn tells_of_identified_objects(rt: HostRuntime) {
 
 #[test]
 fn tells_of_everything(rt: HostRuntime) {
-    expect_session(
-        &rt,
-        rt.alloc(),
-        &[&ACTS, &OBJECTS, &TRACKLETS, &NAMES],
-        19,
-    );
+    expect_session(&rt, rt.alloc(), &[&ACTS, &OBJECTS, &TRACKLETS, &NAMES], 19);
 }
