@@ -16,3 +16,6 @@ mod parcels;
 pub use desk::Desk;
 pub use disk_model::Failed;
 pub use obs_journal::{OpenFault, Settled};
+
+#[cfg(test)]
+mod tests;
