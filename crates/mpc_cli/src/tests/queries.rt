@@ -2,10 +2,9 @@
 
 use super::batches::BATCH;
 use super::calls::{NONE, done, expect_run};
-use super::objects::{
-    EA_EB, EA_EC, FIVE, FIVE_TEXT, FOUNDER, MIDNIGHT, MIDNIGHT_TEXT, OBSERVER, Row, TWO, begin,
-    put_rows,
-};
+use super::members::{EA_EB, EA_EC, FIVE, FIVE_TEXT, TWO};
+use super::objects::{MIDNIGHT, MIDNIGHT_TEXT};
+use super::rows::{FOUNDER, OBSERVER, Row, begin, put_rows};
 use super::session::answers;
 use std::alloc::Global;
 use std::process::Abort;

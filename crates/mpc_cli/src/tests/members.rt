@@ -1,0 +1,348 @@
+//! Places of observations, members of objects, and numbers that go on, in one session.
+
+use super::calls::{NONE, done, expect_run};
+use super::rows::{FOUNDER, OBSERVER, Row, begin, put_rows};
+use super::session::answers;
+
+/// Five tracklets of two observations each, of which each second one is 13 hours after the one before.
+pub(super) const FIVE: &str = concat!(
+    "# version=2017\n",
+    "# observatory\n",
+    "! mpcCode 703\n",
+    "trkSub|mode|stn|obsTime|ra|dec|astCat\n",
+    "A1|CCD|703|2024-03-01T00:00:00Z|10.0|1.0|Gaia3\n",
+    "A1|CCD|703|2024-03-01T00:10:00Z|10.1|1.0|Gaia3\n",
+    "A2|CCD|703|2024-03-01T13:00:00Z|11.0|1.0|Gaia3\n",
+    "A2|CCD|703|2024-03-01T13:10:00Z|11.1|1.0|Gaia3\n",
+    "A3|CCD|703|2024-03-02T00:00:00Z|12.0|1.0|Gaia3\n",
+    "A3|CCD|703|2024-03-02T00:10:00Z|12.1|1.0|Gaia3\n",
+    "A4|CCD|703|2024-03-02T13:00:00Z|13.0|1.0|Gaia3\n",
+    "A4|CCD|703|2024-03-02T13:10:00Z|13.1|1.0|Gaia3\n",
+    "A5|CCD|703|2024-03-03T00:00:00Z|14.0|1.0|Gaia3\n",
+    "A5|CCD|703|2024-03-03T00:10:00Z|14.1|1.0|Gaia3\n",
+);
+
+pub(super) const FIVE_TEXT: &str = concat!(
+    "receipt 6\n",
+    "accepted 10 refused 0\n",
+    "line 5 obs 1 track 1\n",
+    "line 6 obs 2 track 1\n",
+    "line 7 obs 3 track 2\n",
+    "line 8 obs 4 track 2\n",
+    "line 9 obs 5 track 3\n",
+    "line 10 obs 6 track 3\n",
+    "line 11 obs 7 track 4\n",
+    "line 12 obs 8 track 4\n",
+    "line 13 obs 9 track 5\n",
+    "line 14 obs 10 track 5\n",
+);
+
+/// Two tracklets more.
+pub(super) const TWO: &str = concat!(
+    "# version=2017\n",
+    "# observatory\n",
+    "! mpcCode 703\n",
+    "trkSub|mode|stn|obsTime|ra|dec|astCat\n",
+    "A6|CCD|703|2024-03-04T00:00:00Z|15.0|1.0|Gaia3\n",
+    "A6|CCD|703|2024-03-04T00:10:00Z|15.1|1.0|Gaia3\n",
+    "A7|CCD|703|2024-03-04T13:00:00Z|16.0|1.0|Gaia3\n",
+    "A7|CCD|703|2024-03-04T13:10:00Z|16.1|1.0|Gaia3\n",
+);
+
+const TWO_TEXT: &str = concat!(
+    "receipt 13\n",
+    "accepted 4 refused 0\n",
+    "line 5 obs 11 track 6\n",
+    "line 6 obs 12 track 6\n",
+    "line 7 obs 13 track 7\n",
+    "line 8 obs 14 track 7\n",
+);
+
+/// A line under a number and a designation.
+const BOTH_NAMES: &str = concat!(
+    "# version=2017\n",
+    "# observatory\n",
+    "! mpcCode 703\n",
+    "permID|provID|mode|stn|obsTime|ra|dec|astCat\n",
+    "620000|2024 EC|CCD|703|2024-03-05T00:00:00Z|17.0|1.0|Gaia3\n",
+);
+
+pub(super) const EA_EB: &str = "{\"principal\":\"2024 EA\",\"secondary\":\"2024 EB\"}";
+
+pub(super) const EA_EC: &str = "{\"principal\":\"2024 EA\",\"secondary\":\"2024 EC\"}";
+
+/// The observations of two objects, and of a tracklet that comes into one of them, stand in one place each.
+const PLACES: [Row; 15] = [
+    (OBSERVER, 1, "submitpsv", FIVE, "200 ", FIVE_TEXT),
+    (
+        FOUNDER,
+        6,
+        "designate",
+        "{\"tracklets\":[1,2]}",
+        "200 ",
+        "receipt 7\nobject 2024 EA K24E00A\n",
+    ),
+    (
+        FOUNDER,
+        7,
+        "designate",
+        "{\"tracklets\":[3,4]}",
+        "200 ",
+        "receipt 8\nobject 2024 EB K24E00B\n",
+    ),
+    (
+        OBSERVER,
+        0,
+        "tally",
+        "",
+        "200 ",
+        "entries 8\nisolated 2\nobjects 8\nretracted 0\naccepted 10\n",
+    ),
+    (FOUNDER, 8, "identify", EA_EB, "200 ", "receipt 9\n"),
+    (
+        OBSERVER,
+        0,
+        "tally",
+        "",
+        "200 ",
+        "entries 9\nisolated 2\nobjects 8\nretracted 0\naccepted 10\n",
+    ),
+    (
+        FOUNDER,
+        9,
+        "attribute",
+        "{\"tracklet\":5,\"to\":\"2024 EB\"}",
+        "200 ",
+        "receipt 10\n",
+    ),
+    (
+        OBSERVER,
+        0,
+        "tally",
+        "",
+        "200 ",
+        "entries 10\nisolated 0\nobjects 10\nretracted 0\naccepted 10\n",
+    ),
+    (
+        FOUNDER,
+        10,
+        "separate",
+        "{\"secondary\":\"2024 EB\"}",
+        "200 ",
+        "receipt 11\n",
+    ),
+    (
+        OBSERVER,
+        0,
+        "tally",
+        "",
+        "200 ",
+        "entries 11\nisolated 0\nobjects 10\nretracted 0\naccepted 10\n",
+    ),
+    (
+        FOUNDER,
+        11,
+        "separate",
+        "{\"secondary\":\"2024 EB\"}",
+        "409 ",
+        "refused 10 NotSecondary 2024 EB\n",
+    ),
+    (
+        OBSERVER,
+        2,
+        "retract",
+        "{\"observation\":1}",
+        "200 ",
+        "receipt 12\n",
+    ),
+    (
+        OBSERVER,
+        0,
+        "tally",
+        "",
+        "200 ",
+        "entries 12\nisolated 0\nobjects 9\nretracted 1\naccepted 10\n",
+    ),
+    (
+        OBSERVER,
+        3,
+        "retract",
+        "{\"observation\":1}",
+        "409 ",
+        "refused 11 AlreadyRetracted 1\n",
+    ),
+    (OBSERVER, 3, "submitpsv", TWO, "200 ", TWO_TEXT),
+];
+
+/// Three objects become one, of which a separated one leaves the others.
+const MEMBERS: [Row; 7] = [
+    (
+        FOUNDER,
+        11,
+        "designate",
+        "{\"tracklets\":[6,7]}",
+        "200 ",
+        "receipt 14\nobject 2024 EC K24E00C\n",
+    ),
+    (
+        FOUNDER,
+        12,
+        "identify",
+        "{\"principal\":\"2024 EB\",\"secondary\":\"2024 EC\"}",
+        "200 ",
+        "receipt 15\n",
+    ),
+    (FOUNDER, 13, "identify", EA_EB, "200 ", "receipt 16\n"),
+    (
+        FOUNDER,
+        14,
+        "separate",
+        "{\"secondary\":\"2024 EB\"}",
+        "200 ",
+        "receipt 17\n",
+    ),
+    (
+        FOUNDER,
+        15,
+        "identify",
+        EA_EC,
+        "409 ",
+        "refused 10 NotPrincipal 2024 EC\n",
+    ),
+    (
+        FOUNDER,
+        15,
+        "identify",
+        "{\"principal\":\"2024 EA\",\"secondary\":\"2024 EA\"}",
+        "409 ",
+        "refused 10 SameObject\n",
+    ),
+    (
+        FOUNDER,
+        15,
+        "separate",
+        "{\"secondary\":\"2024 EC\"}",
+        "200 ",
+        "receipt 18\n",
+    ),
+];
+
+/// A verdict that a retraction voids, and the numbers of two objects; then a line under a number and the designation of
+/// another object, before and after the two are one.
+const NUMBERED: [Row; 14] = [
+    (
+        FOUNDER,
+        16,
+        "verdict",
+        "{\"object\":\"2024 EA\",\"u\":2,\"oppositions\":4}",
+        "200 ",
+        "receipt 19\n",
+    ),
+    (
+        OBSERVER,
+        4,
+        "retract",
+        "{\"observation\":2}",
+        "200 ",
+        "receipt 20\n",
+    ),
+    (
+        FOUNDER,
+        17,
+        "number",
+        "{\"first\":620000,\"most\":5}",
+        "409 ",
+        "refused 12 NoneEligible\n",
+    ),
+    (
+        FOUNDER,
+        17,
+        "verdict",
+        "{\"object\":\"2024 EA\",\"u\":2,\"oppositions\":4}",
+        "200 ",
+        "receipt 21\n",
+    ),
+    (
+        FOUNDER,
+        18,
+        "number",
+        "{\"first\":620000,\"most\":5}",
+        "200 ",
+        "receipt 22\nnumber 620000 2024 EA\n",
+    ),
+    (
+        FOUNDER,
+        19,
+        "number",
+        "{\"first\":620002,\"most\":5}",
+        "409 ",
+        "refused 12 NotNext 620001\n",
+    ),
+    (
+        FOUNDER,
+        19,
+        "verdict",
+        "{\"object\":\"2024 EB\",\"u\":1,\"oppositions\":4}",
+        "200 ",
+        "receipt 23\n",
+    ),
+    (
+        FOUNDER,
+        20,
+        "number",
+        "{\"first\":620001,\"most\":5}",
+        "200 ",
+        "receipt 24\nnumber 620001 2024 EB\n",
+    ),
+    (
+        FOUNDER,
+        21,
+        "identify",
+        EA_EB,
+        "409 ",
+        "refused 10 BothNumbered\n",
+    ),
+    (
+        FOUNDER,
+        21,
+        "identify",
+        "{\"principal\":\"2024 EC\",\"secondary\":\"2024 EA\"}",
+        "409 ",
+        "refused 10 NumberedSecondary\n",
+    ),
+    (
+        OBSERVER,
+        5,
+        "submitpsv",
+        BOTH_NAMES,
+        "422 ",
+        "refused 7 NoLine\nline 5 refused B9\n",
+    ),
+    (FOUNDER, 21, "identify", EA_EC, "200 ", "receipt 25\n"),
+    (
+        OBSERVER,
+        5,
+        "submitpsv",
+        BOTH_NAMES,
+        "200 ",
+        "receipt 26\naccepted 1 refused 0\nline 5 obs 15 track 8\n",
+    ),
+    (
+        OBSERVER,
+        0,
+        "tally",
+        "",
+        "200 ",
+        "entries 26\nisolated 0\nobjects 13\nretracted 2\naccepted 15\n",
+    ),
+];
+
+#[test]
+fn places_members_and_numbers(rt: HostRuntime) {
+    let mut bytes = begin(&rt, rt.alloc());
+    let mut taken = answers(&rt, rt.alloc(), 5);
+    put_rows(&rt, rt.alloc(), &mut bytes, &mut taken, &PLACES);
+    put_rows(&rt, rt.alloc(), &mut bytes, &mut taken, &MEMBERS);
+    put_rows(&rt, rt.alloc(), &mut bytes, &mut taken, &NUMBERED);
+    expect_run(&rt, rt.alloc(), &bytes, 4096, NONE, done(26), &taken);
+}
