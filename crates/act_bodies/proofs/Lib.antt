@@ -5,3 +5,4 @@ pub mod StationLaws
 pub mod WholesLaws
 pub mod DesignateLaws
 pub mod NumberLaws
+pub mod CodeLaws

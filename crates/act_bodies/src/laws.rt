@@ -2,9 +2,11 @@
 
 ghost use Rattle.std.specs.Prelude.{◌≡◌, false, ℕ, List, Some};
 ghost use Rattle.packed_names.specs.Ranges.{IsNumber};
+ghost use Rattle.station_tables.specs.Letters.{IsLetterOf};
+ghost use Rattle.act_bodies.specs.declared.code.Code.{Code};
 ghost use Rattle.act_bodies.specs.declared.enrol.Enrol.{Enrol};
 ghost use Rattle.act_bodies.specs.declared.number.Number.{Number};
-ghost use Rattle.act_bodies.specs.Bodies.{enrol_of, number_of_body};
+ghost use Rattle.act_bodies.specs.Bodies.{code_of, enrol_of, number_of_body};
 ghost use Rattle.act_bodies.specs.Keys.{key_text, begins_with_plus};
 
 /// The key of a caller whom a body enrols begins with no plus, so it is never the founding officer's.
@@ -15,4 +17,9 @@ pub fn enrol_keys_are_plain()
 /// The first number for which a body asks is one that a minor planet can have.
 pub fn first_numbers_are_numbers()
     ensures { (bytes : List ℕ) (number : Number) → number_of_body bytes ≡ Some number → IsNumber number.first }
+{}
+
+/// The letter that a body enters is printed, and is none of those of refused records where it stands for a mode.
+pub fn letters_are_printed()
+    ensures { (bytes : List ℕ) (code : Code) → code_of bytes ≡ Some code → IsLetterOf code.kind code.letter }
 {}

@@ -11,3 +11,4 @@ pub mod Walks
 pub mod Options
 pub mod Readers
 pub mod Standing
+pub mod Stated

@@ -3,9 +3,11 @@
 ghost use Rattle.std.specs.Prelude.{◌≡◌, ◌↔◌, ℕ, ◌+◌, ◌<◌, length, true, ◌∷◌, ◌++◌, List, codes, Ok, Err, Result};
 ghost use Rattle.std.specs.List.{Contains};
 ghost use Rattle.ascii_text.specs.Blanks.{blanks};
+ghost use Rattle.obs_record.specs.declared.line.Line.{Line};
 ghost use Rattle.obs_record.specs.declared.rule.HeaderFault.{HeaderFault};
 ghost use Rattle.obs_record.specs.declared.rule.RuleCode.{RuleCode};
 ghost use Rattle.obs_record.specs.declared.sighting.Sighting.{Sighting};
+ghost use Rattle.obs_record.specs.Filed.{IsStated, AreStated};
 ghost use Rattle.ades_psv.specs.Fields.{Fields};
 ghost use Rattle.text_lines.specs.Pieces.{joined};
 ghost use Rattle.ades_psv.specs.Headers.{is_version};
@@ -68,4 +70,20 @@ pub fn one_reading()
     obs_time::laws::times();
     packed_names::laws::names();
     obs_record::laws::records();
+}
+
+/// What a data line says that keeps every rule has its fields in their ranges, and a mode that is taken. So it is of
+/// each line of a batch.
+pub fn lines_in_range()
+    ensures line { (fields : Fields) (s : Sighting) → IsReading fields (Ok s) → IsStated s }
+    ensures batch { (body : List ℕ) (lines : List Line) → psv_lines_of body ≡ Ok lines → AreStated lines }
+{
+    ascii_text::laws::texts();
+    angle_fixed::laws::angles();
+    obs_time::laws::times();
+    packed_names::laws::names();
+    obs_record::laws::records();
+    obs_record::laws::own_names();
+    obs_time::laws::moments_in_range();
+    angle_fixed::laws::angles_in_range();
 }

@@ -7,3 +7,4 @@ pub mod DegreesFound
 pub mod DegreeReaders
 pub mod DegreeCases
 pub mod DegreesWritten
+pub mod Ranges

@@ -1,6 +1,9 @@
-//! What holds of rounded angles, whoever writes them. Each function does nothing: its contract is the law.
+//! What holds of angles that are read or rounded, whoever does so. Each function does nothing: its contract is the law.
 
-ghost use Rattle.std.specs.Prelude.{◌≡◌, ℕ, ◌+◌, ◌*◌, ◌<◌, ◌≤◌};
+ghost use Rattle.std.specs.Prelude.{◌≡◌, ℕ, ◌+◌, ◌*◌, ◌<◌, ◌≤◌, Bool, ℤ, pos, neg_ℤ, ◌≤ℤ◌, List, Ok};
+ghost use Rattle.angle_fixed.specs.Angles.{circle, quarter};
+ghost use Rattle.angle_fixed.specs.Answer.{ReadsTime, ReadsArc};
+ghost use Rattle.angle_fixed.specs.Degrees.{ReadsRaDegrees, ReadsDecDegrees};
 ghost use Rattle.angle_fixed.specs.Writing.{nearest};
 ghost use Rattle.angle_fixed.specs.Laws.{AngleLaws};
 
@@ -18,3 +21,13 @@ pub fn angles()
 {
     ascii_text::laws::texts();
 }
+
+/// A right ascension that is read is below 360 degrees, and a declination that is read at most 90 degrees either way.
+pub fn angles_in_range()
+    ensures time { (text : List ℕ) (ra count : ℕ) → ReadsTime text (Ok (ra, count)) → ra < circle }
+    ensures arc { (text : List ℕ) (dec : ℤ) (count : ℕ) (minus : Bool) → ReadsArc text (Ok (dec, count, minus)) →
+        (neg_ℤ (pos quarter) ≤ℤ dec) × (dec ≤ℤ pos quarter) }
+    ensures ra_degrees { (text : List ℕ) (ra : ℕ) → ReadsRaDegrees text (Ok ra) → ra < circle }
+    ensures dec_degrees { (text : List ℕ) (dec : ℤ) → ReadsDecDegrees text (Ok dec) →
+        (neg_ℤ (pos quarter) ≤ℤ dec) × (dec ≤ℤ pos quarter) }
+{}

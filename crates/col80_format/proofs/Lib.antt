@@ -6,3 +6,4 @@ pub mod NameLaws
 pub mod LineLaws
 pub mod RangeLaws
 pub mod LineTexts
+pub mod Stated

@@ -6,7 +6,7 @@ use Rattle.ascii_text.specs.declared.digits.Radix.TheVariants.{Ten}
 use Rattle.ascii_text.specs.Digits.{decimals_text, decimals_width}
 use Rattle.ascii_text.specs.Blanks.{blanks}
 use Rattle.angle_fixed.specs.Writing.{time_text, arc_text}
-use Rattle.obs_time.specs.WrittenText.{IsTextOf}
+use Rattle.obs_time.specs.WrittenText.{IsTextOf, day_text_of}
 use Rattle.obs_record.specs.declared.short.Short.{Short}
 use Rattle.obs_record.specs.declared.sighting.Shape.{Shape}
 use Rattle.std.specs.Prelude.{IfSome}
@@ -20,7 +20,7 @@ use Rattle.col80_format.specs.Columns.{columns, column}
 use Rattle.obs_record.specs.Magnitudes.{magnitude_of, HasDecimals}
 use Rattle.col80_format.specs.Magnitudes.{WrittenMagnitude, SpellsMagnitude, whole_text, IsMagnitudeText}
 use Rattle.col80_format.specs.Rules.{IsSightingOf}
-use Rattle.col80_format.specs.LineText.{form_of, note_of, number_text, star_byte, steps_of, magnitude_text, front_text, angles_text, back_text, IsLineText, IsSameLine}
+use Rattle.col80_format.specs.LineText.{form_of, note_of, number_text, star_byte, steps_of, magnitude_text, front_text, angles_text, back_text, line_text, IsLineText, IsSameLine}
 use Rattle.col80_format.proofs.NameLaws.{columns_long}
 use Rattle.col80_format.proofs.LineLaws.{day_found}
 use Rattle.col80_format.proofs.RangeLaws.{days_within}
@@ -131,6 +131,16 @@ line_text_for s front letters day text long is text_is =
       day_is = is;
       text_is = text_is ∙ regroup_parts (front_text s front letters) day (angles_text s (form_of s.shape)) (back_text s (form_of s.shape) letters);
     }
+
+-- the parts that were written one after the other, where the day is the text of the time, are the one line
+pub exact_line_from : (s : Sighting) (front : Front) (letters : Letters) (form : Form) (day text : List ℕ) → form ≡ form_of s.shape → day ≡ day_text_of s.time form.days
+    → text ≡ front_text s front letters ++ day ++ angles_text s form ++ back_text s form letters → text ≡ line_text s front letters
+unfolding line_text
+exact_line_from s front letters form day text same day_is text_is =
+    text_is
+    ∙ ap (λ (d : List ℕ). front_text s front letters ++ d ++ angles_text s form ++ back_text s form letters) day_is
+    ∙ ap (λ (f : Form). front_text s front letters ++ day_text_of s.time f.days ++ angles_text s f ++ back_text s f letters) same
+    ∙ regroup_parts (front_text s front letters) (day_text_of s.time (form_of s.shape).days) (angles_text s (form_of s.shape)) (back_text s (form_of s.shape) letters)
 
 -- the parts that were written one after the other are the line
 pub line_text_from : (s : Sighting) (front : Front) (letters : Letters) (form : Form) (day text : List ℕ) → form ≡ form_of s.shape → length day ≡ 17 → IsTextOf s.time form.days day

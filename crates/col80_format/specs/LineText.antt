@@ -4,7 +4,7 @@ use Rattle.ascii_text.specs.Digits.{decimals_text, decimals_width}
 use Rattle.ascii_text.specs.Bytes.{blank, asterisk}
 use Rattle.ascii_text.specs.Blanks.{blanks}
 use Rattle.angle_fixed.specs.Writing.{nearest, time_text, arc_text}
-use Rattle.obs_time.specs.WrittenText.{IsTextOf}
+use Rattle.obs_time.specs.WrittenText.{IsTextOf, day_text_of}
 use Rattle.packed_names.specs.declared.number.Number.{Number}
 use Rattle.packed_names.specs.declared.name.Name.TheVariants as names
 use Rattle.packed_names.specs.Packed.{packed_text}
@@ -64,7 +64,13 @@ abbrev pub back_text : Sighting → Form → Letters → List ℕ
 back_text s form letters =
     blanks 9 ++ magnitude_text form.places s.mag ++ (letters.band ∷ letters.catalogue ∷ []) ++ blanks 5 ++ take 3 s.station.bytes
 
--- the line, where columns 16 to 32 are the text of the time
+-- the line
+unfoldable pub line_text : Sighting → Front → Letters → List ℕ
+line_text s front letters =
+    front_text s front letters
+    ++ (day_text_of s.time (form_of s.shape).days ++ (angles_text s (form_of s.shape) ++ back_text s (form_of s.shape) letters))
+
+-- what makes it right: columns 16 to 32 are the text of the time, and the others are as they are
 pub record IsLineText (s : Sighting) (front : Front) (letters : Letters) (text : List ℕ) : Type 0 where
   pub day : List ℕ
   pub day_long : length day ≡ 17

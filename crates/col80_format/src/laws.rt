@@ -1,8 +1,9 @@
 //! Laws of the format, for all lines. Nothing runs here: what the functions promise is the law.
 
-ghost use Rattle.std.specs.Prelude.{◌≡◌, ℕ, List, Result};
+ghost use Rattle.std.specs.Prelude.{◌≡◌, ℕ, List, Result, Ok};
 ghost use Rattle.obs_record.specs.declared.rule.RuleCode.{RuleCode};
 ghost use Rattle.obs_record.specs.declared.sighting.Sighting.{Sighting};
+ghost use Rattle.obs_record.specs.Filed.{IsFiled, AreStated};
 ghost use Rattle.std.specs.Str.Lines.{lines};
 ghost use Rattle.col80_format.specs.Rules.{IsReading};
 ghost use Rattle.col80_format.specs.Batch.{lines_of};
@@ -24,3 +25,19 @@ pub fn one_reading()
 pub fn batch_read()
     ensures { (body : List ℕ) → (seen_all none_seen (lines body)).found ≡ lines_of body }
 {}
+
+/// What a line says that keeps every rule may be filed: its fields are in their ranges, its mode is taken, and its
+/// station has 3 bytes. So it is of each line of a batch.
+pub fn lines_in_range()
+    ensures line { (line : List ℕ) (s : Sighting) → IsReading line (Ok s) → IsFiled s }
+    ensures batch { (body : List ℕ) → AreStated (lines_of body) }
+{
+    ascii_text::laws::texts();
+    angle_fixed::laws::angles();
+    obs_time::laws::times();
+    packed_names::laws::names();
+    obs_record::laws::records();
+    obs_record::laws::own_names();
+    obs_time::laws::moments_in_range();
+    angle_fixed::laws::angles_in_range();
+}

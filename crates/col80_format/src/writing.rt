@@ -8,7 +8,7 @@ ghost use Rattle.obs_record.specs.Magnitudes.{greatest_magnitude, HasDecimals};
 ghost use Rattle.col80_format.specs.Columns.{column};
 ghost use Rattle.col80_format.specs.Magnitudes.{whole_text};
 ghost use Rattle.col80_format.specs.Rules.{IsReading};
-ghost use Rattle.col80_format.specs.LineText.{number_text, star_byte, steps_of, magnitude_text, front_text, angles_text, back_text, form_of, IsLineText, AreLetters, IsSameLine};
+ghost use Rattle.col80_format.specs.LineText.{number_text, star_byte, steps_of, magnitude_text, front_text, angles_text, back_text, form_of, line_text, IsLineText, AreLetters, IsSameLine};
 
 use crate::form::{Form, form_of, note_of};
 use angle_fixed::{write_dms, write_hms};
@@ -205,6 +205,7 @@ pub fn write_line(s: &Sighting, front: Front, letters: Letters) -> [u8; 80]
     requires number { IfSome front.number (λ n. IsNumber n.0) }
     requires name { All IsPrintable front.name }
     requires letters { AreLetters letters }
+    ensures exact { result ≡ line_text s.now front letters }
     ensures text { IsLineText s.now front letters result }
     // A line that was read is written again as it was, but for the columns that aren't kept.
     ensures again { (line : List ℕ) → IsReading line (Ok s.now) → letters.mode ≡ column 15 line → letters.band ≡ column 71 line

@@ -6,3 +6,4 @@ pub mod Sighting
 pub mod Rules
 pub mod Lines
 pub mod Laws
+pub mod Filed

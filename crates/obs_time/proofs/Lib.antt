@@ -12,3 +12,4 @@ pub mod CalendarLaws
 pub mod IsoLemmas
 pub mod IsoLaws
 pub mod IsoTextLaws
+pub mod Ranges

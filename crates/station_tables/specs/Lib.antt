@@ -2,3 +2,4 @@ pub mod Rows
 pub mod Stations
 pub mod Codes
 pub mod Indexed
+pub mod Letters

@@ -1,7 +1,6 @@
 use super::*;
-use item_list::NoMemory;
 use obs_record::Short;
-use std::alloc::{AllocError, Global};
+use std::alloc::Global;
 use std::test::Fail;
 
 // Days since 1970-01-01 of the dates beside them.
@@ -23,19 +22,58 @@ const FROM_2016: i32 = 16_801; // 2016-01-01
 
 const TO_2020: i32 = 18_627; // 2020-12-31
 
-// The tables with a row more, where the row may be entered.
-fn entered(tables: Tables, code: [u8; 3], from: i32, to: i32) -> Result<Tables, NoMemory> {
+// Enters a station row; false where it may not be entered or memory was refused.
+fn enter(tables: &mut Tables, code: [u8; 3], from: i32, to: i32) -> bool {
     if from > to || tables.overlaps(code, from, to) {
-        return Err(AllocError);
+        return false;
     }
-    tables.with_station(code, from, to)
+    match tables.with_station(code, from, to) {
+        Ok(more) => {
+            *tables = more;
+            true
+        }
+        Err(_) => false,
+    }
 }
 
 // One station with one span of days, and one with two.
-fn three_spans(alloc: Global) -> Result<Tables, NoMemory> {
-    let first = entered(Tables::new(alloc)?, *b"W84", FROM_2012, TO_2014)?;
-    let second = entered(first, *b"703", FROM_1998, TO_2199)?;
-    entered(second, *b"W84", FROM_2016, TO_2020)
+fn enter_spans(tables: &mut Tables) -> bool {
+    enter(tables, *b"W84", FROM_2012, TO_2014)
+        && enter(tables, *b"703", FROM_1998, TO_2199)
+        && enter(tables, *b"W84", FROM_2016, TO_2020)
+}
+
+// The tables with a code row more; None where it may not be entered or memory was refused.
+fn coded(tables: &Tables, kind: Kind, letter: u8, word: &[u8]) -> Option<Tables> {
+    let word = Short::new(word);
+    if tables.has_code(kind, letter, word) {
+        return None;
+    }
+    tables.with_code(kind, letter, word).ok()
+}
+
+fn enter_code(tables: &mut Tables, kind: Kind, letter: u8, word: &[u8]) -> bool {
+    match coded(tables, kind, letter, word) {
+        Some(more) => {
+            *tables = more;
+            true
+        }
+        None => false,
+    }
+}
+
+// A row of each kind.
+fn enter_codes(tables: &mut Tables) -> bool {
+    enter_code(tables, Kind::Catalogue, b'V', b"Gaia2")
+        && enter_code(tables, Kind::Band, b'V', b"Vj")
+        && enter_code(tables, Kind::Mode, b'C', b"CCD")
+}
+
+// The tables with these rows.
+fn filled(alloc: Global) -> Option<Tables> {
+    let mut tables = Tables::new(alloc).ok()?;
+    let done = enter_spans(&mut tables) && enter_codes(&mut tables);
+    done.then_some(tables)
 }
 
 const DAYS: [(&[u8], i32, Serving); 10] = [
@@ -51,13 +89,14 @@ const DAYS: [(&[u8], i32, Serving); 10] = [
     (b"W841", FROM_2016, Serving::Unknown),
 ];
 
-#[test]
-fn stations_on_days(rt: HostRuntime) -> Result<(), Fail> {
-    let tables = three_spans(rt.alloc())?;
-    for (code, date, want) in DAYS {
-        assert_eq!(rt; tables.station(Short::new(code), date), want, "on {date}");
+// The first of these cases that the tables answer otherwise, counted from 0; None where there is none. So are those below.
+fn wrong_day(tables: &Tables) -> Option<usize> {
+    for (place, &(code, date, want)) in DAYS.iter().enumerate() {
+        if tables.station(Short::new(code), date) != want {
+            return Some(place);
+        }
     }
-    Ok(())
+    None
 }
 
 const SPANS: [([u8; 3], i32, i32, bool); 5] = [
@@ -68,33 +107,13 @@ const SPANS: [([u8; 3], i32, i32, bool); 5] = [
     (*b"W85", FROM_1998, TO_2199, false),
 ];
 
-#[test]
-fn spans_overlap(rt: HostRuntime) -> Result<(), Fail> {
-    let tables = three_spans(rt.alloc())?;
-    for (code, from, to, want) in SPANS {
-        assert_eq!(rt;
-            tables.overlaps(code, from, to),
-            want,
-            "from {from} to {to}"
-        );
+fn wrong_span(tables: &Tables) -> Option<usize> {
+    for (place, &(code, from, to, want)) in SPANS.iter().enumerate() {
+        if tables.overlaps(code, from, to) != want {
+            return Some(place);
+        }
     }
-    Ok(())
-}
-
-// The tables with a row more, where the row may be entered.
-fn coded(tables: Tables, kind: Kind, letter: u8, word: &[u8]) -> Result<Tables, NoMemory> {
-    let word = Short::new(word);
-    if tables.has_code(kind, letter, word) {
-        return Err(AllocError);
-    }
-    tables.with_code(kind, letter, word)
-}
-
-// A row of each kind.
-fn three_codes(alloc: Global) -> Result<Tables, NoMemory> {
-    let first = coded(Tables::new(alloc)?, Kind::Catalogue, b'V', b"Gaia2")?;
-    let second = coded(first, Kind::Band, b'V', b"Vj")?;
-    coded(second, Kind::Mode, b'C', b"CCD")
+    None
 }
 
 // A kind with a letter and its word, or with an empty word where no row has the letter.
@@ -106,18 +125,21 @@ const LETTERS: [(Kind, u8, &[u8]); 5] = [
     (Kind::Band, b'C', b""),
 ];
 
-#[test]
-fn words_of_letters(rt: HostRuntime) -> Result<(), Fail> {
-    let tables = three_codes(rt.alloc())?;
-    for (kind, letter, word) in LETTERS {
-        let want = if word.is_empty() {
-            None
-        } else {
-            Some(Short::new(word))
-        };
-        assert_eq!(rt; tables.word(kind, letter), want, "of {letter}");
+fn word_wanted(word: &[u8]) -> Option<Short> {
+    if word.is_empty() {
+        None
+    } else {
+        Some(Short::new(word))
     }
-    Ok(())
+}
+
+fn wrong_word(tables: &Tables) -> Option<usize> {
+    for (place, &(kind, letter, word)) in LETTERS.iter().enumerate() {
+        if tables.word(kind, letter) != word_wanted(word) {
+            return Some(place);
+        }
+    }
+    None
 }
 
 // A kind with a word and its letter, or with 0 where no row has the word.
@@ -128,17 +150,13 @@ const WORDS: [(Kind, &[u8], u8); 4] = [
     (Kind::Mode, b"CC", 0),
 ];
 
-#[test]
-fn letters_of_words(rt: HostRuntime) -> Result<(), Fail> {
-    let tables = three_codes(rt.alloc())?;
-    for (kind, word, letter) in WORDS {
-        assert_eq!(rt;
-            tables.letter(kind, Short::new(word)).unwrap_or(0),
-            letter,
-            "for {letter}"
-        );
+fn wrong_letter(tables: &Tables) -> Option<usize> {
+    for (place, &(kind, word, letter)) in WORDS.iter().enumerate() {
+        if tables.letter(kind, Short::new(word)).unwrap_or(0) != letter {
+            return Some(place);
+        }
     }
-    Ok(())
+    None
 }
 
 const CODES: [(Kind, u8, &[u8], bool); 4] = [
@@ -148,33 +166,49 @@ const CODES: [(Kind, u8, &[u8], bool); 4] = [
     (Kind::Mode, b'V', b"Vj", false),
 ];
 
-#[test]
-fn codes_are_there(rt: HostRuntime) -> Result<(), Fail> {
-    let tables = three_codes(rt.alloc())?;
-    for (kind, letter, word, want) in CODES {
-        assert_eq!(rt;
-            tables.has_code(kind, letter, Short::new(word)),
-            want,
-            "of {letter}"
-        );
+fn wrong_code(tables: &Tables) -> Option<usize> {
+    for (place, &(kind, letter, word, want)) in CODES.iter().enumerate() {
+        if tables.has_code(kind, letter, Short::new(word)) != want {
+            return Some(place);
+        }
     }
-    Ok(())
+    None
+}
+
+// The first wrong case of each table of cases, those of stations, of spans, of letters, of words and of codes; None where
+// memory was refused.
+fn wrong_cases(alloc: Global) -> Option<[Option<usize>; 5]> {
+    let tables = filled(alloc)?;
+    Some([
+        wrong_day(&tables),
+        wrong_span(&tables),
+        wrong_word(&tables),
+        wrong_letter(&tables),
+        wrong_code(&tables),
+    ])
+}
+
+#[test]
+fn tables_answer_by_their_rows(rt: HostRuntime) {
+    let wrong = wrong_cases(rt.alloc());
+    assert_eq!(rt; wrong, Some([None; 5]));
 }
 
 // Whether an addition leaves the tables that it was made from without the row, and has it itself.
-fn leaves_the_old(before: &Tables) -> Result<bool, NoMemory> {
-    let word = Short::new(b"Vj");
-    if before.has_code(Kind::Band, b'V', word) {
-        return Ok(false);
+fn leaves_the_old(before: &Tables) -> bool {
+    match coded(before, Kind::Band, b'V', b"Vj") {
+        Some(after) => {
+            let word = Short::new(b"Vj");
+            after.has_code(Kind::Band, b'V', word) && !before.has_code(Kind::Band, b'V', word)
+        }
+        None => false,
     }
-    let after = before.with_code(Kind::Band, b'V', word)?;
-    Ok(after.has_code(Kind::Band, b'V', word) && !before.has_code(Kind::Band, b'V', word))
 }
 
 #[test]
 fn additions_leave_the_old_rows(rt: HostRuntime) -> Result<(), Fail> {
     let before = Tables::new(rt.alloc())?;
-    let left = leaves_the_old(&before)?;
+    let left = leaves_the_old(&before);
     assert!(rt; left);
     Ok(())
 }

@@ -3,8 +3,20 @@ use Rattle.std.specs.Prelude.{IfSome}
 use Rattle.col80_format.specs.declared.form.Form.{Form}
 use Rattle.col80_format.specs.LineText.{form_of, steps_of, front_text, angles_text, back_text}
 use Rattle.col80_format.proofs.LawsBelow.{Laws}
-use Rattle.col80_format.proofs.LineTexts.{fits_columns, written_again, one_line_text, line_text_from}
+use Rattle.col80_format.proofs.LineTexts.{fits_columns, written_again, one_line_text, line_text_from, exact_line_from}
 use Rattle.col80_format.proofs.writing.write_line.Goals as goal
+
+pub returns-clause-exact : goal.returns-clause-exact
+returns-clause-exact c =
+    let form = c.form_of-form.result in
+    let day : List ℕ = c.write_day_fraction.result in
+    let front : List ℕ = front_text c.args.s.now c.args.front c.args.letters in
+    let angles : List ℕ = angles_text c.args.s.now form in
+    let back : List ℕ = back_text c.args.s.now form c.args.letters in
+    let out = rw c.unwrap.ensures at c.into_inner.ensures.ok in
+    let items : c.put_back.new.out.items ≡ front ++ day ++ angles ++ back =
+    c.put_back.ensures.text ∙ ap (λ (t : List ℕ). t ++ back) (c.put_angles.ensures.text ∙ ap (λ (t : List ℕ). t ++ angles) (c.put.ensures.text ∙ ap (λ (t : List ℕ). t ++ day) c.put_front.ensures.text)) in
+    exact_line_from c.args.s.now c.args.front c.args.letters form day c.unwrap.result c.form_of-form.ensures.form c.write_day_fraction.ensures.exact (out ∙ items)
 
 pub returns-clause-text : goal.returns-clause-text
 returns-clause-text c =
