@@ -1,5 +1,5 @@
 -- What each act changes.
-use Rattle.std.proofs.Common.{◌≡◌, ◌≢◌, Bool, true, false, cond, List, [], ◌∷◌, map, count_by, Option, Some, None, option_map, refl, ap, sym, subst, ◌∙◌, inl, inr, arith}
+use Rattle.std.proofs.Common.{◌≡◌, ◌≢◌, Bool, true, false, cond, List, ◌∷◌, count_by, Option, Some, None, option_map, ap, sym, subst, ◌∙◌, inl, inr, arith}
 use Rattle.std.specs.Ordering.{eq_by_cmp}
 use Rattle.std.proofs.lemmas.Bool.{cases_Bool, false_from_ne_true}
 use Rattle.packed_names.specs.declared.name.Designation.{Designation}
@@ -8,15 +8,15 @@ use Rattle.identify_core.specs.declared.link.Link.{Link}
 use Rattle.identify_core.specs.Acts.{LinkAct, principal_after, is_principal_of}
 use Rattle.identify_core.specs.Acts.LinkAct.{Given, Joined, Parted}
 use Rattle.identify_core.specs.Principals.{principal_of}
-use Rattle.identify_core.specs.Walks.{has_member, has_principal, relabelled, parted}
+use Rattle.identify_core.specs.Keeping.{has_member, EachOnce}
 use Rattle.identify_core.proofs.OrderLemmas.{designation_same, designation_itself}
-use Rattle.identify_core.proofs.LinkLemmas.{EachOnce, linked, principal_of-here, principal_of-past, count-here, count-past, count_from_none, some_same}
+use Rattle.identify_core.proofs.LinkLemmas.{linked, count-here, count-past, count_from_none, some_same}
 
 -- one of two values, by a test
-chosen : {A : Type 0} (b : Bool) (x y : A) → b ≡ true → cond b x y ≡ x
+pub chosen : {A : Type 0} (b : Bool) (x y : A) → b ≡ true → cond b x y ≡ x
 chosen b x y e = ap (λ (t : Bool). cond t x y) e
 
-other : {A : Type 0} (b : Bool) (x y : A) → b ≡ false → cond b x y ≡ y
+pub other : {A : Type 0} (b : Bool) (x y : A) → b ≡ false → cond b x y ≡ y
 other b x y e = ap (λ (t : Bool). cond t x y) e
 
 pub once_given : (d : Designation) (links : List Link) → principal_of links d ≡ None → EachOnce links → EachOnce (linked d d ∷ links)
@@ -27,93 +27,6 @@ once_given d links absent once e =
           let none : count_by (has_member e) links ≡ 0 = ap (λ (x : Designation). count_by (has_member x) links) (sym (designation_same d e same)) ∙ count_from_none d links absent in
           omega (arith, count, none)
       | inr apart ↦ let count = count-past e (linked d d) links apart in let one = once e in omega (arith, count, one)
-    ]
-
-relabelled-member : (p s : Designation) (link : Link) → (relabelled p s link).member ≡ link.member
-relabelled-member p s link =
-    elim (cases_Bool (has_principal s link)) [
-      | inl same ↦ ap (λ (l : Link). l.member) (chosen (has_principal s link) (linked p link.member) link same)
-      | inr apart ↦ ap (λ (l : Link). l.member) (other (has_principal s link) (linked p link.member) link apart)
-    ]
-
-parted-member : (s : Designation) (link : Link) → (parted s link).member ≡ link.member
-parted-member s link =
-    elim (cases_Bool (has_member s link)) [
-      | inl same ↦ ap (λ (l : Link). l.member) (chosen (has_member s link) (linked s link.member) link same)
-      | inr apart ↦ ap (λ (l : Link). l.member) (other (has_member s link) (linked s link.member) link apart)
-    ]
-
-same_member : (f : Link → Link) → ((link : Link) → (f link).member ≡ link.member) → (d : Designation) (link : Link) → has_member d (f link) ≡ has_member d link
-same_member f keeps d link = ap (λ (e : Designation). eq_by_cmp designation_cmp e d) (keeps link)
-
-count-kept : (f : Link → Link) → ((link : Link) → (f link).member ≡ link.member) → (d : Designation) (links : List Link)
-    → count_by (has_member d) (map f links) ≡ count_by (has_member d) links
-count-kept f keeps d [] = refl
-count-kept f keeps d (link ∷ links) =
-    let rest = count-kept f keeps d links in
-    elim (cases_Bool (has_member d link)) [
-      | inl same ↦
-          let one = count-here d (f link) (map f links) (same_member f keeps d link ∙ same) in let two = count-here d link links same in omega (arith, one, two, rest)
-      | inr apart ↦
-          let one = count-past d (f link) (map f links) (same_member f keeps d link ∙ apart) in let two = count-past d link links apart in omega (arith, one, two, rest)
-    ]
-
-pub once_joined : (p s : Designation) (links : List Link) → EachOnce links → EachOnce (map (relabelled p s) links)
-once_joined p s links once d = let e = count-kept (relabelled p s) (relabelled-member p s) d links in let one = once d in omega (arith, e, one)
-
-pub once_parted : (s : Designation) (links : List Link) → EachOnce links → EachOnce (map (parted s) links)
-once_parted s links once d = let e = count-kept (parted s) (parted-member s) d links in let one = once d in omega (arith, e, one)
-
-pub principals_joined : (p s d : Designation) (links : List Link) → principal_of (map (relabelled p s) links) d ≡ principal_after (Joined p s) d (principal_of links d)
-principals_joined p s d [] = refl
-principals_joined p s d (link ∷ links) =
-    let f : Link → Link = relabelled p s in
-    elim (cases_Bool (has_member d link)) [
-      | inl here ↦
-          principal_of-here d (f link) (map f links) (same_member f (relabelled-member p s) d link ∙ here)
-          ∙ elim (cases_Bool (has_principal s link)) as (λ _. Some (f link).principal ≡ principal_after (Joined p s) d (Some link.principal)) [
-            | inl same ↦
-                ap (λ (l : Link). Some l.principal) (chosen (has_principal s link) (linked p link.member) link same)
-                ∙ sym (chosen (has_principal s link) (Some p) (Some link.principal) same)
-            | inr apart ↦
-                ap (λ (l : Link). Some l.principal) (other (has_principal s link) (linked p link.member) link apart)
-                ∙ sym (other (has_principal s link) (Some p) (Some link.principal) apart)
-          ]
-          ∙ ap (principal_after (Joined p s) d) (sym (principal_of-here d link links here))
-      | inr past ↦
-          principal_of-past d (f link) (map f links) (same_member f (relabelled-member p s) d link ∙ past)
-          ∙ principals_joined p s d links
-          ∙ ap (principal_after (Joined p s) d) (sym (principal_of-past d link links past))
-    ]
-
-principals_parted_nil : (s d : Designation) → let none : Option Designation = None in none ≡ principal_after (Parted s) d None
-principals_parted_nil s d =
-    elim (cases_Bool (eq_by_cmp designation_cmp d s)) [
-      | inl same ↦ sym (chosen (eq_by_cmp designation_cmp d s) None None same)
-      | inr apart ↦ sym (other (eq_by_cmp designation_cmp d s) None None apart)
-    ]
-
-pub principals_parted : (s d : Designation) (links : List Link) → principal_of (map (parted s) links) d ≡ principal_after (Parted s) d (principal_of links d)
-principals_parted s d [] = principals_parted_nil s d
-principals_parted s d (link ∷ links) =
-    let f : Link → Link = parted s in
-    elim (cases_Bool (has_member d link)) [
-      | inl here ↦
-          let is_d : has_member s link ≡ eq_by_cmp designation_cmp d s = ap (λ (e : Designation). eq_by_cmp designation_cmp e s) (designation_same link.member d here) in
-          principal_of-here d (f link) (map f links) (same_member f (parted-member s) d link ∙ here)
-          ∙ elim (cases_Bool (has_member s link)) as (λ _. Some (f link).principal ≡ principal_after (Parted s) d (Some link.principal)) [
-            | inl same ↦
-                ap (λ (l : Link). Some l.principal) (chosen (has_member s link) (linked s link.member) link same)
-                ∙ sym (chosen (eq_by_cmp designation_cmp d s) (Some s) (Some link.principal) (sym is_d ∙ same))
-            | inr apart ↦
-                ap (λ (l : Link). Some l.principal) (other (has_member s link) (linked s link.member) link apart)
-                ∙ sym (other (eq_by_cmp designation_cmp d s) (Some s) (Some link.principal) (sym is_d ∙ apart))
-          ]
-          ∙ ap (principal_after (Parted s) d) (sym (principal_of-here d link links here))
-      | inr past ↦
-          principal_of-past d (f link) (map f links) (same_member f (parted-member s) d link ∙ past)
-          ∙ principals_parted s d links
-          ∙ ap (principal_after (Parted s) d) (sym (principal_of-past d link links past))
     ]
 
 -- each principal is its own, where a function gives the principals

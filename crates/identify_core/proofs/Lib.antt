@@ -1,6 +1,6 @@
 mod OrderLemmas
 mod LinkLemmas
-mod WalkLemmas
+mod IndexLemmas
 mod ActLemmas
 mod RunLemmas
 mod ChangeLemmas

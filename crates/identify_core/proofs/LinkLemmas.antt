@@ -1,5 +1,5 @@
 -- Principals and counts of links.
-use Rattle.std.proofs.Common.{◌≡◌, ℕ, zero, suc, ◌+◌, ◌<◌, ◌≤◌, Bool, true, false, cond, List, [], ◌∷◌, length, get_or, count_by, Option, Some, None, refl, ap, sym, subst, ◌∙◌, inl, inr, arith}
+use Rattle.std.proofs.Common.{◌≡◌, zero, suc, ◌+◌, ◌≤◌, Bool, true, false, cond, List, [], ◌∷◌, count_by, Option, Some, None, refl, ap, sym, subst, ◌∙◌, inl, inr, arith}
 use Rattle.std.specs.List.{Contains}
 use Rattle.std.specs.List.Sorted.{IsPermutation}
 use Rattle.std.proofs.lemmas.Bool.{cases_Bool}
@@ -8,7 +8,7 @@ use Rattle.std.proofs.lemmas.List.Sorted.{sum_by-IsPermutation, Contains-permuta
 use Rattle.packed_names.specs.declared.name.Designation.{Designation}
 use Rattle.identify_core.specs.declared.link.Link.{Link}
 use Rattle.identify_core.specs.Principals.{principal_of}
-use Rattle.identify_core.specs.Walks.{has_member}
+use Rattle.identify_core.specs.Keeping.{has_member, EachOnce}
 use Rattle.identify_core.proofs.OrderLemmas.{designation_same, designation_itself}
 
 pub principal_of-here : (d : Designation) (link : Link) (links : List Link) → has_member d link ≡ true → principal_of (link ∷ links) d ≡ Some link.principal
@@ -25,12 +25,6 @@ count-past d link links apart = sum_by-cons (λ (l : Link). cond (has_member d l
 
 pub count-more : (d : Designation) (link : Link) (links : List Link) → count_by (has_member d) links ≤ count_by (has_member d) (link ∷ links)
 count-more d link links = let e = sum_by-cons (λ (l : Link). cond (has_member d l) 1 0) link links in omega (arith, e)
-
-pub counted_at : (d : Designation) (links : List Link) (j : ℕ) (x : Link) → j < length links → has_member d (get_or links j x) ≡ true → 1 ≤ count_by (has_member d) links
-counted_at d [] j x below same = absurd (omega (arith, below))
-counted_at d (link ∷ links) zero x below same = let e = count-here d link links same in omega (arith, e)
-counted_at d (link ∷ links) (suc j) x below same =
-    let rest = counted_at d links j x (omega (arith, below)) same in let more = count-more d link links in omega (arith, rest, more)
 
 pub none_from_count : (d : Designation) (links : List Link) → count_by (has_member d) links ≡ 0 → principal_of links d ≡ None
 none_from_count d [] none = refl
@@ -90,10 +84,6 @@ some_from_link d p (link ∷ links) once (suc k, below, here) =
       | inl same ↦ let e = count-here d link links same in let counted = counted_from_some d p links rest in absurd (omega (arith, e, counted, once))
       | inr apart ↦ principal_of-past d link links apart ∙ rest
     ]
-
--- each designation has at most one link
-abbrev pub EachOnce : List Link → Type 0
-EachOnce links = (d : Designation) → count_by (has_member d) links ≤ 1
 
 pub count-permuted : (xs ys : List Link) → IsPermutation xs ys → (d : Designation) → count_by (has_member d) ys ≡ count_by (has_member d) xs
 count-permuted xs ys moved d = sum_by-IsPermutation (λ (l : Link). cond (has_member d l) 1 0) xs ys moved

@@ -18,7 +18,7 @@ use Rattle.packed_names.specs.contracts.name.DesignationOrd.TheImpl.Laws.{total-
 use Rattle.identify_core.specs.contracts.link.LinkOrd.TheImpl as derived_links
 use Rattle.identify_core.specs.contracts.link.LinkOrd.TheImpl.Laws.{total-law as links_total}
 use Rattle.identify_core.specs.declared.link.Link.{Link}
-use Rattle.identify_core.specs.Walks.{link_cmp}
+use Rattle.identify_core.specs.Keeping.{link_cmp}
 
 pub numbers_same : (x y : ℕ) → is_eq (nat_cmp x y) ≡ true → x ≡ y
 numbers_same x y same = by_ranked _ _ _ (nat_cmp x y) (ranked x y _ refl) (λ e _. cc) (λ _ e. e) (λ e _. cc)
@@ -108,7 +108,7 @@ survey_order T3 T1 = refl
 survey_order T3 T2 = refl
 survey_order T3 T3 = refl
 
-designation_order : (d e : Designation) → (derived.ghosts).cmp d e ≡ designation_cmp d e
+pub designation_order : (d e : Designation) → (derived.ghosts).cmp d e ≡ designation_cmp d e
 designation_order (designations.Provisional one) (designations.Provisional other) = refl
 designation_order (designations.Provisional one) (designations.Survey survey number) = refl
 designation_order (designations.Survey survey number) (designations.Provisional other) = refl

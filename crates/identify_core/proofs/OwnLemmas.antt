@@ -11,7 +11,7 @@ use Rattle.identify_core.specs.declared.link.Link.{Link}
 use Rattle.identify_core.specs.Acts.{LinkAct, is_principal_of, principal, given_in_order, principals}
 use Rattle.identify_core.specs.Acts.LinkAct.{Given, Joined, Parted}
 use Rattle.identify_core.specs.Principals.{principal_of, is_own, own_members, IsBefore, IsAscending, FitsLinks, AreTheirOwn}
-use Rattle.identify_core.specs.Walks.{has_member, link_cmp}
+use Rattle.identify_core.specs.Keeping.{has_member, link_cmp}
 use Rattle.identify_core.proofs.OrderLemmas.{designation_same, designation_itself, designation_total}
 use Rattle.identify_core.proofs.LinkLemmas.{principal_of-here, principal_of-past, some_same}
 use Rattle.identify_core.proofs.RunLemmas.{AreBehind, IsRising, first_less, first_or_later, tail_once, behind_first}

@@ -1,36 +1,29 @@
 -- The links of a principal.
-use Rattle.std.proofs.Common.{◌≡◌, ℕ, zero, suc, ◌+◌, ◌<◌, ◌≤◌, Bool, true, false, cond, not, List, [], ◌∷◌, map, drop, length, get_or, count_by, Some, refl, ap, sym, subst, ◌∙◌, ◌⊎◌, inl, inr, arith}
+use Rattle.std.proofs.Common.{◌≡◌, ℕ, zero, suc, ◌+◌, ◌≤◌, Bool, true, false, cond, List, [], ◌∷◌, map, drop, count_by, Some, refl, ap, sym, subst, ◌∙◌, ◌⊎◌, inl, inr, arith}
 use Rattle.std.specs.declared.cmp.Ordering.{Ordering}
 use Rattle.std.specs.declared.cmp.Ordering.TheVariants.{Less, Equal, Greater}
-use Rattle.std.specs.List.{All, Contains, filter, prefix_len, take_while}
-use Rattle.std.specs.List.Sorted.{IsSorted}
+use Rattle.std.specs.List.{All, AllByRecursion, Contains, filter, prefix_len, take_while}
 use Rattle.std.specs.Ordering.{is_lt, is_eq, eq_by_cmp, ordering_then, ordering_reverse}
 use Rattle.std.proofs.lemmas.Bool.{cases_Bool, false_from_ne_true}
 use Rattle.std.proofs.lemmas.Cmp.{tied_itself}
 use Rattle.std.proofs.lemmas.List.Elements.{All-nil, All-cons}
 use Rattle.std.proofs.lemmas.List.Sums.{take_while-cons}
-use Rattle.std.proofs.lemmas.List.Sorted.{sorted_far, ranks_by}
 use Rattle.packed_names.specs.declared.name.Designation.{Designation}
 use Rattle.packed_names.specs.Order.{designation_cmp}
 use Rattle.identify_core.specs.declared.link.Link.{Link}
 use Rattle.identify_core.specs.Principals.{principal_of, IsBefore, IsAscending}
-use Rattle.identify_core.specs.Walks.{has_principal, has_member, link_cmp, run_of}
-use Rattle.identify_core.proofs.OrderLemmas.{designation_same, designation_itself, designation_total, link_total, then_parts}
-use Rattle.identify_core.proofs.LinkLemmas.{EachOnce, principal_of-here, principal_of-past, count-here, count-more, counted_at, counted_from_some, some_same}
+use Rattle.ordered_list.specs.Orders.{IsStrictlySorted}
+use Rattle.identify_core.specs.Keeping.{has_principal, has_member, is_below, link_cmp, run_of}
+use Rattle.identify_core.proofs.OrderLemmas.{designation_same, designation_itself, designation_total, then_parts}
+use Rattle.identify_core.proofs.LinkLemmas.{principal_of-here, principal_of-past, count-here, count-more, counted_from_some, some_same}
 
 -- a link comes before each of others
 abbrev pub AreBehind : Link → List Link → Type 0
-AreBehind one [] = Unit {0}
-AreBehind one (other ∷ links) = (link_cmp one other ≡ Less) × AreBehind one links
+AreBehind one links = AllByRecursion (λ other. link_cmp one other ≡ Less) links
 
 -- each link comes before those that follow it
 abbrev pub IsRising : List Link → Type 0
-IsRising [] = Unit {0}
-IsRising (one ∷ links) = AreBehind one links × IsRising links
-
-all_behind : (one : Link) (links : List Link) → ((j : ℕ) (x : Link) → j < length links → link_cmp one (get_or links j x) ≡ Less) → AreBehind one links
-all_behind one [] each = tt
-all_behind one (other ∷ links) each = (each 0 other (omega arith), all_behind one links (λ j x below. each (suc j) x (omega (arith, below))))
+IsRising links = IsStrictlySorted link_cmp links
 
 pub behind_from : (o : Ordering) → is_lt o ≡ false → (o ≡ Equal → ⊥) → ordering_reverse o ≡ Less
 behind_from Less h apart = absurd (cc)
@@ -41,30 +34,10 @@ behind_from Greater h apart = refl
 pub tied_member : (one other : Link) → link_cmp one other ≡ Equal → has_member other.member one ≡ true
 tied_member one other tied = (then_parts (designation_cmp one.principal other.principal) (designation_cmp one.member other.member) (ap is_eq tied)).1
 
-behind_at : (one : Link) (links : List Link) → IsSorted link_cmp (one ∷ links) → EachOnce (one ∷ links) → (j : ℕ) (x : Link) → j < length links → link_cmp one (get_or links j x) ≡ Less
-behind_at one links sorted once j x below =
-    let next : Link = get_or links j x in
-    let late : is_lt (link_cmp next one) ≡ false =
-    sorted_far (λ a b. is_lt (link_cmp a b)) (ranks_by link_total (λ l. l)) (one ∷ links) sorted 0 (suc j) x (omega arith) (omega (arith, below)) in
-    link_total.antisymm one next
-    ∙ behind_from (link_cmp next one) late
-    (λ tied.
-    let counted = counted_at one.member links j x below (tied_member next one tied) in
-    let count = count-here one.member one links (designation_itself one.member) in
-    let most = once one.member in
-    omega (arith, counted, count, most))
-
-tail_sorted : (one : Link) (links : List Link) → IsSorted link_cmp (one ∷ links) → IsSorted link_cmp links
-tail_sorted one links sorted k d low high =
-    let next : suc k + 1 ≡ suc (k + 1) = omega arith in
-    subst (λ (n : ℕ). is_lt (link_cmp (get_or (one ∷ links) n d) (get_or links k d)) ≡ false) next (sorted (suc k) d (omega arith) (omega (arith, high)))
-
-pub rising : (links : List Link) → IsSorted link_cmp links → EachOnce links → IsRising links
-rising [] sorted once = tt
-rising (one ∷ links) sorted once = (
-  all_behind one links (behind_at one links sorted once),
-  rising links (tail_sorted one links sorted) (λ d. let most = once d in let more = count-more d one links in omega (arith, most, more)),
-)
+pub less_from : (o : Ordering) → is_lt o ≡ true → o ≡ Less
+less_from Less h = refl
+less_from Equal h = cc
+less_from Greater h = cc
 
 filter-yes : (p : Designation) (link : Link) (links : List Link) → has_principal p link ≡ true → filter (has_principal p) (link ∷ links) ≡ link ∷ filter (has_principal p) links
 filter-yes p link links same = ap (λ (b : Bool). cond b (link ∷ filter (has_principal p) links) (filter (has_principal p) links)) same
@@ -124,24 +97,36 @@ run_first p one (other ∷ links) behind up mine =
           ∙ sym (cut ∙ ap (λ (b : Bool). cond b (other ∷ take_while (has_principal p) links) []) apart)
     ]
 
+-- what begins with a link of no earlier principal begins with all links of the principal
+run_here : (p : Designation) (one : Link) (links : List Link) → IsRising (one ∷ links) → is_below p one ≡ false → take_while (has_principal p) (one ∷ links) ≡ filter (has_principal p) (one ∷ links)
+run_here p one links up reached =
+    let f : Link → Bool = has_principal p in
+    let cut = take_while-cons f one links in
+    elim (cases_Bool (f one)) [
+      | inl same ↦
+          (cut ∙ ap (λ (b : Bool). cond b (one ∷ take_while f links) []) same)
+          ∙ ap (λ (ls : List Link). one ∷ ls) (sym (run_first p one links up.0 up.1 same))
+          ∙ sym (filter-yes p one links same)
+      | inr apart ↦
+          let later : designation_cmp p one.principal ≡ Less =
+          designation_total.antisymm p one.principal ∙ behind_from (designation_cmp one.principal p) reached (λ tied. let same : f one ≡ true = ap is_eq tied in cc) in
+          (cut ∙ ap (λ (b : Bool). cond b (one ∷ take_while f links) []) apart) ∙ sym (filter-no p one links apart ∙ none_behind p one links up.0 later)
+    ]
+
 -- the links that stand together are all that the principal has
 pub run_is : (p : Designation) (links : List Link) → IsRising links → run_of p links ≡ filter (has_principal p) links
 run_is p [] up = refl
 run_is p (one ∷ links) up =
-    let f : Link → Bool = has_principal p in
-    let n : ℕ = prefix_len (λ link. not (f link)) links in
-    let cut = take_while-cons f one links in
-    elim (cases_Bool (f one)) [
-      | inl same ↦
-          let none : prefix_len (λ link. not (f link)) (one ∷ links) ≡ 0 = ap (λ (b : Bool). cond (not b) (1 + n) 0) same in
-          ap (λ (k : ℕ). take_while f (drop k (one ∷ links))) none
-          ∙ (cut ∙ ap (λ (b : Bool). cond b (one ∷ take_while f links) []) same)
-          ∙ ap (λ (ls : List Link). one ∷ ls) (sym (run_first p one links up.0 up.1 same))
-          ∙ sym (filter-yes p one links same)
-      | inr apart ↦
+    let n : ℕ = prefix_len (is_below p) links in
+    elim (cases_Bool (is_below p one)) [
+      | inl before ↦
           let one_more : 1 + n ≡ suc n = omega arith in
-          let past : prefix_len (λ link. not (f link)) (one ∷ links) ≡ suc n = ap (λ (b : Bool). cond (not b) (1 + n) 0) apart ∙ one_more in
-          ap (λ (k : ℕ). take_while f (drop k (one ∷ links))) past ∙ run_is p links up.1 ∙ sym (filter-no p one links apart)
+          let past : prefix_len (is_below p) (one ∷ links) ≡ suc n = ap (λ (b : Bool). cond b (1 + n) 0) before ∙ one_more in
+          let apart : has_principal p one ≡ false = ap is_eq (less_from (designation_cmp one.principal p) before) in
+          ap (λ (k : ℕ). take_while (has_principal p) (drop k (one ∷ links))) past ∙ run_is p links up.1 ∙ sym (filter-no p one links apart)
+      | inr reached ↦
+          let none : prefix_len (is_below p) (one ∷ links) ≡ 0 = ap (λ (b : Bool). cond b (1 + n) 0) reached in
+          ap (λ (k : ℕ). take_while (has_principal p) (drop k (one ∷ links))) none ∙ run_here p one links up reached
     ]
 
 abbrev pub members : Designation → List Link → List Designation

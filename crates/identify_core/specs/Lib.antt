@@ -1,3 +1,3 @@
 pub mod Acts
 pub mod Principals
-pub mod Walks
+pub mod Keeping

@@ -15,10 +15,12 @@
 //! ```
 #![tactic(auto)]
 
+mod changes;
+mod entry;
 pub mod laws;
 mod link;
 mod links;
-mod walk;
+mod searches;
 
 pub use link::Link;
 pub use links::Links;

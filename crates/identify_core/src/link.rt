@@ -1,7 +1,7 @@
 ghost use Rattle.std.specs.Prelude.{◌≡◌};
 ghost use Rattle.identify_core.specs.Principals.{is_own};
 
-use crate::walk;
+use crate::searches;
 use packed_names::Designation;
 
 /// A designation that was given, and the principal designation of its object.
@@ -20,6 +20,6 @@ impl Link {
     pub fn is_own(self) -> bool
         ensures { result ≡ is_own self }
     {
-        walk::is_same(self.member, self.principal)
+        searches::is_same(self.member, self.principal)
     }
 }

@@ -8,9 +8,11 @@ ghost use Rattle.identify_core.specs.Acts.LinkAct.{Given, Joined, Parted};
 ghost use Rattle.identify_core.specs.Principals.{principal_of, IsPrincipal, own_members, IsAscending};
 ghost use Rattle.identify_core.specs.Principals.{ChangedBy, StandFor};
 
+use crate::entry::PrincipalEntry;
 use crate::link::Link;
-use crate::walk;
+use crate::{changes, searches};
 use item_list::NoMemory;
+use ordered_list::OrderedList;
 use packed_names::Designation;
 use std::alloc::Global;
 use std::marker::Model;
@@ -22,19 +24,23 @@ use std::marker::Model;
 #[derive(Drop)]
 pub struct Links {
     links: Vec<Link>,
+    entries: OrderedList<PrincipalEntry>,
 }
 
 impl Model for Links {
-    ghost use Rattle.std.specs.Prelude.{◌-◌, vec_len, vec_capacity};
+    ghost use Rattle.std.specs.Prelude.{◌-◌, min, vec_len, vec_capacity};
     ghost use Rattle.identify_core.specs.Principals.{LinksValue};
 
     ghost Value = { LinksValue };
 
-    ghost use Rattle.identify_core.specs.Walks.{AreLinks};
+    ghost use Rattle.identify_core.specs.Keeping.{AreLinks};
 
-    ghost view = { λ l. record { links = l.links.items; spare = vec_capacity l.links - vec_len l.links } };
+    ghost view = { λ l. record {
+      links = l.links.items;
+      spare = min (vec_capacity l.links - vec_len l.links) l.entries.room;
+    } };
 
-    ghost invariant = { λ l. AreLinks l.links.items };
+    ghost invariant = { λ l. AreLinks ⟦<PrincipalEntry as Ord>⟧.cmp l.links.items l.entries.items };
 }
 
 impl Links {
@@ -48,6 +54,7 @@ impl Links {
     {
         Ok(Links {
             links: Vec::new(alloc),
+            entries: OrderedList::new(alloc)?,
         })
     }
 
@@ -61,7 +68,8 @@ impl Links {
         ensures kept { self.old.spare ≤ self.new.spare }
         ensures links { self.new.links ≡ self.old.links }
     {
-        self.links.reserve(1)
+        self.links.reserve(1)?;
+        self.entries.reserve(1)
     }
 
     /// Adds a designation that was given, which is its own principal. It takes no memory: `reserve` has left room.
@@ -73,14 +81,17 @@ impl Links {
             → StandFor self.old.links acts → StandFor self.new.links (Given d ∷ acts) }
         ensures spare { self.old.spare ≤ self.new.spare + 1 }
     {
-        let link = Link {
+        changes::put(
+            &mut self.links,
+            Link {
+                principal: d,
+                member: d,
+            },
+        );
+        self.entries.insert(PrincipalEntry {
+            designation: d,
             principal: d,
-            member: d,
-        };
-        let place = walk::place_of(self.links.as_slice(), link);
-        if self.links.insert(place, link).is_err() {
-            unreachable!("reserve has left room")
-        }
+        });
     }
 
     /// The principal designation of a designation's object, which is its own principal. None exactly where the
@@ -89,7 +100,7 @@ impl Links {
         ensures principal { result ≡ principal_of self.now.links d }
         ensures own { IfSome result (IsPrincipal self.now.links) }
     {
-        walk::principal_of(self.links.as_slice(), d)
+        searches::principal_of(&self.entries, d)
     }
 
     /// The links of all designations with this principal, itself among them, in the order of designations. Empty for
@@ -103,7 +114,7 @@ impl Links {
         ensures acts { (acts : List LinkAct)
             → StandFor self.now.links acts → map (λ link. link.member) result.now ≡ members acts p }
     {
-        walk::run_of(self.links.as_slice(), p)
+        searches::run_of(self.links.as_slice(), p)
     }
 
     /// The links of all designations, in the order of their principals, and for one principal in the order of its
@@ -128,8 +139,7 @@ impl Links {
             → StandFor self.old.links acts → StandFor self.new.links (Joined p s ∷ acts) }
         ensures spare { self.old.spare ≤ self.new.spare }
     {
-        walk::relabel(self.links.as_mut_slice(), p, s);
-        self.links.sort_unstable();
+        changes::give_all(&mut self.links, &mut self.entries, p, s);
     }
 
     /// Separates `s`, which is no principal, from its object: it becomes its own principal, alone. It takes no memory.
@@ -140,7 +150,12 @@ impl Links {
             → StandFor self.old.links acts → StandFor self.new.links (Parted s ∷ acts) }
         ensures spare { self.old.spare ≤ self.new.spare }
     {
-        walk::part(self.links.as_mut_slice(), s);
-        self.links.sort_unstable();
+        if let Some(principal) = searches::principal_of(&self.entries, s) {
+            let link = Link {
+                principal,
+                member: s,
+            };
+            changes::give(&mut self.links, &mut self.entries, link, s);
+        }
     }
 }

@@ -1,2 +1,3 @@
 mod VerdictLemmas
+mod PlaceLemmas
 mod NumberLemmas

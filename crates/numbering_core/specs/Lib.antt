@@ -2,4 +2,4 @@ pub mod Verdicts
 pub mod Numbers
 pub mod Unbroken
 pub mod RegisterValue
-pub mod Lists
+pub mod Indexes

@@ -13,6 +13,7 @@
 //! ```
 #![tactic(auto)]
 
+mod entry;
 pub mod laws;
 mod lists;
 mod numbering;

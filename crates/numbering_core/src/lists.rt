@@ -1,23 +1,16 @@
-//! Verdicts and numbers in plain lists, which are walked.
+//! Searches: of a verdict and of a number by designation, and of a designation by its number.
 
-ghost use Rattle.std.specs.Prelude.{◌≡◌, ◌≤◌, not, reverse, vec_len, vec_capacity};
-ghost use Rattle.std.specs.List.{filter};
-ghost use Rattle.std.specs.Ordering.{eq_by_cmp};
-ghost use Rattle.packed_names.specs.Order.{designation_cmp};
-ghost use Rattle.numbering_core.specs.Verdicts.{verdict_of, is_good};
-ghost use Rattle.numbering_core.specs.Numbers.{number_of, named};
-ghost use Rattle.numbering_core.specs.Lists.{is_of};
+ghost use Rattle.std.specs.Prelude.{◌≡◌, reverse};
+ghost use Rattle.ordered_list.specs.Orders.{found};
+ghost use Rattle.numbering_core.specs.Verdicts.{is_good};
+ghost use Rattle.numbering_core.specs.Numbers.{named, IsUnbroken};
+ghost use Rattle.numbering_core.specs.Indexes.{verdict_key, verdict_by, entry_key, number_by};
 
+use crate::entry::{NumberEntry, VerdictEntry};
 use crate::numbering::Numbering;
 use crate::verdict::Verdict;
+use ordered_list::OrderedList;
 use packed_names::{Designation, Number};
-
-/// Whether two designations are the same.
-fn is_same(one: Designation, other: Designation) -> bool
-    ensures { result ≡ eq_by_cmp designation_cmp one other }
-{
-    one == other
-}
 
 /// The greatest uncertainty parameter of a good orbit.
 const GREATEST_U: u8 = 2;
@@ -36,46 +29,47 @@ pub fn is_good(verdict: Option<Verdict>) -> bool
 }
 
 /// The verdict on a principal designation.
-pub fn verdict_of(verdicts: &[Verdict], p: Designation) -> Option<Verdict>
-    ensures { result ≡ verdict_of verdicts.now p }
+pub fn verdict_of(entries: &OrderedList<VerdictEntry>, p: Designation) -> Option<Verdict>
+    ensures { result ≡ verdict_by (found ⟦<VerdictEntry as Ord>⟧.cmp (verdict_key p) entries.now.items) }
 {
-    for verdict in verdicts {
-        if is_same(verdict.principal, p) {
-            return Some(*verdict);
-        }
-    }
-    None
+    let key = VerdictEntry {
+        principal: p,
+        u: 0,
+        oppositions: 0,
+    };
+    entries.find(&key).map(|entry| Verdict {
+        principal: entry.principal,
+        u: entry.u,
+        oppositions: entry.oppositions,
+    })
 }
 
-/// Takes the verdicts on a designation out.
-pub fn remove(verdicts: &mut Vec<Verdict>, p: Designation)
-    ensures items { verdicts.new.items ≡ filter (λ verdict. not (is_of p verdict)) verdicts.old.items }
-    ensures len { vec_len verdicts.new ≤ vec_len verdicts.old }
-    ensures capacity { vec_capacity verdicts.new ≡ vec_capacity verdicts.old }
+/// The number of a designation.
+pub fn number_of(entries: &OrderedList<NumberEntry>, d: Designation) -> Option<Number>
+    ensures { result ≡ number_by (found ⟦<NumberEntry as Ord>⟧.cmp (entry_key d) entries.now.items) }
 {
-    verdicts.retain(|verdict| verdict.principal != p);
+    let key = NumberEntry {
+        designation: d,
+        number: Number(0),
+    };
+    entries.find(&key).map(|entry| entry.number)
 }
 
-/// The number that a designation has.
-pub fn number_of(numbered: &[Numbering], d: Designation) -> Option<Number>
-    ensures { result ≡ number_of (reverse numbered.now) d }
-{
-    for place in (0..numbered.len()).rev() {
-        if is_same(numbered[place].designation, d) {
-            return Some(numbered[place].number);
-        }
-    }
-    None
-}
-
-/// The designation that has a number.
+/// The designation that has a number. Numbers are unbroken, so that each stands as many places behind the first as it
+/// is above it.
 pub fn named(numbered: &[Numbering], n: Number) -> Option<Designation>
+    requires { IsUnbroken (reverse numbered.now) }
     ensures { result ≡ named (reverse numbered.now) n.0 }
 {
-    for place in (0..numbered.len()).rev() {
-        if numbered[place].number.0 == n.0 {
-            return Some(numbered[place].designation);
-        }
+    if numbered.is_empty() {
+        return None;
     }
-    None
+    if n.0 < numbered[0].number.0 {
+        return None;
+    }
+    let place = (n.0 - numbered[0].number.0) as usize;
+    if place >= numbered.len() {
+        return None;
+    }
+    Some(numbered[place].designation)
 }

@@ -7,10 +7,11 @@ ghost use Rattle.numbering_core.specs.Verdicts.{VerdictAct, verdict_of, verdict_
 ghost use Rattle.numbering_core.specs.Verdicts.VerdictAct.{Set, Voided};
 ghost use Rattle.numbering_core.specs.Numbers.{number_of, named, next_number, IsUnbroken};
 
+use crate::entry::{NumberEntry, VerdictEntry};
 use crate::lists;
 use crate::numbering::Numbering;
-use crate::verdict::Verdict;
 use item_list::NoMemory;
+use ordered_list::OrderedList;
 use packed_names::{Designation, Number};
 use std::alloc::Global;
 use std::marker::Model;
@@ -21,8 +22,9 @@ use std::marker::Model;
 /// first, and for how many more of each memory is there.
 #[derive(Drop)]
 pub struct Register {
-    verdicts: Vec<Verdict>,
+    verdicts: OrderedList<VerdictEntry>,
     numbered: Vec<Numbering>,
+    entries: OrderedList<NumberEntry>,
 }
 
 impl Model for Register {
@@ -31,15 +33,15 @@ impl Model for Register {
 
     ghost Value = { RegisterValue };
 
-    ghost use Rattle.numbering_core.specs.Numbers.{IsUnbroken};
+    ghost use Rattle.numbering_core.specs.Indexes.{IsKept, verdicts_in};
 
     ghost view = { λ r. record {
-      verdicts = r.verdicts.items;
+      verdicts = verdicts_in r.verdicts.items;
       numbered = reverse r.numbered.items;
-      spare = min (vec_capacity r.verdicts - vec_len r.verdicts) (vec_capacity r.numbered - vec_len r.numbered);
+      spare = min r.verdicts.room (min (vec_capacity r.numbered - vec_len r.numbered) r.entries.room);
     } };
 
-    ghost invariant = { λ r. IsUnbroken (reverse r.numbered.items) };
+    ghost invariant = { λ r. IsKept ⟦<NumberEntry as Ord>⟧.cmp (reverse r.numbered.items) r.entries.items };
 }
 
 impl Register {
@@ -53,8 +55,9 @@ impl Register {
         ensures numbered { IfOk result (λ register. register.numbered ≡ []) }
     {
         Ok(Register {
-            verdicts: Vec::new(alloc),
+            verdicts: OrderedList::new(alloc)?,
             numbered: Vec::new(alloc),
+            entries: OrderedList::new(alloc)?,
         })
     }
 
@@ -70,8 +73,9 @@ impl Register {
         ensures verdicts { self.new.verdicts ≡ self.old.verdicts }
         ensures numbered { self.new.numbered ≡ self.old.numbered }
     {
-        self.verdicts.reserve(more as usize)?;
-        self.numbered.reserve(more as usize)
+        self.verdicts.reserve(more)?;
+        self.numbered.reserve(more as usize)?;
+        self.entries.reserve(more)
     }
 
     /// Sets the verdict on a principal designation: its uncertainty parameter and its oppositions. An earlier one is no
@@ -85,8 +89,7 @@ impl Register {
         ensures spare { self.old.spare ≤ self.new.spare + 1 }
     {
         packed_names::laws::orders();
-        lists::remove(&mut self.verdicts, p);
-        self.verdicts.push_reserved(Verdict {
+        self.verdicts.insert(VerdictEntry {
             principal: p,
             u,
             oppositions,
@@ -102,7 +105,11 @@ impl Register {
         ensures spare { self.old.spare ≤ self.new.spare }
     {
         packed_names::laws::orders();
-        lists::remove(&mut self.verdicts, p);
+        let _ = self.verdicts.remove(&VerdictEntry {
+            principal: p,
+            u: 0,
+            oppositions: 0,
+        });
     }
 
     /// Whether a verdict on the designation is in force and is good: U is at most 2, and the oppositions are at least
@@ -112,7 +119,8 @@ impl Register {
         ensures acts { (acts : List VerdictAct)
             → StandFor self.now.verdicts acts → result ≡ is_good (verdict_in_force acts p) }
     {
-        lists::is_good(lists::verdict_of(self.verdicts.as_slice(), p))
+        packed_names::laws::orders();
+        lists::is_good(lists::verdict_of(&self.verdicts, p))
     }
 
     /// The number that is given next: one more than the last. None exactly where no number was given.
@@ -134,6 +142,11 @@ impl Register {
         ensures verdicts { self.new.verdicts ≡ self.old.verdicts }
         ensures spare { self.old.spare ≤ self.new.spare + 1 }
     {
+        packed_names::laws::orders();
+        self.entries.insert(NumberEntry {
+            designation: d,
+            number: n,
+        });
         self.numbered.push_reserved(Numbering {
             designation: d,
             number: n,
@@ -147,7 +160,7 @@ impl Register {
         ensures range { IfSome result (λ n. IsNumber n.0) }
     {
         packed_names::laws::orders();
-        lists::number_of(self.numbered.as_slice(), d)
+        lists::number_of(&self.entries, d)
     }
 
     /// The designation that a number was given to. None exactly where it was given to none.

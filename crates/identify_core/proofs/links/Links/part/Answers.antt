@@ -1,26 +1,28 @@
-use Rattle.std.proofs.Common.{◌≡◌, map, length, ap, sym, ◌∙◌}
-use Rattle.std.proofs.lemmas.List.{take_at, length-map}
+use Rattle.std.proofs.Common.{◌≡◌, Some, ap, sym, ◌∙◌}
 use Rattle.identify_core.specs.Acts.{principal_after}
 use Rattle.identify_core.specs.Acts.LinkAct.{Parted}
 use Rattle.identify_core.specs.Principals.{LinksValue, principal_of, IsPrincipal}
-use Rattle.identify_core.specs.Walks.{parted}
-use Rattle.identify_core.proofs.ChangeLemmas.{follows_parted, links_parted}
+use Rattle.identify_core.proofs.ActLemmas.{own_parted}
+use Rattle.identify_core.proofs.ChangeLemmas.{given_alone}
 use Rattle.identify_core.proofs.links.Links.part.Goals as goal
 
 pub invariant_of-self : goal.invariant_of-self
 invariant_of-self c =
-    let secondary : ¬ IsPrincipal c.self.inside.links.items c.args.s =
-    λ own. c.requires.secondary (ap (λ (v : LinksValue). principal_of v.links c.args.s) (sym c.self.view_is) ∙ own) in
-    let long : length c.part.new.links ≡ c.self.inside.links.len = ap length c.part.ensures ∙ length-map c.as_mut_slice.result.now (parted c.args.s) ∙ c.as_mut_slice.ensures.len in
-    links_parted c.args.s c.self.inside.links.items _ _ c.self.invariant secondary (take_at _ _ _ long ∙ c.part.ensures ∙ ap (map (parted c.args.s)) c.as_mut_slice.ensures.value)
-    c.sort_unstable.ensures.permutation c.sort_unstable.ensures.sorted
+    let old = c.self.inside.links.items in
+    let new = c.give.new.links.items in
+    let had : principal_of old c.args.s ≡ Some c.in-Some.principal = sym (c.self.invariant.kept.indexed c.args.s) ∙ sym c.principal_of.ensures ∙ c.in-Some.is in
+    let secondary : ¬ IsPrincipal old c.args.s = λ own. c.requires.secondary (ap (λ (v : LinksValue). principal_of v.links c.args.s) (sym c.self.view_is) ∙ own) in
+    record {
+      kept = c.give.ensures.kept;
+      own = own_parted c.args.s (principal_of old) (principal_of new) secondary (given_alone c.args.s c.in-Some.principal old new had c.give.ensures.principals) c.self.invariant.own;
+    }
 
-pub returns-clause-principals : goal.returns-clause-principals
-returns-clause-principals c = λ e.
-    let long : length c.part.new.links ≡ c.self.inside.links.len = ap length c.part.ensures ∙ length-map c.as_mut_slice.result.now (parted c.args.s) ∙ c.as_mut_slice.ensures.len in
-    follows_parted c.args.s c.self.inside.links.items _ _ c.self.invariant (take_at _ _ _ long ∙ c.part.ensures ∙ ap (map (parted c.args.s)) c.as_mut_slice.ensures.value)
-    c.sort_unstable.ensures.permutation e
+pub returns-in-Some-clause-principals : goal.returns-in-Some-clause-principals
+returns-in-Some-clause-principals c = λ e.
+    let old = c.self.inside.links.items in
+    let had : principal_of old c.args.s ≡ Some c.in-Some.principal = sym (c.self.invariant.kept.indexed c.args.s) ∙ sym c.principal_of.ensures ∙ c.in-Some.is in
+    given_alone c.args.s c.in-Some.principal old c.give.new.links.items had c.give.ensures.principals e
     ∙ ap (λ (v : LinksValue). principal_after (Parted c.args.s) e (principal_of v.links e)) c.self.view_is
 
-pub returns-clause-acts : goal.returns-clause-acts
-returns-clause-acts c = λ acts stand e. returns-clause-principals c e ∙ ap (principal_after (Parted c.args.s) e) (stand e)
+pub returns-in-Some-clause-acts : goal.returns-in-Some-clause-acts
+returns-in-Some-clause-acts c = λ acts stand e. returns-in-Some-clause-principals c e ∙ ap (principal_after (Parted c.args.s) e) (stand e)

@@ -1,4 +1,4 @@
-use Rattle.std.proofs.Common.{◌≡◌, List, Option, Some, None, IfSome, sym, ap, subst, ◌∙◌}
+use Rattle.std.proofs.Common.{◌≡◌, List, Option, Some, None, IfSome, sym, subst, ◌∙◌}
 use Rattle.packed_names.specs.declared.name.Designation.{Designation}
 use Rattle.identify_core.specs.declared.link.Link.{Link}
 use Rattle.identify_core.specs.Principals.{LinksValue, principal_of, IsPrincipal}
@@ -12,5 +12,5 @@ own_if links d (Some p) is own = own d p (sym is)
 pub returns-clause-own : goal.returns-clause-own
 returns-clause-own c =
     let links = c.self.inside.links.items in
-    let answer : c.principal_of.result ≡ principal_of links c.args.d = c.principal_of.ensures ∙ ap (λ (ls : List Link). principal_of ls c.args.d) c.as_slice.ensures.value in
+    let answer : c.principal_of.result ≡ principal_of links c.args.d = c.principal_of.ensures ∙ c.self.invariant.kept.indexed c.args.d in
     subst (λ (v : LinksValue). IfSome c.principal_of.result (IsPrincipal v.links)) c.self.view_is (own_if links c.args.d c.principal_of.result answer c.self.invariant.own)

@@ -1,5 +1,4 @@
-use Rattle.std.proofs.Common.{List, [], ◌∷◌, ◌++◌, ap, ◌∙◌}
-use Rattle.numbering_core.specs.declared.verdict.Verdict.{Verdict}
+use Rattle.std.proofs.Common.{ap, ◌∙◌}
 use Rattle.numbering_core.specs.Verdicts.{verdict_after, verdict_of}
 use Rattle.numbering_core.specs.Verdicts.VerdictAct.{Set}
 use Rattle.numbering_core.specs.RegisterValue.{RegisterValue}
@@ -8,10 +7,7 @@ use Rattle.numbering_core.proofs.register.Register.set.Goals as goal
 
 pub returns-clause-verdicts : goal.returns-clause-verdicts
 returns-clause-verdicts c = λ d.
-    let verdict : Verdict = record { principal = c.args.p; u = c.args.u; oppositions = c.args.oppositions } in
-    ap (λ (vs : List Verdict). verdict_of vs d) c.push_reserved.ensures.items
-    ∙ ap (λ (vs : List Verdict). verdict_of (vs ++ verdict ∷ []) d) c.remove.ensures.items
-    ∙ set_after c.orders.ensures verdict d c.self.inside.verdicts.items
+    set_after c.orders.ensures _ _ _ c.insert.ensures.finds d
     ∙ ap (λ (v : RegisterValue). verdict_after (Set c.args.p c.args.u c.args.oppositions) d (verdict_of v.verdicts d)) c.self.view_is
 
 pub returns-clause-acts : goal.returns-clause-acts

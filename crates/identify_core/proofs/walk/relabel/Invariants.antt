@@ -1,6 +1,0 @@
-use Rattle.std.proofs.Common.{◌≡◌, ◌++◌, map, take, drop}
-use Rattle.identify_core.specs.Walks.{relabelled}
-use Rattle.identify_core.proofs.walk.relabel.Given as goal
-
-abbrev pub invariant-loop-link : goal.invariant-loop-link
-invariant-loop-link l = l.links ≡ map (relabelled l.p l.s) (take l.link-index l.initial.links) ++ drop l.link-index l.initial.links
