@@ -1,5 +1,5 @@
 -- An act that was answered is kept.
-use Rattle.std.proofs.Common.{◌≡◌, ℕ, ℤ, Bool, true, false, cond, List, ◌∷◌, Option, Some, None, Result, Ok, Err, refl, sym, ap, subst, ◌∙◌, inl, inr}
+use Rattle.std.proofs.Common.{◌≡◌, ℕ, ℤ, Bool, true, false, cond, List, Option, Some, None, Result, Ok, Err, refl, sym, ap, ◌∙◌, inl, inr}
 use Rattle.std.specs.Prelude.{◌⊎◌}
 use Rattle.act_bodies.specs.declared.key.Key.{Key}
 use Rattle.act_model.specs.declared.deed.Deed.{Deed}
@@ -7,24 +7,24 @@ use Rattle.act_model.specs.declared.entry.Entry.{Entry}
 use Rattle.act_model.specs.declared.heard.Heard.{Heard}
 use Rattle.act_model.specs.declared.keeper.OfficeState.{OfficeState}
 use Rattle.act_model.specs.declared.reply.Refusal.{Refusal}
-use Rattle.act_model.specs.declared.reply.Refusal.TheVariants.{DiskFault, OtherRequest, NoMemory}
+use Rattle.act_model.specs.declared.reply.Refusal.TheVariants.{OtherRequest}
 use Rattle.act_model.specs.declared.reply.Reply.{Reply}
 use Rattle.act_model.specs.declared.reply.Reply.TheVariants.{Done, Refused}
 use Rattle.act_model.specs.declared.request.Body.{Body}
 use Rattle.act_model.specs.declared.request.Body.TheVariants.{Whole, TooLong, NoRoom}
 use Rattle.act_model.specs.declared.request.Request.{Request}
-use Rattle.act_model.specs.Rows.{first_row, unless, ◌>>=◌}
+use Rattle.act_model.specs.Rows.{first_row, ◌>>=◌}
 use Rattle.act_model.specs.Requests.{is_act}
-use Rattle.act_model.specs.Roster.{members, caller_of}
+use Rattle.act_model.specs.Roster.{members}
 use Rattle.act_model.specs.Deeds.{deeds}
 use Rattle.act_model.specs.History.{Kept, kept, next_moment, next_receipt}
 use Rattle.act_model.specs.Hearing.{size_rows, bytes_in, hear}
 use Rattle.act_model.specs.Refusals.{work_within}
 use Rattle.act_model.specs.Replies.{entry_answer}
-use Rattle.act_model.specs.Step.{Outcome, Refuses, Adds, is_resend, kept_reply, unless_kept, unless_refused, new_entry, query_step, heard_step, unless_unheard, outcome, after, step}
+use Rattle.act_model.specs.Step.{Outcome, is_resend, unless_kept, unless_refused, new_entry, query_step, heard_step, unless_unheard, after, step}
 use Rattle.act_model.specs.Turns.{Turn, TakesReading, Answers, FailsToKeep, Settles, Mends, Takes, IsTurn}
 use Rattle.act_model.specs.Conducts.{IsAcknowledged}
-use Rattle.act_model.proofs.Conducts.{bound, unless_ok, hearing, heard_outcome, outcome_is, step_is}
+use Rattle.act_model.proofs.Conducts.{unless_ok, hearing, heard_outcome, outcome_is, step_is}
 use Rattle.act_model.proofs.Hearing.{Hears, hears, number_some}
 use Rattle.act_model.proofs.Legal.{kept_newest, resent}
 

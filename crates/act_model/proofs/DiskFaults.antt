@@ -1,5 +1,5 @@
 -- Who answers that a disk failed: never the step, and a turn only where the count of faults rose.
-use Rattle.std.proofs.Common.{◌≡◌, ◌≢◌, ℕ, ℤ, pos, ◌<◌, Bool, true, false, cond, List, [], ◌∷◌, ◌++◌, map, flat_map, take, length, Option, Some, None, Result, Ok, Err, refl, sym, ap, subst, ◌∙◌, inl, inr, arith}
+use Rattle.std.proofs.Common.{◌≡◌, ℕ, ℤ, pos, ◌<◌, Bool, true, false, cond, List, [], ◌∷◌, ◌++◌, map, flat_map, Option, Some, None, Result, Ok, Err, refl, sym, ap, subst, ◌∙◌, inl, inr, arith}
 use Rattle.std.specs.Prelude.{◌⊎◌, IsSomeAnd}
 use Rattle.act_bodies.specs.declared.key.Key.{Key}
 use Rattle.designate_core.specs.Takes.{Take, next_in}
@@ -10,7 +10,7 @@ use Rattle.act_model.specs.declared.act.Act.TheVariants as act
 use Rattle.act_model.specs.declared.act.ActFault.{ActFault}
 use Rattle.act_model.specs.declared.act.ActFault.TheVariants as fault
 use Rattle.act_model.specs.declared.deed.Deed.{Deed}
-use Rattle.act_model.specs.declared.deed.Deed.TheVariants.{Enrolled, Stationed, Coded, Submitted, Designated, Attributed, Released, Identified, Separated, Judged, Numbered, Retracted}
+use Rattle.act_model.specs.declared.deed.Deed.TheVariants.{Designated}
 use Rattle.act_model.specs.declared.entry.Entry.{Entry}
 use Rattle.act_model.specs.declared.heard.Asked.{Asked}
 use Rattle.act_model.specs.declared.heard.Asked.TheVariants as asked
@@ -19,7 +19,7 @@ use Rattle.act_model.specs.declared.keeper.OfficeState.{OfficeState}
 use Rattle.act_model.specs.declared.query.Query.{Query}
 use Rattle.act_model.specs.declared.query.Query.TheVariants as query
 use Rattle.act_model.specs.declared.reply.Refusal.{Refusal}
-use Rattle.act_model.specs.declared.reply.Refusal.TheVariants.{Unread, Role, OtherRequest, DiskFault, NoMemory}
+use Rattle.act_model.specs.declared.reply.Refusal.TheVariants.{Unread, OtherRequest, DiskFault}
 use Rattle.act_model.specs.declared.reply.Part.TheVariants as part
 use Rattle.act_model.specs.declared.reply.Reply.{Reply}
 use Rattle.act_model.specs.declared.reply.Thing.{Thing}
@@ -35,19 +35,18 @@ use Rattle.act_model.specs.Rows.{first_row, unless, ◌>>=◌}
 use Rattle.act_model.specs.Requests.{is_act}
 use Rattle.act_model.specs.Acts.{act_of}
 use Rattle.act_model.specs.Queries.{query_of}
-use Rattle.act_model.specs.Roster.{members, caller_of, next_caller}
-use Rattle.act_model.specs.OfficeTables.{tables_of}
+use Rattle.act_model.specs.Roster.{members, caller_of}
 use Rattle.act_model.specs.Holdings.{Holdings, holdings}
 use Rattle.act_model.specs.Designations.{takes_of, links_of}
 use Rattle.act_model.specs.Discoveries.{seen_in, earliest, span, half_of}
-use Rattle.act_model.specs.Numbers.{numbers_of, numbered_from, last_number}
+use Rattle.act_model.specs.Numbers.{numbers_of}
 use Rattle.act_model.specs.Deeds.{deeds}
 use Rattle.act_model.specs.History.{Kept, kept, next_moment}
 use Rattle.act_model.specs.Hearing.{size_rows, bytes_in, verb_rows, is_number_of, number_in, asked_in, queried_in, asked_of, caller_in, hear}
 use Rattle.act_model.specs.Doing.{enrol_rows, row_rows, batch_rows, retract_rows, tracklet_row, free_rows, designate_rows, object_rows, attribute_rows, release_rows, identify_rows, separate_rows, verdict_rows, next_rows, number_rows, designates_seen, eligible_after, taken_after, does}
 use Rattle.act_model.specs.Refusals.{role_rows, act_in, work_out, full_rows, work_within}
-use Rattle.act_model.specs.Step.{Outcome, Refuses, Keeps, Tells, Adds, is_resend, kept_reply, unless_kept, unless_refused, new_entry, told_receipt, told_thing, told, query_in, tells, act_step, query_step, heard_step, unless_unheard, outcome, after, step}
-use Rattle.act_model.specs.Turns.{Turn, unless_untouched, Answers, FailsToMend, FailsToKeep, Settles, ActsMended, Asks, Takes, IsTurn, Conduct, at_rest}
+use Rattle.act_model.specs.Step.{Outcome, Refuses, Keeps, Tells, Adds, is_resend, unless_kept, unless_refused, told_receipt, told_thing, told, query_in, tells, act_step, query_step, heard_step, unless_unheard, outcome, after, step}
+use Rattle.act_model.specs.Turns.{Turn, unless_untouched, Answers, FailsToKeep, Settles, Takes, IsTurn, Conduct}
 use Rattle.act_model.specs.Conducts.{HadNoFault, NoDiskFaults}
 use Rattle.act_model.proofs.Conducts.{outcome_is, hearing, heard_outcome, step_is}
 
@@ -232,6 +231,7 @@ told_other past caller (query.Tracklet t) = thing_other (thing.Tracklet t) _ _
 told_other past caller query.Isolated = tt
 told_other past caller (query.HalfMonth half) = tt
 told_other past caller (query.Name name) = tt
+told_other past caller query.Catalogue = tt
 
 query_other : (a : Asked) → ErrsOther (query_in a)
 query_other (asked.Query q) = tt

@@ -127,6 +127,7 @@ module _ (firsts : AreFirst) where
   first_read verbs.Isolated body = tt
   first_read verbs.HalfMonth body = tt
   first_read verbs.Name body = tt
+  first_read verbs.Catalogue body = tt
   first_read Unknown body = tt
 
 -- ---- what designations are sure of
@@ -233,3 +234,8 @@ module _ (same : AreSame) (itself : IsItself) where
 
     pub acts_fit : (history : List Entry) (moment : ℤ) (a : Act) (deed : Deed) → IsRead a → does (deeds history) moment a ≡ Ok deed → FitsObjects (deeds history) deed
     acts_fit history moment a deed read done = act_fits up (deeds history) moment (observed_years history) (given_next history) (numbers_unbroken history) a deed (first_of_read a read) done
+
+    -- and so does the act of an entry
+    pub deed_fits : (history : List Entry) (e : Entry) (a : Act) (deed : Deed) → act_of e.verb e.body ≡ Ok a → does (deeds history) e.moment a ≡ Ok deed → FitsObjects (deeds history) deed
+    deed_fits history e a deed read done =
+        act_fits up (deeds history) e.moment (observed_years history) (given_next history) (numbers_unbroken history) a deed (subst IsFirstRead read (first_read firsts e.verb e.body)) done

@@ -198,7 +198,7 @@ module _ (acts : List LinkAct) where
 
   -- ---- numbers
 
-  named_given : (ns : List Numbering) (n : ℕ) → All (NumberGiven acts) ns → HomeGiven acts (named ns n)
+  pub named_given : (ns : List Numbering) (n : ℕ) → All (NumberGiven acts) ns → HomeGiven acts (named ns n)
   named_given [] n given = tt
   named_given (newest ∷ past) n given = by (newest.number.0 == n) (named_given past n (All-tail (NumberGiven acts) newest past given))
     where
@@ -466,6 +466,7 @@ module _ (equal : EqualIsSame) (stay : StayOwn) where
     act_fits verbs.Isolated body = tt
     act_fits verbs.HalfMonth body = tt
     act_fits verbs.Name body = tt
+    act_fits verbs.Catalogue body = tt
     act_fits Unknown body = tt
 
   deed_fits : (past : List Deed) (e : Entry) → Sound past → Fits past (deed_of past e)

@@ -39,7 +39,7 @@ use Rattle.act_model.specs.declared.reply.Reply.{Reply}
 use Rattle.act_model.specs.declared.reply.Reply.TheVariants.{Done, Refused}
 use Rattle.act_model.specs.declared.request.Request.{Request}
 use Rattle.act_model.specs.declared.request.Verb.{Verb}
-use Rattle.act_model.specs.declared.request.Verb.TheVariants.{Enrol, Station, Code, Submit80, SubmitPsv, Designate, Attribute, Release, Identify, Separate, Verdict, Number, Retract, Receipt, Tally, Object, Tracklet, Isolated, HalfMonth, Name, Unknown}
+use Rattle.act_model.specs.declared.request.Verb.TheVariants.{Enrol, Station, Code, Submit80, SubmitPsv, Designate, Attribute, Release, Identify, Separate, Verdict, Number, Retract, Receipt, Tally, Object, Tracklet, Isolated, HalfMonth, Name, Catalogue, Unknown}
 use Rattle.act_model.specs.declared.roster.Caller.{Caller}
 use Rattle.act_model.specs.declared.seen.Seen.{Seen}
 use Rattle.act_model.specs.declared.roster.Member.{Member}
@@ -509,6 +509,7 @@ module _ (plain : Plain) (past : List Deed) (moment : ℤ) where
   act_plain Isolated body = tt
   act_plain HalfMonth body = tt
   act_plain Name body = tt
+  act_plain Catalogue body = tt
   act_plain Unknown body = tt
 
 with_plain : (deed : Deed) (enrolled : List Member) → IsPlain deed → ArePlain enrolled → ArePlain (with_enrolled deed enrolled)

@@ -1,4 +1,5 @@
 pub mod Conducts
+mod Clocks
 pub mod Callers
 pub mod Hearing
 pub mod Legal
@@ -16,3 +17,9 @@ mod Fits
 mod Rows
 mod Homes
 mod Objects
+mod Read
+mod Filed
+mod Letters
+mod Names
+pub mod TracksThere
+pub mod Listed

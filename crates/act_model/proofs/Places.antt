@@ -27,10 +27,10 @@ use Rattle.act_model.proofs.Objects.{PrincipalOnce, objects_measure}
 
 -- ---- counting
 
-abbrev once_if : Bool → ℕ
+abbrev pub once_if : Bool → ℕ
 once_if b = cond b 1 0
 
-times_more : (k : ℕ) (xs ys : List ℕ) → times k (xs ++ ys) ≡ times k xs + times k ys
+pub times_more : (k : ℕ) (xs ys : List ℕ) → times k (xs ++ ys) ≡ times k xs + times k ys
 times_more k xs ys = sum_by-append (λ n. cond (n == k) 1 0) xs ys
 
 times_last : (k n : ℕ) (b : Bool) → times k (cond b (n ∷ []) []) ≡ once_if (b && (n == k))
@@ -42,7 +42,7 @@ times_last k n true = by (n == k) refl
     by false is = grind arith
 
 -- one observation more
-where_more : (k : ℕ) (p : Observation → Bool) (newest : Observation) (older : List Observation)
+pub where_more : (k : ℕ) (p : Observation → Bool) (newest : Observation) (older : List Observation)
     → times k (numbers_where p (newest ∷ older)) ≡ times k (numbers_where p older) + once_if (p newest && (next_number older == k))
 where_more k p newest older =
     times_more k (numbers_where p older) _ ∙ ap (λ (n : ℕ). times k (numbers_where p older) + n) (times_last k (next_number older) (p newest))

@@ -19,7 +19,7 @@ use Rattle.col80_format.specs.Batch.{lines_of}
 use Rattle.ades_psv.specs.Batch.{psv_lines_of}
 use Rattle.act_model.specs.Queries.{IsReadQuery}
 use Rattle.act_model.specs.declared.request.Verb.{Verb}
-use Rattle.act_model.specs.declared.request.Verb.TheVariants.{Enrol, Station, Code, Submit80, SubmitPsv, Designate, Attribute, Release, Identify, Separate, Verdict, Number, Retract, Receipt, Tally, Object, Tracklet, Isolated, HalfMonth, Name, Unknown}
+use Rattle.act_model.specs.declared.request.Verb.TheVariants.{Enrol, Station, Code, Submit80, SubmitPsv, Designate, Attribute, Release, Identify, Separate, Verdict, Number, Retract, Receipt, Tally, Object, Tracklet, Isolated, HalfMonth, Name, Catalogue, Unknown}
 use Rattle.act_model.specs.declared.act.Act.{Act}
 use Rattle.act_model.specs.declared.act.Act.TheVariants as act
 use Rattle.act_model.specs.declared.heard.Asked.{Asked}
@@ -93,6 +93,7 @@ act_of Tracklet body = Err Unread
 act_of Isolated body = Err Unread
 act_of HalfMonth body = Err Unread
 act_of Name body = Err Unread
+act_of Catalogue body = Err Unread
 act_of Unknown body = Err Unread
 
 -- What reading a body makes sure of: a station's last day isn't before its first; the tracklets that are to become an

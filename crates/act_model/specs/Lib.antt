@@ -28,8 +28,12 @@ pub mod Replies
 pub mod Refusals
 pub mod Shelves
 pub mod QueryTexts
+pub mod CatalogueLines
+pub mod Catalogue
+pub mod Listing
 pub mod Step
 pub mod Turns
+pub mod Clocks
 pub mod Keepers
 pub mod Conducts
 pub mod Legal

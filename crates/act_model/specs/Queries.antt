@@ -48,6 +48,7 @@ query_of verbs.Tracklet body = option_map query.Tracklet (counted_by body)
 query_of verbs.Isolated body = if_empty query.Isolated body
 query_of verbs.HalfMonth body = option_map query.HalfMonth (half_month_by body)
 query_of verbs.Name body = option_map query.Name (name_by body)
+query_of verbs.Catalogue body = if_empty query.Catalogue body
 query_of _ body = None
 
 -- what reading a body makes sure of: a half-month is one of the years 1925 to 2099

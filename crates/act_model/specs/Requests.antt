@@ -1,7 +1,7 @@
 -- Requests: their verbs and their bodies.
 use Rattle.std.specs.Prelude.{ℕ, ◌==◌, Bool, true, false, bytes_eq, codes, if◌then◌else◌, List, length, nat_lt, count_by}
 use Rattle.act_model.specs.declared.request.Verb.{Verb}
-use Rattle.act_model.specs.declared.request.Verb.TheVariants.{Enrol, Station, Code, Submit80, SubmitPsv, Designate, Attribute, Release, Identify, Separate, Verdict, Number, Retract, Receipt, Tally, Object, Tracklet, Isolated, HalfMonth, Name, Unknown}
+use Rattle.act_model.specs.declared.request.Verb.TheVariants.{Enrol, Station, Code, Submit80, SubmitPsv, Designate, Attribute, Release, Identify, Separate, Verdict, Number, Retract, Receipt, Tally, Object, Tracklet, Isolated, HalfMonth, Name, Catalogue, Unknown}
 use Rattle.act_model.specs.declared.request.Body.{Body}
 use Rattle.act_model.specs.declared.request.Body.TheVariants.{Whole, TooLong}
 use Rattle.act_model.specs.declared.request.TheConstants.{BODY_BYTES}
@@ -29,7 +29,8 @@ verb_of word =
     else (if bytes_eq word (codes "isolated") then Isolated
     else (if bytes_eq word (codes "halfmonth") then HalfMonth
     else (if bytes_eq word (codes "name") then Name
-    else Unknown)))))))))))))))))))
+    else (if bytes_eq word (codes "catalogue") then Catalogue
+    else Unknown))))))))))))))))))))
 
 -- a verb that names nothing
 abbrev pub is_unknown : Verb → Bool
@@ -53,6 +54,7 @@ is_unknown Tracklet = false
 is_unknown Isolated = false
 is_unknown HalfMonth = false
 is_unknown Name = false
+is_unknown Catalogue = false
 is_unknown Unknown = true
 
 -- a verb of an act, which may become an entry; any other is that of a query, which only reads
@@ -77,6 +79,7 @@ is_act Tracklet = false
 is_act Isolated = false
 is_act HalfMonth = false
 is_act Name = false
+is_act Catalogue = false
 is_act Unknown = false
 
 -- a verb of officers alone
@@ -101,6 +104,7 @@ is_officers Tracklet = false
 is_officers Isolated = false
 is_officers HalfMonth = false
 is_officers Name = false
+is_officers Catalogue = false
 is_officers Unknown = false
 
 -- the number of a verb of an act, and 0 for no act
@@ -125,6 +129,7 @@ verb_code Tracklet = 0
 verb_code Isolated = 0
 verb_code HalfMonth = 0
 verb_code Name = 0
+verb_code Catalogue = 0
 verb_code Unknown = 0
 
 abbrev pub same_verb : Verb → Verb → Bool

@@ -31,6 +31,7 @@ use Rattle.act_model.specs.Holdings.{holdings}
 use Rattle.act_model.specs.Designations.{takes_of, links_of}
 use Rattle.act_model.specs.Numbers.{numbers_of}
 use Rattle.act_model.specs.Shelves.{track_head}
+use Rattle.act_model.specs.Catalogue.{catalogue}
 use Rattle.act_model.specs.QueryTexts.{object_text, tracklet_text, isolated_text, half_month_line, name_text}
 
 -- what becomes of a request: it is refused; its number was used, and this is the reply that is kept for it; it is a query,
@@ -95,6 +96,7 @@ told past caller (query.Tracklet t) =
 told past caller query.Isolated = Ok (isolated_text (holdings (deeds past)))
 told past caller (query.HalfMonth half) = Ok (half_month_line (takes_of (deeds past)) half)
 told past caller (query.Name name) = Ok (name_text (links_of (deeds past)) (numbers_of (deeds past)) name)
+told past caller query.Catalogue = Ok (catalogue past)
 
 -- the query that is asked; an act is none
 abbrev pub query_in : Asked → Result Query Refusal

@@ -347,6 +347,7 @@ pub fn read_act(alloc: Global, verb: Verb, body: &[u8]) -> Result<Act, ActFault>
         | Verb::Isolated
         | Verb::HalfMonth
         | Verb::Name
+        | Verb::Catalogue
         | Verb::Unknown => Err(ActFault::Unread),
     }
 }

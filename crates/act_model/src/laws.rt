@@ -22,10 +22,25 @@ ghost use Rattle.act_model.specs.History.{Kept, kept, EachNumberOnce};
 ghost use Rattle.act_model.specs.Hearing.{asked_of};
 ghost use Rattle.act_model.specs.Refusals.{work_out, work_within};
 ghost use Rattle.act_model.specs.Step.{Adds, new_entry, outcome, step};
+ghost use Rattle.act_model.specs.Clocks.{ClockState, Gives};
 ghost use Rattle.act_model.specs.Turns.{Turn, TakesReading, Answers, IsTurn, Conduct, at_rest, Mends};
 ghost use Rattle.act_model.specs.Conducts.{Extends, HadMemory, HadNoFault, NoDiskFaults, IsStepped, IsAnswered, IsAcknowledged, EitherWay, Makes};
 ghost use Rattle.act_model.specs.Legal.{IsLegal};
 ghost use Rattle.tracklet_file.specs.declared.observation.Observation.{Observation};
+ghost use Rattle.tracklet_file.specs.declared.tracklet.Tracklet.{Tracklet};
+ghost use Rattle.packed_names.specs.declared.name.Designation.{Designation};
+ghost use Rattle.packed_names.specs.declared.number.Number.{Number};
+ghost use Rattle.packed_names.specs.Ranges.{IsNumber, IsDesignation};
+ghost use Rattle.obs_record.specs.declared.short.Short.{Short};
+ghost use Rattle.obs_record.specs.Filed.{IsTrackName, IsFiled};
+ghost use Rattle.station_tables.specs.declared.kind.Kind.{Kind};
+ghost use Rattle.station_tables.specs.Codes.{letter_of};
+ghost use Rattle.station_tables.specs.Letters.{IsLetterOf};
+ghost use Rattle.identify_core.specs.Acts.{principal};
+ghost use Rattle.numbering_core.specs.Numbers.{number_of, named};
+ghost use Rattle.act_model.specs.Designations.{links_of, is_given};
+ghost use Rattle.act_model.specs.Numbers.{numbers_of};
+ghost use Rattle.act_model.specs.OfficeTables.{tables_of};
 ghost use Rattle.tracklet_file.specs.Numbering.{numbered};
 ghost use Rattle.act_model.specs.declared.act.Act.{Act};
 ghost use Rattle.act_model.specs.Acts.{IsRead};
@@ -35,6 +50,7 @@ ghost use Rattle.act_model.specs.Fitting.{FitsObjects};
 ghost use Rattle.act_model.specs.Unbroken.{UnbrokenRows, UnbrokenNumbers};
 ghost use Rattle.act_model.specs.Holdings.{holdings};
 ghost use Rattle.act_model.specs.Observations.{observations};
+ghost use Rattle.act_model.specs.Listing.{ListsEachOnce};
 ghost use Rattle.act_model.specs.Places.{OnePlace, added_by};
 
 /// A refusal changes nothing.
@@ -90,6 +106,12 @@ pub fn a_refusal_only_mends()
     ensures { (founder : Key) (limit : Option ℕ) (before after : OfficeState) (turn : Turn) (refusal : Refusal) →
         IsTurn founder limit before turn after → turn.reply ≡ Refused refusal →
         Mends before.settled before.doubt after.settled }
+{}
+
+/// A clock that gave some readings and then others gave them all, one behind the other.
+pub fn readings_go_on()
+    ensures { (before between after : ClockState) (readings more : List ℤ) →
+        Gives before between readings → Gives between after more → Gives before after (readings ++ more) }
 {}
 
 /// A conduct goes on with one turn more.
@@ -221,6 +243,15 @@ pub fn one_place()
     identify_core::laws::each_principal_once();
 }
 
+/// The catalogue has a line for each live observation, exactly one, and none for any other.
+pub fn lists_live_once()
+    ensures { (history : List Entry) → ListsEachOnce history }
+{
+    identify_core::laws::equal_is_same();
+    identify_core::laws::principals_stay_own();
+    identify_core::laws::each_principal_once();
+}
+
 /// An act adds to the accepted observations its own accepted lines, and takes none away.
 pub fn acts_add_their_lines()
     ensures { (past : List Deed) (deed : Deed) → observations (deed ∷ past) ≡ observations past + added_by deed }
@@ -257,4 +288,49 @@ pub fn unbroken_numbers()
     act_bodies::laws::first_numbers_are_numbers();
     identify_core::laws::given_ascend();
     numbering_core::laws::unbroken_numbers();
+}
+
+/// Each accepted observation is one that may be filed, retracted ones included: its fields are in their ranges, its
+/// station has 3 bytes, its mode is taken, and a temporary designation is printed.
+pub fn observations_are_filed()
+    ensures { (history : List Entry) (k : ℕ) (o : Observation) →
+        numbered (holdings (deeds history)).observations k ≡ Some o → IsFiled o.sighting }
+{
+    col80_format::laws::lines_in_range();
+    ades_psv::laws::lines_in_range();
+    act_bodies::laws::letters_are_printed();
+}
+
+/// The letter that a word stands for in the office's tables is printed, and no mode has one of those of refused records.
+pub fn letters_are_printed()
+    ensures { (history : List Entry) (kind : Kind) (word : Short) (letter : ℕ) →
+        letter_of (tables_of (deeds history)).codes kind word ≡ Some letter → IsLetterOf kind letter }
+{
+    col80_format::laws::lines_in_range();
+    ades_psv::laws::lines_in_range();
+    act_bodies::laws::letters_are_printed();
+}
+
+/// What the office gave and holds are names: a designation that was given, and its principal, is one that a half-month
+/// has; a number that was given is one that a minor planet can have, and was given to a designation; and each tracklet
+/// goes by a number, a designation, or a temporary designation that is printed.
+pub fn names_are_names()
+    ensures given { (history : List Entry) (d : Designation) →
+        is_given (links_of (deeds history)) d ≡ true → IsDesignation d }
+    ensures principal { (history : List Entry) (d p : Designation) →
+        principal (links_of (deeds history)) d ≡ Some p → IsDesignation p }
+    ensures number { (history : List Entry) (d : Designation) (n : Number) →
+        number_of (numbers_of (deeds history)) d ≡ Some n → IsNumber n.0 }
+    ensures numbered { (history : List Entry) (n : ℕ) (d : Designation) →
+        named (numbers_of (deeds history)) n ≡ Some d → IsNumber n × IsDesignation d }
+    ensures track { (history : List Entry) (t : ℕ) (tracklet : Tracklet) →
+        numbered (holdings (deeds history)).tracklets t ≡ Some tracklet → IsTrackName tracklet.name }
+{
+    act_bodies::laws::first_numbers_are_numbers();
+    act_bodies::laws::letters_are_printed();
+    ades_psv::laws::lines_in_range();
+    col80_format::laws::lines_in_range();
+    identify_core::laws::equal_is_same();
+    identify_core::laws::given_ascend();
+    identify_core::laws::principals_stay_own();
 }

@@ -39,7 +39,7 @@ pub use reply::{
 pub use request::{BODY_BYTES, BODY_LINES, Body, Request, Verb, is_resend, line_feeds, read_verb};
 pub use roster::{CALLERS, Caller, Member};
 pub use ruling::Ruling;
-pub use seen::Seen;
+pub use seen::{Seen, is_sooner};
 pub use shelf::{Names, Place, Shelf, TrackHead};
 pub use taken::{Placed, Taken, accepted_in, faults_in, name_of};
 pub use tally::{Tally, tally_answer};

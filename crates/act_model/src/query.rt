@@ -25,6 +25,8 @@ pub enum Query {
     HalfMonth(HalfMonth),
     /// The two forms of this name, and the principal designation of its object.
     Name(Name),
+    /// The catalogue: the tally, and every live observation as a line of 80 columns, in its place.
+    Catalogue,
 }
 
 // The number that a text of 1 to 18 digits without a leading zero spells.
@@ -80,7 +82,7 @@ fn if_empty(query: Query, body: &[u8]) -> Option<Query>
 ///
 /// The body of `receipt` and of `tracklet` is a number of 1 to 18 digits without a leading zero, that of `object` a printed
 /// designation, that of `halfmonth` a half-month such as `2024 E`, and that of `name` a number or a designation, printed or
-/// packed. That of `tally` and of `isolated` is empty.
+/// packed. That of `tally`, of `isolated` and of `catalogue` is empty.
 #[tactic(auto, unfolding(crate::specs::Queries::query_of))]
 pub fn read_query(verb: Verb, body: &[u8]) -> Option<Query>
     ensures query { result ≡ query_of verb body.now }
@@ -94,6 +96,7 @@ pub fn read_query(verb: Verb, body: &[u8]) -> Option<Query>
         Verb::Isolated => if_empty(Query::Isolated, body),
         Verb::HalfMonth => half_month_by(body).map(Query::HalfMonth),
         Verb::Name => name_by(body).map(Query::Name),
+        Verb::Catalogue => if_empty(Query::Catalogue, body),
         _ => None,
     }
 }

@@ -55,6 +55,8 @@ pub enum Verb {
     HalfMonth,
     /// To ask for both forms of a name and whose it is, by the word `name`. It is a query.
     Name,
+    /// To ask for the catalogue, by the word `catalogue`. It is a query.
+    Catalogue,
     /// A word that names nothing. It is no act.
     Unknown,
 }
@@ -99,6 +101,7 @@ impl Verb {
             | Verb::Isolated
             | Verb::HalfMonth
             | Verb::Name
+            | Verb::Catalogue
             | Verb::Unknown => false,
         }
     }
@@ -128,6 +131,7 @@ impl Verb {
             | Verb::Isolated
             | Verb::HalfMonth
             | Verb::Name
+            | Verb::Catalogue
             | Verb::Unknown => 0,
         }
     }
@@ -177,6 +181,8 @@ pub fn read_verb(word: &[u8]) -> Verb
         Verb::HalfMonth
     } else if word == b"name".as_slice() {
         Verb::Name
+    } else if word == b"catalogue".as_slice() {
+        Verb::Catalogue
     } else {
         Verb::Unknown
     }

@@ -12,6 +12,7 @@ use Rattle.act_model.specs.declared.reply.Refusal.TheVariants.{UnknownThing}
 use Rattle.act_model.specs.declared.reply.Reply.TheVariants.{Done, Refused}
 use Rattle.act_model.specs.declared.reply.Thing.TheVariants as thing
 use Rattle.act_model.specs.declared.shelf.TrackHead.{TrackHead}
+use Rattle.act_model.specs.Catalogue.{catalogue}
 use Rattle.act_model.specs.Deeds.{deeds}
 use Rattle.act_model.specs.Designations.{takes_of, links_of}
 use Rattle.act_model.specs.History.{Kept, kept}
@@ -97,3 +98,7 @@ module _ (past : List Entry) (caller : ℕ) where
       → told past caller (query.Name name) ≡ Ok text
   unfolding told
   name_told name text is = ap (λ (t : List ℕ). Ok t) (sym is)
+
+  pub catalogue_told : (text : List ℕ) → text ≡ catalogue past → told past caller query.Catalogue ≡ Ok text
+  unfolding told
+  catalogue_told text is = ap (λ (t : List ℕ). Ok t) (sym is)

@@ -4,6 +4,7 @@ ghost use Rattle.act_model.specs.Rows.{IsDue};
 ghost use Rattle.act_model.specs.Step.{told};
 ghost use Rattle.catalogue_export.specs.Telling.{Tells};
 
+use crate::exporting::catalogue_text;
 use crate::half_month::half_month_text;
 use crate::isolated::isolated_text;
 use crate::name::name_text;
@@ -68,6 +69,7 @@ fn told<V: Shelf>(alloc: Global, shelf: &V, caller: u32, query: &Query) -> Resul
         Query::Isolated => text_or_refusal(isolated_text(alloc, shelf)),
         Query::HalfMonth(half) => text_or_refusal(half_month_text(alloc, shelf, half)),
         Query::Name(name) => text_or_refusal(name_text(alloc, shelf, name)),
+        Query::Catalogue => text_or_refusal(catalogue_text(alloc, shelf)),
     }
 }
 

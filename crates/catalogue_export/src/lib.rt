@@ -5,12 +5,20 @@
 #![tactic(auto)]
 
 mod answering;
+mod exporting;
 mod half_month;
 mod isolated;
+mod lines;
 mod name;
 mod object;
+mod pages;
+mod pieces;
 mod reading;
 mod tracklet;
+mod tracks;
+mod walk;
 mod writing;
 
 pub use answering::answer;
+pub use exporting::{ExportFault, export};
+pub use pages::{PAGE_BYTES, Pages};

@@ -15,10 +15,10 @@ use Rattle.intake_lock.specs.Items.{IsTrue, AreTrue}
 use Rattle.intake_lock.specs.Views.{seen}
 use Rattle.desk_http.specs.Answers.{IfKept, IsRequestRead}
 use Rattle.desk_http.specs.Heads.{Message}
-use Rattle.link_desk.specs.Clocks.{ClockState, Gives}
+use Rattle.act_model.specs.Clocks.{ClockState, Gives}
 use Rattle.link_desk.specs.Calls.{TakesCall, AreInOrder}
 use Rattle.link_desk.specs.Attending.{Exchange, AsksFor, IsExchange, messages_of, items_of, readings_in, Attends, answer_to, answers}
-use Rattle.link_desk.proofs.Clocks.{gives_none, gives_more}
+use Rattle.link_desk.proofs.Readings.{gives_none}
 use Rattle.link_desk.proofs.Calls.{CallLaws, are_true_later, order_more}
 
 -- the request that was read asks for its message
@@ -87,7 +87,7 @@ attends_more laws before between after a b c es message item so_far call asks =
       order = subst (λ (l : List Item). AreInOrder founder limit (seen after) (length (seen before)) l) (sym items)
           (order_more laws founder limit (length (seen before)) (seen between) (seen after) item (items_of es) least call.grows call.place so_far.true_of so_far.order);
       grows = laws.follow (seen before) (seen between) (seen after) so_far.grows call.grows;
-      clock = subst (Gives a c) (sym (readings_more es e)) (gives_more a b c (readings_in es) (option_to_list item.reading) so_far.clock call.clock);
+      clock = subst (Gives a c) (sym (readings_more es e)) (laws.readings a b c (readings_in es) (option_to_list item.reading) so_far.clock call.clock);
       founder = call.founder ∙ so_far.founder;
       limit = call.limit ∙ so_far.limit;
     }

@@ -10,12 +10,14 @@ use Rattle.act_model.specs.declared.request.Request.{Request}
 use Rattle.act_model.specs.Conducts.{Extends}
 use Rattle.act_model.specs.Step.{Outcome, Adds, outcome, after, step}
 use Rattle.act_model.specs.Turns.{Answers}
+use Rattle.act_model.specs.Clocks.{ClockState, Gives}
 use Rattle.intake_lock.specs.declared.view.Item.{Item}
 use Rattle.intake_lock.specs.Items.{reading_of, IsTrue, AreTrue, Failed, Calls}
 use Rattle.link_desk.specs.Calls.{IsAdded, StandsBehind, AreInOrder, HadNoRise, IsStepped}
 
--- what the lock's laws say of histories and calls
+-- what the lock's laws say of histories and calls, and the office's of readings
 pub record CallLaws : Type 0 where
+  pub readings : (before between after : ClockState) (xs ys : List ℤ) → Gives before between xs → Gives between after ys → Gives before after (xs ++ ys)
   pub follow : (a b c : List Entry) → Extends a b → Extends b c → Extends a c
   pub longer : (a b : List Entry) → Extends a b → length a ≤ length b
   pub one : (a b c : List Entry) → Extends a c → Extends b c → length a ≡ length b → a ≡ b

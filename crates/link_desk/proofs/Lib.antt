@@ -1,4 +1,4 @@
-mod Clocks
+mod Readings
 mod Streams
 mod Calls
 mod Turned

@@ -22,7 +22,7 @@ use Rattle.desk_http.specs.ReplyTexts.{answer_of, unread_answer}
 use Rattle.link_desk.specs.declared.left.Left.{Left}
 use Rattle.link_desk.specs.declared.left.Left.TheVariants.{Ended, Unread, Enough, ReadFault, WriteFault, NoMemory}
 use Rattle.link_desk.specs.declared.TheConstants.{ANSWERS}
-use Rattle.link_desk.specs.Clocks.{ClockState}
+use Rattle.act_model.specs.Clocks.{ClockState}
 use Rattle.link_desk.specs.Calls.{TakesCall}
 use Rattle.link_desk.specs.Streams.{IsOpen, IsClosed, HasNoHeadFault, AwaitsNext}
 use Rattle.link_desk.specs.Attending.{Exchange, messages_of, items_of, Attends, is_last, answer_to, answers, Link, Remains, Supplies, IsUnread, IsPartly, Ends, IsAttended, ReadCounts, WriteCounts, IsEndedOrWanting}

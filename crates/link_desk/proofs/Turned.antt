@@ -10,9 +10,9 @@ use Rattle.intake_lock.specs.declared.view.Item.{Item}
 use Rattle.intake_lock.specs.declared.view.View.{View}
 use Rattle.intake_lock.specs.Items.{IsTrue, Noted}
 use Rattle.intake_lock.specs.Views.{seen, holding, published, idle}
-use Rattle.link_desk.specs.Clocks.{ClockState, Gives}
+use Rattle.act_model.specs.Clocks.{ClockState, Gives}
 use Rattle.link_desk.specs.Calls.{Asks, TakesCall}
-use Rattle.link_desk.proofs.Clocks.{gives_none, gives_one}
+use Rattle.link_desk.proofs.Readings.{gives_none, gives_one}
 use Rattle.link_desk.proofs.Calls.{CallLaws}
 
 module _ (before : Office) (request : Request) (reply : Reply) (after : Office) (items noted : List Item) where

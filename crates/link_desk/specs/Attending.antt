@@ -21,7 +21,7 @@ use Rattle.desk_http.specs.ReplyTexts.{answer_of, unread_answer}
 use Rattle.link_desk.specs.declared.left.Left.{Left}
 use Rattle.link_desk.specs.declared.left.Left.TheVariants.{Ended, Unread, Enough, ReadFault, WriteFault, NoMemory}
 use Rattle.link_desk.specs.declared.TheConstants.{ANSWERS}
-use Rattle.link_desk.specs.Clocks.{ClockState, Gives}
+use Rattle.act_model.specs.Clocks.{ClockState, Gives}
 use Rattle.link_desk.specs.Calls.{AreInOrder, HadNoRise, IsStepped}
 use Rattle.link_desk.specs.Streams.{IsOpen, IsClosed, AwaitsNext}
 

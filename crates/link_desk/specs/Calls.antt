@@ -13,7 +13,7 @@ use Rattle.intake_lock.specs.declared.view.Item.{Item}
 use Rattle.intake_lock.specs.declared.view.View.{View}
 use Rattle.intake_lock.specs.Items.{reading_of, AddsAt, IsTrue, Calls, Noted}
 use Rattle.intake_lock.specs.Views.{seen}
-use Rattle.link_desk.specs.Clocks.{ClockState, Gives}
+use Rattle.act_model.specs.Clocks.{ClockState, Gives}
 
 -- ---- one call
 

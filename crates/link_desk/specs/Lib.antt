@@ -1,4 +1,3 @@
-pub mod Clocks
 pub mod Calls
 pub mod Streams
 pub mod Attending

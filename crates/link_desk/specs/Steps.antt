@@ -13,7 +13,7 @@ use Rattle.desk_http.specs.declared.heard.Heard.TheVariants as heard
 use Rattle.desk_http.specs.ReplyTexts.{answer_of, unread_answer}
 use Rattle.link_desk.specs.declared.left.Left.{Left}
 use Rattle.link_desk.specs.declared.left.Left.TheVariants.{Ended, Unread, Enough, ReadFault, WriteFault, NoMemory}
-use Rattle.link_desk.specs.Clocks.{ClockState}
+use Rattle.act_model.specs.Clocks.{ClockState}
 use Rattle.link_desk.specs.Calls.{TakesCall}
 use Rattle.link_desk.specs.Attending.{is_last}
 

@@ -2,10 +2,10 @@
 
 ghost use Rattle.std.specs.Prelude.{◌≡◌};
 ghost use Rattle.intake_lock.specs.declared.view.Item.{Item};
-ghost use Rattle.link_desk.specs.Clocks.{clock_of};
+ghost use Rattle.act_model.specs.Clocks.{clock_of};
 ghost use Rattle.link_desk.specs.Calls.{Asks, TakesCall};
 
-use act_model::{Keeper, Reply, Request};
+use act_model::{Keeper, Reply, Request, laws as office_laws};
 use desk_io::Clock;
 use intake_lock::{Pass, Turn, TurnLock, laws as lock_laws};
 use std::alloc::Global;
@@ -45,6 +45,7 @@ pub fn answer_one<V: Keeper, C: Clock, R: Wait>(
     ensures call { (item : Item) × (item.request ≡ request.now) × (item.reply ≡ result.1)
         × TakesCall pass.view result.0.view (clock_of C.reading C.last clock.old) (clock_of C.reading C.last clock.new) item }
 {
+    office_laws::readings_go_on();
     lock_laws::calls_are_true();
     lock_laws::beginnings();
     let mut turn = lock.enter(rt, pass);

@@ -2,7 +2,7 @@
 
 ghost use Rattle.std.specs.Prelude.{◌≡◌, ◌<◌, ℕ, List, Some};
 ghost use Rattle.desk_io.specs.Outside.{Rises};
-ghost use Rattle.link_desk.specs.Clocks.{clock_of};
+ghost use Rattle.act_model.specs.Clocks.{clock_of};
 ghost use Rattle.link_desk.specs.Streams.{HasNoHeadFault};
 ghost use Rattle.link_desk.specs.Attending.{is_last, IsAttended, ReadCounts, WriteCounts, IsEndedOrWanting};
 ghost use Rattle.link_desk.specs.Steps.{IsRefused, Becomes, GoesOn};
@@ -10,7 +10,7 @@ ghost use Rattle.link_desk.specs.Steps.{IsRefused, Becomes, GoesOn};
 use crate::ANSWERS;
 use crate::answering::answer_one;
 use crate::left::Left;
-use act_model::Keeper;
+use act_model::{Keeper, laws as office_laws};
 use desk_http::{Heard, SendFault, Wire, laws as http_laws, write_reply, write_unread};
 use desk_io::{Clock, Failed, Sink, Source};
 use intake_lock::{Pass, TurnLock, laws as lock_laws};
@@ -110,6 +110,7 @@ pub fn attend<V: Keeper, S: Source, K: Sink, C: Clock, R: Wait>(
     // What was open is open.
     ensures stays { (S.is_open source.new ≡ S.is_open source.old) × (K.is_open sink.new ≡ K.is_open sink.old) }
 {
+    office_laws::readings_go_on();
     lock_laws::calls_are_true();
     lock_laws::beginnings();
     http_laws::goes_on();

@@ -7,7 +7,7 @@ use Rattle.obs_journal.specs.Files.{Spells}
 use Rattle.act_bodies.specs.declared.key.Key.{Key}
 use Rattle.act_model.specs.declared.entry.Entry.{Entry}
 use Rattle.act_model.specs.declared.request.Verb.{Verb}
-use Rattle.act_model.specs.declared.request.Verb.TheVariants.{Enrol, Station, Code, Submit80, SubmitPsv, Designate, Attribute, Release, Identify, Separate, Verdict, Number, Retract, Receipt, Tally, Object, Tracklet, Isolated, HalfMonth, Name, Unknown}
+use Rattle.act_model.specs.declared.request.Verb.TheVariants.{Enrol, Station, Code, Submit80, SubmitPsv, Designate, Attribute, Release, Identify, Separate, Verdict, Number, Retract, Receipt, Tally, Object, Tracklet, Isolated, HalfMonth, Name, Catalogue, Unknown}
 use Rattle.act_model.specs.Legal.{IsAdded, IsLegal}
 use Rattle.act_model.specs.Requests.{is_act, verb_code}
 use Rattle.desk_core.specs.Replaying.{act_with, entry_of}
@@ -37,6 +37,7 @@ act_coded Tracklet act = absurd cc
 act_coded Isolated act = absurd cc
 act_coded HalfMonth act = absurd cc
 act_coded Name act = absurd cc
+act_coded Catalogue act = absurd cc
 act_coded Unknown act = absurd cc
 
 entry_again : (e : Entry) → is_act e.verb ≡ true → entry_in (parcel_of e) ≡ Some e

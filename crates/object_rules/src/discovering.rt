@@ -2,19 +2,12 @@
 
 ghost use Rattle.std.specs.Prelude.{◌≡◌, ◌≤ℤ◌, IsTrue};
 ghost use Rattle.packed_names.specs.Ranges.{IsHalfMonth};
-ghost use Rattle.act_model.specs.Discoveries.{is_sooner, sooner, later, earliest, latest, half_of};
+ghost use Rattle.act_model.specs.Discoveries.{sooner, later, earliest, latest, half_of};
 ghost use Rattle.object_rules.specs.Seeing.{is_of_years, AreOfYears};
 
-use act_model::Seen;
+use act_model::{Seen, is_sooner};
 use obs_time::{Instant, half_month};
 use packed_names::HalfMonth;
-
-/// Whether the one is earlier than the other, or has the smaller number where their times are the same.
-fn is_sooner(one: &Seen, other: &Seen) -> bool
-    ensures { result ≡ is_sooner one.now other.now }
-{
-    one.time < other.time || (one.time == other.time && one.number < other.number)
-}
 
 fn sooner<'s>(one: &'s Seen, other: &'s Seen) -> &'s Seen
     ensures sooner { result.now ≡ sooner one.now other.now }

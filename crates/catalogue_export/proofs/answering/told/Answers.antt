@@ -1,6 +1,7 @@
 use Rattle.std.proofs.Common.{◌≡◌, Ok, ◌∙◌, ap, sym, subst}
 use Rattle.act_model.specs.declared.query.Query.{Query}
 use Rattle.act_model.specs.declared.query.Query.TheVariants as query
+use Rattle.act_model.specs.Catalogue.{catalogue}
 use Rattle.act_model.specs.Deeds.{deeds}
 use Rattle.act_model.specs.Designations.{takes_of, links_of}
 use Rattle.act_model.specs.Holdings.{holdings}
@@ -9,7 +10,7 @@ use Rattle.act_model.specs.QueryTexts.{isolated_text, half_month_line, name_text
 use Rattle.act_model.specs.Rows.{IsDue}
 use Rattle.act_model.specs.Step.{told}
 use Rattle.act_model.specs.Tallies.{tally_text}
-use Rattle.catalogue_export.proofs.Telling.{if_made, tally_told, isolated_told, half_month_told, name_told}
+use Rattle.catalogue_export.proofs.Telling.{if_made, tally_told, isolated_told, half_month_told, name_told, catalogue_told}
 use Rattle.catalogue_export.proofs.answering.told.Goals as goal
 
 pub returns-in-Tally : goal.returns-in-Tally
@@ -49,3 +50,12 @@ returns-in-Name g c =
     (if_made c.name_text.result (λ text. text ≡ name_text (links_of (deeds past)) (numbers_of (deeds past)) c.in-Name.name) (λ text. told past c.args.caller asked ≡ Ok text)
     (λ text is. name_told past c.args.caller c.in-Name.name text is)
     c.name_text.ensures))
+
+pub returns-in-Catalogue : goal.returns-in-Catalogue
+returns-in-Catalogue g c =
+    let past = g.V.Shelf.history c.args.shelf.now in
+    subst (λ (q : Query). IsDue (told past c.args.caller q) c.text_or_refusal-in-Catalogue.result) (sym c.in-Catalogue.is)
+    (c.text_or_refusal-in-Catalogue.ensures (told past c.args.caller query.Catalogue)
+    (if_made c.catalogue_text.result (λ text. text ≡ catalogue past) (λ text. told past c.args.caller query.Catalogue ≡ Ok text)
+    (λ text is. catalogue_told past c.args.caller text is)
+    c.catalogue_text.ensures))

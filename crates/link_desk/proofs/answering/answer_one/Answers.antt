@@ -5,6 +5,7 @@ use Rattle.link_desk.proofs.answering.answer_one.Goals as goal
 pub returns-clause-call : goal.returns-clause-call
 returns-clause-call g c =
     let calls : CallLaws = record {
+      readings = c.readings_go_on.ensures;
       follow = c.beginnings.ensures.follow;
       longer = c.beginnings.ensures.longer;
       one = c.beginnings.ensures.one;

@@ -24,6 +24,7 @@ messages-init g c =
 pub returns-in-Some-clause-attended : goal.returns-in-Some-clause-attended
 returns-in-Some-clause-attended g c =
     let calls : CallLaws = record {
+      readings = c.readings_go_on.ensures;
       follow = c.beginnings.ensures.follow;
       longer = c.beginnings.ensures.longer;
       one = c.beginnings.ensures.one;
@@ -47,6 +48,7 @@ returns-in-Some-clause-attended g c =
 pub returns-in-Some-clause-complete : goal.returns-in-Some-clause-complete
 returns-in-Some-clause-complete g c =
     let calls : CallLaws = record {
+      readings = c.readings_go_on.ensures;
       follow = c.beginnings.ensures.follow;
       longer = c.beginnings.ensures.longer;
       one = c.beginnings.ensures.one;
@@ -80,6 +82,7 @@ returns-in-Some-clause-complete g c =
 pub messages-preserved : goal.messages-preserved
 messages-preserved g c =
     let calls : CallLaws = record {
+      readings = c.readings_go_on.ensures;
       follow = c.beginnings.ensures.follow;
       longer = c.beginnings.ensures.longer;
       one = c.beginnings.ensures.one;
@@ -113,6 +116,7 @@ messages-preserved g c =
 pub returns-clause-attended : goal.returns-clause-attended
 returns-clause-attended g c =
     let calls : CallLaws = record {
+      readings = c.readings_go_on.ensures;
       follow = c.beginnings.ensures.follow;
       longer = c.beginnings.ensures.longer;
       one = c.beginnings.ensures.one;

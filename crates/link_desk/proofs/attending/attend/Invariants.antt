@@ -1,5 +1,5 @@
 use Rattle.std.proofs.Common.{◌≡◌}
-use Rattle.link_desk.specs.Clocks.{clock_of}
+use Rattle.act_model.specs.Clocks.{clock_of}
 use Rattle.link_desk.proofs.Progress.{Progress}
 use Rattle.link_desk.proofs.attending.attend.Given as goal
 

@@ -3,11 +3,7 @@ use Rattle.std.proofs.Common.{◌≡◌, ℕ, ◌+◌, ℤ, List, [], ◌∷◌,
 use Rattle.std.specs.Prelude.{IfSome}
 use Rattle.std.proofs.lemmas.List.{length-append}
 use Rattle.act_model.specs.Turns.{AreReadings}
-use Rattle.link_desk.specs.Clocks.{ClockState, last_of, Gives}
-
--- no reading was taken
-pub gives_none : (clock : ClockState) → Gives clock clock []
-gives_none clock = record { known = tt; later = λ k. ap clock.to_come (sym (add-zero k)); last = refl }
+use Rattle.act_model.specs.Clocks.{ClockState, last_of, Gives}
 
 AreReadings-append : (told : ℕ → Option ℤ) (from : ℕ) (xs ys : List ℤ) → AreReadings told from xs → AreReadings told (from + length xs) ys → AreReadings told from (xs ++ ys)
 AreReadings-append told from [] ys first then = subst (λ (k : ℕ). AreReadings told k ys) (add-zero from) then
@@ -38,7 +34,3 @@ gives_more a b c xs ys first second =
           second.later k ∙ first.later (k + length ys) ∙ ap a.to_come sum;
       last = second.last ∙ ap (λ (t : ℤ). last_of t ys) first.last ∙ sym (last_of-append a.last xs ys);
     }
-
--- one reading was taken
-pub gives_one : (a b : ClockState) (reading : ℤ) → IfSome (a.to_come 0) (λ t. reading ≡ t) → ((k : ℕ) → b.to_come k ≡ a.to_come (k + 1)) → b.last ≡ reading → Gives a b (reading ∷ [])
-gives_one a b reading told later last = record { known = (told, tt); later = later; last = last }
