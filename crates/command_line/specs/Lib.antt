@@ -1,0 +1,4 @@
+pub mod Keys
+pub mod Numbers
+pub mod Options
+pub mod Commands

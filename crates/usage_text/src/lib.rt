@@ -1,0 +1,113 @@
+//! The usage of the program, rendered by `clap`: its commands with their options, the limits of these, an example of each,
+//! and what the numbers mean with which a call ends.
+//!
+//! The text plays no part in how words are read.
+#![tactic(auto)]
+
+use clap::{Arg, ArgAction, Command};
+use std::alloc::{AllocError, Global};
+
+const KEY: &str = "The founding officer's key: + and 8 to 32 of A to Z, a to z, 0 to 9 and -";
+
+const STATUSES: &str = concat!(
+    "A call ends with the number of its status:\n",
+    "  0  Done: the job is done\n",
+    "  2  Usage: the words are none of the above\n",
+    "  3  BadFrame: from this offset on the input is no frame\n",
+    "  4  DiskFault: the disk failed while the journal was opened, or at the end\n",
+    "  5  Damaged: the journal is damaged at this offset\n",
+    "  6  ReadFault: the input failed\n",
+    "  7  WriteFault: the output failed\n",
+    "  8  NoMemory: memory was refused\n",
+    "  9  DoorFault: the port failed",
+);
+
+/// An option that a command must be given, with a value of this name.
+fn option<'a>(alloc: Global, name: &'a str, value: &'a str, help: &'a str) -> Arg<'a> {
+    Arg::new(alloc, name)
+        .long(name)
+        .value_name(value)
+        .required(true)
+        .action(ArgAction::Set)
+        .help(help)
+}
+
+/// A command without its options; nothing asks it for help.
+fn command<'a>(alloc: Global, name: &'a str, about: &'a str) -> Command<'a> {
+    Command::new(alloc, name)
+        .about(about)
+        .disable_help_flag(true)
+        .disable_help_subcommand(true)
+}
+
+fn run<'a>(alloc: Global) -> Result<Command<'a>, AllocError> {
+    command(
+        alloc,
+        "run",
+        "Answers the request frames of standard input on standard output",
+    )
+    .after_help("Example: mpc_cli run --key +founder-1")
+    .arg(option(alloc, "key", "K", KEY))
+}
+
+fn serve<'a>(alloc: Global) -> Result<Command<'a>, AllocError> {
+    command(
+        alloc,
+        "serve",
+        "Attends connections at port 8017 of this machine",
+    )
+    .after_help("Example: mpc_cli serve --key +founder-1 --connections 100")
+    .arg(option(alloc, "key", "K", KEY))?
+    .arg(option(
+        alloc,
+        "connections",
+        "N",
+        "How many connections are attended, 1 to 1000",
+    ))
+}
+
+fn export<'a>(alloc: Global) -> Command<'a> {
+    command(
+        alloc,
+        "export",
+        "Writes the catalogue of the journal to standard output",
+    )
+    .after_help("Example: mpc_cli export")
+}
+
+/// The program, with what its commands do.
+fn program<'a>(alloc: Global) -> Result<Command<'a>, AllocError> {
+    command(
+        alloc,
+        "mpc_cli",
+        "A clearing house for minor planet astrometry, on the journal desk.journal of the current folder",
+    )
+    .after_help(STATUSES)
+    .subcommand(run(alloc)?)?
+    .subcommand(serve(alloc)?)?
+    .subcommand(export(alloc))
+}
+
+/// Writes the help of a command under its whole name, behind an empty line.
+fn push_help(out: &mut String, command: Command<'_>, name: &str) -> Result<(), AllocError> {
+    let mut named = command.bin_name(name)?;
+    let help = named.render_help()?;
+    out.push_str("\n")?;
+    out.push_str(help.as_str())
+}
+
+/// The usage of the program. It takes memory.
+///
+/// # Errors
+///
+/// Memory was refused.
+pub fn usage_text(alloc: Global) -> Result<String, AllocError> {
+    let mut text = program(alloc)?.render_help()?;
+    push_help(&mut text, run(alloc)?, "mpc_cli run")?;
+    push_help(&mut text, serve(alloc)?, "mpc_cli serve")?;
+    push_help(&mut text, export(alloc), "mpc_cli export")?;
+    Ok(text)
+}
+
+#[cfg(test)]
+mod tests;
