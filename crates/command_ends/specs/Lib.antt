@@ -1,0 +1,5 @@
+pub mod Statuses
+pub mod Disks
+pub mod Opening
+pub mod Closing
+pub mod Left

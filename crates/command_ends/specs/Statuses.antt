@@ -1,0 +1,28 @@
+-- The statuses: their numbers, with which the program ends, and those that need no fault.
+use Rattle.std.specs.Prelude.{ℕ}
+use Rattle.command_ends.specs.declared.status.Status.{Status}
+use Rattle.command_ends.specs.declared.status.Status.TheVariants.{Done, Usage, BadFrame, DiskFault, Damaged, ReadFault, WriteFault, NoMemory, DoorFault}
+
+-- the number with which the program ends
+abbrev pub number_of : Status → ℕ
+number_of Done = 0
+number_of Usage = 2
+number_of (BadFrame offset) = 3
+number_of DiskFault = 4
+number_of (Damaged offset) = 5
+number_of ReadFault = 6
+number_of WriteFault = 7
+number_of NoMemory = 8
+number_of DoorFault = 9
+
+-- the job was done, or memory was refused
+abbrev pub IsDoneOrNoMemory : Status → Type 0
+IsDoneOrNoMemory Done = Unit {0}
+IsDoneOrNoMemory NoMemory = Unit {0}
+IsDoneOrNoMemory Usage = ⊥
+IsDoneOrNoMemory (BadFrame offset) = ⊥
+IsDoneOrNoMemory DiskFault = ⊥
+IsDoneOrNoMemory (Damaged offset) = ⊥
+IsDoneOrNoMemory ReadFault = ⊥
+IsDoneOrNoMemory WriteFault = ⊥
+IsDoneOrNoMemory DoorFault = ⊥

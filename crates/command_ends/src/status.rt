@@ -1,0 +1,66 @@
+//! The statuses with which the program ends.
+
+ghost use Rattle.std.specs.Prelude.{◌≡◌};
+ghost use Rattle.command_ends.specs.Statuses.{number_of};
+
+use disk_model::Disk;
+use thiserror::Error;
+
+/// How a call of the program ended.
+#[derive(Debug, Drop, Error)]
+pub enum Status {
+    /// The job is done: the source was read to its end.
+    #[error("Done")]
+    Done,
+    /// The words are none of the program's commands.
+    #[error("Usage")]
+    Usage,
+    /// From this offset on the bytes are no frame.
+    #[error("BadFrame at {offset}")]
+    BadFrame { offset: u64 },
+    /// The disk failed while the journal was opened, or at the end, when an act in doubt was mended.
+    #[error("DiskFault")]
+    DiskFault,
+    /// The journal is damaged at this offset.
+    #[error("Damaged at {offset}")]
+    Damaged { offset: u64 },
+    /// The source failed.
+    #[error("ReadFault")]
+    ReadFault,
+    /// The sink failed.
+    #[error("WriteFault")]
+    WriteFault,
+    /// Memory was refused.
+    #[error("NoMemory")]
+    NoMemory,
+    /// The door failed, by which connections come.
+    #[error("DoorFault")]
+    DoorFault,
+}
+
+impl Status {
+    /// The number with which the program ends.
+    pub fn number(&self) -> u8
+        ensures { result ≡ number_of self.now }
+    {
+        match self {
+            Status::Done => 0,
+            Status::Usage => 2,
+            Status::BadFrame { .. } => 3,
+            Status::DiskFault => 4,
+            Status::Damaged { .. } => 5,
+            Status::ReadFault => 6,
+            Status::WriteFault => 7,
+            Status::NoMemory => 8,
+            Status::DoorFault => 9,
+        }
+    }
+}
+
+/// How a call ended, the disk, and by how many entries the office's history grew.
+#[derive(Drop)]
+pub struct Ended<D: Disk> {
+    pub status: Status,
+    pub disk: D,
+    pub added: u64,
+}

@@ -1,0 +1,71 @@
+-- What writing out the catalogue leaves, by the status with which it ended.
+use Rattle.std.specs.Prelude.{◌⊎◌, ℕ, List, [], ◌∷◌, Option, IfSome}
+use Rattle.std.specs.Io.KnownBytes.{Appends}
+use Rattle.disk_model.specs.Crashes.{During}
+use Rattle.desk_io.specs.Outside.{AppendsPart}
+use Rattle.act_bodies.specs.declared.key.Key.{Key}
+use Rattle.act_bodies.specs.Keys.{key_of}
+use Rattle.act_model.specs.declared.entry.Entry.{Entry}
+use Rattle.act_model.specs.Catalogue.{catalogue}
+use Rattle.act_model.specs.Legal.{IsLegal}
+use Rattle.catalogue_export.specs.Exports.{AppendsFront}
+use Rattle.mpc_desk.specs.Files.{Stands}
+use Rattle.mpc_desk.specs.Opening.{StandsAlike}
+use Rattle.command_ends.specs.declared.status.Status.{Status}
+use Rattle.command_ends.specs.declared.status.Status.TheVariants.{Done, Usage, BadFrame, DiskFault, Damaged, ReadFault, WriteFault, NoMemory, DoorFault}
+use Rattle.command_ends.specs.Disks.{DiskWords, DiskRose}
+use Rattle.command_ends.specs.Left.{IsLeft}
+use Rattle.command_ends.specs.Opening.{EndsUnopened}
+
+-- the key with which the office is opened, by which nobody asks: a plus and nothing else
+abbrev pub exporter : Key
+exporter = key_of (43 ∷ [])
+
+-- The disk stood for a legal history and stands for it still; nothing was added. Each image at some moment was one at the
+-- start, or stands for that history.
+pub record KeepsOffice {D : Type 0} (on : DiskWords D) (disk now : D) (added : ℕ) (history : List Entry) : Type 0 where
+  pub rise : ℕ
+  pub stood : IfSome (on.reads disk) (λ file. Stands file history)
+  pub legal : IsLegal exporter history
+  pub counts : DiskRose on rise disk now
+  pub images : During on.moment on.since disk now (StandsAlike (on.reads disk) history)
+  pub stands : (image : List ℕ) → on.leaves now image → Stands image history
+  pub is_left : IsLeft history history added
+
+-- how much of a text was written: all of it; a front and not all where the sink failed; a front where memory was refused
+abbrev pub IsWritten : Option (List ℕ) → Option (List ℕ) → List ℕ → Status → Type 0
+IsWritten old new text Done = Appends old new text
+IsWritten old new text WriteFault = AppendsPart old new text
+IsWritten old new text NoMemory = AppendsFront old new text
+IsWritten old new text Usage = ⊥
+IsWritten old new text (BadFrame offset) = ⊥
+IsWritten old new text DiskFault = ⊥
+IsWritten old new text (Damaged offset) = ⊥
+IsWritten old new text ReadFault = ⊥
+IsWritten old new text DoorFault = ⊥
+
+-- the catalogue of the history that the disk stood for was written, so far as the status says
+pub record Writes {D : Type 0} (on : DiskWords D) (disk now : D) (old new : Option (List ℕ)) (added : ℕ) (status : Status)
+    : Type 0 where
+  pub history : List Entry
+  pub keeps : KeepsOffice on disk now added history
+  pub written : IsWritten old new (catalogue history) status
+
+-- What stands at the end, where the sink took `old` before and `new` now: the office couldn't be opened, for the reason that
+-- the status says, and the sink was not called; or its catalogue was written.
+abbrev pub Exports : {D : Type 0} → DiskWords D → D → D → Option (List ℕ) → Option (List ℕ) → Type 0 → ℕ → Status
+    → Type 0
+Exports on disk now old new Uncalled added status =
+    (Uncalled × EndsUnopened on exporter disk now added status) ⊎ Writes on disk now old new added status
+
+-- the ends that writing out the catalogue can have
+abbrev pub IsOwn : Status → Type 0
+IsOwn Done = Unit {0}
+IsOwn DiskFault = Unit {0}
+IsOwn (Damaged offset) = Unit {0}
+IsOwn WriteFault = Unit {0}
+IsOwn NoMemory = Unit {0}
+IsOwn Usage = ⊥
+IsOwn (BadFrame offset) = ⊥
+IsOwn ReadFault = ⊥
+IsOwn DoorFault = ⊥

@@ -1,0 +1,10 @@
+pub mod Laws
+pub mod Readings
+pub mod DeskTurns
+pub mod Conducting
+pub mod Served
+pub mod Answered
+pub mod Progress
+pub mod Closings
+pub mod RunLemmas
+pub mod Complete

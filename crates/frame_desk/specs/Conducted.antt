@@ -1,0 +1,88 @@
+-- Conducts of the office on a disk: how their histories follow one another, and what a crash inside them may leave.
+use Rattle.std.specs.Prelude.{◌≡◌, ◌⊎◌, ℕ, ℤ, pos, List, [], ◌∷◌, Option, Some, None, option_to_list}
+use Rattle.std.proofs.Common.{inl, inr}
+use Rattle.disk_model.specs.Crashes.{During}
+use Rattle.act_bodies.specs.declared.key.Key.{Key}
+use Rattle.act_model.specs.declared.entry.Entry.{Entry}
+use Rattle.act_model.specs.declared.keeper.OfficeState.{OfficeState}
+use Rattle.act_model.specs.declared.reply.Reply.{Reply}
+use Rattle.act_model.specs.declared.request.Request.{Request}
+use Rattle.act_model.specs.Conducts.{Extends}
+use Rattle.act_model.specs.Step.{Adds, outcome}
+use Rattle.act_model.specs.Turns.{Turn, TakesReading, Answers, Takes, Conduct, rises_of}
+use Rattle.mpc_desk.specs.Desks.{DeskState, RestsAt, IsAtRest, ActsInTurn}
+use Rattle.mpc_desk.specs.Files.{Stands}
+use Rattle.command_ends.specs.Disks.{DiskWords, DiskRose}
+use Rattle.act_model.specs.Clocks.{ClockState, Gives}
+
+-- ---- what a crash may leave
+
+-- an image inside a turn: its act becomes an entry, and the image stands for the history that mending left, with the
+-- entry
+abbrev pub InsideTurn : (founder : Key) (limit : Option ℕ) (before : OfficeState) (turn : Turn) (reading : Option ℤ)
+    (after : OfficeState) → Takes founder limit before turn reading after → List ℕ → Type 0
+InsideTurn founder limit before turn None after asks image = ⊥
+InsideTurn founder limit before turn (Some reading) after (inl fails) image = ⊥
+InsideTurn founder limit before turn (Some reading) after (inr acts) image =
+    (entry : Entry) × (outcome founder limit acts.mended turn.request reading ≡ Adds entry)
+    × Stands image (entry ∷ acts.mended)
+
+-- an image at some moment of a conduct: it is one of an office at rest, before or after one of the turns, or one inside
+-- a turn
+abbrev pub LeavesIn : (founder : Key) (limit : Option ℕ) (before : OfficeState) (turns : List Turn)
+    (after : OfficeState) → Conduct founder limit before turns after → List ℕ → Type 0
+LeavesIn founder limit before [] after conduct image = RestsAt before image
+LeavesIn founder limit before (turn ∷ turns) after (between, is, later) image =
+    RestsAt before image
+    ⊎ (InsideTurn founder limit before turn turn.reading between is.takes image
+    ⊎ LeavesIn founder limit between turns after later image)
+
+-- ---- how histories follow one another
+
+-- this history is an end of each settled history of the conduct
+abbrev pub IsEndOfEach : List Entry → (founder : Key) (limit : Option ℕ) (before : OfficeState) (turns : List Turn)
+    (after : OfficeState) → Conduct founder limit before turns after → Type 0
+IsEndOfEach history founder limit before [] after conduct = Extends history before.settled
+IsEndOfEach history founder limit before (turn ∷ turns) after (between, is, later) =
+    Extends history before.settled × IsEndOfEach history founder limit between turns after later
+
+-- each settled history of a conduct is an end of every later one
+abbrev pub Grows : (founder : Key) (limit : Option ℕ) (before : OfficeState) (turns : List Turn) (after : OfficeState)
+    → Conduct founder limit before turns after → Type 0
+Grows founder limit before [] after conduct = Unit {0}
+Grows founder limit before (turn ∷ turns) after (between, is, later) =
+    IsEndOfEach before.settled founder limit between turns after later × Grows founder limit between turns after later
+
+-- ---- turns of a desk
+
+-- a desk acts with a reading of the clock, and answers a query without one
+abbrev pub ActsOrAsks : {D : Type 0} → DiskWords D → DeskState D → Request → Option ℤ → Reply → DeskState D → Type 0
+ActsOrAsks on old request (Some reading) reply new =
+    ActsInTurn on.moment on.since on.faults old request reading reply new
+ActsOrAsks on old request None reply new =
+    Answers old.founder (Some old.limit) old.state.settled request (pos 0) reply old.state.settled × (new ≡ old)
+
+-- a desk is the same one, and its disk is at rest if it was
+pub record StaysDesk {D : Type 0} (on : DiskWords D) (old new : DeskState D) : Type 0 where
+  pub founder : new.founder ≡ old.founder
+  pub limit : new.limit ≡ old.limit
+  pub at_rest : IsAtRest on.leaves old → IsAtRest on.leaves new
+
+-- one turn of a desk: the request was answered, with the clock's next reading where it took one
+pub record TakesTurn {D : Type 0} (on : DiskWords D) (old : DeskState D) (request : Request) (reply : Reply)
+    (new : DeskState D) (before after : ClockState) : Type 0 where
+  pub reading : Option ℤ
+  pub reads : TakesReading request.verb reading
+  pub does : ActsOrAsks on old request reading reply new
+  pub stays : StaysDesk on old new
+  pub clock : Gives before after (option_to_list reading)
+
+-- turns of a desk, one after another: a conduct, by how much the disk's count of faults rose in it, and what a crash at
+-- some moment of it may leave
+pub record TakesTurns {D : Type 0} (on : DiskWords D) (old : DeskState D) (turns : List Turn) (new : DeskState D)
+    : Type 0 where
+  pub conduct : Conduct old.founder (Some old.limit) old.state turns new.state
+  pub counts : DiskRose on (rises_of turns) old.disk new.disk
+  pub images : During on.moment on.since old.disk new.disk
+      (LeavesIn old.founder (Some old.limit) old.state turns new.state conduct)
+  pub stays : StaysDesk on old new

@@ -1,0 +1,6 @@
+pub mod Serving
+pub mod Conducted
+pub mod Spoken
+pub mod Runs
+pub mod Closing
+pub mod Steps
