@@ -1,0 +1,153 @@
+-- From the root's last view to what the closed keeper stands for.
+use Rattle.std.proofs.Common.{◌≡◌, ℕ, zero, suc, List, [], ◌∷◌, ◌++◌, map, reverse, Option, Some, None, IfSome, Contains, refl, sym, ap, subst, ◌∙◌, arith, append-nil, IsPermutation}
+use Rattle.std.proofs.lemmas.List.{reverse-reverse}
+use Rattle.std.proofs.lemmas.List.Sorted.{IsPermutation-sym, Contains-permutation, sum_by-IsPermutation}
+use Rattle.std.specs.List.{AllByRecursion}
+use Rattle.desk_io.specs.Doors.{Gives-nil}
+use Rattle.act_bodies.specs.declared.key.Key.{Key}
+use Rattle.act_model.specs.declared.entry.Entry.{Entry}
+use Rattle.act_model.specs.declared.keeper.Office.{Office}
+use Rattle.act_model.specs.Conducts.{Extends}
+use Rattle.act_model.specs.Legal.{IsLegal}
+use Rattle.intake_lock.specs.declared.view.Item.{Item}
+use Rattle.intake_lock.specs.declared.view.View.{View}
+use Rattle.intake_lock.specs.Items.{IsTrue, AreTrue, RisesBy}
+use Rattle.intake_lock.specs.Rule.{IsCall, IsOrigin, Origins, Closes}
+use Rattle.intake_lock.specs.Views.{seen, first_view}
+use Rattle.act_model.specs.Clocks.{ClockState}
+use Rattle.desk_serve.specs.declared.ends.LinkEnd.{LinkEnd}
+use Rattle.desk_serve.specs.declared.accepting.Stop.{Stop}
+use Rattle.desk_serve.specs.declared.accepting.Stop.TheVariants.{NoMemory}
+use Rattle.desk_serve.specs.Links.{LinkWords, Attendance, end_of, calls_of, calls_in}
+use Rattle.desk_serve.specs.Gathering.{DoorState, IsAnother, IsBetween, Gathers}
+use Rattle.desk_serve.specs.Serving.{IsAddedBy, AreAddedBy, Serves}
+use Rattle.desk_serve.proofs.Gathering.{between_on, extends_same}
+
+-- ---- calls
+
+-- what is true of each item of two lists is true of each of both
+all_append : {X : Type 0} (P : X → Type 0) (xs ys : List X) → AllByRecursion P xs → AllByRecursion P ys → AllByRecursion P (xs ++ ys)
+all_append P [] ys first second = second
+all_append P (x ∷ xs) ys first second = (first.0, all_append P xs ys first.1 second)
+
+all_weaker : {X : Type 0} (P Q : X → Type 0) → ((x : X) → P x → Q x) → (xs : List X) → AllByRecursion P xs → AllByRecursion Q xs
+all_weaker P Q weaker [] all = tt
+all_weaker P Q weaker (x ∷ xs) all = (weaker x all.0, all_weaker P Q weaker xs all.1)
+
+-- the law that calls stay true
+abbrev pub StaysTrue : Type 0
+StaysTrue = (founder : Key) (limit : Option ℕ) (history later : List Entry) (item : Item) → Extends history later
+    → IsTrue founder limit history item → IsTrue founder limit later item
+
+module _ {I O : Type 0} (on : LinkWords I O) where
+  -- the calls for links that were attended are true of the history that all came to
+  calls_true : StaysTrue → (clock : ClockState) (opening : Office) (history : List Entry) (attendances : List (Attendance on))
+      → AllByRecursion (IsBetween clock opening history) attendances
+      → AreTrue opening.founder opening.limit history (calls_in attendances)
+  calls_true stays clock opening history [] each = tt
+  calls_true stays clock opening history (a ∷ rest) each =
+      all_append (IsTrue opening.founder opening.limit history) (calls_of a) (calls_in rest)
+      (all_weaker (IsTrue a.before.office.founder a.before.office.limit (seen a.after)) (IsTrue opening.founder opening.limit history)
+      (λ item true_there. subst (λ (k : Key). IsTrue k opening.limit history item) each.0.founder
+      (subst (λ (l : Option ℕ). IsTrue a.before.office.founder l history item) each.0.limit
+      (stays a.before.office.founder a.before.office.limit (seen a.after) history item each.0.last true_there)))
+      (calls_of a) a.attended.attended.attends.true_of)
+      (calls_true stays clock opening history rest each.1)
+
+-- the root's calls are all calls
+called_by : (view : View) (calls : List Item) → IsPermutation view.mine calls → (item : Item) → IsCall (view ∷ []) item → Contains calls item
+called_by view calls same item (zero, v, at, mine) =
+    Contains-permutation view.mine calls item same (subst (λ (l : List Item). Contains l item) (let e = at in cc) mine)
+called_by view calls same item (suc id, v, at, mine) = absurd (let e = at in cc)
+
+module _ (opening : Office) (view : View) (calls : List Item) (same : IsPermutation view.mine calls) where
+  added_by : (past : List Entry) (entry : Entry) → IsOrigin opening (view ∷ []) past entry → IsAddedBy opening calls past entry
+  added_by past entry (item, called, place, adds) = (item, called_by view calls same item called, place, adds)
+
+  all_added_by : (newer : List Entry) → Origins opening (view ∷ []) newer → AreAddedBy opening calls newer
+  all_added_by [] origins = tt
+  all_added_by (entry ∷ newer) origins = (added_by (newer ++ opening.state.settled) entry origins.0, all_added_by newer origins.1)
+
+  doubt_added_by : (past : List Entry) (doubt : Option Entry) → IfSome doubt (λ entry. IsOrigin opening (view ∷ []) past entry)
+      → IfSome doubt (λ entry. IsAddedBy opening calls past entry)
+  doubt_added_by past None origin = tt
+  doubt_added_by past (Some entry) origin = added_by past entry origin
+
+-- ---- the end
+
+module _ {I O : Type 0} (on : LinkWords I O) where
+  -- no link was taken, and nothing was in doubt
+  pub serves_none : (clock : ClockState) (opening : Office) (door : DoorState I O) (most : ℕ) → opening.state.doubt ≡ None
+      → Serves on clock opening opening door door most [] NoMemory
+  serves_none clock opening door most settled =
+      record {
+        attendances = [];
+        gave = Gives-nil door.links;
+        ended = refl;
+        each = tt;
+        grows = record {
+          newer = [];
+          grown = refl;
+          origins = tt;
+          doubt = subst (λ (d : Option Entry). IfSome d (λ entry. IsAddedBy opening [] opening.state.settled entry)) (sym settled) tt;
+          true_of = tt;
+          counts = omega arith;
+          legal = λ legal. (legal, subst (λ (d : Option Entry). IfSome d (λ entry. IsLegal opening.founder (entry ∷ opening.state.settled))) (sym settled) tt);
+          founder = refl;
+          limit = refl;
+        };
+        stops = refl;
+      }
+
+  pub serves_closed : StaysTrue → (clock other : ClockState) (opening office : Office) (view : View) (door after : DoorState I O) (most : ℕ)
+      (ends : List (LinkEnd I O)) (stop : Stop) → IsAnother clock other
+      → Gathers on other (first_view opening) view door after most [] ends stop → Closes opening view office
+      → Serves on clock opening office door after most (reverse ends) stop
+  serves_closed stays clock other opening office view door after most ends stop another gathers closes =
+      let calls = calls_in gathers.attendances in
+      let same : IsPermutation view.mine calls =
+      IsPermutation-sym calls view.mine (subst (λ (l : List Item). IsPermutation l view.mine) (append-nil calls) gathers.calls) in
+      let each : AllByRecursion (IsBetween clock opening office.state.settled) gathers.attendances =
+      between_on on other clock opening opening (seen view) office.state.settled another refl refl (extends_same opening.state.settled)
+      closes.seen gathers.attendances gathers.each in
+      record {
+        attendances = gathers.attendances;
+        gave = gathers.gave;
+        ended = ap reverse gathers.ended ∙ reverse-reverse (map end_of gathers.attendances);
+        each = each;
+        grows = record {
+          newer = closes.comes.newer;
+          grown = closes.comes.grown;
+          origins = all_added_by opening view calls same closes.comes.newer closes.comes.origins;
+          doubt = doubt_added_by opening view calls same office.state.settled office.state.doubt closes.comes.doubt;
+          true_of = calls_true on stays clock opening office.state.settled gathers.attendances each;
+          counts = subst (λ (n : ℕ). RisesBy n opening.faults office.faults)
+              (sym (sum_by-IsPermutation (λ item. item.rise) view.mine calls same)) closes.counts;
+          legal = closes.legal;
+          founder = closes.founder;
+          limit = closes.limit;
+        };
+        stops = gathers.stops;
+      }
+
+  -- the same, of what the calls ensure
+  pub serves_none_from : {V : Type 0} (office_of : V → Office) (clock : ClockState) (keeper back : V) (door : DoorState I O) (most : ℕ)
+      (ends : List (LinkEnd I O)) → back ≡ keeper → ends ≡ [] → (office_of keeper).state.doubt ≡ None
+      → Serves on clock (office_of keeper) (office_of back) door door most ends NoMemory
+  serves_none_from office_of clock keeper back door most ends back_is none settled =
+      subst (λ (l : List (LinkEnd I O)). Serves on clock (office_of keeper) (office_of back) door door most l NoMemory) (sym none)
+      (subst (λ (o : Office). Serves on clock (office_of keeper) o door door most [] NoMemory) (sym (ap office_of back_is))
+      (serves_none clock (office_of keeper) door most settled))
+
+  pub serves_left : StaysTrue → (clock other : ClockState) (opening entered office : Office) (first view : View) (door mid after : DoorState I O)
+      (most : ℕ) (room ends result : List (LinkEnd I O)) (stop : Stop) → IsAnother clock other → first ≡ first_view opening → entered ≡ opening
+      → room ≡ [] → result ≡ reverse ends → after ≡ mid → Gathers on other first view door mid most room ends stop
+      → Closes entered view office → Serves on clock opening office door after most result stop
+  serves_left stays clock other opening entered office first view door mid after most room ends result stop another first_is entered_is
+      room_is result_is after_is gathers closes =
+      subst (λ (l : List (LinkEnd I O)). Serves on clock opening office door after most l stop) (sym result_is)
+      (subst (λ (d : DoorState I O). Serves on clock opening office door d most (reverse ends) stop) (sym after_is)
+      (serves_closed stays clock other opening office view door mid most ends stop another
+      (subst (λ (v : View). Gathers on other v view door mid most [] ends stop) first_is
+      (subst (λ (l : List (LinkEnd I O)). Gathers on other first view door mid most l ends stop) room_is gathers))
+      (subst (λ (o : Office). Closes o view office) entered_is closes)))

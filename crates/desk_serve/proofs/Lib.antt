@@ -1,0 +1,5 @@
+mod Gathering
+mod Closing
+mod Lines
+mod Mending
+mod Causes

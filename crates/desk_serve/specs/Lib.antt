@@ -1,0 +1,5 @@
+pub mod Links
+pub mod Gathering
+pub mod Serving
+pub mod Summaries
+pub mod Runs

@@ -1,0 +1,163 @@
+//! Links that come through a door, each attended in a thread of its own.
+
+ghost use Rattle.std.specs.Prelude.{◌≡◌, ◌+◌, ◌-◌, ◌<◌, ◌≤◌, vec_len, vec_capacity, IfOk, IfErr};
+ghost use denote.Param.Send.{IsSend, IsSync};
+ghost use Rattle.intake_lock.specs.Views.{stem, branch};
+ghost use Rattle.act_model.specs.Clocks.{clock_of};
+ghost use Rattle.desk_serve.specs.Links.{link_words, IsLinkAttended};
+ghost use Rattle.desk_serve.specs.Gathering.{IsRootFor, Gathers, door_of};
+
+use crate::attending::attend_link;
+use crate::ends::LinkEnd;
+use crate::gates::Gate;
+use act_model::Keeper;
+use desk_io::{Clock, Next};
+use intake_lock::{Pass, TurnLock, laws as lock_laws};
+use std::alloc::Global;
+use std::sync::Wait;
+use std::thread::{Threads, join};
+
+/// Why no further link was taken.
+#[derive(Clone, Copy, Debug, PartialEq, Eq)]
+pub enum Stop {
+    /// As many links came as were wanted.
+    Full,
+    /// The door was shut.
+    Shut,
+    /// The door failed.
+    Failed,
+    /// Memory was refused.
+    NoMemory,
+}
+
+/// What there is when all links were attended: the root's pass, the door, the ends of the links, of which the first one's stands
+/// last, and why no further link was taken.
+#[derive(Drop)]
+pub(crate) struct Gathered<T, I, O> {
+    pub root: Pass,
+    pub gate: T,
+    pub ends: Vec<LinkEnd<I, O>>,
+    pub stop: Stop,
+}
+
+// Splits a branch off the root, where as many more may be split as links are left.
+fn split_root<V: Keeper>(lock: &TurnLock<V>, root: Pass, left: u64) -> Result<(Pass, Pass), Pass>
+    requires lock { root.lock ≡ lock.now.id }
+    requires some { 0 < left }
+    requires root { IsRootFor left root.view.role }
+    ensures stem { IfOk result (λ both. (both.0.lock ≡ root.lock) × (both.0.view ≡ stem root.view)) }
+    ensures room { IfOk result (λ both. IsRootFor (left - 1) both.0.view.role) }
+    ensures branch { IfOk result (λ both. (both.1.lock ≡ root.lock) × (both.1.view ≡ branch root.view)) }
+    ensures back { IfErr result (λ same. same ≡ root) }
+{
+    lock.split(root)
+}
+
+/// Takes up to `left` links of a door, and attends each in a thread of its own while the next one is awaited.
+///
+/// Where a thread can't be started, the link is attended in this one, after the links that come behind it.
+pub(crate) fn attend_links<V: Keeper + Send, T: Gate, C: Clock + Send, R: Threads + Wait + Sync>(
+    rt: &R,
+    alloc: Global,
+    lock: &TurnLock<V>,
+    root: Pass,
+    mut gate: T,
+    mut clock: C,
+    ends: Vec<LinkEnd<T::In, T::Out>>,
+    left: u64,
+) -> Gathered<T, T::In, T::Out>
+    requires lock { root.lock ≡ lock.now.id }
+    requires root { IsRootFor left root.view.role }
+    requires room { vec_len ends + left ≤ vec_capacity ends }
+    ensures root { (result.root.lock ≡ root.lock) × (result.root.view.role ≡ root.view.role) }
+    ensures gate { T.name result.gate ≡ T.name gate }
+    ensures room { (vec_capacity result.ends ≡ vec_capacity ends) × (vec_len result.ends ≤ vec_len ends + left) }
+    ensures gathers { Gathers (link_words T.In.left T.In.gives T.In.faults T.In.is_open T.Out.taken T.Out.faults T.Out.is_open)
+        (clock_of C.reading C.last clock) root.view result.root.view (door_of T.links T.faults gate)
+        (door_of T.links T.faults result.gate) left ends.items result.ends.items result.stop }
+{
+    lock_laws::beginnings();
+    if left == 0 {
+        return Gathered {
+            root,
+            gate,
+            ends,
+            stop: Stop::Full,
+        };
+    }
+    let (source, sink) = match gate.next() {
+        Next::Link(source, sink) => (source, sink),
+        Next::Shut => return Gathered {
+            root,
+            gate,
+            ends,
+            stop: Stop::Shut,
+        },
+        Next::Failed => return Gathered {
+            root,
+            gate,
+            ends,
+            stop: Stop::Failed,
+        },
+        Next::NoMemory => return Gathered {
+            root,
+            gate,
+            ends,
+            stop: Stop::NoMemory,
+        },
+    };
+    let other = clock.another();
+    match split_root(lock, root, left) {
+        Ok((root, branch)) => {
+            let ((branch, end), gathered) = join(
+                rt,
+                move || -> (Pass, LinkEnd<T::In, T::Out>)
+                    requires { branch.lock ≡ lock.now.id }
+                    ensures { (result.0.lock ≡ branch.lock) × (result.0.view.role ≡ branch.view.role)
+                        × IsLinkAttended (link_words T.In.left T.In.gives T.In.faults T.In.is_open T.Out.taken T.Out.faults T.Out.is_open)
+                        source sink result.1 branch.view result.0.view (clock_of C.reading C.last other) }
+                { attend_link(rt, alloc, lock, branch, source, sink, other) },
+                move || -> Gathered<T, T::In, T::Out>
+                    requires { IsSync R.row × IsSend V.row × IsSend C.row × (0 < left) × (root.lock ≡ lock.now.id)
+                        × IsRootFor (left - 1) root.view.role
+                        × (vec_len ends + (left - 1) ≤ vec_capacity ends) }
+                    ensures { (result.root.lock ≡ root.lock) × (result.root.view.role ≡ root.view.role)
+                        × (T.name result.gate ≡ T.name gate)
+                        × (vec_capacity result.ends ≡ vec_capacity ends) × (vec_len result.ends ≤ vec_len ends + (left - 1))
+                        × Gathers (link_words T.In.left T.In.gives T.In.faults T.In.is_open T.Out.taken T.Out.faults T.Out.is_open)
+                        (clock_of C.reading C.last clock) root.view result.root.view (door_of T.links T.faults gate)
+                        (door_of T.links T.faults result.gate) (left - 1) ends.items result.ends.items result.stop }
+                { attend_links(rt, alloc, lock, root, gate, clock, ends, left - 1) },
+            );
+            let Gathered {
+                root,
+                gate,
+                mut ends,
+                stop,
+            } = gathered;
+            ends.push_reserved(end);
+            Gathered {
+                root: lock.join(root, branch),
+                gate,
+                ends,
+                stop,
+            }
+        }
+        Err(root) => {
+            let (root, end) = attend_link(rt, alloc, lock, root, source, sink, other);
+            let Gathered {
+                root,
+                gate,
+                mut ends,
+                stop,
+            } = attend_links(rt, alloc, lock, root, gate, clock, ends, left - 1);
+            ends.push_reserved(end);
+            Gathered {
+                root,
+                gate,
+                ends,
+                stop,
+            }
+        }
+    }
+}

@@ -1,0 +1,17 @@
+//! Many connections over one journal.
+#![tactic(auto)]
+
+mod accepting;
+mod attending;
+mod ends;
+mod gates;
+mod keeping;
+mod serving;
+mod status;
+mod summaries;
+
+pub use accepting::Stop;
+pub use ends::{LinkEnd, LinkEnds};
+pub use keeping::{Attended, attend_door};
+pub use serving::serve;
+pub use status::{Served, Status};
