@@ -1,8 +1,2 @@
-pub mod Words
+pub mod Jobs
 pub mod Serving
-pub mod Conducted
-pub mod Spoken
-pub mod Runs
-pub mod Closing
-pub mod Numbers
-pub mod Steps

@@ -1,34 +1,33 @@
--- How frames are served: the readings that a clock gives, and the turns of the frames' requests.
-use Rattle.std.specs.Prelude.{◌≡◌, ℕ, ◌+◌, ℤ, List, [], ◌∷◌, length, map, Option}
-use Rattle.std.specs.List.{AllByRecursion}
-use Rattle.desk_frames.specs.Frames.{Frame, IsFrame, streamed}
-use Rattle.act_model.specs.Turns.{Turn, AreReadings, request_of, requests_of, readings_of}
+-- What serving connections leaves.
+use Rattle.std.specs.Prelude.{◌≡◌, ◌⊎◌, ℕ, List, Option}
+use Rattle.act_bodies.specs.declared.key.Key.{Key}
+use Rattle.act_model.specs.Clocks.{ClockState}
+use Rattle.command_ends.specs.declared.status.Status as ends
+use Rattle.command_ends.specs.declared.status.Status.TheVariants as end
+use Rattle.command_ends.specs.Disks.{DiskWords}
+use Rattle.command_ends.specs.Opening.{journal_bytes}
+use Rattle.desk_serve.specs.declared.ends.LinkEnd.{LinkEnd}
+use Rattle.desk_serve.specs.declared.status.Status.{Status}
+use Rattle.desk_serve.specs.declared.status.Status.TheVariants.{Done, DiskFault, Damaged, WriteFault, NoMemory, DoorFault}
+use Rattle.desk_serve.specs.Gathering.{DoorState}
+use Rattle.desk_serve.specs.Links.{LinkWords}
+use Rattle.desk_serve.specs.Runs.{IsUnopened, Runs}
 
--- a clock: its k-th reading to come, where it is known, and its last reading
-pub record ClockState : Type 0 where
-  pub to_come : ℕ → Option ℤ
-  pub last : ℤ
+-- the status of the program where serving ended so
+abbrev pub status_of : Status → ends.Status
+status_of Done = end.Done
+status_of DiskFault = end.DiskFault
+status_of (Damaged offset) = end.Damaged offset
+status_of WriteFault = end.WriteFault
+status_of NoMemory = end.NoMemory
+status_of DoorFault = end.DoorFault
 
--- what a clock tells of itself
-abbrev pub clock_of : {C : Type 0} → (C → ℕ → Option ℤ) → (C → ℤ) → C → ClockState
-clock_of reading last clock = record { to_come = reading clock; last = last clock }
-
--- the last of some readings, and the one before them where there are none
-abbrev pub last_of : ℤ → List ℤ → ℤ
-last_of before [] = before
-last_of before (reading ∷ readings) = last_of reading readings
-
--- the clock gave these readings and no others, as far as they are known, and the last of them is its last reading
-pub record Gives (before after : ClockState) (readings : List ℤ) : Type 0 where
-  pub known : AreReadings before.to_come 0 readings
-  pub later : (k : ℕ) → after.to_come k ≡ before.to_come (k + length readings)
-  pub last : after.last ≡ last_of before.last readings
-
--- the bytes are frames before a rest, and the turns are those of the frames' requests, in their order, with the clock's
--- readings in order
-pub record Serves (before after : ClockState) (bytes rest : List ℕ) (turns : List Turn) : Type 0 where
-  pub frames : List Frame
-  pub stream : bytes ≡ streamed frames rest
-  pub whole : AllByRecursion IsFrame frames
-  pub requests : requests_of turns ≡ map request_of frames
-  pub clock : Gives before after (readings_of turns)
+-- The office couldn't be opened, and then nothing else was called; or the links of the door were attended, an act in doubt
+-- was mended, and the two lines were written.
+pub record Served {D I O : Type 0} (on : DiskWords D) (links : LinkWords I O) (founder : Key) (disk now : D)
+    (clock : ClockState) (door door_after : DoorState I O) (most : ℕ) (link_ends : List (LinkEnd I O))
+    (Uncalled Unwritten : Type 0) (old new : Option (List ℕ)) (added : ℕ) (status : ends.Status) : Type 0 where
+  pub served : Status
+  pub status_is : status ≡ status_of served
+  pub leaves : IsUnopened on founder disk now Uncalled added served
+      ⊎ Runs on links founder journal_bytes disk now clock door door_after most link_ends Unwritten old new added served

@@ -1,32 +1,32 @@
 //! The clearing house for minor planet astrometry as a program: `run --key K` reads request frames from standard input
-//! and writes reply frames to standard output. The office stands on the journal in the current folder.
+//! and writes reply frames to standard output, `serve --key K --connections N` attends connections at port 8017, `export`
+//! writes the catalogue. The office stands on the journal in the current folder.
 //!
-//! `top` does all that the program does, over any source, sink, disk and clock, and carries the theorem. `main` hands
+//! `top` does all that the program does, over any source, sink, disk, clock and door, and carries the theorem. `main` hands
 //! it the real ones.
 #![tactic(auto)]
 
 ghost use Rattle.std.specs.Prelude.{◌≡◌, List, map, IfOk, string_bytes};
 ghost use Rattle.std.specs.Iterator.{IsFinite, Drains};
 ghost use Rattle.std.specs.Process.{exit_status};
-ghost use Rattle.mpc_cli.specs.Numbers.{number_of};
+ghost use Rattle.command_ends.specs.Statuses.{number_of};
 
-mod serving;
-mod spoken;
-mod status;
 mod top;
-mod turns;
-mod words;
 
 pub use act_model as model;
-use desk_io::{NoMemory, StreamSink, StreamSource, SystemClock};
+pub use command_ends::{Ended, Status};
+pub use command_line::Words;
+use desk_io::{NoMemory, StreamSink, StreamSource, SystemClock, TcpDoor};
 use disk_model::FileDisk;
 use item_list::Bytes;
-pub use status::{Ended, Status};
 use std::alloc::{AllocError, Global};
 use std::env;
+use std::net::{Net, TcpListener, TcpStream};
 use std::process::ExitCode;
-pub use top::top;
-pub use words::Words;
+use std::sync::Wait;
+use std::thread::Threads;
+pub use top::{single, top};
+use usage_text::usage_text;
 
 /// The words that an iterator gives: all of them, in their order.
 fn words_in<A: Iterator<Item = String> + Drop>(alloc: Global, args: A) -> Result<Words, NoMemory>
@@ -55,23 +55,50 @@ fn exit_code(status: &Status) -> ExitCode
     ExitCode::from(status.number())
 }
 
-/// Runs the program over standard input, standard output, the file `desk.journal` of the current folder and the
-/// system's clock.
-fn run(rt: HostRuntime, words: &Words) -> Status {
-    let mut source = StreamSource::new(rt.stdin());
-    let mut sink = StreamSink::new(rt.stdout());
-    let mut clock = SystemClock::new(rt);
-    let disk = FileDisk::new(rt);
-    top(rt.alloc(), words, &mut source, &mut sink, disk, &mut clock).status
+/// Runs the program over standard input, standard output, the file `desk.journal` of the current folder, the system's
+/// clock and the port for connections, which are attended in threads.
+fn run<N: Net<Listener = TcpListener, Stream = TcpStream> + Copy, R: Threads + Wait + Sync>(
+    host: HostRuntime,
+    net: N,
+    rt: &R,
+    words: &Words,
+) -> Status {
+    let alloc = host.alloc();
+    let mut source = StreamSource::new(host.stdin());
+    let mut sink = StreamSink::new(host.stdout());
+    let mut clock = SystemClock::new(host);
+    let disk = FileDisk::new(host);
+    let mut door = TcpDoor::new(net, alloc);
+    let (ended, _) = top(
+        rt,
+        alloc,
+        words,
+        &mut source,
+        &mut sink,
+        disk,
+        &mut clock,
+        &mut door,
+    );
+    ended.status
+}
+
+/// Tells on standard error what the words may be. Where memory is refused for that, it is left out.
+fn tell_usage(rt: HostRuntime) {
+    if let Ok(text) = usage_text(rt.alloc()) {
+        let _ = eprint!(rt; "{text}");
+    }
 }
 
 fn main(rt: HostRuntime) -> ExitCode {
     let status = match words_of(rt) {
-        Ok(words) => run(rt, &words),
+        Ok(words) => run(rt, rt, &rt, &words),
         Err(_) => Status::NoMemory,
     };
     if status.number() != 0 {
         let _ = eprintln!(rt; "mpc_cli: {status}");
+    }
+    if matches!(status, Status::Usage) {
+        tell_usage(rt);
     }
     exit_code(&status)
 }

@@ -3,7 +3,9 @@
 mod ades;
 mod batches;
 mod calls;
+mod catalogues;
 mod command_lines;
+mod connections;
 mod disks;
 mod exchange;
 mod large;

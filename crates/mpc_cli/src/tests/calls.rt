@@ -1,6 +1,6 @@
 //! Calls of the program over a source, a sink and a clock in memory.
 
-use crate::{Ended, Words, top};
+use crate::{Ended, Words, single};
 use desk_io::{MemSink, MemSource, TickClock};
 use disk_model::MemDisk;
 use item_list::Bytes;
@@ -104,7 +104,7 @@ pub(super) fn call<R: Abort>(
     let first = Instant::new(1_711_929_600_000_000_000).expect(rt, "in range");
     let mut clock = TickClock::new(first, 1_000_000_000);
     let disk = MemDisk::new(alloc, &[], DISK_BYTES, &[]).expect(rt, "memory");
-    top(alloc, words, &mut source, sink, disk, &mut clock)
+    single(alloc, words, &mut source, sink, disk, &mut clock)
 }
 
 /// Runs the program over these bytes, of which a read gives at most `greatest`, and looks at its end and at what it

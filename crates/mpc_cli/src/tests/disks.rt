@@ -4,7 +4,7 @@ use super::batches::BATCHES;
 use super::calls::{FIRST, FIRST_ANSWER, RUN, Want, done, expect_end, put, words_of};
 use super::exchange::Exchange;
 use super::setup::SETUP;
-use crate::{Ended, top};
+use crate::{Ended, single};
 use desk_io::{MemSink, MemSource, TickClock};
 use disk_model::{Disk, MemDisk};
 use obs_time::Instant;
@@ -30,7 +30,7 @@ fn run_on<R: Abort>(
     let mut source = MemSource::new(alloc, bytes, 4_096, &[]).expect(rt, "memory");
     let first = Instant::new(1_711_929_600_000_000_000).expect(rt, "in range");
     let mut clock = TickClock::new(first, 1_000_000_000);
-    top(alloc, &words, &mut source, sink, disk, &mut clock)
+    single(alloc, &words, &mut source, sink, disk, &mut clock)
 }
 
 // Runs the program over these bytes and this disk, where the write with this number fails, looks at its end and at

@@ -27,7 +27,7 @@ pub(super) const MIDNIGHT_TEXT: &str = concat!(
 
 /// Three tracklets: from the first observation it is 11 hours and 59 minutes to the last one of the second, and 12 hours
 /// to that of the third.
-const NIGHT: &str = concat!(
+pub(super) const NIGHT: &str = concat!(
     "# version=2017\n",
     "# observatory\n",
     "! mpcCode 703\n",
@@ -40,7 +40,7 @@ const NIGHT: &str = concat!(
     "B3|CCD|703|2024-03-20T12:00:00Z|12.0|1.0|Gaia3\n",
 );
 
-const NIGHT_TEXT: &str = concat!(
+pub(super) const NIGHT_TEXT: &str = concat!(
     "receipt 8\n",
     "accepted 6 refused 0\n",
     "line 5 obs 5 track 3\n",

@@ -1,41 +1,32 @@
-use Rattle.std.proofs.Common.{◌≡◌, Some, sym, ap, subst, ◌∙◌}
+use Rattle.std.proofs.Common.{◌≡◌, ℕ, List, Option, Some, sym, subst}
 use Rattle.act_bodies.specs.declared.key.Key.{Key}
-use Rattle.act_bodies.specs.Keys.{key_of}
 use Rattle.act_model.specs.Legal.{IsLegal}
-use Rattle.mpc_cli.specs.Conducted.{disk_words}
-use Rattle.mpc_cli.proofs.Complete.{known_bytes, disk_rises, sound, complete}
+use Rattle.command_ends.specs.declared.status.Status as ends
+use Rattle.command_ends.specs.Statuses.{IsDoneOrNoMemory}
+use Rattle.command_line.specs.declared.command.Command.{Command}
+use Rattle.command_line.specs.declared.command.Command.TheVariants.{Serve}
+use Rattle.command_line.specs.Commands.{command_of}
+use Rattle.desk_serve.specs.declared.status.Status.{Status}
+use Rattle.desk_serve.specs.declared.status.Status.TheVariants.{Done, DiskFault, Damaged, WriteFault, NoMemory, DoorFault}
+use Rattle.desk_serve.specs.Runs as served
+use Rattle.mpc_cli.specs.Serving.{status_of}
 use Rattle.mpc_cli.proofs.top.top.Goals as goal
 
-pub returns-in-Some-clause-run : goal.returns-in-Some-clause-run
-returns-in-Some-clause-run g c = λ key named.
-    let same : Some c.in-Some.key.now ≡ Some key = c.in-Some.ensures.key ∙ named in
-    let text : c.in-Some.key.now ≡ key = cc in
-    let founder : c.founder_of.result ≡ key_of key = c.founder_of.ensures.key ∙ ap key_of text in
-    rw (sym founder) c.run.ensures.ends
+-- the words name one key
+one_key : (words : List (List ℕ)) (result : Option Command) (command : Command) (one key : Key) (n m : ℕ) → result ≡ command_of words → result ≡ Some command → command ≡ Serve one n → command_of words ≡ Some (Serve key m) → one ≡ key
+one_key words result command one key n m reads some serve named = cc
 
-pub returns-in-Some-clause-complete : goal.returns-in-Some-clause-complete
-returns-in-Some-clause-complete g c = λ key bytes file history named told whole reads stands legal no_read no_write no_disk.
-    let same : Some c.in-Some.key.now ≡ Some key = c.in-Some.ensures.key ∙ named in
-    let text : c.in-Some.key.now ≡ key = cc in
-    let founder : c.founder_of.result ≡ key_of key = c.founder_of.ensures.key ∙ ap key_of text in
-    let on = (disk_words g.D.Disk.reads g.D.Disk.leaves g.D.Disk.moment g.D.Disk.since g.D.Disk.faults) in
-    let ends = c.run.ensures.ends in
-    complete on c.founder_of.result c.args.disk c.run.result.disk _ _ ends.0 _ c.run.result.added c.damage.ensures file history reads stands (subst (λ (k : Key). IsLegal k history) (sym founder) legal)
-    c.one_session.ensures bytes (known_bytes _ bytes _ told ends.1.whole) c.run.result.status ends.3 whole
-    (λ is. no_disk (disk_rises on c.founder_of.result c.args.disk c.run.result.disk _ _ ends.0 _ c.run.result.added c.run.result.status ends.3 is))
-    (λ is. no_read (c.run.ensures.read_cause is)) (λ is. no_write (c.run.ensures.write_cause is))
+-- a good end of serving is one of the program
+good_end : (end : Status) → served.IsDoneOrNoMemory end → IsDoneOrNoMemory (status_of end)
+good_end Done good = tt
+good_end NoMemory good = tt
+good_end DiskFault good = absurd good
+good_end (Damaged offset) good = absurd good
+good_end WriteFault good = absurd good
+good_end DoorFault good = absurd good
 
-pub returns-in-Some-clause-sound : goal.returns-in-Some-clause-sound
-returns-in-Some-clause-sound g c = λ key file history offset named reads stands legal is.
-    let same : Some c.in-Some.key.now ≡ Some key = c.in-Some.ensures.key ∙ named in
-    let text : c.in-Some.key.now ≡ key = cc in
-    let founder : c.founder_of.result ≡ key_of key = c.founder_of.ensures.key ∙ ap key_of text in
-    let on = (disk_words g.D.Disk.reads g.D.Disk.leaves g.D.Disk.moment g.D.Disk.since g.D.Disk.faults) in
-    let ends = c.run.ensures.ends in
-    sound on c.founder_of.result c.args.disk c.run.result.disk _ _ ends.0 _ c.run.result.added c.damage.ensures file history reads stands (subst (λ (k : Key). IsLegal k history) (sym founder) legal)
-    c.run.result.status offset ends.3 is
-
-pub returns-in-Some-clause-disk_cause : goal.returns-in-Some-clause-disk_cause
-returns-in-Some-clause-disk_cause g c = λ is.
-    let ends = c.run.ensures.ends in
-    disk_rises (disk_words g.D.Disk.reads g.D.Disk.leaves g.D.Disk.moment g.D.Disk.since g.D.Disk.faults) c.founder_of.result c.args.disk c.run.result.disk _ _ ends.0 _ c.run.result.added c.run.result.status ends.3 is
+pub returns-in-Some-Serve-clause-serve_complete : goal.returns-in-Some-Serve-clause-serve_complete
+returns-in-Some-Serve-clause-serve_complete g c = λ key connections file history named reads stands legal no_write no_disk no_door.
+    let same : c.in-Some-Serve.key ≡ key = one_key c.args.words.now c.command_of.result c.in-Some-Serve.field-0 c.in-Some-Serve.key key c.in-Some-Serve.connections connections c.command_of.ensures.command c.in-Some-Serve.is c.in-Some-Serve.field-0-is named in
+    subst (λ (s : ends.Status). IsDoneOrNoMemory s) (sym c.status_of.ensures)
+    (good_end c.serve-served.result.0.status (c.serve-served.ensures.complete file history reads stands (subst (λ (k : Key). IsLegal k history) (sym same) legal) no_disk no_door no_write))

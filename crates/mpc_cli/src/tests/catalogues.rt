@@ -1,0 +1,589 @@
+//! The catalogue: after sessions that show each of its rules, as the answer to a query and as what `export` writes.
+
+use super::calls::{RUN, done, expect_end, words_of};
+use super::objects::{MIDNIGHT, MIDNIGHT_TEXT, NIGHT, NIGHT_TEXT};
+use super::rows::{FOUNDER, OBSERVER, Row, begin, put_rows};
+use super::session::answers;
+use super::setup::STATION;
+use crate::single;
+use desk_io::{MemSink, MemSource, TickClock};
+use disk_model::MemDisk;
+use obs_time::Instant;
+use std::alloc::Global;
+use std::process::Abort;
+
+/// A declination of zero with a minus, and one of a tenth of an arcsecond below it.
+const ZERO_80: &str = concat!(
+    "     MINUS0   C2024 03 15.12345 06 12 34.56 -00 00 00.00         19.5 V      703\n",
+    "     MINUS0   C2024 03 15.13345 06 12 35.10 -00 00 00.10         19.4 V      703\n",
+);
+
+/// The minus stands.
+const ZERO_80_CATALOGUE: &str = concat!(
+    "catalogue 1\n",
+    "entries 6\n",
+    "isolated 2\n",
+    "objects 0\n",
+    "retracted 0\n",
+    "accepted 2\n",
+    "track 1 MINUS0\n",
+    "     MINUS0   C2024 03 15.12345 06 12 34.56 -00 00 00.00         19.5 V      703\n",
+    "     MINUS0   C2024 03 15.13345 06 12 35.10 -00 00 00.10         19.4 V      703\n",
+    "end\n",
+);
+
+/// A declination of nine units below zero, and one of zero with a minus.
+const ZERO_PSV: &str = concat!(
+    "# version=2017\n",
+    "# observatory\n",
+    "! mpcCode 703\n",
+    "trkSub|mode|stn|obsTime|ra|dec|astCat\n",
+    "ZERO|CCD|703|2024-03-15T12:00:00Z|150.0|-0.000000000001|Gaia3\n",
+    "ZERO|CCD|703|2024-03-15T12:30:00Z|150.0|-0.0|Gaia3\n",
+);
+
+/// What is below zero has a minus, and what is zero came in PSV and has a plus.
+const ZERO_PSV_CATALOGUE: &str = concat!(
+    "catalogue 1\n",
+    "entries 6\n",
+    "isolated 2\n",
+    "objects 0\n",
+    "retracted 0\n",
+    "accepted 2\n",
+    "track 1 ZERO\n",
+    "     ZERO     C2024 03 15.50000010 00 00.000-00 00 00.00               W     703\n",
+    "     ZERO     C2024 03 15.52083310 00 00.000+00 00 00.00               W     703\n",
+    "end\n",
+);
+
+/// The last moments of a year.
+const LAST: &str = concat!(
+    "# version=2017\n",
+    "# observatory\n",
+    "! mpcCode 703\n",
+    "trkSub|mode|stn|obsTime|ra|dec|astCat\n",
+    "LAST|CCD|703|2024-12-31T23:29:59.9999999Z|150.0|-5.5|Gaia3\n",
+    "LAST|CCD|703|2024-12-31T23:59:59.9999999Z|150.0|-5.5|Gaia3\n",
+);
+
+/// The second one is carried into the next year.
+const LAST_CATALOGUE: &str = concat!(
+    "catalogue 1\n",
+    "entries 6\n",
+    "isolated 2\n",
+    "objects 0\n",
+    "retracted 0\n",
+    "accepted 2\n",
+    "track 1 LAST\n",
+    "     LAST     C2024 12 31.97916710 00 00.000-05 30 00.00               W     703\n",
+    "     LAST     C2025 01 01.00000010 00 00.000-05 30 00.00               W     703\n",
+    "end\n",
+);
+
+/// A right ascension that is carried past 24 hours, in a tracklet of eight characters.
+const CARRY: &str = concat!(
+    "# version=2017\n",
+    "# observatory\n",
+    "! mpcCode 703\n",
+    "trkSub|mode|stn|obsTime|ra|dec|astCat\n",
+    "ABCDEFGH|CCD|703|2024-03-15T12:00:00Z|359.999999999999|-5.5|Gaia3\n",
+    "ABCDEFGH|CCD|703|2024-03-15T12:30:00Z|0|-5.5|Gaia3\n",
+);
+
+/// It is written as 0, and the head has all of the name and the columns seven characters.
+const CARRY_CATALOGUE: &str = concat!(
+    "catalogue 1\n",
+    "entries 6\n",
+    "isolated 2\n",
+    "objects 0\n",
+    "retracted 0\n",
+    "accepted 2\n",
+    "track 1 ABCDEFGH\n",
+    "     ABCDEFG  C2024 03 15.50000000 00 00.000-05 30 00.00               W     703\n",
+    "     ABCDEFG  C2024 03 15.52083300 00 00.000-05 30 00.00               W     703\n",
+    "end\n",
+);
+
+/// The exact time decides which is the first, though its day is written as the next one's.
+const OBJECT_CATALOGUE: &str = concat!(
+    "catalogue 1\n",
+    "entries 7\n",
+    "isolated 0\n",
+    "objects 4\n",
+    "retracted 0\n",
+    "accepted 4\n",
+    "object 2024 EA number none observations 4\n",
+    "     K24E00A* C2024 03 16.00000010 00 00.000-05 30 00.00         20.25VW     703\n",
+    "     K24E00A  C2024 03 16.02083310 00 02.400-05 30 00.00         20.3 VW     703\n",
+    "     K24E00A  C2024 03 16.50000010 00 48.000-05 30 00.00               W     703\n",
+    "     K24E00A  C2024 03 16.52083310 00 50.400-05 30 00.00               W     703\n",
+    "end\n",
+);
+
+/// The discovery was retracted: no line has the star.
+const LOST_CATALOGUE: &str = concat!(
+    "catalogue 1\n",
+    "entries 8\n",
+    "isolated 0\n",
+    "objects 3\n",
+    "retracted 1\n",
+    "accepted 4\n",
+    "object 2024 EA number none observations 3\n",
+    "     K24E00A  C2024 03 16.02083310 00 02.400-05 30 00.00         20.3 VW     703\n",
+    "     K24E00A  C2024 03 16.50000010 00 48.000-05 30 00.00               W     703\n",
+    "     K24E00A  C2024 03 16.52083310 00 50.400-05 30 00.00               W     703\n",
+    "end\n",
+);
+
+/// Nothing is left of the object but its designation.
+const EMPTY_CATALOGUE: &str = concat!(
+    "catalogue 1\n",
+    "entries 11\n",
+    "isolated 0\n",
+    "objects 0\n",
+    "retracted 4\n",
+    "accepted 4\n",
+    "object 2024 EA number none observations 0\n",
+    "end\n",
+);
+
+/// Both tracklets were released: they are isolated again, and the object has no observation.
+const RELEASED_CATALOGUE: &str = concat!(
+    "catalogue 1\n",
+    "entries 9\n",
+    "isolated 4\n",
+    "objects 0\n",
+    "retracted 0\n",
+    "accepted 4\n",
+    "object 2024 EA number none observations 0\n",
+    "track 1 AAA1\n",
+    "     AAA1     C2024 03 16.00000010 00 00.000-05 30 00.00         20.25VW     703\n",
+    "     AAA1     C2024 03 16.02083310 00 02.400-05 30 00.00         20.3 VW     703\n",
+    "track 2 AAA2\n",
+    "     AAA2     C2024 03 16.50000010 00 48.000-05 30 00.00               W     703\n",
+    "     AAA2     C2024 03 16.52083310 00 50.400-05 30 00.00               W     703\n",
+    "end\n",
+);
+
+/// Two lines under a number.
+const NUMBERED: &str = concat!(
+    "~0000         C2024 04 10.50000 10 20 00.00 -05 30 00.0                      703\n",
+    "~0000         C2024 04 10.52000 10 20 01.00 -05 30 00.0                      703\n",
+);
+
+/// They stand in the object that has the number.
+const NUMBERED_CATALOGUE: &str = concat!(
+    "catalogue 1\n",
+    "entries 10\n",
+    "isolated 0\n",
+    "objects 6\n",
+    "retracted 0\n",
+    "accepted 6\n",
+    "object 2024 EA number 620000 observations 6\n",
+    "~0000K24E00A* C2024 03 16.00000010 00 00.000-05 30 00.00         20.25VW     703\n",
+    "~0000K24E00A  C2024 03 16.02083310 00 02.400-05 30 00.00         20.3 VW     703\n",
+    "~0000K24E00A  C2024 03 16.50000010 00 48.000-05 30 00.00               W     703\n",
+    "~0000K24E00A  C2024 03 16.52083310 00 50.400-05 30 00.00               W     703\n",
+    "~0000K24E00A  C2024 04 10.50000 10 20 00.00 -05 30 00.0                      703\n",
+    "~0000K24E00A  C2024 04 10.52000 10 20 01.00 -05 30 00.0                      703\n",
+    "end\n",
+);
+
+/// The tracklet was released: it has the number's digits in its head, and nothing in columns 1 to 12.
+const FREED_CATALOGUE: &str = concat!(
+    "catalogue 1\n",
+    "entries 11\n",
+    "isolated 2\n",
+    "objects 4\n",
+    "retracted 0\n",
+    "accepted 6\n",
+    "object 2024 EA number 620000 observations 4\n",
+    "~0000K24E00A* C2024 03 16.00000010 00 00.000-05 30 00.00         20.25VW     703\n",
+    "~0000K24E00A  C2024 03 16.02083310 00 02.400-05 30 00.00         20.3 VW     703\n",
+    "~0000K24E00A  C2024 03 16.50000010 00 48.000-05 30 00.00               W     703\n",
+    "~0000K24E00A  C2024 03 16.52083310 00 50.400-05 30 00.00               W     703\n",
+    "track 3 620000\n",
+    "              C2024 04 10.50000 10 20 00.00 -05 30 00.0                      703\n",
+    "              C2024 04 10.52000 10 20 01.00 -05 30 00.0                      703\n",
+    "end\n",
+);
+
+/// The tracklet with the discovery of one object is in another one: its star is gone, and the other's stands where it stood.
+const MOVED_CATALOGUE: &str = concat!(
+    "catalogue 1\n",
+    "entries 11\n",
+    "isolated 2\n",
+    "objects 8\n",
+    "retracted 0\n",
+    "accepted 10\n",
+    "object 2024 EA number none observations 2\n",
+    "     K24E00A  C2024 03 16.50000010 00 48.000-05 30 00.00               W     703\n",
+    "     K24E00A  C2024 03 16.52083310 00 50.400-05 30 00.00               W     703\n",
+    "object 2024 FA number none observations 6\n",
+    "     K24F00A  C2024 03 16.00000010 00 00.000-05 30 00.00         20.25VW     703\n",
+    "     K24F00A  C2024 03 16.02083310 00 02.400-05 30 00.00         20.3 VW     703\n",
+    "     K24F00A* C2024 03 20.00000000 40 00.000+01 00 00.00               W     703\n",
+    "     K24F00A  C2024 03 20.00694400 40 00.000+01 00 00.00               W     703\n",
+    "     K24F00A  C2024 03 20.49305600 48 00.000+01 00 00.00               W     703\n",
+    "     K24F00A  C2024 03 20.50000000 48 00.000+01 00 00.00               W     703\n",
+    "track 4 B2\n",
+    "     B2       C2024 03 20.49236100 44 00.000+01 00 00.00               W     703\n",
+    "     B2       C2024 03 20.49930600 44 00.000+01 00 00.00               W     703\n",
+    "end\n",
+);
+
+/// Three objects of four observations each: 1,170 bytes.
+const MADE_CATALOGUE: &str = concat!(
+    "catalogue 1\n",
+    "entries 7\n",
+    "isolated 0\n",
+    "objects 12\n",
+    "retracted 0\n",
+    "accepted 12\n",
+    "object 2024 AA number none observations 4\n",
+    "     K24A00A*  2024 01 01.0000  00 00 07.050+67 38 37.11                     703\n",
+    "     K24A00A   2024 01 01.0050  00 00 07.050+67 38 37.11                     703\n",
+    "     K24A00A   2024 01 01.5000  00 00 07.050+67 38 37.11                     703\n",
+    "     K24A00A   2024 01 01.5050  00 00 07.050+67 38 37.11                     703\n",
+    "object 2024 AB number none observations 4\n",
+    "     K24A00B*  2024 01 01.0004  00 00 11.921+76 15 51.06                     703\n",
+    "     K24A00B   2024 01 01.0054  00 00 11.921+76 15 51.06                     703\n",
+    "     K24A00B   2024 01 01.5004  00 00 11.921+76 15 51.06                     703\n",
+    "     K24A00B   2024 01 01.5054  00 00 11.921+76 15 51.06                     703\n",
+    "object 2024 AC number none observations 4\n",
+    "     K24A00C*  2024 01 01.0008  00 00 16.332+34 44 50.33                     703\n",
+    "     K24A00C   2024 01 01.0058  00 00 16.332+34 44 50.33                     703\n",
+    "     K24A00C   2024 01 01.5008  00 00 16.332+34 44 50.33                     703\n",
+    "     K24A00C   2024 01 01.5058  00 00 16.332+34 44 50.33                     703\n",
+    "end\n",
+);
+
+/// The lines of object 1: two tracklets of two observations.
+const MADE_1: &str = concat!(
+    "     W00001a   2024 01 01.0000  00 00 07.050+67 38 37.11                     703\n",
+    "     W00001a   2024 01 01.0050  00 00 07.050+67 38 37.11                     703\n",
+    "     W00001b   2024 01 01.5000  00 00 07.050+67 38 37.11                     703\n",
+    "     W00001b   2024 01 01.5050  00 00 07.050+67 38 37.11                     703\n",
+);
+
+/// The lines of object 2: two tracklets of two observations.
+const MADE_2: &str = concat!(
+    "     W00002a   2024 01 01.0004  00 00 11.921+76 15 51.06                     703\n",
+    "     W00002a   2024 01 01.0054  00 00 11.921+76 15 51.06                     703\n",
+    "     W00002b   2024 01 01.5004  00 00 11.921+76 15 51.06                     703\n",
+    "     W00002b   2024 01 01.5054  00 00 11.921+76 15 51.06                     703\n",
+);
+
+/// The lines of object 3: two tracklets of two observations.
+const MADE_3: &str = concat!(
+    "     W00003a   2024 01 01.0008  00 00 16.332+34 44 50.33                     703\n",
+    "     W00003a   2024 01 01.0058  00 00 16.332+34 44 50.33                     703\n",
+    "     W00003b   2024 01 01.5008  00 00 16.332+34 44 50.33                     703\n",
+    "     W00003b   2024 01 01.5058  00 00 16.332+34 44 50.33                     703\n",
+);
+
+/// The answer to a batch of which both lines are taken, behind so many header lines.
+const TWO_80: &str =
+    "receipt 6\naccepted 2 refused 0\nline 1 obs 1 track 1\nline 2 obs 2 track 1\n";
+
+const TWO_PSV: &str =
+    "receipt 6\naccepted 2 refused 0\nline 5 obs 1 track 1\nline 6 obs 2 track 1\n";
+
+/// Batches alone: each is the first of its office.
+const BATCHES: [(&str, &str, &str, &str); 4] = [
+    ("submit80", ZERO_80, TWO_80, ZERO_80_CATALOGUE),
+    ("submitpsv", ZERO_PSV, TWO_PSV, ZERO_PSV_CATALOGUE),
+    ("submitpsv", LAST, TWO_PSV, LAST_CATALOGUE),
+    ("submitpsv", CARRY, TWO_PSV, CARRY_CATALOGUE),
+];
+
+/// An object of two tracklets.
+const OBJECT: [Row; 2] = [
+    (OBSERVER, 1, "submitpsv", MIDNIGHT, "200 ", MIDNIGHT_TEXT),
+    (
+        FOUNDER,
+        6,
+        "designate",
+        "{\"tracklets\":[1,2]}",
+        "200 ",
+        "receipt 7\nobject 2024 EA K24E00A\n",
+    ),
+];
+
+/// What comes then, and what the catalogue is after it.
+const LATER: [(&[Row], &str); 6] = [
+    (&[], OBJECT_CATALOGUE),
+    (&LOST, LOST_CATALOGUE),
+    (&EMPTY, EMPTY_CATALOGUE),
+    (&RELEASED, RELEASED_CATALOGUE),
+    (&NUMBERING, NUMBERED_CATALOGUE),
+    (&MOVED, MOVED_CATALOGUE),
+];
+
+const LOST: [Row; 1] = [(
+    OBSERVER,
+    2,
+    "retract",
+    "{\"observation\":1}",
+    "200 ",
+    "receipt 8\n",
+)];
+
+const EMPTY: [Row; 4] = [
+    (
+        OBSERVER,
+        2,
+        "retract",
+        "{\"observation\":4}",
+        "200 ",
+        "receipt 8\n",
+    ),
+    (
+        OBSERVER,
+        3,
+        "retract",
+        "{\"observation\":3}",
+        "200 ",
+        "receipt 9\n",
+    ),
+    (
+        OBSERVER,
+        4,
+        "retract",
+        "{\"observation\":2}",
+        "200 ",
+        "receipt 10\n",
+    ),
+    (
+        OBSERVER,
+        5,
+        "retract",
+        "{\"observation\":1}",
+        "200 ",
+        "receipt 11\n",
+    ),
+];
+
+const RELEASED: [Row; 2] = [
+    (
+        FOUNDER,
+        7,
+        "release",
+        "{\"tracklet\":1}",
+        "200 ",
+        "receipt 8\n",
+    ),
+    (
+        FOUNDER,
+        8,
+        "release",
+        "{\"tracklet\":2}",
+        "200 ",
+        "receipt 9\n",
+    ),
+];
+
+const NUMBERING: [Row; 3] = [
+    (
+        FOUNDER,
+        7,
+        "verdict",
+        "{\"object\":\"2024 EA\",\"oppositions\":4,\"u\":2}",
+        "200 ",
+        "receipt 8\n",
+    ),
+    (
+        FOUNDER,
+        8,
+        "number",
+        "{\"first\":620000,\"most\":1}",
+        "200 ",
+        "receipt 9\nnumber 620000 2024 EA\n",
+    ),
+    (
+        OBSERVER,
+        2,
+        "submit80",
+        NUMBERED,
+        "200 ",
+        "receipt 10\naccepted 2 refused 0\nline 1 obs 5 track 3\nline 2 obs 6 track 3\n",
+    ),
+];
+
+const FREED: [Row; 1] = [(
+    FOUNDER,
+    9,
+    "release",
+    "{\"tracklet\":3}",
+    "200 ",
+    "receipt 11\n",
+)];
+
+const FIRST_MADE: &str = concat!(
+    "receipt 2\n",
+    "accepted 4 refused 0\n",
+    "line 1 obs 1 track 1\n",
+    "line 2 obs 2 track 1\n",
+    "line 3 obs 3 track 2\n",
+    "line 4 obs 4 track 2\n",
+);
+
+const SECOND_MADE: &str = concat!(
+    "receipt 4\n",
+    "accepted 4 refused 0\n",
+    "line 1 obs 5 track 3\n",
+    "line 2 obs 6 track 3\n",
+    "line 3 obs 7 track 4\n",
+    "line 4 obs 8 track 4\n",
+);
+
+const THIRD_MADE: &str = concat!(
+    "receipt 6\n",
+    "accepted 4 refused 0\n",
+    "line 1 obs 9 track 5\n",
+    "line 2 obs 10 track 5\n",
+    "line 3 obs 11 track 6\n",
+    "line 4 obs 12 track 6\n",
+);
+
+/// A second object, to which the first one's tracklet goes.
+const MOVED: [Row; 4] = [
+    (OBSERVER, 2, "submitpsv", NIGHT, "200 ", NIGHT_TEXT),
+    (
+        FOUNDER,
+        7,
+        "designate",
+        "{\"tracklets\":[3,5]}",
+        "200 ",
+        "receipt 9\nobject 2024 FA K24F00A\n",
+    ),
+    (
+        FOUNDER,
+        8,
+        "release",
+        "{\"tracklet\":1}",
+        "200 ",
+        "receipt 10\n",
+    ),
+    (
+        FOUNDER,
+        9,
+        "attribute",
+        "{\"tracklet\":1,\"to\":\"2024 FA\"}",
+        "200 ",
+        "receipt 11\n",
+    ),
+];
+
+/// A station, and three objects of made-up lines.
+const MADE: [Row; 7] = [
+    (FOUNDER, 1, "station", STATION, "200 ", "receipt 1\n"),
+    (FOUNDER, 2, "submit80", MADE_1, "200 ", FIRST_MADE),
+    (
+        FOUNDER,
+        3,
+        "designate",
+        "{\"tracklets\":[1,2]}",
+        "200 ",
+        "receipt 3\nobject 2024 AA K24A00A\n",
+    ),
+    (FOUNDER, 4, "submit80", MADE_2, "200 ", SECOND_MADE),
+    (
+        FOUNDER,
+        5,
+        "designate",
+        "{\"tracklets\":[3,4]}",
+        "200 ",
+        "receipt 5\nobject 2024 AB K24A00B\n",
+    ),
+    (FOUNDER, 6, "submit80", MADE_3, "200 ", THIRD_MADE),
+    (
+        FOUNDER,
+        7,
+        "designate",
+        "{\"tracklets\":[5,6]}",
+        "200 ",
+        "receipt 7\nobject 2024 AC K24A00C\n",
+    ),
+];
+
+/// A call with these words over this disk, whose clock begins in 2025, that ends in `Done`. Gives the disk.
+fn expect_done<R: Abort>(
+    rt: &R,
+    alloc: Global,
+    words: &[&str],
+    bytes: &[u8],
+    disk: MemDisk,
+    added: u64,
+    taken: &[u8],
+) -> MemDisk {
+    let words = words_of(rt, alloc, words);
+    let mut source = MemSource::new(alloc, bytes, 4_096, &[]).expect(rt, "memory");
+    let mut sink = MemSink::new(alloc, 65_536, &[]).expect(rt, "memory");
+    let first = Instant::new(1_738_368_000_000_000_000).expect(rt, "in range");
+    let mut clock = TickClock::new(first, 1_000_000_000);
+    let ended = single(alloc, &words, &mut source, &mut sink, disk, &mut clock);
+    expect_end(rt, alloc, &ended, done(added));
+    assert_eq!(rt; sink.bytes(), taken);
+    ended.disk
+}
+
+/// Runs the session, asks for the catalogue, and writes it out: both texts are this one.
+fn expect_catalogue<R: Abort>(
+    rt: &R,
+    alloc: Global,
+    bytes: Vec<u8>,
+    taken: Vec<u8>,
+    added: u64,
+    catalogue: &'static str,
+) {
+    let mut bytes = bytes;
+    let mut taken = taken;
+    let query: [Row; 1] = [(FOUNDER, 0, "catalogue", "", "200 ", catalogue)];
+    put_rows(rt, alloc, &mut bytes, &mut taken, &query);
+    let disk = MemDisk::new(alloc, &[], 65_536, &[]).expect(rt, "memory");
+    let disk = expect_done(rt, alloc, &RUN, &bytes, disk, added, &taken);
+    expect_done(rt, alloc, &["export"], b"", disk, 0, catalogue.as_bytes());
+}
+
+#[test]
+fn catalogues_of_batches(rt: HostRuntime) {
+    for (verb, body, text, catalogue) in BATCHES {
+        let mut bytes = begin(&rt, rt.alloc());
+        let mut taken = answers(&rt, rt.alloc(), 5);
+        let row: [Row; 1] = [(OBSERVER, 1, verb, body, "200 ", text)];
+        put_rows(&rt, rt.alloc(), &mut bytes, &mut taken, &row);
+        expect_catalogue(&rt, rt.alloc(), bytes, taken, 6, catalogue);
+    }
+}
+
+#[test]
+fn catalogues_of_an_object(rt: HostRuntime) {
+    for (later, catalogue) in LATER {
+        let mut bytes = begin(&rt, rt.alloc());
+        let mut taken = answers(&rt, rt.alloc(), 5);
+        put_rows(&rt, rt.alloc(), &mut bytes, &mut taken, &OBJECT);
+        put_rows(&rt, rt.alloc(), &mut bytes, &mut taken, later);
+        let added = (later.len() as u64).saturating_add(7);
+        expect_catalogue(&rt, rt.alloc(), bytes, taken, added, catalogue);
+    }
+}
+
+#[test]
+fn catalogue_of_a_numbered_tracklet(rt: HostRuntime) {
+    let mut bytes = begin(&rt, rt.alloc());
+    let mut taken = answers(&rt, rt.alloc(), 5);
+    put_rows(&rt, rt.alloc(), &mut bytes, &mut taken, &OBJECT);
+    put_rows(&rt, rt.alloc(), &mut bytes, &mut taken, &NUMBERING);
+    put_rows(&rt, rt.alloc(), &mut bytes, &mut taken, &FREED);
+    expect_catalogue(&rt, rt.alloc(), bytes, taken, 11, FREED_CATALOGUE);
+}
+
+#[test]
+fn catalogue_of_three_objects(rt: HostRuntime) {
+    let mut bytes = Vec::new(rt.alloc());
+    let mut taken = Vec::new(rt.alloc());
+    put_rows(&rt, rt.alloc(), &mut bytes, &mut taken, &MADE);
+    assert_eq!(rt; MADE_CATALOGUE.len(), 1_170);
+    expect_catalogue(&rt, rt.alloc(), bytes, taken, 7, MADE_CATALOGUE);
+}
