@@ -13,6 +13,7 @@ ends() { # ends STATUS WORDS-ON-STANDARD-ERROR INPUT WORD..: in a folder with th
   shift 3
   text=$(printf '%b' "$input" | "$program" "$@" 2>&1 >/dev/null)
   status=$?
+  text=${text%%$'\n'*} # the usage follows in lines of its own
   if [ "$status" = "$want" ] && [ "$text" = "$said" ]; then
     echo "ok: ${*:-no words} ends with $want"
   else

@@ -1,0 +1,138 @@
+#!/usr/bin/env python3
+"""Real clients at a running office: curl, Python's http.client, pipelined requests, and peers that are slow or rude.
+
+Build the program first (examples/office | (cd crates/mpc_cli && rt run -- run --key +founder-1)). The office is served in
+a folder of its own, at port 8017 of this machine, which must be free. Says what passed, and ends with 1 where something
+didn't.
+"""
+import http.client
+import os
+import socket
+import subprocess
+import sys
+import tempfile
+import time
+
+HERE = os.path.dirname(os.path.abspath(__file__))
+PROGRAM = os.path.join(HERE, "..", "crates", "mpc_cli", "out", "mpc_cli")
+KEY = "+founder-1"
+ENROL = b'{"key":"observer-1","name":"Ann","role":"observer"}'
+TALLY = "entries %d\nisolated 0\nobjects 0\nretracted 0\naccepted 0\n"
+failed = False
+
+
+def check(name, good, seen=""):
+    global failed
+    print(("ok: " if good else "NOT ok: ") + name + ("" if good else f" ({seen!r})"))
+    failed = failed or not good
+
+
+def connect():
+    for _ in range(100):
+        try:
+            return socket.create_connection(("127.0.0.1", 8017), timeout=20)
+        except OSError:
+            time.sleep(0.1)
+    raise SystemExit("nobody serves port 8017")
+
+
+def head(method, target, length=None, more=""):
+    text = f"{method} {target} HTTP/1.1\r\nHost: localhost\r\nDesk-Key: {KEY}\r\n{more}"
+    if length is not None:
+        text += f"Content-Length: {length}\r\n"
+    return (text + "\r\n").encode()
+
+
+def answers(peer, count):
+    """So many answers: their statuses and texts."""
+    stream = peer.makefile("rb")
+    found = []
+    for _ in range(count):
+        status = int(stream.readline().split()[1])
+        size = 0
+        while (line := stream.readline().strip()):
+            if line.lower().startswith(b"content-length:"):
+                size = int(line.split(b":")[1])
+        found.append((status, stream.read(size).decode()))
+    return found
+
+
+def keep_alive():
+    link = http.client.HTTPConnection("127.0.0.1", 8017, timeout=20)
+    link.request("POST", "/v1/act/1/enrol", ENROL, {"Desk-Key": KEY})
+    first = link.getresponse()
+    text = first.read().decode()
+    check("http.client enrols", (first.status, text) == (200, "receipt 1\ncaller 1\n"), (first.status, text))
+    link.request("GET", "/v1/ask/tally", headers={"Desk-Key": KEY})
+    second = link.getresponse()
+    text = second.read().decode()
+    check("http.client asks on the same connection", (second.status, text) == (200, TALLY % 1), text)
+    link.close()
+
+
+def pipelined():
+    peer = connect()
+    peer.sendall(head("POST", "/v1/act/1/enrol", len(ENROL)) + ENROL + head("GET", "/v1/ask/tally"))
+    found = answers(peer, 2)
+    check("two requests at once are answered in order, the first as a resend",
+          found == [(200, "receipt 1\ncaller 1\n"), (200, TALLY % 1)], found)
+    peer.close()
+
+
+def curl():
+    made = subprocess.run(["curl", "-s", "-S", "-H", f"Desk-Key: {KEY}", "http://127.0.0.1:8017/v1/ask/tally"],
+                          capture_output=True, text=True, timeout=30)
+    check("curl asks", made.stdout == TALLY % 1, made.stdout + made.stderr)
+
+
+def byte_by_byte():
+    peer = connect()
+    for byte in head("GET", "/v1/ask/tally", more="Connection: close\r\n"):
+        peer.sendall(bytes([byte]))
+        time.sleep(0.002)
+    found = answers(peer, 1)
+    check("a head byte by byte", found == [(200, TALLY % 1)], found)
+    check("and the connection is closed as it asked", peer.recv(1) == b"")
+    peer.close()
+
+
+def cut_off():
+    peer = connect()
+    peer.sendall(head("POST", "/v1/act/2/enrol", 51) + ENROL[:20])
+    peer.shutdown(socket.SHUT_WR)
+    found = answers(peer, 1)
+    check("a body that ends early is no request", found == [(400, "refused 1 Unread head\n")], found)
+    peer.close()
+
+
+def rude():
+    peer = connect()
+    peer.sendall(b"\x16\x03\x01\x02\x00\x01\x00\x01\xfc\x03\x03" + bytes(200))
+    peer.shutdown(socket.SHUT_WR)  # without an empty line the office waits for more, up to 8,192 bytes
+    found = answers(peer, 1)
+    check("bytes of another protocol", found == [(400, "refused 1 Unread head\n")], found)
+    peer.close()
+
+
+def main():
+    if not os.access(PROGRAM, os.X_OK):
+        raise SystemExit("build the program first")
+    with tempfile.TemporaryDirectory() as folder:
+        office = subprocess.Popen([PROGRAM, "serve", "--connections", "7", "--key", KEY], cwd=folder,
+                                  stdout=subprocess.PIPE, stderr=subprocess.PIPE, text=True)
+        silent = connect()
+        keep_alive()
+        pipelined()
+        curl()
+        byte_by_byte()
+        cut_off()
+        rude()
+        silent.close()
+        written, said = office.communicate(timeout=60)
+        check("the office ends when all were left", (office.returncode, written) == (0, "connections 7\nentries 1\n"),
+              (office.returncode, written, said))
+    return 1 if failed else 0
+
+
+if __name__ == "__main__":
+    sys.exit(main())
