@@ -14,7 +14,7 @@ of_years_more (first ∷ more) one (first_is, are) is = (first_is, of_years_more
 
 -- ---- the observations of a tracklet, from one of them on
 
-none_first : (numbers : List ℕ) → slice_get numbers 0 ≡ None → numbers ≡ []
+pub none_first : (numbers : List ℕ) → slice_get numbers 0 ≡ None → numbers ≡ []
 none_first [] none = refl
 none_first (n ∷ more) none = absurd cc
 

@@ -14,7 +14,8 @@ use Rattle.tracklet_file.specs.Observations.{track_of}
 use Rattle.tracklet_file.specs.Contents.{Contents}
 use Rattle.tracklet_file.specs.Tracklets.{IsTracklet, home_of, with_home}
 use Rattle.act_model.specs.declared.deed.Deed.{Deed}
-use Rattle.act_model.specs.declared.deed.Deed.TheVariants.{Designated, Attributed, Released, Identified, Separated, Judged, Numbered}
+use Rattle.act_model.specs.declared.deed.Deed.TheVariants.{Designated, Attributed, Released, Identified, Separated}
+use Rattle.act_model.specs.declared.deed.Deed.TheVariants.{Judged, Numbered}
 use Rattle.act_model.specs.Holdings.{Holdings, with_homes}
 use Rattle.act_model.specs.Fitting.{AreTracklets}
 

@@ -1,5 +1,6 @@
 -- What the rules are sure of about observations and their times.
-use Rattle.std.specs.Prelude.{◌≡◌, true, ℕ, ℤ, Bool, nat_le, ◌&&◌, List, [], ◌∷◌, Option, Some, None, Result, Ok, Err, IsTrue, ◌⊎◌}
+use Rattle.std.specs.Prelude.{◌≡◌, true, ℕ, ℤ, Bool, nat_le, ◌&&◌, List, [], ◌∷◌, Option, Some, None, Result, Ok, Err}
+use Rattle.std.specs.Prelude.{IsTrue, ◌⊎◌}
 use Rattle.obs_time.specs.Dates.{day_of}
 use Rattle.obs_time.specs.Calendar.{year_of}
 use Rattle.tracklet_file.specs.declared.observation.Observation.{Observation}

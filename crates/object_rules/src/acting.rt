@@ -5,7 +5,8 @@ ghost use Rattle.act_model.specs.Rows.{first_row, unless, IsDue};
 ghost use Rattle.act_model.specs.Holdings.{holdings};
 ghost use Rattle.act_model.specs.Designations.{takes_of, links_of};
 ghost use Rattle.act_model.specs.Numbers.{numbers_of};
-ghost use Rattle.act_model.specs.Doing.{tracklet_row, identify_rows, designates, designates_seen, attributes, releases, identifies, separates, judges, half_a_day};
+ghost use Rattle.act_model.specs.Doing.{tracklet_row, identify_rows, designates, designates_seen, attributes, releases};
+ghost use Rattle.act_model.specs.Doing.{identifies, separates, judges, half_a_day};
 ghost use Rattle.object_rules.specs.Noting.{is_of_objects};
 ghost use Rattle.object_rules.specs.Seeing.{AreOfYears};
 
@@ -74,14 +75,14 @@ fn designates_seen<L: Ledger>(office: &L, tracklets: Ids, seen: &[Seen]) -> Resu
     }
 }
 
-/// Tracklets become an object, and get the next designation of the half-month in which its earliest live observation was
-/// made.
+/// Tracklets become an object, and get the next designation of the half-month in which its earliest live observation
+/// was made.
 ///
 /// # Errors
 ///
 /// The first refusal that holds: a tracklet isn't there; then, tracklet by tracklet, it is in an object, or has no live
-/// observation; the observations span less than 12 hours; the half-month has no designation left. `NoMemory` where memory
-/// was refused.
+/// observation; the observations span less than 12 hours; the half-month has no designation left. `NoMemory` where
+/// memory was refused.
 pub fn designates<L: Ledger>(office: &L, alloc: Global, tracklets: Ids) -> Result<Deed, Refusal>
     ensures due { IsDue
         (designates (holdings (L.deeds office.now)) (takes_of (L.deeds office.now)) tracklets) result }

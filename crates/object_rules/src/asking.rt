@@ -100,8 +100,8 @@ pub fn number_named<L: Ledger>(office: &L, number: Number) -> Option<Designation
     office.register().named(number)
 }
 
-/// The designation that a number or a designation stands for: a designation for itself, where the office gave it, a number
-/// for the designation that it was given to. None for any other.
+/// The designation that a number or a designation stands for: a designation for itself, where the office gave it, a
+/// number for the designation that it was given to. None for any other.
 pub fn stands_for<L: Ledger>(office: &L, name: Name) -> Option<Designation>
     ensures { result ≡ stands_for (links_of (L.deeds office.now)) (numbers_of (L.deeds office.now)) name }
 {

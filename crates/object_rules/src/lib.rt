@@ -1,5 +1,5 @@
-//! The rules of the acts on tracklets, objects and numbers, over any office: what such an act does, or the first refusal
-//! that it meets; and what its deed changes in the rows of designations, in the links and in the register.
+//! The rules of the acts on tracklets, objects and numbers, over any office: what such an act does, or the first
+//! refusal that it meets; and what its deed changes in the rows of designations, in the links and in the register.
 //!
 //! An office is whatever lends its file, its rows, its links and its register as the trait [`Ledger`] asks.
 #![tactic(auto)]

@@ -1,5 +1,5 @@
-//! Lists of what an office has: the observations of a tracklet, the principal designations, and an object's designations
-//! and live observations.
+//! Lists of what an office has: the observations of a tracklet, the principal designations, and an object's
+//! designations and live observations.
 
 ghost use Rattle.std.specs.Prelude.{◌≡◌, ◌++◌, ◌∷◌, [], IfOk, OnOk, map};
 ghost use Rattle.identify_core.specs.Acts.{members};

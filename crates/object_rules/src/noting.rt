@@ -11,7 +11,8 @@ ghost use Rattle.act_model.specs.Holdings.{with_homes};
 ghost use Rattle.act_model.specs.Numbers.{with_numbers};
 ghost use Rattle.act_model.specs.Fitting.{AreTracklets};
 ghost use Rattle.act_model.specs.Verdicts.{voided, judged_by};
-ghost use Rattle.object_rules.specs.Noting.{TakesDeed, LinksDeed, TouchesDeed, NumbersDeed, HomesDeed, registered_by, held_in, object_in, object_of_seen_in, with_deed_homes};
+ghost use Rattle.object_rules.specs.Noting.{TakesDeed, LinksDeed, TouchesDeed, NumbersDeed, HomesDeed, registered_by};
+ghost use Rattle.object_rules.specs.Noting.{held_in, object_in, object_of_seen_in, with_deed_homes};
 
 use act_model::Deed;
 use designate_core::Rows;

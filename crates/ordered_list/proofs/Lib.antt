@@ -6,3 +6,5 @@ mod ArrangedLemmas
 mod GapLemmas
 pub mod MergeSteps
 mod MergedPlaces
+mod AboveLemmas
+mod SameLemmas

@@ -47,10 +47,10 @@ module _ {T : Type 0} {cmp : T → T → Ordering} (total : IsTotalOrder cmp) wh
 -- ---- what stands at the place
 
 module _ {T : Type 0} {cmp : T → T → Ordering} where
-  found_tail : (key x : T) (xs : List T) (place : ℕ) → FoundAt cmp key (x ∷ xs) (suc place) → FoundAt cmp key xs place
+  pub found_tail : (key x : T) (xs : List T) (place : ℕ) → FoundAt cmp key (x ∷ xs) (suc place) → FoundAt cmp key xs place
   found_tail key x xs place at = record { within = omega (arith, at.within); below = λ k d less. at.below (suc k) d (omega arith); here = λ d. at.here d }
 
-  gap_tail : (key x : T) (xs : List T) (place : ℕ) → BelongsAt cmp key (x ∷ xs) (suc place) → BelongsAt cmp key xs place
+  pub gap_tail : (key x : T) (xs : List T) (place : ℕ) → BelongsAt cmp key (x ∷ xs) (suc place) → BelongsAt cmp key xs place
   gap_tail key x xs place gap = record {
     within = omega (arith, gap.within);
     below = λ k d less. gap.below (suc k) d (omega arith);

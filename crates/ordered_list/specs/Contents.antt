@@ -12,7 +12,8 @@ pub record Contents (T : Type 0) : Type 0 where
 -- contents are stored as the pair of their fields
 abbrev pub contents_code : {T : Type 0} → Coded T → Coded (Contents T)
 contents_code {T} code =
-    code_by (List T × ℕ) (coded× (coded_list code) coded_ℕ) (λ c. (c.items, c.room)) (λ p. record { items = p.0; room = p.1 }) (λ _. refl)
+    code_by (List T × ℕ) (coded× (coded_list code) coded_ℕ) (λ c. (c.items, c.room))
+    (λ p. record { items = p.0; room = p.1 }) (λ _. refl)
 
 -- room for one item at most was used, and no memory was taken
 abbrev pub UsesOne : ℕ → ℕ → Type 0

@@ -45,6 +45,7 @@ pub(crate) fn take_out<T: Ord + Copy>(items: &mut Vec<T>, key: &T) -> Option<T>
     ensures gives { result ≡ found T.cmp key.now items.old.items }
     ensures removed { items.new.items ≡ removed T.cmp key.now items.old.items }
     ensures len { vec_len items.new ≤ vec_len items.old }
+    ensures fewer { IsSome result → vec_len items.new + 1 ≡ vec_len items.old }
     ensures capacity { vec_capacity items.new ≡ vec_capacity items.old }
 {
     match place_of(items.as_slice(), key) {

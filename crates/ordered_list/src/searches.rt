@@ -1,7 +1,7 @@
 //! Searches by halving in one vector that is in order.
 
-ghost use Rattle.std.specs.Prelude.{◌≡◌, None, IfOk, IfErr};
-ghost use Rattle.ordered_list.specs.Orders.{IsStrictlySorted, FoundAt, BelongsAt, found};
+ghost use Rattle.std.specs.Prelude.{◌≡◌, None, IfOk, IfErr, slice_get};
+ghost use Rattle.ordered_list.specs.Orders.{IsStrictlySorted, FoundAt, BelongsAt, found, next_above, lower_of};
 
 /// The place of the item that ties with the key, or else the place where the key belongs.
 pub(crate) fn place_of<T: Ord>(items: &[T], key: &T) -> Result<usize, usize>
@@ -31,5 +31,39 @@ pub(crate) fn gap_for<T: Ord>(items: &[T], key: &T) -> usize
 {
     match place_of(items, key) {
         Ok(place) | Err(place) => place,
+    }
+}
+
+/// The place of the first item above the key.
+fn place_above<T: Ord>(items: &[T], key: &T) -> usize
+    requires { IsStrictlySorted T.cmp items.now }
+    ensures { slice_get items.now result ≡ next_above T.cmp key.now items.now }
+{
+    match place_of(items, key) {
+        Ok(place) => place + 1,
+        Err(place) => place,
+    }
+}
+
+/// The first item above the key.
+pub(crate) fn next_in<T: Ord + Copy>(items: &[T], key: &T) -> Option<T>
+    requires { IsStrictlySorted T.cmp items.now }
+    ensures { result ≡ next_above T.cmp key.now items.now }
+{
+    items.get(place_above(items, key)).copied()
+}
+
+/// The lower of two items, where there are two.
+pub(crate) fn lower_of<T: Ord + Copy>(one: Option<T>, other: Option<T>) -> Option<T>
+    ensures { result ≡ lower_of T.cmp one other }
+{
+    match (one, other) {
+        (None, _) => other,
+        (_, None) => one,
+        (Some(first), Some(second)) => Some(if first.cmp(&second).is_lt() {
+            first
+        } else {
+            second
+        }),
     }
 }

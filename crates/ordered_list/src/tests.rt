@@ -21,6 +21,11 @@ fn number_of(list: &OrderedList<Entry>, key: u32) -> Option<u32> {
         .map(|entry| entry.number)
 }
 
+fn next_key(list: &OrderedList<Entry>, key: u32) -> Option<u32> {
+    list.next_above(&Entry { key, number: 0 })
+        .map(|entry| entry.key)
+}
+
 #[test]
 fn the_last_item_with_a_key_stands(rt: HostRuntime) -> Result<(), Fail> {
     let mut list = OrderedList::new(rt.alloc())?;
@@ -35,6 +40,9 @@ fn the_last_item_with_a_key_stands(rt: HostRuntime) -> Result<(), Fail> {
     );
     for (key, want) in [(10, Some(4)), (15, None), (20, Some(3)), (30, None)] {
         assert_eq!(rt; number_of(&list, key), want, "at {key}");
+    }
+    for (key, want) in [(5, Some(10)), (10, Some(20)), (15, Some(20)), (20, None)] {
+        assert_eq!(rt; next_key(&list, key), want, "above {key}");
     }
     Ok(())
 }

@@ -6,3 +6,4 @@ mod AddedLemmas
 mod ChainLemmas
 mod PositionLemmas
 mod KeepingLemmas
+mod HomeLemmas

@@ -27,12 +27,12 @@ abbrev pub order_of : Position → Position → Ordering
 order_of a b =
     ordering_then (int_cmp a.time b.time) (ordering_then (int_cmp a.ra b.ra) (ordering_then (int_cmp a.dec b.dec) (ordering_then (nat_cmp a.code_len b.code_len) (slice_cmp nat_cmp a.code b.code))))
 
-both_tie : (a b : Ordering) → is_eq (ordering_then a b) ≡ is_eq a && is_eq b
+pub both_tie : (a b : Ordering) → is_eq (ordering_then a b) ≡ is_eq a && is_eq b
 both_tie Less b = refl
 both_tie Equal b = refl
 both_tie Greater b = refl
 
-numbers_tie : (a b : ℕ) → is_eq (nat_cmp a b) ≡ (a == b)
+pub numbers_tie : (a b : ℕ) → is_eq (nat_cmp a b) ≡ (a == b)
 numbers_tie a b = grind (arith, nat_tests)
 
 units_tie : (a b : ℕ) → is_eq (int_cmp (pos a) (pos b)) ≡ (a == b)

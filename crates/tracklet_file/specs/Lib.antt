@@ -4,5 +4,6 @@ pub mod Tracklets
 pub mod Contents
 pub mod Chains
 pub mod Positions
+pub mod Homes
 pub mod Keeping
 pub mod Changes

@@ -1,12 +1,15 @@
 -- The tracklets of the office, the newest first, and what their homes make of their observations.
-use Rattle.std.specs.Prelude.{ℕ, Bool, not, ◌&&◌, List, ◌∷◌, count_by, Option, IsSome, is_some, is_none}
+use Rattle.std.specs.Prelude.{ℕ, Bool, false, not, ◌&&◌, nat_lt, List, [], ◌∷◌, ◌++◌, count_by, Option, Some, None}
+use Rattle.std.specs.Prelude.{IsSome, is_some, is_none, slice_get, if◌then◌else◌}
 use Rattle.std.specs.Option.{option_map, option_and_then}
+use Rattle.std.specs.Ordering.{eq_by_cmp}
 use Rattle.packed_names.specs.declared.name.Designation.{Designation}
+use Rattle.packed_names.specs.Order.{designation_cmp}
 use Rattle.obs_record.specs.declared.name.TrackName.{TrackName}
 use Rattle.obs_record.specs.declared.short.Short.{Short}
 use Rattle.tracklet_file.specs.declared.observation.Observation.{Observation}
 use Rattle.tracklet_file.specs.declared.tracklet.Tracklet.{Tracklet}
-use Rattle.tracklet_file.specs.Numbering.{numbered, changed_at}
+use Rattle.tracklet_file.specs.Numbering.{next_number, numbered, changed_at}
 
 -- there is a tracklet t
 abbrev pub IsTracklet : List Tracklet → ℕ → Type 0
@@ -22,6 +25,28 @@ station_of tracklets t = option_map (λ tracklet. tracklet.station) (numbered tr
 -- the designation that it was given to; none for an isolated tracklet
 abbrev pub home_of : List Tracklet → ℕ → Option Designation
 home_of tracklets t = option_and_then (λ tracklet. tracklet.home) (numbered tracklets t)
+
+-- ---- the tracklets of a designation
+
+-- the home is the designation
+abbrev pub is_home : Designation → Option Designation → Bool
+is_home d None = false
+is_home d (Some home) = eq_by_cmp designation_cmp home d
+
+-- those with a number over `after` that were given to the designation, in order of number
+abbrev pub later_at : List Tracklet → Designation → ℕ → List ℕ
+later_at [] d after = []
+later_at (newest ∷ older) d after =
+    later_at older d after
+    ++ (if is_home d newest.home && nat_lt after (next_number older) then next_number older ∷ [] else [])
+
+-- all of them, in order of number
+abbrev pub homed_at : List Tracklet → Designation → List ℕ
+homed_at tracklets d = later_at tracklets d 0
+
+-- the first with a number over `after`
+abbrev pub next_at : List Tracklet → Designation → ℕ → Option ℕ
+next_at tracklets d after = slice_get (later_at tracklets d after) 0
 
 -- ---- where an observation stands: retracted, or else isolated where its tracklet is, or else homed
 

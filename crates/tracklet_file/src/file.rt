@@ -1,11 +1,18 @@
-ghost use Rattle.std.specs.Prelude.{◌≡◌, ◌+◌, ◌<◌, ◌≤◌, ◌∷◌, [], length, IsTrue, IfOk, OnOk, IfSome, Some, option_copied};
+//! The file of observations and tracklets.
+
+ghost use Rattle.std.specs.Prelude.{◌≡◌, ◌+◌, ◌<◌, ◌≤◌, ◌∷◌, [], length, IsTrue, IfOk, OnOk, IfSome, Some};
+ghost use Rattle.std.specs.Prelude.{option_copied};
 ghost use Rattle.tracklet_file.specs.Numbering.{next_number};
-ghost use Rattle.tracklet_file.specs.Observations.{IsObservation, sighting_of, entry_of, track_of, is_live, has_live, later_of_track, observations_of, first_of, next_of, IsFollowedBy, with_observation, with_retraction};
-ghost use Rattle.tracklet_file.specs.Tracklets.{IsTracklet, name_of_track, station_of, home_of, retracted_in, isolated_in, homed_in, with_tracklet, with_home};
+ghost use Rattle.tracklet_file.specs.Observations.{IsObservation, sighting_of, entry_of, track_of, is_live, has_live};
+ghost use Rattle.tracklet_file.specs.Observations.{later_of_track, observations_of, first_of, next_of, IsFollowedBy};
+ghost use Rattle.tracklet_file.specs.Observations.{with_observation, with_retraction};
+ghost use Rattle.tracklet_file.specs.Tracklets.{IsTracklet, name_of_track, station_of, home_of, retracted_in};
+ghost use Rattle.tracklet_file.specs.Tracklets.{isolated_in, homed_in, with_tracklet, with_home, later_at, next_at};
 ghost use Rattle.tracklet_file.specs.Contents.{UsesOne, KeepsRoom};
 
 use crate::chain::{Chain, extend, link, some_number};
 use crate::counting::{isolated_after, with_one, without_one};
+use crate::homes::{HomeEntry, number_at, rehome};
 use crate::observation::Observation;
 use crate::position::{Position, at_position, live_at, position_of};
 use crate::searches::numbered;
@@ -17,6 +24,7 @@ use obs_time::Instant;
 use ordered_list::OrderedList;
 use ordered_list::laws::{ties_find_alike, ties_itself};
 use packed_names::Designation;
+use packed_names::laws::orders;
 use std::alloc::Global;
 use std::marker::Model;
 
@@ -31,6 +39,7 @@ pub struct TrackletFile {
     tracklets: Vec<Tracklet>,
     chains: Vec<Chain>,
     index: OrderedList<Position>,
+    homes: OrderedList<HomeEntry>,
     isolated: u64,
     retracted: u64,
 }
@@ -38,7 +47,7 @@ pub struct TrackletFile {
 impl Model for TrackletFile {
     ghost use Rattle.std.specs.Prelude.{◌-◌, min, reverse, vec_len, vec_capacity};
     ghost use Rattle.tracklet_file.specs.Contents.{Contents};
-    ghost use Rattle.tracklet_file.specs.Keeping.{IsKept};
+    ghost use Rattle.tracklet_file.specs.Keeping.{IsFiled};
 
     ghost Value = { Contents };
 
@@ -47,12 +56,14 @@ impl Model for TrackletFile {
       tracklets = reverse f.tracklets.items;
       observation_room = min (vec_capacity f.observations - vec_len f.observations)
           (min (vec_capacity f.links - vec_len f.links) f.index.room);
-      tracklet_room = min (vec_capacity f.tracklets - vec_len f.tracklets) (vec_capacity f.chains - vec_len f.chains);
+      tracklet_room = min (vec_capacity f.tracklets - vec_len f.tracklets)
+          (min (vec_capacity f.chains - vec_len f.chains) f.homes.room);
     } };
 
     ghost invariant = { λ f.
-        IsKept ⟦<Position as Ord>⟧.cmp (reverse f.tracklets.items) (reverse f.observations.items) f.isolated f.retracted
-        f.chains.items f.links.items f.index.items };
+        IsFiled ⟦<Position as Ord>⟧.cmp ⟦<HomeEntry as Ord>⟧.cmp (reverse f.tracklets.items)
+        (reverse f.observations.items) f.isolated f.retracted f.chains.items f.links.items f.index.items
+        f.homes.items };
 }
 
 impl TrackletFile {
@@ -71,6 +82,7 @@ impl TrackletFile {
             tracklets: Vec::with_capacity(alloc, FIRST_ROOM)?,
             chains: Vec::with_capacity(alloc, FIRST_ROOM)?,
             index: OrderedList::new(alloc)?,
+            homes: OrderedList::new(alloc)?,
             isolated: 0,
             retracted: 0,
         })
@@ -94,6 +106,7 @@ impl TrackletFile {
         self.index.reserve(sightings)?;
         self.tracklets.reserve(tracks as usize)?;
         self.chains.reserve(tracks as usize)?;
+        self.homes.reserve(tracks)?;
         Ok(())
     }
 
@@ -106,6 +119,7 @@ impl TrackletFile {
         ensures tracklet_room { UsesOne self.old.tracklet_room self.new.tracklet_room }
         ensures observation_room { self.new.observation_room ≡ self.old.observation_room }
     {
+        orders();
         let track = self.tracklets.len() as u64 + 1;
         self.tracklets.push_reserved(Tracklet {
             name,
@@ -117,6 +131,7 @@ impl TrackletFile {
             last: 0,
             live: 0,
         });
+        self.homes.insert(HomeEntry { home, track });
         track
     }
 
@@ -176,9 +191,11 @@ impl TrackletFile {
         ensures observations { self.new.observations ≡ self.old.observations }
         ensures room_stays { KeepsRoom self.old self.new }
     {
+        orders();
         let was = self.home(t);
         let live = self.chains[(t - 1) as usize].live;
         self.isolated = isolated_after(self.isolated, live, was, home);
+        rehome(&mut self.homes, t, was, home);
         self.tracklets[(t - 1) as usize].home = home;
     }
 
@@ -268,6 +285,21 @@ impl TrackletFile {
         }
     }
 
+    /// The least number over `after` of a tracklet that was given to the designation; None exactly where there is none.
+    /// From 0 on, each number taken as the next `after`, these are all of them.
+    pub fn next_at(&self, d: Designation, after: u64) -> Option<u64>
+        ensures next { result ≡ next_at self.now.tracklets d after }
+        ensures rest { IfSome result (λ t. later_at self.now.tracklets d after
+            ≡ t ∷ later_at self.now.tracklets d t) }
+    {
+        orders();
+        let key = HomeEntry {
+            home: Some(d),
+            track: after,
+        };
+        number_at(d, self.homes.next_above(&key))
+    }
+
     /// How many live observations are of isolated tracklets.
     pub fn isolated(&self) -> u64
         ensures { result ≡ isolated_in self.now.tracklets self.now.observations }
@@ -300,7 +332,8 @@ impl TrackletFile {
     /// retracted ones together are all of them.
     pub fn observations(&self) -> u64
         ensures count { result ≡ length self.now.observations }
-        ensures places { isolated_in self.now.tracklets self.now.observations + homed_in self.now.tracklets self.now.observations
+        ensures places { isolated_in self.now.tracklets self.now.observations
+            + homed_in self.now.tracklets self.now.observations
             + retracted_in self.now.observations ≡ result }
     {
         self.observations.len() as u64

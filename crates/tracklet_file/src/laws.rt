@@ -3,9 +3,12 @@
 ghost use Rattle.std.specs.Prelude.{◌≡◌, ℕ, ◌+◌, not, List, length, count_by};
 ghost use Rattle.tracklet_file.specs.declared.observation.Observation.{Observation};
 ghost use Rattle.tracklet_file.specs.declared.tracklet.Tracklet.{Tracklet};
-ghost use Rattle.tracklet_file.specs.Observations.{IsObservation, is_live, sighting_of, entry_of, track_of, later_of_track};
-ghost use Rattle.tracklet_file.specs.Tracklets.{home_of, name_of_track, station_of, isolated_in, homed_in, retracted_in};
-ghost use Rattle.tracklet_file.specs.Changes.{Change, AreCalls, observations_after, tracklets_after, brought, brought_tracklets, is_retraction, is_gone, last_home};
+ghost use Rattle.tracklet_file.specs.Observations.{IsObservation, is_live, sighting_of, entry_of, track_of};
+ghost use Rattle.tracklet_file.specs.Observations.{later_of_track};
+ghost use Rattle.tracklet_file.specs.Tracklets.{home_of, name_of_track, station_of, isolated_in, homed_in};
+ghost use Rattle.tracklet_file.specs.Tracklets.{retracted_in};
+ghost use Rattle.tracklet_file.specs.Changes.{Change, AreCalls, observations_after, tracklets_after, brought};
+ghost use Rattle.tracklet_file.specs.Changes.{brought_tracklets, is_retraction, is_gone, last_home};
 
 /// Each observation stands in one place: the isolated, the homed and the retracted ones together are all.
 pub fn one_place()

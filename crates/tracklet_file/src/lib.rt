@@ -12,6 +12,7 @@
 mod chain;
 mod counting;
 mod file;
+mod homes;
 pub mod laws;
 mod observation;
 mod position;

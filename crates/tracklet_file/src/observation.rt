@@ -1,3 +1,5 @@
+//! Observations on file.
+
 use obs_record::Sighting;
 
 /// An observation that the office accepted.

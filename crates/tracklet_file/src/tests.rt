@@ -232,7 +232,11 @@ fn agree(file: &TrackletFile, plain: &Plain) -> bool {
         Some(s) => file.has_live(s.station, s.time, s.ra, s.dec) == plain.has_live(&s),
         None => false,
     });
-    numbers && positions && [file.isolated(), file.homed(), file.retracted()] == plain.counts()
+    let homes = (0..5).all(|after| file.next_at(HOME, after) == plain.next_at(HOME, after));
+    numbers
+        && positions
+        && homes
+        && [file.isolated(), file.homed(), file.retracted()] == plain.counts()
 }
 
 #[test]

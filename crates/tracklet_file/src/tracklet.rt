@@ -1,3 +1,5 @@
+//! Tracklets on file.
+
 use obs_record::{Short, TrackName};
 use packed_names::Designation;
 

@@ -95,6 +95,17 @@ impl Plain {
         None
     }
 
+    /// The first tracklet with this home and a number over `after`.
+    pub(super) fn next_at(&self, home: Designation, after: u64) -> Option<u64> {
+        for place in 0..self.tracklets.len() {
+            let number = place as u64 + 1;
+            if number > after && self.tracklets[place].home == Some(home) {
+                return Some(number);
+            }
+        }
+        None
+    }
+
     /// How many observations are isolated, homed and retracted.
     pub(super) fn counts(&self) -> [u64; 3] {
         let live = self.observations.iter().filter(|o| o.live).count();

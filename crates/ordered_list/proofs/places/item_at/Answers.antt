@@ -1,4 +1,4 @@
-use Rattle.std.proofs.Common.{◌≡◌, ◌+◌, ◌-◌, sym, ◌∙◌, arith}
+use Rattle.std.proofs.Common.{◌-◌, sym, ◌∙◌, arith}
 use Rattle.ordered_list.proofs.MergedPlaces.{passed_low, belongs_below, item_of_newest, item_of_settled, other_item}
 use Rattle.ordered_list.proofs.places.item_at.Goals as goal
 

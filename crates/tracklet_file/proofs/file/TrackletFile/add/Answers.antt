@@ -19,13 +19,13 @@ pub index-chain-requires : goal.index-chain-requires
 index-chain-requires c =
     let there : IsTracklet (reverse c.self.inside.tracklets.items) c.args.track = subst (λ (v : Contents). IsTracklet v.tracklets c.args.track) (sym c.self.view_is) c.requires.there in
     let within = place_within c.self.inside.tracklets.items c.args.track there in
-    omega (arith, within, c.self.invariant.chained.as_many_chains, length-reverse c.self.inside.tracklets.items)
+    omega (arith, within, c.self.invariant.kept.chained.as_many_chains, length-reverse c.self.inside.tracklets.items)
 
 pub extend-requires : goal.extend-requires
 extend-requires c =
     let observations = reverse c.self.inside.observations.items in
     let there : IsTracklet (reverse c.self.inside.tracklets.items) c.args.track = subst (λ (v : Contents). IsTracklet v.tracklets c.args.track) (sym c.self.view_is) c.requires.there in
-    let chain = (chain_read _ _ _ _ _ _ _ _ c.self.invariant c.args.track c.index-chain.result.now there c.index-chain.ensures).1 in
+    let chain = (chain_read _ _ _ _ _ _ _ _ c.self.invariant.kept c.args.track c.index-chain.result.now there c.index-chain.ensures).1 in
     let live = count_low (is_live_of c.args.track) observations in
     omega (arith, live, length-reverse c.self.inside.observations.items, ap (λ (chain : Chain). chain.live) chain)
 
@@ -36,14 +36,14 @@ pub index_mut-requires : goal.index_mut-requires
 index_mut-requires c =
     let there : IsTracklet (reverse c.self.inside.tracklets.items) c.args.track = subst (λ (v : Contents). IsTracklet v.tracklets c.args.track) (sym c.self.view_is) c.requires.there in
     let within = place_within c.self.inside.tracklets.items c.args.track there in
-    omega (arith, within, c.self.invariant.chained.as_many_chains, length-reverse c.self.inside.tracklets.items)
+    omega (arith, within, c.self.invariant.kept.chained.as_many_chains, length-reverse c.self.inside.tracklets.items)
 
 pub link-requires-clause-there : goal.link-requires-clause-there
 link-requires-clause-there c =
     let observations = reverse c.self.inside.observations.items in
     let there : IsTracklet (reverse c.self.inside.tracklets.items) c.args.track = subst (λ (v : Contents). IsTracklet v.tracklets c.args.track) (sym c.self.view_is) c.requires.there in
-    let chain = (chain_read _ _ _ _ _ _ _ _ c.self.invariant c.args.track c.index-chain.result.now there c.index-chain.ensures).1 in
-    omega (arith, last_low observations c.args.track, ap (λ (chain : Chain). chain.last) chain, c.self.invariant.chained.as_many_links)
+    let chain = (chain_read _ _ _ _ _ _ _ _ c.self.invariant.kept c.args.track c.index-chain.result.now there c.index-chain.ensures).1 in
+    omega (arith, last_low observations c.args.track, ap (λ (chain : Chain). chain.last) chain, c.self.invariant.kept.chained.as_many_links)
 
 pub invariant_of-self : goal.invariant_of-self
 invariant_of-self c =
@@ -53,10 +53,14 @@ invariant_of-self c =
     let number : c.len.result + 1 ≡ next_number observations = omega (arith, length-reverse c.self.inside.observations.items) in
     let home : c.home.result ≡ home_of tracklets c.args.track = c.home.ensures ∙ sym (ap (λ (v : Contents). home_of v.tracklets c.args.track) c.self.view_is) in
     let isolated : c.is_none-isolated.result ≡ is_none (home_of tracklets c.args.track) = none_told c.home.result c.is_none-isolated.result c.is_none-isolated.ensures ∙ ap is_none home in
-    kept_added _ _ _ _ _ _ _ _ c.self.invariant (record { track = c.args.track; sighting = c.args.s; entry = c.args.entry; live = true }) c.index-chain.result.now _ _ _ _
-    c.with_one-self-inside.result c.live_at-live.result c.position_of-2.result c.position_of.result (record { alike = c.ties_find_alike.ensures; plain = λ key s live. refl }) there refl c.index-chain.ensures
-    (ap reverse c.push_reserved.ensures.items ∙ reverse_push c.self.inside.observations.items _)
-    (ap (set c.self.inside.chains.items (c.args.track - 1)) (c.extend.ensures ∙ ap (extended c.index-chain.result.now) number))
-    (c.link.ensures.links ∙ ap (linked c.self.inside.links.items c.index-chain.result.now.last) number)
-    (c.with_one-self-inside.ensures ∙ ap (λ (b : Bool). c.self.inside.isolated + cond b 1 0) isolated)
-    c.position_of-2.ensures c.position_of.ensures c.insert.ensures.finds c.live_at-live.ensures
+    record {
+      homed = c.self.invariant.homed;
+      kept =
+          kept_added _ _ _ _ _ _ _ _ c.self.invariant.kept (record { track = c.args.track; sighting = c.args.s; entry = c.args.entry; live = true }) c.index-chain.result.now _ _ _ _
+          c.with_one-self-inside.result c.live_at-live.result c.position_of-2.result c.position_of.result (record { alike = c.ties_find_alike.ensures; plain = λ key s live. refl }) there refl c.index-chain.ensures
+          (ap reverse c.push_reserved.ensures.items ∙ reverse_push c.self.inside.observations.items _)
+          (ap (set c.self.inside.chains.items (c.args.track - 1)) (c.extend.ensures ∙ ap (extended c.index-chain.result.now) number))
+          (c.link.ensures.links ∙ ap (linked c.self.inside.links.items c.index-chain.result.now.last) number)
+          (c.with_one-self-inside.ensures ∙ ap (λ (b : Bool). c.self.inside.isolated + cond b 1 0) isolated)
+          c.position_of-2.ensures c.position_of.ensures c.insert.ensures.finds c.live_at-live.ensures;
+    }

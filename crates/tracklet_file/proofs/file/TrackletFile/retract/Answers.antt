@@ -27,7 +27,7 @@ home-requires c =
     let live : is_live observations c.args.k ≡ true = ap (λ (v : Contents). is_live v.observations c.args.k) c.self.view_is ∙ c.requires in
     let at = read_at c.self.inside.observations.items c.args.k c.index.result.now (live_there observations c.args.k live) c.index.ensures in
     subst (λ (v : Contents). IsTracklet v.tracklets c.index.result.now.track) c.self.view_is
-    (tracklet_at (reverse c.self.inside.tracklets.items) observations c.args.k c.index.result.now c.self.invariant.counted.in_tracklets at)
+    (tracklet_at (reverse c.self.inside.tracklets.items) observations c.args.k c.index.result.now c.self.invariant.kept.counted.in_tracklets at)
 
 pub without_one-self-inside-requires : goal.without_one-self-inside-requires
 without_one-self-inside-requires c none =
@@ -38,7 +38,7 @@ without_one-self-inside-requires c none =
     let tracklets = reverse c.self.inside.tracklets.items in
     let alone : is_none (home_of tracklets c.index.result.now.track) ≡ true =
     ap (λ (v : Contents). is_none (home_of v.tracklets c.index.result.now.track)) c.self.view_is ∙ ap is_none (sym c.home.ensures) ∙ sym (none_told c.home.result c.is_none-isolated.result c.is_none-isolated.ensures) ∙ none in
-    subst (λ (n : ℕ). 0 < n) (sym c.self.invariant.counted.isolated_are) (some_isolated tracklets observations c.args.k c.index.result.now at alive alone)
+    subst (λ (n : ℕ). 0 < n) (sym c.self.invariant.kept.counted.isolated_are) (some_isolated tracklets observations c.args.k c.index.result.now at alive alone)
 
 pub overflow_sub-live : goal.overflow_sub-live
 overflow_sub-live c =
@@ -46,7 +46,7 @@ overflow_sub-live c =
     let live : is_live observations c.args.k ≡ true = ap (λ (v : Contents). is_live v.observations c.args.k) c.self.view_is ∙ c.requires in
     let at = read_at c.self.inside.observations.items c.args.k c.index.result.now (live_there observations c.args.k live) c.index.ensures in
     let alive = live_at observations c.args.k c.index.result.now at live in
-    let some = index_some _ _ _ _ _ _ _ _ c.self.invariant c.args.k c.index.result.now at alive c.position_of.result c.position_of.ensures c.ties_itself.ensures in
+    let some = index_some _ _ _ _ _ _ _ _ c.self.invariant.kept c.args.k c.index.result.now at alive c.position_of.result c.position_of.ensures c.ties_itself.ensures in
     omega (arith, some, c.live_at-live.ensures)
 
 pub insert-requires : goal.insert-requires
@@ -55,7 +55,7 @@ insert-requires c none =
     let live : is_live observations c.args.k ≡ true = ap (λ (v : Contents). is_live v.observations c.args.k) c.self.view_is ∙ c.requires in
     let at = read_at c.self.inside.observations.items c.args.k c.index.result.now (live_there observations c.args.k live) c.index.ensures in
     let alive = live_at observations c.args.k c.index.result.now at live in
-    let some = index_some _ _ _ _ _ _ _ _ c.self.invariant c.args.k c.index.result.now at alive c.position_of.result c.position_of.ensures c.ties_itself.ensures in
+    let some = index_some _ _ _ _ _ _ _ _ c.self.invariant.kept c.args.k c.index.result.now at alive c.position_of.result c.position_of.ensures c.ties_itself.ensures in
     absurd (found_some _ c.self.inside.index.items c.position_of-2.result c.position_of.result c.index.result.now.sighting (c.live_at-live.result - 1) c.position_of-2.ensures c.position_of.ensures (λ key s live. refl) c.ties_find_alike.ensures c.ties_itself.ensures some none)
 
 pub overflow_sub-o : goal.overflow_sub-o
@@ -63,7 +63,7 @@ overflow_sub-o c =
     let observations = reverse c.self.inside.observations.items in
     let live : is_live observations c.args.k ≡ true = ap (λ (v : Contents). is_live v.observations c.args.k) c.self.view_is ∙ c.requires in
     let at = read_at c.self.inside.observations.items c.args.k c.index.result.now (live_there observations c.args.k live) c.index.ensures in
-    let there = tracklet_at (reverse c.self.inside.tracklets.items) observations c.args.k c.index.result.now c.self.invariant.counted.in_tracklets at in
+    let there = tracklet_at (reverse c.self.inside.tracklets.items) observations c.args.k c.index.result.now c.self.invariant.kept.counted.in_tracklets at in
     (numbered_within (reverse c.self.inside.tracklets.items) c.index.result.now.track there).0
 
 pub index_mut-requires : goal.index_mut-requires
@@ -71,8 +71,8 @@ index_mut-requires c =
     let observations = reverse c.self.inside.observations.items in
     let live : is_live observations c.args.k ≡ true = ap (λ (v : Contents). is_live v.observations c.args.k) c.self.view_is ∙ c.requires in
     let at = read_at c.self.inside.observations.items c.args.k c.index.result.now (live_there observations c.args.k live) c.index.ensures in
-    let there = tracklet_at (reverse c.self.inside.tracklets.items) observations c.args.k c.index.result.now c.self.invariant.counted.in_tracklets at in
-    omega (arith, place_within c.self.inside.tracklets.items c.index.result.now.track there, c.self.invariant.chained.as_many_chains, length-reverse c.self.inside.tracklets.items)
+    let there = tracklet_at (reverse c.self.inside.tracklets.items) observations c.args.k c.index.result.now c.self.invariant.kept.counted.in_tracklets at in
+    omega (arith, place_within c.self.inside.tracklets.items c.index.result.now.track there, c.self.invariant.kept.chained.as_many_chains, length-reverse c.self.inside.tracklets.items)
 
 pub overflow_sub-index_mut : goal.overflow_sub-index_mut
 overflow_sub-index_mut c =
@@ -80,7 +80,7 @@ overflow_sub-index_mut c =
     let live : is_live observations c.args.k ≡ true = ap (λ (v : Contents). is_live v.observations c.args.k) c.self.view_is ∙ c.requires in
     let at = read_at c.self.inside.observations.items c.args.k c.index.result.now (live_there observations c.args.k live) c.index.ensures in
     let alive = live_at observations c.args.k c.index.result.now at live in
-    chain_some _ _ _ _ _ _ _ _ c.self.invariant c.args.k c.index.result.now at alive c.index_mut.result.now c.index_mut.ensures.value
+    chain_some _ _ _ _ _ _ _ _ c.self.invariant.kept c.args.k c.index.result.now at alive c.index_mut.result.now c.index_mut.ensures.value
 
 pub index_mut-requires-2 : goal.index_mut-requires-2
 index_mut-requires-2 c =
@@ -95,18 +95,22 @@ invariant_of-self c =
     let live : is_live observations c.args.k ≡ true = ap (λ (v : Contents). is_live v.observations c.args.k) c.self.view_is ∙ c.requires in
     let at = read_at c.self.inside.observations.items c.args.k c.index.result.now (live_there observations c.args.k live) c.index.ensures in
     let alive = live_at observations c.args.k c.index.result.now at live in
-    let some = index_some _ _ _ _ _ _ _ _ c.self.invariant c.args.k c.index.result.now at alive c.position_of.result c.position_of.ensures c.ties_itself.ensures in
+    let some = index_some _ _ _ _ _ _ _ _ c.self.invariant.kept c.args.k c.index.result.now at alive c.position_of.result c.position_of.ensures c.ties_itself.ensures in
     let tracklets = reverse c.self.inside.tracklets.items in
     let there = live_there observations c.args.k live in
     let home : c.home.result ≡ home_of tracklets c.index.result.now.track = c.home.ensures ∙ sym (ap (λ (v : Contents). home_of v.tracklets c.index.result.now.track) c.self.view_is) in
     let isolated : c.is_none-isolated.result ≡ is_none (home_of tracklets c.index.result.now.track) = none_told c.home.result c.is_none-isolated.result c.is_none-isolated.ensures ∙ ap is_none home in
-    let chain = chain_some _ _ _ _ _ _ _ _ c.self.invariant c.args.k c.index.result.now at alive c.index_mut.result.now c.index_mut.ensures.value in
-    kept_retracted _ _ _ _ _ _ _ _ c.self.invariant c.args.k c.index.result.now c.index_mut.result.now _ _ _ c.without_one-self-inside.result (c.self.inside.retracted + 1)
-    (c.index_mut.result.now.live - 1) (c.live_at-live.result - 1) c.position_of-2.result c.position_of.result (record { alike = c.ties_find_alike.ensures; plain = λ key s live. refl })
-    at alive c.index_mut.ensures.value (omega (arith, chain))
-    (sym (changed_in_place (λ (o : Observation). record o { live = false }) c.self.inside.observations.items c.args.k c.index.result.now there c.index.ensures)) refl refl
-    (ap (λ (b : Bool). c.without_one-self-inside.result + cond b 1 0) (sym isolated) ∙ c.without_one-self-inside.ensures)
-    c.position_of-2.ensures c.position_of.ensures c.insert.ensures.finds (less c.live_at-live.result _ some c.live_at-live.ensures)
+    let chain = chain_some _ _ _ _ _ _ _ _ c.self.invariant.kept c.args.k c.index.result.now at alive c.index_mut.result.now c.index_mut.ensures.value in
+    record {
+      homed = c.self.invariant.homed;
+      kept =
+          kept_retracted _ _ _ _ _ _ _ _ c.self.invariant.kept c.args.k c.index.result.now c.index_mut.result.now _ _ _ c.without_one-self-inside.result (c.self.inside.retracted + 1)
+          (c.index_mut.result.now.live - 1) (c.live_at-live.result - 1) c.position_of-2.result c.position_of.result (record { alike = c.ties_find_alike.ensures; plain = λ key s live. refl })
+          at alive c.index_mut.ensures.value (omega (arith, chain))
+          (sym (changed_in_place (λ (o : Observation). record o { live = false }) c.self.inside.observations.items c.args.k c.index.result.now there c.index.ensures)) refl refl
+          (ap (λ (b : Bool). c.without_one-self-inside.result + cond b 1 0) (sym isolated) ∙ c.without_one-self-inside.ensures)
+          c.position_of-2.ensures c.position_of.ensures c.insert.ensures.finds (less c.live_at-live.result _ some c.live_at-live.ensures);
+    }
 
 pub returns-clause-retracted : goal.returns-clause-retracted
 returns-clause-retracted c =
@@ -121,7 +125,7 @@ returns-clause-room_stays c =
     let live : is_live observations c.args.k ≡ true = ap (λ (v : Contents). is_live v.observations c.args.k) c.self.view_is ∙ c.requires in
     let at = read_at c.self.inside.observations.items c.args.k c.index.result.now (live_there observations c.args.k live) c.index.ensures in
     let alive = live_at observations c.args.k c.index.result.now at live in
-    let some = index_some _ _ _ _ _ _ _ _ c.self.invariant c.args.k c.index.result.now at alive c.position_of.result c.position_of.ensures c.ties_itself.ensures in
+    let some = index_some _ _ _ _ _ _ _ _ c.self.invariant.kept c.args.k c.index.result.now at alive c.position_of.result c.position_of.ensures c.ties_itself.ensures in
     let there = there_some _ c.self.inside.index.items c.position_of-2.result c.position_of.result c.index.result.now.sighting (c.live_at-live.result - 1) c.position_of-2.ensures c.position_of.ensures (λ key s live. refl) c.ties_find_alike.ensures c.ties_itself.ensures some in
     let stays = c.insert.ensures.replaces there in
     record {

@@ -10,6 +10,7 @@ use Rattle.tracklet_file.specs.Contents.{Contents}
 use Rattle.tracklet_file.proofs.NumberingLemmas.{numbered_within, place_within, changed_in_place}
 use Rattle.tracklet_file.proofs.CountLemmas.{live_are_isolated}
 use Rattle.tracklet_file.proofs.KeepingLemmas.{chain_read, count_low, kept_rehomed}
+use Rattle.tracklet_file.proofs.HomeLemmas.{entry_there, homed_changed}
 use Rattle.tracklet_file.proofs.file.TrackletFile.set_home.Goals as goal
 
 pub overflow_sub-t : goal.overflow_sub-t
@@ -19,7 +20,7 @@ pub index-requires : goal.index-requires
 index-requires c =
     let there : IsTracklet (reverse c.self.inside.tracklets.items) c.args.t = subst (λ (v : Contents). IsTracklet v.tracklets c.args.t) (sym c.self.view_is) c.requires in
     let within = place_within c.self.inside.tracklets.items c.args.t there in
-    omega (arith, within, c.self.invariant.chained.as_many_chains, length-reverse c.self.inside.tracklets.items)
+    omega (arith, within, c.self.invariant.kept.chained.as_many_chains, length-reverse c.self.inside.tracklets.items)
 
 pub isolated_after-self-inside-requires-clause-counted : goal.isolated_after-self-inside-requires-clause-counted
 isolated_after-self-inside-requires-clause-counted c none =
@@ -28,18 +29,18 @@ isolated_after-self-inside-requires-clause-counted c none =
     let there : IsTracklet tracklets c.args.t = subst (λ (v : Contents). IsTracklet v.tracklets c.args.t) (sym c.self.view_is) c.requires in
     let alone : is_none (home_of tracklets c.args.t) ≡ true =
     ap (λ (v : Contents). is_none (home_of v.tracklets c.args.t)) c.self.view_is ∙ ap is_none (sym c.home-was.ensures) ∙ ap not none in
-    let chain = (chain_read _ _ _ _ _ _ _ _ c.self.invariant c.args.t c.index.result.now there c.index.ensures).1 in
+    let chain = (chain_read _ _ _ _ _ _ _ _ c.self.invariant.kept c.args.t c.index.result.now there c.index.ensures).1 in
     let among = live_are_isolated tracklets c.args.t alone observations in
-    omega (arith, among, ap (λ (chain : Chain). chain.live) chain, c.self.invariant.counted.isolated_are)
+    omega (arith, among, ap (λ (chain : Chain). chain.live) chain, c.self.invariant.kept.counted.isolated_are)
 
 pub isolated_after-self-inside-requires-clause-fits : goal.isolated_after-self-inside-requires-clause-fits
 isolated_after-self-inside-requires-clause-fits c =
     let observations = reverse c.self.inside.observations.items in
     let there : IsTracklet (reverse c.self.inside.tracklets.items) c.args.t = subst (λ (v : Contents). IsTracklet v.tracklets c.args.t) (sym c.self.view_is) c.requires in
-    let chain = (chain_read _ _ _ _ _ _ _ _ c.self.invariant c.args.t c.index.result.now there c.index.ensures).1 in
+    let chain = (chain_read _ _ _ _ _ _ _ _ c.self.invariant.kept c.args.t c.index.result.now there c.index.ensures).1 in
     let live = count_low (is_live_of c.args.t) observations in
     let isolated = count_low (is_isolated (reverse c.self.inside.tracklets.items)) observations in
-    omega (arith, live, isolated, length-reverse c.self.inside.observations.items, ap (λ (chain : Chain). chain.live) chain, c.self.invariant.counted.isolated_are)
+    omega (arith, live, isolated, length-reverse c.self.inside.observations.items, ap (λ (chain : Chain). chain.live) chain, c.self.invariant.kept.counted.isolated_are)
 
 pub overflow_sub-t-2 : goal.overflow_sub-t-2
 overflow_sub-t-2 c = (numbered_within c.args.self.now.tracklets c.args.t c.requires).0
@@ -49,20 +50,31 @@ index_mut-requires c =
     let within : c.args.t - 1 < length c.self.inside.tracklets.items = place_within c.self.inside.tracklets.items c.args.t (subst (λ (v : Contents). IsTracklet v.tracklets c.args.t) (sym c.self.view_is) c.requires) in
     omega arith
 
+pub rehome-requires : goal.rehome-requires
+rehome-requires c =
+    let tracklets = reverse c.self.inside.tracklets.items in
+    let there : IsTracklet tracklets c.args.t = subst (λ (v : Contents). IsTracklet v.tracklets c.args.t) (sym c.self.view_is) c.requires in
+    let was : c.home-was.result ≡ home_of tracklets c.args.t = c.home-was.ensures ∙ sym (ap (λ (v : Contents). home_of v.tracklets c.args.t) c.self.view_is) in
+    entry_there c.orders.ensures tracklets c.self.inside.homes.items c.args.t c.home-was.result there was c.self.invariant.homed
+
 pub invariant_of-self : goal.invariant_of-self
 invariant_of-self c =
     let tracklets = reverse c.self.inside.tracklets.items in
     let observations = reverse c.self.inside.observations.items in
     let there : IsTracklet tracklets c.args.t = subst (λ (v : Contents). IsTracklet v.tracklets c.args.t) (sym c.self.view_is) c.requires in
-    let chain = (chain_read _ _ _ _ _ _ _ _ c.self.invariant c.args.t c.index.result.now there c.index.ensures).1 in
+    let chain = (chain_read _ _ _ _ _ _ _ _ c.self.invariant.kept c.args.t c.index.result.now there c.index.ensures).1 in
     let live : c.index.result.now.live ≡ count_by (is_live_of c.args.t) observations = ap (λ (chain : Chain). chain.live) chain in
     let was : c.home-was.result ≡ home_of tracklets c.args.t = c.home-was.ensures ∙ sym (ap (λ (v : Contents). home_of v.tracklets c.args.t) c.self.view_is) in
-    kept_rehomed _ _ _ _ _ _ _ _ c.self.invariant c.args.t c.args.home _ c.isolated_after-self-inside.result there
-    (sym (changed_in_place (λ (tracklet : Tracklet). record tracklet { home = c.args.home }) c.self.inside.tracklets.items c.args.t c.index_mut.result.now there c.index_mut.ensures.value))
-    (ap (λ (h : Option Designation). c.isolated_after-self-inside.result + cond (is_none h) (count_by (is_live_of c.args.t) observations) 0) (sym was)
-    ∙ ap (λ (n : ℕ). c.isolated_after-self-inside.result + cond (is_none c.home-was.result) n 0) (sym live)
-    ∙ c.isolated_after-self-inside.ensures
-    ∙ ap (λ (n : ℕ). c.self.inside.isolated + cond (is_none c.args.home) n 0) live)
+    let tracklets_are = sym (changed_in_place (λ (tracklet : Tracklet). record tracklet { home = c.args.home }) c.self.inside.tracklets.items c.args.t c.index_mut.result.now there c.index_mut.ensures.value) in
+    record {
+      homed = homed_changed c.orders.ensures c.args.t c.home-was.result c.args.home tracklets _ c.self.inside.homes.items c.rehome.new.homes.items there was tracklets_are c.rehome.ensures.finds c.self.invariant.homed;
+      kept = kept_rehomed _ _ _ _ _ _ _ _ c.self.invariant.kept c.args.t c.args.home _ c.isolated_after-self-inside.result there
+          tracklets_are
+          (ap (λ (h : Option Designation). c.isolated_after-self-inside.result + cond (is_none h) (count_by (is_live_of c.args.t) observations) 0) (sym was)
+          ∙ ap (λ (n : ℕ). c.isolated_after-self-inside.result + cond (is_none c.home-was.result) n 0) (sym live)
+          ∙ c.isolated_after-self-inside.ensures
+          ∙ ap (λ (n : ℕ). c.self.inside.isolated + cond (is_none c.args.home) n 0) live);
+    }
 
 pub returns-clause-home : goal.returns-clause-home
 returns-clause-home c =

@@ -11,4 +11,4 @@ returns-clause-track c = search rules
 pub returns-clause-there : goal.returns-clause-there
 returns-clause-there c =
     subst (λ (o : Option ℕ). IfSome o (IsTracklet c.args.self.now.tracklets)) (sym (returns-clause-track c))
-    (track_there c.args.self.now.tracklets c.args.self.now.observations c.args.k (subst (λ (v : Contents). AreInTracklets v.tracklets v.observations) c.self.view_is c.self.invariant.counted.in_tracklets))
+    (track_there c.args.self.now.tracklets c.args.self.now.observations c.args.k (subst (λ (v : Contents). AreInTracklets v.tracklets v.observations) c.self.view_is c.self.invariant.kept.counted.in_tracklets))
