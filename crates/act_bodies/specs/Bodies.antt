@@ -13,7 +13,8 @@ use Rattle.act_bodies.specs.declared.retract.Retract.{Retract}
 use Rattle.act_bodies.specs.declared.separate.Separate.{Separate}
 use Rattle.act_bodies.specs.declared.station.Station.{Station}
 use Rattle.act_bodies.specs.declared.verdict.Verdict.{Verdict}
-use Rattle.act_bodies.specs.Members.{object_of, key_in, name_in, role_in, station_code_in, day_in, kind_in, letter_in, word_in, whole_in, bounded_in, tracklets_in, designation_in}
+use Rattle.act_bodies.specs.Members.{object_of, key_in, name_in, role_in, station_code_in, day_in, kind_in, letter_in}
+use Rattle.act_bodies.specs.Members.{word_in, whole_in, bounded_in, tracklets_in, designation_in}
 
 -- what the members `key`, `name` and `role` of an object say
 unfoldable pub enrol_in : Data → Option Enrol

@@ -9,7 +9,11 @@ kept_bytes = 34
 -- a text as a key: its first 34 bytes, and zeros behind a shorter one
 abbrev pub key_of : List ℕ → Key
 key_of text =
-    record { len = min (length text) kept_bytes; bytes = take kept_bytes text ++ replicate (kept_bytes - length text) 0 }
+    record {
+      len = min (length text) kept_bytes;
+      bytes =
+          take kept_bytes text ++ replicate (kept_bytes - length text) 0;
+    }
 
 -- the text of a key
 abbrev pub key_text : Key → List ℕ

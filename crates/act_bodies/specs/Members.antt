@@ -1,5 +1,6 @@
 -- What a body is as JSON, and what its members say.
-use Rattle.std.specs.Prelude.{ℕ, ℤ, Bool, true, false, not, ◌&&◌, ◌||◌, ◌==◌, nat_le, if◌then◌else◌, List, [], ◌∷◌, length, slice_index, codes, bytes_eq, Option, Some, None, option_and_then}
+use Rattle.std.specs.Prelude.{ℕ, ℤ, Bool, true, false, not, ◌&&◌, ◌||◌, ◌==◌, nat_le, if◌then◌else◌, List, [], ◌∷◌}
+use Rattle.std.specs.Prelude.{length, slice_index, codes, bytes_eq, Option, Some, None, option_and_then}
 use Rattle.std.specs.List.{list_all, list_any}
 use Rattle.std.specs.Option.{option_map_or}
 use Rattle.std.specs.Result.{result_ok}
@@ -99,11 +100,13 @@ designation_in name value = do
 
 -- a letter A to Z or a to z, or a digit
 abbrev pub is_alphanumeric : ℕ → Bool
-is_alphanumeric byte = (nat_le 48 byte && nat_le byte 57) || ((nat_le 65 byte && nat_le byte 90) || (nat_le 97 byte && nat_le byte 122))
+is_alphanumeric byte = (nat_le 48 byte && nat_le byte 57)
+    || ((nat_le 65 byte && nat_le byte 90) || (nat_le 97 byte && nat_le byte 122))
 
 -- the text of a key on the roster: 8 to 32 letters, digits and dashes
 abbrev pub is_key : List ℕ → Bool
-is_key text = (nat_le 8 (length text) && nat_le (length text) 32) && list_all (λ byte. is_alphanumeric byte || (byte == 45)) text
+is_key text = (nat_le 8 (length text) && nat_le (length text) 32)
+    && list_all (λ byte. is_alphanumeric byte || (byte == 45)) text
 
 -- the key that a body names
 unfoldable pub key_in : Data → Option Key
@@ -162,7 +165,8 @@ kind_in value = do
   word ← text_in (codes "kind") value
   kind_of word
 
--- A kind may have this letter. No mode has one of those that stand for records of roving observers, radar and satellites.
+-- A kind may have this letter. No mode has one of those that stand for records of roving observers, radar and
+-- satellites.
 abbrev pub may_have : Kind → ℕ → Bool
 may_have Mode letter = is_visible letter && not (list_any (λ mode. mode == letter) refused_modes)
 may_have _ letter = is_visible letter
@@ -175,7 +179,8 @@ letter_in kind value = do
 
 -- a word: 1 to 11 printable characters, none of them a blank or a bar
 abbrev pub is_word : List ℕ → Bool
-is_word text = (nat_le 1 (length text) && nat_le (length text) 11) && list_all (λ byte. is_visible byte && not (byte == 124)) text
+is_word text = (nat_le 1 (length text) && nat_le (length text) 11)
+    && list_all (λ byte. is_visible byte && not (byte == 124)) text
 
 -- the word that a body gives
 unfoldable pub word_in : Data → Option Short

@@ -50,8 +50,8 @@ fn kind_in(value: &Value) -> Option<Kind>
     kind_of(text_in("kind", value)?)
 }
 
-/// Whether a kind may have this letter. No mode has one of those that stand for records of roving observers, of radar or
-/// of satellites.
+/// Whether a kind may have this letter. No mode has one of those that stand for records of roving observers, of radar
+/// or of satellites.
 fn may_have(kind: Kind, letter: u8) -> bool
     ensures { result ≡ may_have kind letter }
 {

@@ -1,6 +1,7 @@
 //! The body of the act by which tracklets get a designation as one object.
 
-ghost use Rattle.std.specs.Prelude.{◌≡◌, ◌≤◌, ◌==◌, length, Some, None, IfOk, IsTrue, nat_eq, option_map, option_and_then};
+ghost use Rattle.std.specs.Prelude.{◌≡◌, ◌≤◌, ◌==◌, length, Some, None, IfOk, IsTrue, nat_eq, option_map};
+ghost use Rattle.std.specs.Prelude.{option_and_then};
 ghost use Rattle.std.specs.List.{IsDistinct};
 ghost use Rattle.serde_json.specs.Find.{get, as_array};
 ghost use Rattle.serde_json.specs.View.{view, items_view};
@@ -25,7 +26,8 @@ pub struct Designate {
 
 /// The values of a member that is a list.
 fn items_in<'v>(name: &str, value: &'v Value) -> Option<&'v [Value]>
-    ensures { option_map (λ items. items_view items.now) result ≡ option_and_then as_array (get name.now (view value.now)) }
+    ensures { option_map (λ items. items_view items.now) result
+        ≡ option_and_then as_array (get name.now (view value.now)) }
 {
     match value.get(name).and_then(Value::as_array) {
         Some(items) => Some(items.as_slice()),

@@ -1,3 +1,5 @@
+//! Why a body is not read.
+
 /// Why a body was not read.
 #[derive(Clone, Copy, Debug, PartialEq, Eq)]
 pub enum BodyFault {

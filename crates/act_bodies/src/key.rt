@@ -1,3 +1,5 @@
+//! The keys by which callers are known.
+
 ghost use Rattle.std.specs.Prelude.{◌≡◌};
 ghost use Rattle.act_bodies.specs.Keys.{key_of, key_text, same_key};
 

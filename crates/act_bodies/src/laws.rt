@@ -11,7 +11,8 @@ ghost use Rattle.act_bodies.specs.Keys.{key_text, begins_with_plus};
 
 /// The key of a caller whom a body enrols begins with no plus, so it is never the founding officer's.
 pub fn enrol_keys_are_plain()
-    ensures { (bytes : List ℕ) (enrol : Enrol) → enrol_of bytes ≡ Some enrol → begins_with_plus (key_text enrol.key) ≡ false }
+    ensures { (bytes : List ℕ) (enrol : Enrol) → enrol_of bytes ≡ Some enrol → begins_with_plus (key_text enrol.key)
+        ≡ false }
 {}
 
 /// The first number for which a body asks is one that a minor planet can have.

@@ -4,7 +4,8 @@ ghost use Rattle.std.specs.Prelude.{◌≡◌, ◌≤◌, ◌||◌, ◌==◌, So
 ghost use Rattle.serde_json.specs.View.{view};
 ghost use Rattle.packed_names.specs.declared.name.Name.TheVariants as names;
 ghost use Rattle.packed_names.specs.Ranges.{IsName};
-ghost use Rattle.act_bodies.specs.Members.{value_of, has_members, object_of, text_in, whole_in, bounded_in, designation_of, designation_in, is_alphanumeric, is_name, name_in};
+ghost use Rattle.act_bodies.specs.Members.{value_of, has_members, object_of, text_in, whole_in, bounded_in};
+ghost use Rattle.act_bodies.specs.Members.{designation_of, designation_in, is_alphanumeric, is_name, name_in};
 
 use crate::fault::BodyFault;
 use ascii_text::characters::are_printable;

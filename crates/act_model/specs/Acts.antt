@@ -12,14 +12,18 @@ use Rattle.act_bodies.specs.declared.separate.Separate.{Separate as SeparateBody
 use Rattle.act_bodies.specs.declared.verdict.Verdict.{Verdict as VerdictBody}
 use Rattle.act_bodies.specs.declared.number.Number.{Number as NumberBody}
 use Rattle.act_bodies.specs.declared.retract.Retract.{Retract as RetractBody}
-use Rattle.act_bodies.specs.Bodies.{enrol_of, station_of, code_of, designate_of, attribute_of, release_of, identify_of, separate_of, verdict_of, number_of_body, retract_of}
+use Rattle.act_bodies.specs.Bodies.{enrol_of, station_of, code_of, designate_of, attribute_of, release_of, identify_of}
+use Rattle.act_bodies.specs.Bodies.{separate_of, verdict_of, number_of_body, retract_of}
 use Rattle.obs_record.specs.declared.line.Line.{Line}
 use Rattle.obs_record.specs.declared.rule.HeaderFault.{HeaderFault}
 use Rattle.col80_format.specs.Batch.{lines_of}
 use Rattle.ades_psv.specs.Batch.{psv_lines_of}
 use Rattle.act_model.specs.Queries.{IsReadQuery}
 use Rattle.act_model.specs.declared.request.Verb.{Verb}
-use Rattle.act_model.specs.declared.request.Verb.TheVariants.{Enrol, Station, Code, Submit80, SubmitPsv, Designate, Attribute, Release, Identify, Separate, Verdict, Number, Retract, Receipt, Tally, Object, Tracklet, Isolated, HalfMonth, Name, Catalogue, Unknown}
+use Rattle.act_model.specs.declared.request.Verb.TheVariants.{Enrol, Station, Code, Submit80, SubmitPsv, Designate}
+use Rattle.act_model.specs.declared.request.Verb.TheVariants.{Attribute, Release, Identify, Separate, Verdict, Number}
+use Rattle.act_model.specs.declared.request.Verb.TheVariants.{Retract, Receipt, Tally, Object, Tracklet, Isolated}
+use Rattle.act_model.specs.declared.request.Verb.TheVariants.{HalfMonth, Name, Catalogue, Unknown}
 use Rattle.act_model.specs.declared.act.Act.{Act}
 use Rattle.act_model.specs.declared.act.Act.TheVariants as act
 use Rattle.act_model.specs.declared.heard.Asked.{Asked}
@@ -71,7 +75,8 @@ psv_act (Ok lines) = Ok (act.SubmitPsv lines)
 psv_act (Err fault) = Err (Header fault.0 fault.1)
 
 -- The act of a verb and a body. Every body is one of a batch of 80 columns; one in PSV form may have a fault of its
--- headers; any other act has the body that its verb wants; and the verb of a query, or one that names nothing, is no act.
+-- headers; any other act has the body that its verb wants; and the verb of a query, or one that names nothing, is no
+-- act.
 unfoldable pub act_of : Verb → List ℕ → Result Act ActFault
 act_of Enrol body = read_as enrol_act (enrol_of body)
 act_of Station body = read_as station_act (station_of body)

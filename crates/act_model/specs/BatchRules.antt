@@ -1,6 +1,8 @@
 -- The rules for the lines of a batch, and the rulings on them: the first rule that each line breaks, and the group of
 -- each line that is accepted.
-use Rattle.std.specs.Prelude.{ℕ, ◌*◌, ℤ, pos, ◌+ℤ◌, ◌-ℤ◌, unsigned_abs, Bool, true, false, not, ◌&&◌, ◌||◌, ◌==◌, nat_le, nat_lt, int_lt, List, [], ◌∷◌, length, map, filter, filter_map, Option, Some, None, option_map, unwrap_or, is_none, position, Result, Ok, Err, if◌then◌else◌}
+use Rattle.std.specs.Prelude.{ℕ, ◌*◌, ℤ, pos, ◌+ℤ◌, ◌-ℤ◌, unsigned_abs, Bool, true, false, not, ◌&&◌, ◌||◌, ◌==◌}
+use Rattle.std.specs.Prelude.{nat_le, nat_lt, int_lt, List, [], ◌∷◌, length, map, filter, filter_map, Option, Some}
+use Rattle.std.specs.Prelude.{None, option_map, unwrap_or, is_none, position, Result, Ok, Err, if◌then◌else◌}
 use Rattle.std.specs.List.{list_any}
 use Rattle.std.specs.Option.{option_and_then}
 use Rattle.std.specs.Result.{result_ok}
@@ -39,8 +41,8 @@ same_designation (designations.Survey survey number) (designations.Survey other_
     (survey_place survey == survey_place other_survey) && (number == other_number)
 same_designation _ _ = false
 
--- The name that an observation goes by: the number; where there is none, the designation; and where there is none either, the
--- temporary designation. Each observation has one of the three, so that the last case is met by none.
+-- The name that an observation goes by: the number; where there is none, the designation; and where there is none
+-- either, the temporary designation. Each observation has one of the three, so that the last case is met by none.
 abbrev pub name_among : Option Number → Option Designation → Option Short → TrackName
 name_among (Some number) prov sub = tracks.Number number
 name_among None (Some designation) sub = tracks.Designation designation

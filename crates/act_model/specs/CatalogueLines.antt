@@ -17,8 +17,8 @@ use Rattle.col80_format.specs.LineText.{line_text}
 use Rattle.act_model.specs.QueryTexts.{short_text}
 use Rattle.act_model.specs.Texts.{line_of}
 
--- the letter of a column: the one that the observation came with; for a word that of the first row that has the word; or
--- a blank
+-- the letter of a column: the one that the observation came with; for a word that of the first row that has the word;
+-- or a blank
 abbrev pub letter_for : List CodeRow → Kind → Coded → ℕ
 letter_for codes kind Nothing = blank
 letter_for codes kind (Letter byte) = byte
@@ -36,8 +36,8 @@ letters_for codes s =
 abbrev pub in_seven : List ℕ → List ℕ
 in_seven text = take 7 (text ++ blanks 7)
 
--- what columns 6 to 12 say of an isolated tracklet: the name that its observers gave it, and nothing where it came under
--- a number or a designation
+-- what columns 6 to 12 say of an isolated tracklet: the name that its observers gave it, and nothing where it came
+-- under a number or a designation
 abbrev pub own_name : TrackName → List ℕ
 own_name (tracks.Sub short) = short_text short
 own_name (tracks.Number number) = []

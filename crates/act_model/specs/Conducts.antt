@@ -49,7 +49,8 @@ IsAnswered founder limit past (turn ∷ turns) after =
 
 -- The act is in a later history: whoever asked for it had the key at the earlier one, and the entry that stands for the
 -- asker's number in the later one is that of the same verb and body. The text is the answer of the entry's own time.
-pub record IsAcknowledged (founder : Key) (earlier : List Entry) (request : Request) (text : List ℕ) (later : List Entry) : Type 0 where
+pub record IsAcknowledged (founder : Key) (earlier : List Entry) (request : Request) (text : List ℕ)
+    (later : List Entry) : Type 0 where
   pub bytes : List ℕ
   pub caller : Caller
   pub number : ℕ
@@ -68,4 +69,5 @@ EitherWay P state = P state.settled × IfSome state.doubt (λ entry. P (entry �
 -- the step leaves the history, or the request becomes this entry, which is answered
 abbrev pub Makes : List Entry → Outcome → Reply → List Entry → Type 0
 Makes past outcome reply after =
-    (after ≡ past) ⊎ ((entry : Entry) × (outcome ≡ Adds entry) × (reply ≡ Done (entry_answer past entry)) × (after ≡ entry ∷ past))
+    (after ≡ past) ⊎ ((entry : Entry) × (outcome ≡ Adds entry) × (reply ≡ Done (entry_answer past entry))
+    × (after ≡ entry ∷ past))

@@ -1,5 +1,5 @@
--- Deeds: each entry's act, with what it worked out where it stands. The roster, the tables, the observations and the answers
--- read them.
+-- Deeds: each entry's act, with what it worked out where it stands. The roster, the tables, the observations and the
+-- answers read them.
 use Rattle.std.specs.Prelude.{ℤ, List, [], ◌∷◌, Result, Ok, Err}
 use Rattle.act_model.specs.declared.act.Act.{Act}
 use Rattle.act_model.specs.declared.act.ActFault.{ActFault}

@@ -22,7 +22,8 @@ takes_of (deed ∷ past) = with_take deed (takes_of past)
 
 -- ---- principals
 
--- a designation that is given is its own principal; objects are made one, or two again; no other deed changes a principal
+-- a designation that is given is its own principal; objects are made one, or two again; no other deed changes a
+-- principal
 abbrev pub with_link : Deed → List LinkAct → List LinkAct
 with_link (Designated tracklets given discovery) acts = Given (Provisional given) ∷ acts
 with_link (Identified p s) acts = Joined p s ∷ acts

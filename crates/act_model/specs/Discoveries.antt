@@ -1,5 +1,6 @@
 -- By which observation an object is discovered, and in which half-month.
-use Rattle.std.specs.Prelude.{ℕ, ℤ, int_lt, Bool, ◌&&◌, ◌||◌, nat_lt, ◌-ℤ◌, if◌then◌else◌, List, [], ◌∷◌, flat_map, filter_map, Option, Some, None}
+use Rattle.std.specs.Prelude.{ℕ, ℤ, int_lt, Bool, ◌&&◌, ◌||◌, nat_lt, ◌-ℤ◌, if◌then◌else◌, List, [], ◌∷◌, flat_map}
+use Rattle.std.specs.Prelude.{filter_map, Option, Some, None}
 use Rattle.std.specs.Ordering.{int_eq}
 use Rattle.packed_names.specs.declared.half_month.HalfMonth.{HalfMonth}
 use Rattle.obs_time.specs.Calendar.{date_of_day, half_index}

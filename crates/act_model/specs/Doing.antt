@@ -1,5 +1,7 @@
--- What an act does after the deeds before it, or the first refusal that it meets, in groups over the values that they ask.
-use Rattle.std.specs.Prelude.{ℕ, ℤ, pos, int_lt, Bool, not, nat_le, nat_lt, ◌==◌, ◌&&◌, List, [], ◌∷◌, ◌++◌, map, flat_map, length, take, is_some, is_none, Option, Some, None, Result, Ok, Err}
+-- What an act does after the deeds before it, or the first refusal that it meets, in groups over the values that they
+-- ask.
+use Rattle.std.specs.Prelude.{ℕ, ℤ, pos, int_lt, Bool, not, nat_le, nat_lt, ◌==◌, ◌&&◌, List, [], ◌∷◌, ◌++◌, map}
+use Rattle.std.specs.Prelude.{flat_map, length, take, is_some, is_none, Option, Some, None, Result, Ok, Err}
 use Rattle.std.specs.Ordering.{eq_by_cmp}
 use Rattle.act_bodies.specs.declared.enrol.Rank.{Rank}
 use Rattle.act_bodies.specs.declared.key.Key.{Key}
@@ -25,9 +27,15 @@ use Rattle.tracklet_file.specs.Tracklets.{home_of}
 use Rattle.act_model.specs.declared.act.Act.{Act}
 use Rattle.act_model.specs.declared.act.Act.TheVariants as act
 use Rattle.act_model.specs.declared.deed.Deed.{Deed}
-use Rattle.act_model.specs.declared.deed.Deed.TheVariants.{Enrolled, Stationed, Coded, Submitted, Designated, Attributed, Released, Identified, Separated, Judged, Numbered, Retracted}
+use Rattle.act_model.specs.declared.deed.Deed.TheVariants.{Enrolled, Stationed, Coded, Submitted, Designated}
+use Rattle.act_model.specs.declared.deed.Deed.TheVariants.{Attributed, Released, Identified, Separated, Judged}
+use Rattle.act_model.specs.declared.deed.Deed.TheVariants.{Numbered, Retracted}
 use Rattle.act_model.specs.declared.reply.Refusal.{Refusal}
-use Rattle.act_model.specs.declared.reply.Refusal.TheVariants.{Unread, UnknownThing, NoLine, NotIsolated, NotHomed, Empty, OneNight, HalfMonthFull, NotPrincipal, SameObject, BothNumbered, NumberedSecondary, NotSecondary, AlreadyRetracted, NotNext, NoneEligible, NumbersFull, AlreadyThere, RosterFull}
+use Rattle.act_model.specs.declared.reply.Refusal.TheVariants.{Unread, UnknownThing, NoLine, NotIsolated, NotHomed}
+use Rattle.act_model.specs.declared.reply.Refusal.TheVariants.{Empty, OneNight, HalfMonthFull, NotPrincipal, SameObject}
+use Rattle.act_model.specs.declared.reply.Refusal.TheVariants.{BothNumbered, NumberedSecondary, NotSecondary}
+use Rattle.act_model.specs.declared.reply.Refusal.TheVariants.{AlreadyRetracted, NotNext, NoneEligible, NumbersFull}
+use Rattle.act_model.specs.declared.reply.Refusal.TheVariants.{AlreadyThere, RosterFull}
 use Rattle.act_model.specs.declared.reply.Part.TheVariants as part
 use Rattle.act_model.specs.declared.reply.Thing.TheVariants as thing
 use Rattle.act_model.specs.declared.roster.Member.{Member}
@@ -137,7 +145,10 @@ greatest_number = 15396335
 abbrev pub number_rows : List Numbering → (first most : ℕ) → List Designation → List (Bool × Refusal)
 number_rows numbered first most objects =
     next_rows (next_number numbered) first
-    ++ ((length objects == 0, NoneEligible) ∷ (nat_lt greatest_number (last_number first (take most objects)), NumbersFull) ∷ [])
+    ++ ((length objects == 0, NoneEligible) ∷ (
+      nat_lt greatest_number (last_number first (take most objects)),
+      NumbersFull,
+    ) ∷ [])
 
 -- ---- what is done unless it is refused
 
@@ -163,8 +174,8 @@ submits lines = unless (first_row (batch_rows lines)) (Ok (Submitted lines))
 abbrev pub retracts : List Observation → ℕ → Result Deed Refusal
 retracts observations k = unless (first_row (retract_rows observations k)) (Ok (Retracted k))
 
--- An object of these tracklets, where these are their live observations: it gets the next designation of the half-month in
--- which the earliest one was made. Each tracklet has one, and an act names a tracklet at least.
+-- An object of these tracklets, where these are their live observations: it gets the next designation of the half-month
+-- in which the earliest one was made. Each tracklet has one, and an act names a tracklet at least.
 abbrev pub designates_seen : List Take → List ℕ → List Seen → Result Deed Refusal
 designates_seen takes tracklets [] = Err (Unread part.Body)
 designates_seen takes tracklets (first ∷ more) =
@@ -197,7 +208,8 @@ judges acts d u oppositions = unless (first_row (verdict_rows acts d)) (Ok (Judg
 -- numbers for at most so many of these objects
 abbrev pub numbers : List Numbering → (first most : ℕ) → List Designation → Result Deed Refusal
 numbers numbered first most objects =
-    unless (first_row (number_rows numbered first most objects)) (Ok (Numbered (numbered_from first (take most objects))))
+    unless (first_row (number_rows numbered first most objects))
+    (Ok (Numbered (numbered_from first (take most objects))))
 
 -- the objects that can be numbered after these deeds
 abbrev pub eligible_after : List Deed → List Designation

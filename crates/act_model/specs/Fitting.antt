@@ -1,4 +1,5 @@
--- What a deed on tracklets, objects and numbers is sure of that comes after these, since the office refuses an act else.
+-- What a deed on tracklets, objects and numbers is sure of that comes after these, since the office refuses an act
+-- else.
 use Rattle.std.specs.Prelude.{◌≡◌, ◌≢◌, ◌<◌, ◌++◌, ℕ, List, [], ◌∷◌, reverse, Some, None, IsTrue}
 use Rattle.packed_names.specs.declared.provisional.Provisional.{Provisional as ProvisionalName}
 use Rattle.packed_names.specs.declared.name.Designation.TheVariants.{Provisional}
@@ -9,7 +10,8 @@ use Rattle.numbering_core.specs.Numbers.{IsUnbroken}
 use Rattle.tracklet_file.specs.declared.tracklet.Tracklet.{Tracklet}
 use Rattle.tracklet_file.specs.Tracklets.{IsTracklet}
 use Rattle.act_model.specs.declared.deed.Deed.{Deed}
-use Rattle.act_model.specs.declared.deed.Deed.TheVariants.{Designated, Attributed, Released, Identified, Separated, Judged, Numbered}
+use Rattle.act_model.specs.declared.deed.Deed.TheVariants.{Designated, Attributed, Released, Identified, Separated}
+use Rattle.act_model.specs.declared.deed.Deed.TheVariants.{Judged, Numbered}
 use Rattle.act_model.specs.Holdings.{holdings}
 use Rattle.act_model.specs.Designations.{takes_of, links_of, is_given}
 use Rattle.act_model.specs.Numbers.{numbers_of}

@@ -1,6 +1,7 @@
 -- What is heard of a request before the history is asked. Each question is answered by what it finds, or by the first
 -- refusal that holds; the next one takes what was found.
-use Rattle.std.specs.Prelude.{ℕ, ◌^◌, Bool, nat_lt, ◌==◌, ◌&&◌, if◌then◌else◌, List, [], ◌∷◌, length, Option, Some, None, Result, Ok, Err}
+use Rattle.std.specs.Prelude.{ℕ, ◌^◌, Bool, nat_lt, ◌==◌, ◌&&◌, if◌then◌else◌, List, [], ◌∷◌, length, Option, Some}
+use Rattle.std.specs.Prelude.{None, Result, Ok, Err}
 use Rattle.act_bodies.specs.declared.key.Key.{Key}
 use Rattle.act_model.specs.declared.act.Act.{Act}
 use Rattle.act_model.specs.declared.act.ActFault.{ActFault}
@@ -33,8 +34,8 @@ size_rows bytes =
     ∷ (nat_lt BODY_LINES (line_feeds bytes), TooLarge (excess.Lines (line_feeds bytes)))
     ∷ []
 
--- The bytes of a body that is small enough. One that was too long was thrown away, and one for which there was no memory
--- is answered so, whatever else the request says.
+-- The bytes of a body that is small enough. One that was too long was thrown away, and one for which there was no
+-- memory is answered so, whatever else the request says.
 abbrev pub bytes_in : Body → Result (List ℕ) Refusal
 bytes_in (Whole bytes) = unless (first_row (size_rows bytes)) (Ok bytes)
 bytes_in (TooLong size) = Err (TooLarge (excess.Length size))

@@ -1,5 +1,6 @@
 -- The office's history: its entries, the newest first. All that the office answers is worked out from it.
-use Rattle.std.specs.Prelude.{◌≡◌, ℕ, ◌+◌, ℤ, int_lt, Bool, ◌&&◌, ◌==◌, if◌then◌else◌, List, [], ◌∷◌, length, Option, Some, None}
+use Rattle.std.specs.Prelude.{◌≡◌, ℕ, ◌+◌, ℤ, int_lt, Bool, ◌&&◌, ◌==◌, if◌then◌else◌, List, [], ◌∷◌, length, Option}
+use Rattle.std.specs.Prelude.{Some, None}
 use Rattle.act_model.specs.declared.entry.Entry.{Entry}
 
 -- the receipt of the entry that comes next: its place in the history, counted from 1

@@ -51,8 +51,8 @@ with_homes tracklets [] home = tracklets
 with_homes tracklets (t ∷ more) home = with_homes (with_home tracklets t home) more home
 
 -- A batch adds its accepted lines, and a retraction retracts its observation. Tracklets that become an object have its
--- designation as home, one that is added to an object has the named one, and one that is released has none. No other deed
--- changes any.
+-- designation as home, one that is added to an object has the named one, and one that is released has none. No other
+-- deed changes any.
 abbrev pub with_deed : ℕ → Deed → Holdings → Holdings
 with_deed receipt (Submitted lines) held = with_batch receipt lines held
 with_deed receipt (Retracted k) held = record held { observations = with_retraction held.observations k }

@@ -20,11 +20,12 @@ entry_request founder past entry =
       body = Whole entry.body;
     }
 
--- The entry's moment is one that a clock gives, in the years 1800 to 2199. The entry is what the step adds to the history
--- for the entry's request, with that moment as the reading. How many bytes a journal may have plays no part.
+-- The entry's moment is one that a clock gives, in the years 1800 to 2199. The entry is what the step adds to the
+-- history for the entry's request, with that moment as the reading. How many bytes a journal may have plays no part.
 abbrev pub IsAdded : Key → List Entry → Entry → Type 0
 IsAdded founder past entry =
-    IsInstantNs entry.moment × ((step founder None past (entry_request founder past entry) entry.moment).1 ≡ entry ∷ past)
+    IsInstantNs entry.moment × ((step founder None past (entry_request founder past entry) entry.moment).1
+    ≡ entry ∷ past)
 
 -- each entry is what the step adds to the history before it
 abbrev pub IsLegal : Key → List Entry → Type 0

@@ -48,7 +48,8 @@ eligible held acts verdicts numbered = filter (is_eligible held acts verdicts nu
 -- designations with numbers from the first upwards
 abbrev pub numbered_from : ℕ → List Designation → List Numbering
 numbered_from first [] = []
-numbered_from first (d ∷ more) = record { designation = d; number = record { 0 = first } } ∷ numbered_from (first + 1) more
+numbered_from first (d ∷ more) = record { designation = d; number = record { 0 = first } }
+    ∷ numbered_from (first + 1) more
 
 -- the last of so many numbers from the first on
 abbrev pub last_number : ℕ → List Designation → ℕ

@@ -1,5 +1,6 @@
 -- In which place each observation stands: retracted, isolated, or in an object.
-use Rattle.std.specs.Prelude.{◌≡◌, Bool, ℕ, ◌+◌, ◌==◌, ◌&&◌, nat_le, if◌then◌else◌, List, ◌++◌, length, count_by, flat_map, Some, IsTrue}
+use Rattle.std.specs.Prelude.{◌≡◌, Bool, ℕ, ◌+◌, ◌==◌, ◌&&◌, nat_le, if◌then◌else◌, List, ◌++◌, length, count_by}
+use Rattle.std.specs.Prelude.{flat_map, Some, IsTrue}
 use Rattle.packed_names.specs.declared.name.Designation.{Designation}
 use Rattle.identify_core.specs.Acts.{LinkAct, principal}
 use Rattle.tracklet_file.specs.Tracklets.{home_of}

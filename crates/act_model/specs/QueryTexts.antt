@@ -1,5 +1,6 @@
 -- The texts that tell what queries ask.
-use Rattle.std.specs.Prelude.{ℕ, Bool, true, false, if◌then◌else◌, List, [], ◌++◌, length, take, flat_map, codes, decimal, Option, Some, None}
+use Rattle.std.specs.Prelude.{ℕ, Bool, true, false, if◌then◌else◌, List, [], ◌++◌, length, take, flat_map, codes}
+use Rattle.std.specs.Prelude.{decimal, Option, Some, None}
 use Rattle.std.specs.Option.{option_and_then}
 use Rattle.ascii_text.specs.Blanks.{trimmed}
 use Rattle.angle_fixed.specs.Degrees.{ra_degrees_text, dec_degrees_text}
@@ -78,7 +79,8 @@ track_name_text (tracks.Sub short) = short_text short
 -- `track T station C name M`
 abbrev pub track_line : ℕ → TrackHead → List ℕ
 track_line t head =
-    line_of (codes "track " ++ decimal t ++ codes " station " ++ short_text head.station ++ codes " name " ++ track_name_text head.name)
+    line_of (codes "track " ++ decimal t ++ codes " station " ++ short_text head.station ++ codes " name "
+    ++ track_name_text head.name)
 
 -- `home isolated`, or `home D principal P`
 abbrev pub home_line : List LinkAct → Option Designation → List ℕ
@@ -131,7 +133,8 @@ next_text (Some next) = designation_text (designations.Provisional next)
 -- `halfmonth H given N next D`
 abbrev pub half_month_line : List Take → HalfMonth → List ℕ
 half_month_line takes half =
-    line_of (codes "halfmonth " ++ half_month_text half ++ codes " given " ++ decimal (given_in half takes) ++ codes " next " ++ next_text (next_of half takes))
+    line_of (codes "halfmonth " ++ half_month_text half ++ codes " given " ++ decimal (given_in half takes)
+    ++ codes " next " ++ next_text (next_of half takes))
 
 -- ---- a name
 

@@ -1,5 +1,6 @@
 -- The later refusals of an act whose number was not used, and what it does where none holds.
-use Rattle.std.specs.Prelude.{ℕ, ◌+◌, ℤ, Bool, false, not, nat_lt, ◌==◌, ◌&&◌, List, [], ◌∷◌, length, Option, Some, None, option_map, Result, Ok, Err}
+use Rattle.std.specs.Prelude.{ℕ, ◌+◌, ℤ, Bool, false, not, nat_lt, ◌==◌, ◌&&◌, List, [], ◌∷◌, length, Option, Some}
+use Rattle.std.specs.Prelude.{None, option_map, Result, Ok, Err}
 use Rattle.std.specs.Option.{option_and_then}
 use Rattle.tracklet_file.specs.Numbering.{numbered}
 use Rattle.tracklet_file.specs.Observations.{entry_of}
@@ -23,7 +24,8 @@ use Rattle.act_model.specs.Deeds.{deeds}
 -- who sent an observation: the caller of the entry that brought it
 abbrev pub sender : List Entry → ℕ → Option ℕ
 sender past k =
-    option_map (λ entry. entry.caller) (option_and_then (numbered past) (entry_of (holdings (deeds past)).observations k))
+    option_map (λ entry. entry.caller) (option_and_then (numbered past)
+    (entry_of (holdings (deeds past)).observations k))
 
 -- somebody else sent it
 abbrev pub is_another : ℕ → Option ℕ → Bool

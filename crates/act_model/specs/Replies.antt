@@ -10,7 +10,13 @@ use Rattle.act_model.specs.declared.reply.Excess.TheVariants as excess
 use Rattle.act_model.specs.declared.reply.Fault.{Fault}
 use Rattle.act_model.specs.declared.reply.Part.TheVariants as part
 use Rattle.act_model.specs.declared.reply.Refusal.{Refusal}
-use Rattle.act_model.specs.declared.reply.Refusal.TheVariants.{TooLarge, Unread, UnknownKey, OtherRequest, Role, UnknownThing, Header, NoLine, NotIsolated, NotHomed, Empty, OneNight, HalfMonthFull, NotPrincipal, SameObject, BothNumbered, NumberedSecondary, NotSecondary, AlreadyRetracted, NotNext, NoneEligible, NumbersFull, AlreadyThere, RosterFull, JournalFull, DiskFault, NoMemory}
+use Rattle.act_model.specs.declared.reply.Refusal.TheVariants.{TooLarge, Unread, UnknownKey, OtherRequest, Role}
+use Rattle.act_model.specs.declared.reply.Refusal.TheVariants.{UnknownThing, Header, NoLine, NotIsolated, NotHomed}
+use Rattle.act_model.specs.declared.reply.Refusal.TheVariants.{Empty, OneNight, HalfMonthFull, NotPrincipal, SameObject}
+use Rattle.act_model.specs.declared.reply.Refusal.TheVariants.{BothNumbered, NumberedSecondary, NotSecondary}
+use Rattle.act_model.specs.declared.reply.Refusal.TheVariants.{AlreadyRetracted, NotNext, NoneEligible, NumbersFull}
+use Rattle.act_model.specs.declared.reply.Refusal.TheVariants.{AlreadyThere, RosterFull, JournalFull, DiskFault}
+use Rattle.act_model.specs.declared.reply.Refusal.TheVariants.{NoMemory}
 use Rattle.act_model.specs.declared.reply.Reply.{Reply}
 use Rattle.act_model.specs.declared.reply.Reply.TheVariants.{Done, Refused}
 use Rattle.act_model.specs.declared.reply.Text.{Text}
@@ -23,7 +29,8 @@ use Rattle.act_model.specs.Roster.{members, next_caller}
 use Rattle.act_model.specs.History.{next_receipt}
 use Rattle.act_model.specs.Taken.{accepted_in, refused_in}
 use Rattle.act_model.specs.Observations.{observations}
-use Rattle.act_model.specs.Texts.{line_of, header_name, receipt_line, caller_line, counts_line, accepted_line, refused_line, designation_text, half_month_text, object_line, number_lines}
+use Rattle.act_model.specs.Texts.{line_of, header_name, receipt_line, caller_line, counts_line, accepted_line}
+use Rattle.act_model.specs.Texts.{refused_line, designation_text, half_month_text, object_line, number_lines}
 
 -- the answer to a line that was taken in so, where so many observations came before it
 abbrev pub line_answer : ℕ → ℕ → Result Placed RuleCode → List ℕ
@@ -41,7 +48,8 @@ line_answers [] before = []
 line_answers (taken ∷ lines) before =
     line_answer before taken.line taken.found ++ line_answers lines (observations_with before taken.found)
 
--- the answer to a batch of these lines that became the entry with this receipt, where so many observations came before it
+-- the answer to a batch of these lines that became the entry with this receipt, where so many observations came before
+-- it
 unfoldable pub batch_answer : ℕ → ℕ → List Taken → List ℕ
 batch_answer receipt before lines =
     receipt_line receipt ++ (counts_line (accepted_in lines) (refused_in lines) ++ line_answers lines before)
@@ -50,7 +58,8 @@ batch_answer receipt before lines =
 abbrev pub deed_answer : ℕ → List Deed → Deed → List ℕ
 deed_answer receipt past (Submitted lines) = batch_answer receipt (observations past) lines
 deed_answer receipt past (Enrolled member) = receipt_line receipt ++ caller_line (next_caller (members past))
-deed_answer receipt past (Designated tracklets given discovery) = receipt_line receipt ++ object_line (Provisional given)
+deed_answer receipt past (Designated tracklets given discovery) =
+    receipt_line receipt ++ object_line (Provisional given)
 deed_answer receipt past (Numbered pairs) = receipt_line receipt ++ number_lines pairs
 deed_answer receipt past _ = receipt_line receipt
 
@@ -98,7 +107,8 @@ refusal_text NumbersFull = line_of (codes "refused 12 NumbersFull")
 refusal_text AlreadyThere = line_of (codes "refused 13 AlreadyThere")
 refusal_text RosterFull = line_of (codes "refused 13 RosterFull")
 refusal_text (JournalFull used more limit) =
-    line_of (codes "refused 15 JournalFull used " ++ decimal used ++ codes " more " ++ decimal more ++ codes " limit " ++ decimal limit)
+    line_of (codes "refused 15 JournalFull used " ++ decimal used ++ codes " more " ++ decimal more ++ codes " limit "
+    ++ decimal limit)
 refusal_text (DiskFault false) = line_of (codes "refused 16 DiskFault untouched")
 refusal_text (DiskFault true) = line_of (codes "refused 16 DiskFault doubt")
 refusal_text NoMemory = line_of (codes "refused 17 NoMemory")

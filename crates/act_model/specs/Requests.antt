@@ -1,7 +1,11 @@
 -- Requests: their verbs and their bodies.
-use Rattle.std.specs.Prelude.{ℕ, ◌==◌, Bool, true, false, bytes_eq, codes, if◌then◌else◌, List, length, nat_lt, count_by}
+use Rattle.std.specs.Prelude.{ℕ, ◌==◌, Bool, true, false, bytes_eq, codes, if◌then◌else◌, List, length, nat_lt}
+use Rattle.std.specs.Prelude.{count_by}
 use Rattle.act_model.specs.declared.request.Verb.{Verb}
-use Rattle.act_model.specs.declared.request.Verb.TheVariants.{Enrol, Station, Code, Submit80, SubmitPsv, Designate, Attribute, Release, Identify, Separate, Verdict, Number, Retract, Receipt, Tally, Object, Tracklet, Isolated, HalfMonth, Name, Catalogue, Unknown}
+use Rattle.act_model.specs.declared.request.Verb.TheVariants.{Enrol, Station, Code, Submit80, SubmitPsv, Designate}
+use Rattle.act_model.specs.declared.request.Verb.TheVariants.{Attribute, Release, Identify, Separate, Verdict, Number}
+use Rattle.act_model.specs.declared.request.Verb.TheVariants.{Retract, Receipt, Tally, Object, Tracklet, Isolated}
+use Rattle.act_model.specs.declared.request.Verb.TheVariants.{HalfMonth, Name, Catalogue, Unknown}
 use Rattle.act_model.specs.declared.request.Body.{Body}
 use Rattle.act_model.specs.declared.request.Body.TheVariants.{Whole, TooLong}
 use Rattle.act_model.specs.declared.request.TheConstants.{BODY_BYTES}

@@ -1,5 +1,6 @@
 -- The roster: the founding officer, who is caller 0, and the callers that were enrolled, 1, 2, 3 and so on in order.
-use Rattle.std.specs.Prelude.{◌≡◌, ℕ, ◌+◌, ◌≤◌, Bool, true, false, ◌==◌, if◌then◌else◌, List, [], ◌∷◌, length, Option, Some, None}
+use Rattle.std.specs.Prelude.{◌≡◌, ℕ, ◌+◌, ◌≤◌, Bool, true, false, ◌==◌, if◌then◌else◌, List, [], ◌∷◌, length, Option}
+use Rattle.std.specs.Prelude.{Some, None}
 use Rattle.act_bodies.specs.declared.key.Key.{Key}
 use Rattle.act_bodies.specs.declared.enrol.Rank.{Rank}
 use Rattle.act_bodies.specs.declared.enrol.Rank.TheVariants.{Observer, Officer}

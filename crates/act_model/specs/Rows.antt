@@ -1,5 +1,5 @@
--- Tables of conditions, of which the first row that holds decides; and questions, each answered by what it finds or by a
--- refusal.
+-- Tables of conditions, of which the first row that holds decides; and questions, each answered by what it finds or by
+-- a refusal.
 use Rattle.std.specs.Prelude.{◌≡◌, ◌⊎◌, Bool, if◌then◌else◌, List, [], ◌∷◌, Option, Some, None, Result, Ok, Err}
 use Rattle.act_model.specs.declared.reply.Refusal.{Refusal}
 use Rattle.act_model.specs.declared.reply.Refusal.TheVariants.{NoMemory}

@@ -1,6 +1,7 @@
--- What can be read of the office: the places of observations, the heads of tracklets, and the live observations of objects in
--- the order of their times.
-use Rattle.std.specs.Prelude.{ℕ, suc, zero, Bool, is_none, if◌then◌else◌, List, [], ◌∷◌, ◌++◌, length, map, filter, filter_map, Option, Some, None, option_map, unwrap_or}
+-- What can be read of the office: the places of observations, the heads of tracklets, and the live observations of
+-- objects in the order of their times.
+use Rattle.std.specs.Prelude.{ℕ, suc, zero, Bool, is_none, if◌then◌else◌, List, [], ◌∷◌, ◌++◌, length, map, filter}
+use Rattle.std.specs.Prelude.{filter_map, Option, Some, None, option_map, unwrap_or}
 use Rattle.packed_names.specs.declared.name.Designation.{Designation}
 use Rattle.identify_core.specs.Acts.{LinkAct, principal}
 use Rattle.tracklet_file.specs.declared.observation.Observation.{Observation}
@@ -21,7 +22,8 @@ use Rattle.act_model.specs.Replies.{entry_answer}
 
 -- ---- places
 
--- the principal designation of the object that a designation belongs to; each home is one that the office gave, and so has one
+-- the principal designation of the object that a designation belongs to; each home is one that the office gave, and so
+-- has one
 abbrev pub principal_by : List LinkAct → Designation → Designation
 principal_by acts d = unwrap_or (principal acts d) d
 

@@ -34,8 +34,8 @@ use Rattle.act_model.specs.Shelves.{track_head}
 use Rattle.act_model.specs.Catalogue.{catalogue}
 use Rattle.act_model.specs.QueryTexts.{object_text, tracklet_text, isolated_text, half_month_line, name_text}
 
--- what becomes of a request: it is refused; its number was used, and this is the reply that is kept for it; it is a query,
--- and this text tells what it asks; or it becomes an entry
+-- what becomes of a request: it is refused; its number was used, and this is the reply that is kept for it; it is a
+-- query, and this text tells what it asks; or it becomes an entry
 pub data Outcome : Type 0 where
   Refuses : Refusal → Outcome
   Keeps : Reply → Outcome
@@ -88,7 +88,8 @@ unfoldable pub told : List Entry → ℕ → Query → Result (List ℕ) Refusal
 told past caller (query.Receipt number) = told_receipt number (kept past caller number)
 told past caller query.Tally = Ok (tally_text (tally past))
 told past caller (query.Object d) =
-    told_thing (thing.Designation d) (object_text (holdings (deeds past)) (links_of (deeds past)) (numbers_of (deeds past)))
+    told_thing (thing.Designation d) (object_text (holdings (deeds past)) (links_of (deeds past))
+    (numbers_of (deeds past)))
     (principal (links_of (deeds past)) d)
 told past caller (query.Tracklet t) =
     told_thing (thing.Tracklet t) (tracklet_text (holdings (deeds past)) (links_of (deeds past)) t)

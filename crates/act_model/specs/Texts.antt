@@ -38,7 +38,8 @@ counts_line accepted refused = line_of (codes "accepted " ++ decimal accepted ++
 -- `line N obs K track T`: the line was accepted, as observation K of tracklet T
 abbrev pub accepted_line : (number observation track : ℕ) → List ℕ
 accepted_line number observation track =
-    line_of (codes "line " ++ decimal number ++ codes " obs " ++ decimal observation ++ codes " track " ++ decimal track)
+    line_of (codes "line " ++ decimal number ++ codes " obs " ++ decimal observation ++ codes " track "
+    ++ decimal track)
 
 -- a name and a number, as the lines of a tally have them
 abbrev pub count_line : List ℕ → ℕ → List ℕ

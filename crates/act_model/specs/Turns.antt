@@ -1,6 +1,7 @@
--- Turns of the office, one request each, and conducts: turns one after another. Where the office stands on a disk, an act
--- may be left in doubt, and the next act mends it first.
-use Rattle.std.specs.Prelude.{◌≡◌, ◌⊎◌, Bool, true, false, if◌then◌else◌, ℕ, ◌+◌, ◌<◌, ℤ, pos, List, [], ◌∷◌, map, flat_map, filter_map, Option, Some, None, IfSome, IsSome, sum_by}
+-- Turns of the office, one request each, and conducts: turns one after another. Where the office stands on a disk, an
+-- act may be left in doubt, and the next act mends it first.
+use Rattle.std.specs.Prelude.{◌≡◌, ◌⊎◌, Bool, true, false, if◌then◌else◌, ℕ, ◌+◌, ◌<◌, ℤ, pos, List, [], ◌∷◌, map}
+use Rattle.std.specs.Prelude.{flat_map, filter_map, Option, Some, None, IfSome, IsSome, sum_by}
 use Rattle.desk_frames.specs.Frames.{Frame}
 use Rattle.desk_frames.specs.Replies.{reply_frame}
 use Rattle.obs_time.specs.Instants.{IsInstantNs}
@@ -51,7 +52,8 @@ at_rest past = record { settled = past; doubt = None }
 abbrev pub unless_untouched : Bool → List Entry → Entry → OfficeState
 unless_untouched doubt past entry = record { settled = past; doubt = if doubt then Some entry else None }
 
--- mending settles the history so: the act in doubt was kept or it wasn't; where none is in doubt there is nothing to mend
+-- mending settles the history so: the act in doubt was kept or it wasn't; where none is in doubt there is nothing to
+-- mend
 abbrev pub Mends : List Entry → Option Entry → List Entry → Type 0
 Mends past None mended = mended ≡ past
 Mends past (Some entry) mended = (mended ≡ entry ∷ past) ⊎ (mended ≡ past)
@@ -67,7 +69,8 @@ pub record FailsToMend (before : OfficeState) (turn : Turn) (after : OfficeState
 
 -- The act becomes an entry at this history, and the disk failed in keeping it: it isn't kept, or it is in doubt, as the
 -- reply says.
-pub record FailsToKeep (founder : Key) (limit : Option ℕ) (past : List Entry) (turn : Turn) (reading : ℤ) (after : OfficeState) : Type 0 where
+pub record FailsToKeep (founder : Key) (limit : Option ℕ) (past : List Entry) (turn : Turn) (reading : ℤ)
+    (after : OfficeState) : Type 0 where
   pub entry : Entry
   pub doubt : Bool
   pub adds : outcome founder limit past turn.request reading ≡ Adds entry
@@ -76,12 +79,14 @@ pub record FailsToKeep (founder : Key) (limit : Option ℕ) (past : List Entry) 
   pub rose : 0 < turn.rise
 
 -- the turn was taken at this history, and nothing is in doubt
-pub record Settles (founder : Key) (limit : Option ℕ) (past : List Entry) (turn : Turn) (reading : ℤ) (after : OfficeState) : Type 0 where
+pub record Settles (founder : Key) (limit : Option ℕ) (past : List Entry) (turn : Turn) (reading : ℤ)
+    (after : OfficeState) : Type 0 where
   pub answers : Answers founder limit past turn.request reading turn.reply after.settled
   pub settled : after.doubt ≡ None
 
 -- an act after mending, at the history that mending left
-pub record ActsMended (founder : Key) (limit : Option ℕ) (before : OfficeState) (turn : Turn) (reading : ℤ) (after : OfficeState) : Type 0 where
+pub record ActsMended (founder : Key) (limit : Option ℕ) (before : OfficeState) (turn : Turn) (reading : ℤ)
+    (after : OfficeState) : Type 0 where
   pub mended : List Entry
   pub mends : Mends before.settled before.doubt mended
   pub acts : Settles founder limit mended turn reading after ⊎ FailsToKeep founder limit mended turn reading after
@@ -89,7 +94,8 @@ pub record ActsMended (founder : Key) (limit : Option ℕ) (before : OfficeState
 -- ---- the turn of a query
 
 -- a query is answered at the settled history, and the office stays
-pub record Asks (founder : Key) (limit : Option ℕ) (before : OfficeState) (turn : Turn) (after : OfficeState) : Type 0 where
+pub record Asks (founder : Key) (limit : Option ℕ) (before : OfficeState) (turn : Turn)
+    (after : OfficeState) : Type 0 where
   pub answers : Answers founder limit before.settled turn.request (pos 0) turn.reply before.settled
   pub stays : after ≡ before
 
@@ -97,10 +103,12 @@ pub record Asks (founder : Key) (limit : Option ℕ) (before : OfficeState) (tur
 
 -- a request that took a reading of the clock is an act, and any other a query
 abbrev pub Takes : Key → Option ℕ → OfficeState → Turn → Option ℤ → OfficeState → Type 0
-Takes founder limit before turn (Some reading) after = FailsToMend before turn after ⊎ ActsMended founder limit before turn reading after
+Takes founder limit before turn (Some reading) after = FailsToMend before turn after
+    ⊎ ActsMended founder limit before turn reading after
 Takes founder limit before turn None after = Asks founder limit before turn after
 
-pub record IsTurn (founder : Key) (limit : Option ℕ) (before : OfficeState) (turn : Turn) (after : OfficeState) : Type 0 where
+pub record IsTurn (founder : Key) (limit : Option ℕ) (before : OfficeState) (turn : Turn)
+    (after : OfficeState) : Type 0 where
   pub reads : TakesReading turn.request.verb turn.reading
   pub takes : Takes founder limit before turn turn.reading after
 

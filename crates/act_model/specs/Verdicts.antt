@@ -8,7 +8,8 @@ use Rattle.numbering_core.specs.Verdicts.VerdictAct.{Set, Voided}
 use Rattle.tracklet_file.specs.Observations.{track_of}
 use Rattle.tracklet_file.specs.Tracklets.{home_of}
 use Rattle.act_model.specs.declared.deed.Deed.{Deed}
-use Rattle.act_model.specs.declared.deed.Deed.TheVariants.{Attributed, Released, Identified, Separated, Judged, Retracted}
+use Rattle.act_model.specs.declared.deed.Deed.TheVariants.{Attributed, Released, Identified, Separated, Judged}
+use Rattle.act_model.specs.declared.deed.Deed.TheVariants.{Retracted}
 use Rattle.act_model.specs.Holdings.{Holdings, holdings}
 use Rattle.act_model.specs.Designations.{links_of}
 
@@ -24,8 +25,8 @@ abbrev pub voided : Option Designation → List VerdictAct
 voided None = []
 voided (Some p) = Voided p ∷ []
 
--- What a deed does to verdicts, where so much is held and these are the links. A verdict sets U and the oppositions. One
--- on an object is voided by what touches the object: a tracklet that is added to it or is taken out of it, its
+-- What a deed does to verdicts, where so much is held and these are the links. A verdict sets U and the oppositions.
+-- One on an object is voided by what touches the object: a tracklet that is added to it or is taken out of it, its
 -- identification with another one, the separation of a secondary, and the retraction of an observation of it. A batch
 -- voids none.
 abbrev pub judged_by : Holdings → List LinkAct → Deed → List VerdictAct

@@ -1,3 +1,5 @@
+//! Acts, read from the bodies of requests.
+
 ghost use Rattle.std.specs.Prelude.{◌≡◌, ℕ, ◌<◌, length, Ok, Err, IfOk};
 ghost use Rattle.obs_record.specs.declared.rule.HeaderFault.{HeaderFault};
 ghost use Rattle.act_model.specs.Acts.{act_of, IsRead};
@@ -314,6 +316,11 @@ fn read_psv_batch(alloc: Global, body: &[u8]) -> Result<Act, ActFault>
 /// without observation lines has none. Answers `Unread` only for a verb that is no act and for a
 /// body that isn't as the verb wants it, and `Header` only for a batch in PSV form with that fault of its
 /// headers, the first. Takes memory.
+///
+/// # Errors
+///
+/// `Unread` only for a verb that is no act and for a body that isn't as the verb wants it, `Header` only for a batch
+/// in PSV form with that fault of its headers, the first, and `NoMemory` where memory was refused.
 #[tactic(auto, unfolding(crate::specs::Acts::act_of))]
 pub fn read_act(alloc: Global, verb: Verb, body: &[u8]) -> Result<Act, ActFault>
     requires { length body.now < 4_294_967_295 }

@@ -1,3 +1,5 @@
+//! What acts do where they stand in the history.
+
 use crate::roster::Member;
 use crate::taken::Taken;
 use act_bodies::Ids;

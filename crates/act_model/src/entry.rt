@@ -1,3 +1,5 @@
+//! The entries of the history.
+
 use crate::request::Verb;
 use item_list::Bytes;
 use obs_time::Instant;

@@ -1,3 +1,5 @@
+//! What the rules of batches ask of an office.
+
 ghost use Rattle.std.specs.Prelude.{◌≡◌};
 ghost use Rattle.act_model.specs.Known.{KnownOffice};
 

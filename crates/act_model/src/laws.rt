@@ -1,6 +1,7 @@
 //! Laws of histories and conducts, each the contract of a function that does nothing.
 
-ghost use Rattle.std.specs.Prelude.{◌≡◌, ◌+◌, ◌<◌, Bool, true, ℕ, ℤ, pos, List, [], ◌∷◌, ◌++◌, Option, Some, None, IsSomeAnd, Ok, unwrap_or};
+ghost use Rattle.std.specs.Prelude.{◌≡◌, ◌+◌, ◌<◌, Bool, true, ℕ, ℤ, pos, List, [], ◌∷◌, ◌++◌, Option, Some, None};
+ghost use Rattle.std.specs.Prelude.{IsSomeAnd, Ok, unwrap_or};
 ghost use Rattle.obs_time.specs.Instants.{IsInstantNs};
 ghost use Rattle.act_bodies.specs.declared.key.Key.{Key};
 ghost use Rattle.act_bodies.specs.Keys.{key_text, begins_with_plus};
@@ -24,7 +25,8 @@ ghost use Rattle.act_model.specs.Refusals.{work_out, work_within};
 ghost use Rattle.act_model.specs.Step.{Adds, new_entry, outcome, step};
 ghost use Rattle.act_model.specs.Clocks.{ClockState, Gives};
 ghost use Rattle.act_model.specs.Turns.{Turn, TakesReading, Answers, IsTurn, Conduct, at_rest, Mends};
-ghost use Rattle.act_model.specs.Conducts.{Extends, HadMemory, HadNoFault, NoDiskFaults, IsStepped, IsAnswered, IsAcknowledged, EitherWay, Makes};
+ghost use Rattle.act_model.specs.Conducts.{Extends, HadMemory, HadNoFault, NoDiskFaults, IsStepped, IsAnswered};
+ghost use Rattle.act_model.specs.Conducts.{IsAcknowledged, EitherWay, Makes};
 ghost use Rattle.act_model.specs.Legal.{IsLegal};
 ghost use Rattle.tracklet_file.specs.declared.observation.Observation.{Observation};
 ghost use Rattle.tracklet_file.specs.declared.tracklet.Tracklet.{Tracklet};
@@ -133,8 +135,8 @@ pub fn each_once()
         Conduct founder limit before turns after → EitherWay EachNumberOnce before → EitherWay EachNumberOnce after }
 {}
 
-/// The step never answers that a disk failed. So a turn answers it only where the count of faults rose in that turn; and
-/// where it answers that its act is in doubt, the act in doubt is what the request becomes at the settled history.
+/// The step never answers that a disk failed. So a turn answers it only where the count of faults rose in that turn;
+/// and where it answers that its act is in doubt, the act in doubt is what the request becomes at the settled history.
 pub fn disk_faults_have_a_cause()
     ensures step { (founder : Key) (limit : Option ℕ) (past after : List Entry) (request : Request) (reading : ℤ)
         (doubt : Bool) → step founder limit past request reading ≡ (Refused (DiskFault doubt), after) → ⊥ }
@@ -160,7 +162,8 @@ pub fn acknowledged_acts_are_kept()
 pub fn no_faults()
     ensures settled { (founder : Key) (limit : Option ℕ) (past : List Entry) (after : OfficeState) (turns : List Turn) →
         Conduct founder limit (at_rest past) turns after → HadNoFault turns → after ≡ at_rest after.settled }
-    ensures answered { (founder : Key) (limit : Option ℕ) (past : List Entry) (after : OfficeState) (turns : List Turn) →
+    ensures answered { (founder : Key) (limit : Option ℕ) (past : List Entry) (after : OfficeState)
+        (turns : List Turn) →
         Conduct founder limit (at_rest past) turns after → HadNoFault turns →
         IsAnswered founder limit past turns after.settled }
     ensures none { (founder : Key) (limit : Option ℕ) (past : List Entry) (after : OfficeState) (turns : List Turn) →
@@ -264,7 +267,8 @@ pub fn observed_years()
 {}
 
 /// An act that is done fits what was done before: what it names is there, a designation that it gives is the next one
-/// of its half-month and wasn't given, and numbers that it gives go on from the last one, each to an object without one.
+/// of its half-month and wasn't given, and numbers that it gives go on from the last one, each to an object without
+/// one.
 pub fn acts_fit()
     ensures { (history : List Entry) (moment : ℤ) (act : Act) (deed : Deed) →
         IsRead act → does (deeds history) moment act ≡ Ok deed → FitsObjects (deeds history) deed }
@@ -301,7 +305,8 @@ pub fn observations_are_filed()
     act_bodies::laws::letters_are_printed();
 }
 
-/// The letter that a word stands for in the office's tables is printed, and no mode has one of those of refused records.
+/// The letter that a word stands for in the office's tables is printed, and no mode has one of those of refused
+/// records.
 pub fn letters_are_printed()
     ensures { (history : List Entry) (kind : Kind) (word : Short) (letter : ℕ) →
         letter_of (tables_of (deeds history)).codes kind word ≡ Some letter → IsLetterOf kind letter }

@@ -1,3 +1,5 @@
+//! Queries, read from the bodies of requests.
+
 ghost use Rattle.std.specs.Prelude.{◌≡◌, IfSome};
 ghost use Rattle.packed_names.specs.Ranges.{IsHalfMonth};
 ghost use Rattle.act_bodies.specs.Members.{designation_of};
@@ -77,12 +79,12 @@ fn if_empty(query: Query, body: &[u8]) -> Option<Query>
     if body.is_empty() { Some(query) } else { None }
 }
 
-/// The query of a verb and a body. None exactly where the body isn't as the verb wants it, and for a verb that is that of
-/// no query.
+/// The query of a verb and a body. None exactly where the body isn't as the verb wants it, and for a verb that is that
+/// of no query.
 ///
-/// The body of `receipt` and of `tracklet` is a number of 1 to 18 digits without a leading zero, that of `object` a printed
-/// designation, that of `halfmonth` a half-month such as `2024 E`, and that of `name` a number or a designation, printed or
-/// packed. That of `tally`, of `isolated` and of `catalogue` is empty.
+/// The body of `receipt` and of `tracklet` is a number of 1 to 18 digits without a leading zero, that of `object` a
+/// printed designation, that of `halfmonth` a half-month such as `2024 E`, and that of `name` a number or a
+/// designation, printed or packed. That of `tally`, of `isolated` and of `catalogue` is empty.
 #[tactic(auto, unfolding(crate::specs::Queries::query_of))]
 pub fn read_query(verb: Verb, body: &[u8]) -> Option<Query>
     ensures query { result ≡ query_of verb body.now }

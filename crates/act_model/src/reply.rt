@@ -1,3 +1,5 @@
+//! Replies and refusals, with their statuses and texts.
+
 ghost use Rattle.std.specs.Prelude.{◌≡◌, ◌+◌, ◌++◌, ◌≤◌, IfOk, IfErr, IfSome, IfNone, List, length, decimal};
 ghost use Rattle.act_model.specs.declared.reply.Fault.{Fault};
 ghost use Rattle.arrayvec.specs.ArrayVec.{array_vec_len};
@@ -93,7 +95,8 @@ pub enum Refusal {
     NotHomed(u64),
     /// The tracklet with this number has no live observation.
     Empty(u64),
-    /// From the earliest to the latest live observation of the tracklets it is this many nanoseconds, less than 12 hours.
+    /// From the earliest to the latest live observation of the tracklets it is this many nanoseconds, less than 12
+    /// hours.
     OneNight(i64),
     /// All designations of the half-month in which the object was discovered were given.
     HalfMonthFull {
@@ -190,9 +193,9 @@ pub fn refusal_status(refusal: &Refusal) -> u16
 /// The status of a reply, as HTTP numbers them (RFC 9110, and RFC 4918 where memory was refused): 200 for
 /// a request that was done, 400 for one that can't be read, 401 for a key that nobody has, 403 for an
 /// observer who asks what officers may, 404 for a thing that isn't there, 409 for a number that was used and for
-/// what the office's state doesn't allow or the journal has no room for, 413 for a body that is too large, 422 for a batch
-/// with a fault of its headers or without a line that is accepted, 503 where the disk failed, and 507 where memory was
-/// refused.
+/// what the office's state doesn't allow or the journal has no room for, 413 for a body that is too large, 422 for a
+/// batch with a fault of its headers or without a line that is accepted, 503 where the disk failed, and 507 where
+/// memory was refused.
 pub fn status(reply: &Reply) -> u16
     ensures { result ≡ status_of reply.now }
 {
@@ -416,7 +419,11 @@ pub fn refusal_line(refusal: &Refusal) -> Option<ArrayVec<u8, REFUSAL_BYTES>>
 }
 
 /// The text of the refusal of a batch without a line that is accepted: its line, and a line for each
-/// fault. Err where there was no memory for the text.
+/// fault.
+///
+/// # Errors
+///
+/// Memory was refused.
 pub fn no_line_text(alloc: Global, faults: &Faults) -> Result<Bytes, NoMemory>
     ensures { IfOk result (λ text. text ≡ refusal_text (Refusal.NoLine faults.now)) }
 {

@@ -1,3 +1,5 @@
+//! Requests and their verbs.
+
 ghost use Rattle.std.specs.Prelude.{◌≡◌};
 ghost use Rattle.act_model.specs.Requests.{verb_of, is_unknown, is_act, is_officers, verb_code, same_verb, line_feeds};
 ghost use Rattle.act_model.specs.Step.{is_resend};

@@ -1,3 +1,5 @@
+//! What becomes of a line of a batch.
+
 use obs_record::RuleCode;
 
 /// The ruling on a line of a batch.

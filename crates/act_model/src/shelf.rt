@@ -88,13 +88,13 @@ pub trait Shelf {
     fn principals(&self) -> Result<Names, NoMemory>
         ensures { IfOk result (λ names. names ≡ principals (links_of (deeds (history self.now)))) };
 
-    /// The principal designation of the object that a designation belongs to. None exactly for one that the office didn't
-    /// give.
+    /// The principal designation of the object that a designation belongs to. None exactly for one that the office
+    /// didn't give.
     fn principal(&self, d: Designation) -> Option<Designation>
         ensures { result ≡ principal (links_of (deeds (history self.now))) d };
 
-    /// The designations whose principal is this one, itself included, in the order of designations. Empty for what is no
-    /// principal. It takes memory.
+    /// The designations whose principal is this one, itself included, in the order of designations. Empty for what is
+    /// no principal. It takes memory.
     fn members(&self, p: Designation) -> Result<Names, NoMemory>
         ensures { IfOk result (λ names. names ≡ members (links_of (deeds (history self.now))) p) };
 
@@ -118,8 +118,8 @@ pub trait Shelf {
         ensures count { result ≡ given_in half (takes_of (deeds (history self.now))) }
         ensures within { result ≤ limit_of half };
 
-    /// The observation by which the object of a designation was discovered. None exactly for a designation that the office
-    /// didn't give.
+    /// The observation by which the object of a designation was discovered. None exactly for a designation that the
+    /// office didn't give.
     fn discovery(&self, d: Designation) -> Option<u64>
         ensures { result ≡ discovery_of d (takes_of (deeds (history self.now))) };
 
@@ -127,7 +127,8 @@ pub trait Shelf {
     fn letter(&self, kind: Kind, word: Short) -> Option<u8>
         ensures { result ≡ letter_of (tables_of (deeds (history self.now))).codes kind word };
 
-    /// The reply that is kept for a caller's act with this number. None exactly where the caller hasn't used the number.
+    /// The reply that is kept for a caller's act with this number. None exactly where the caller hasn't used the
+    /// number.
     fn kept(&self, caller: u32, number: u64) -> Option<&Reply>
         ensures { option_copied result ≡ reply_kept (kept (history self.now) caller number) };
 }

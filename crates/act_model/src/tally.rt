@@ -1,3 +1,5 @@
+//! The counts of what stands where.
+
 ghost use Rattle.std.specs.Prelude.{◌≡◌, ◌++◌, OnOk, IfOk};
 ghost use Rattle.act_model.specs.Tallies.{tally_text};
 

@@ -2,7 +2,9 @@
 
 ghost use Rattle.std.specs.Prelude.{◌≡◌, ◌+◌, ◌-◌, ◌<◌, ◌≤◌, ◌^◌, ◌++◌, ◌∷◌, [], length, decimal, codes, OnOk, IfOk};
 ghost use Rattle.act_model.specs.Taken.{accepted_in, refused_in};
-ghost use Rattle.act_model.specs.Texts.{receipt_line, caller_line, counts_line, accepted_line, count_line, refused_line, designation_text, packed_designation, object_line, number_line, number_lines};
+ghost use Rattle.act_model.specs.Texts.{receipt_line, caller_line, counts_line, accepted_line, count_line};
+ghost use Rattle.act_model.specs.Texts.{refused_line, designation_text, packed_designation, object_line, number_line};
+ghost use Rattle.act_model.specs.Texts.{number_lines};
 ghost use Rattle.act_model.specs.Replies.{line_answer, line_answers, observations_with, batch_answer, fault_lines};
 
 use crate::reply::Fault;
@@ -128,9 +130,9 @@ fn push_line_answers(out: &mut Bytes, lines: &[Taken], before: u64) -> Result<()
     Ok(())
 }
 
-/// The answer to a batch of these lines that became the entry with this receipt, where the office had so many observations
-/// before it: the receipt, how many lines were accepted and refused, and a line for each with the numbers of its
-/// observation and its tracklet, or with the rule that it breaks. Observations and tracklets count from 1.
+/// The answer to a batch of these lines that became the entry with this receipt, where the office had so many
+/// observations before it: the receipt, how many lines were accepted and refused, and a line for each with the numbers
+/// of its observation and its tracklet, or with the rule that it breaks. Observations and tracklets count from 1.
 ///
 /// # Errors
 ///
@@ -154,7 +156,11 @@ pub fn batch_answer(
 }
 
 /// The answer to an enrolment that became the entry with this receipt: the receipt, and the number of
-/// the new caller. Err where there was no memory for the text.
+/// the new caller.
+///
+/// # Errors
+///
+/// Memory was refused.
 pub fn enrol_answer(alloc: Global, receipt: u64, caller: u64) -> Result<Bytes, NoMemory>
     ensures { IfOk result (λ text. text ≡ receipt_line receipt ++ caller_line caller) }
 {
@@ -223,8 +229,12 @@ fn push_number_lines(out: &mut Bytes, numbered: &[Numbering]) -> Result<(), NoMe
     Ok(())
 }
 
-/// The answer to an act by which an object got this designation and that became the entry with this receipt: the receipt,
-/// and the designation in its printed and its packed form. Err where there was no memory for the text.
+/// The answer to an act by which an object got this designation and that became the entry with this receipt: the
+/// receipt, and the designation in its printed and its packed form.
+///
+/// # Errors
+///
+/// Memory was refused.
 pub fn object_answer(alloc: Global, receipt: u64, d: Designation) -> Result<Bytes, NoMemory>
     ensures { IfOk result (λ text. text ≡ receipt_line receipt ++ object_line d) }
 {
@@ -234,8 +244,12 @@ pub fn object_answer(alloc: Global, receipt: u64, d: Designation) -> Result<Byte
     Ok(out)
 }
 
-/// The answer to an act by which objects got these numbers and that became the entry with this receipt: the receipt, and a
-/// line for each object. Err where there was no memory for the text.
+/// The answer to an act by which objects got these numbers and that became the entry with this receipt: the receipt,
+/// and a line for each object.
+///
+/// # Errors
+///
+/// Memory was refused.
 pub fn numbers_answer(
     alloc: Global,
     receipt: u64,
@@ -249,8 +263,11 @@ pub fn numbers_answer(
     Ok(out)
 }
 
-/// The answer to an act that became the entry with this receipt, where nothing more is said. Err where
-/// there was no memory for the text.
+/// The answer to an act that became the entry with this receipt, where nothing more is said.
+///
+/// # Errors
+///
+/// Memory was refused.
 pub fn receipt_answer(alloc: Global, receipt: u64) -> Result<Bytes, NoMemory>
     ensures { IfOk result (λ text. text ≡ receipt_line receipt) }
 {

@@ -73,7 +73,8 @@ IsReadFrom data_line line =
 
 -- each data line of the batch stands in the list in its place, with its number and its reading
 abbrev pub AreReadFrom : List ℕ → List Line → Type 0
-AreReadFrom body found = (data_lines : List DataLine) × (data_lines_of body ≡ Ok data_lines) × AllZip IsReadFrom data_lines found
+AreReadFrom body found = (data_lines : List DataLine) × (data_lines_of body ≡ Ok data_lines)
+    × AllZip IsReadFrom data_lines found
 
 -- the observations among the lines have their fields in their ranges
 abbrev pub AreInRange : List Line → Type 0

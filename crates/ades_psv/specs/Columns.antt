@@ -1,5 +1,6 @@
 -- The columns that a column header names.
-use Rattle.std.specs.Prelude.{ℕ, Bool, false, not, ◌&&◌, ◌||◌, if◌then◌else◌, ◌==◌, List, [], ◌∷◌, length, codes, Option, is_some, Result, Ok, Err}
+use Rattle.std.specs.Prelude.{ℕ, Bool, false, not, ◌&&◌, ◌||◌, if◌then◌else◌, ◌==◌, List, [], ◌∷◌, length, codes}
+use Rattle.std.specs.Prelude.{Option, is_some, Result, Ok, Err}
 use Rattle.std.specs.List.{list_any, position_from}
 use Rattle.obs_record.specs.declared.rule.HeaderFault.{HeaderFault}
 use Rattle.obs_record.specs.declared.rule.HeaderFault.TheVariants.{H3, H4, H5}

@@ -9,7 +9,8 @@ use Rattle.ades_psv.specs.Fields.{Fields}
 pub record AreCells (line : List ℕ) (cut : CutLine) : Type 0 where
   pub whole : cut.line.now ≡ line
   pub count : cut.count ≡ length (cells line)
-  pub first : (place : ℕ) → place < 16 → place < cut.count → option_map (λ cell. cell.now) (slice_get cut.first place) ≡ slice_get (cells line) place
+  pub first : (place : ℕ) → place < 16 → place < cut.count → option_map (λ cell. cell.now) (slice_get cut.first place)
+      ≡ slice_get (cells line) place
 
 -- what contracts see of the fields of a line
 abbrev pub seen : Cut → Fields

@@ -1,5 +1,6 @@
 -- A batch that is fed in pieces.
-use Rattle.std.specs.Prelude.{◌≡◌, ℕ, ◌+◌, ◌<◌, List, [], ◌∷◌, ◌++◌, length, map, Option, Some, None, Result, Ok, Err, IsOk}
+use Rattle.std.specs.Prelude.{◌≡◌, ℕ, ◌+◌, ◌<◌, List, [], ◌∷◌, ◌++◌, length, map, Option, Some, None, Result, Ok, Err}
+use Rattle.std.specs.Prelude.{IsOk}
 use Rattle.std.specs.List.{enumerate_from}
 use Rattle.std.specs.Str.Lines.{lines}
 use Rattle.obs_record.specs.declared.rule.HeaderFault.{HeaderFault}
@@ -62,8 +63,8 @@ read_end progress = do
   end ← said_from progress.place (enumerate_from (progress.count + 1) (lines progress.rest))
   ended (progress.count + length (lines progress.rest)) (end.0, progress.found ++ map read_of end.1)
 
--- The reader can take so many bytes more: the numbers of its lines have 32 bits then. Once there is a fault it lets go what
--- is fed.
+-- The reader can take so many bytes more: the numbers of its lines have 32 bits then. Once there is a fault it lets go
+-- what is fed.
 abbrev pub HasRoom : Fed → ℕ → Type 0
 HasRoom (Ok progress) more = progress.count + length progress.rest + more < 4294967295
 HasRoom (Err fault) more = Unit {0}

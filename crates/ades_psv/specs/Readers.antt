@@ -8,7 +8,12 @@ use Rattle.ades_psv.specs.Feeding.{Fed}
 
 -- what a reader has come to, by what it keeps
 abbrev pub what_is_fed : Reached → List ℕ → Option (HeaderFault × ℕ) → Fed
-what_is_fed reached rest None = Ok (record { place = reached.place; count = reached.count; found = reached.found; rest = rest })
+what_is_fed reached rest None = Ok (record {
+  place = reached.place;
+  count = reached.count;
+  found = reached.found;
+  rest = rest;
+})
 what_is_fed reached rest (Some fault) = Err fault
 
 -- the unfinished line has no line feed, its number and the next one's have 32 bits, and what was found is in range

@@ -1,5 +1,6 @@
 -- What a data line says, worked out rule by rule.
-use Rattle.std.specs.Prelude.{ℕ, Bool, not, ◌&&◌, ◌||◌, nat_le, ◌==◌, if◌then◌else◌, List, Option, Some, None, Result, Ok, Err, ℤ}
+use Rattle.std.specs.Prelude.{ℕ, Bool, not, ◌&&◌, ◌||◌, nat_le, ◌==◌, if◌then◌else◌, List, Option, Some, None, Result}
+use Rattle.std.specs.Prelude.{Ok, Err, ℤ}
 use Rattle.std.specs.List.{list_all}
 use Rattle.angle_fixed.specs.Degrees.{ra_degrees_of, dec_degrees_of}
 use Rattle.obs_time.specs.IsoText.{iso_of}

@@ -83,6 +83,7 @@ pub record IsSightingOf (fields : Fields) (s : Sighting) : Type 0 where
   -- the shape says how many decimals the magnitude has, 0 where there is none
   pub shape : s.shape ≡ Psv (places_of read)
 
--- the reading of a data line: the observation of its fields where it keeps every rule, else the first rule that it breaks
+-- the reading of a data line: the observation of its fields where it keeps every rule, else the first rule that it
+-- breaks
 abbrev pub IsReading : Fields → Result Sighting RuleCode → Type 0
 IsReading fields read = Judges (Keeps fields) line_rules (IsSightingOf fields) read

@@ -9,8 +9,9 @@ use Rattle.ades_psv.specs.Batch.{DataLine}
 abbrev pub is_passed : List ℕ → Bool
 is_passed line = are_blanks line || (is_group line || is_element line)
 
--- Among these lines the data line stands below a column header, the nearest one above it, which breaks no rule: its columns
--- are those of the data line. A column header is the first line that isn't passed over behind one that opens a group.
+-- Among these lines the data line stands below a column header, the nearest one above it, which breaks no rule: its
+-- columns are those of the data line. A column header is the first line that isn't passed over behind one that opens a
+-- group.
 pub record StandsBelow (numbered : List (ℕ × List ℕ)) (data_line : DataLine) : Type 0 where
   pub above : List (ℕ × List ℕ)
   pub opening : ℕ × List ℕ

@@ -1,6 +1,7 @@
 //! The cells of a line, which bars separate.
 
-ghost use Rattle.std.specs.Prelude.{◌≡◌, ◌==◌, ◌+◌, ◌<◌, ◌≤◌, [], ◌∷◌, ◌++◌, All, false, length, IfSome, IfNone, count_by};
+ghost use Rattle.std.specs.Prelude.{◌≡◌, ◌==◌, ◌+◌, ◌<◌, ◌≤◌, [], ◌∷◌, ◌++◌, All, false, length, IfSome, IfNone};
+ghost use Rattle.std.specs.Prelude.{count_by};
 ghost use Rattle.ascii_text.specs.Bytes.{vertical_bar};
 ghost use Rattle.ades_psv.specs.Cells.{cells};
 ghost use Rattle.ades_psv.specs.Columns.{place_of};

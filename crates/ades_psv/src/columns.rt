@@ -11,7 +11,7 @@ use std::alloc::Global;
 use std::collections::BTreeSet;
 
 /// Where the columns that are read stand, counted from 0.
-#[derive(Clone, Copy)]
+#[derive(Clone, Copy, Debug)]
 pub(crate) struct Columns {
     pub(crate) perm: Option<usize>,
     pub(crate) prov: Option<usize>,

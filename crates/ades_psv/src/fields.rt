@@ -8,8 +8,8 @@ ghost use Rattle.ades_psv.specs.Cutting.{AreCells, seen};
 use crate::cells::{count_cells, first_cell};
 use crate::columns::Columns;
 
-/// A data line, and what stands in its fields that are read, without the blanks round it; nothing stands in a field that
-/// is missing.
+/// A data line, and what stands in its fields that are read, without the blanks round it; nothing stands in a field
+/// that is missing.
 #[derive(Clone, Copy)]
 pub(crate) struct Fields<'a> {
     /// The whole line.

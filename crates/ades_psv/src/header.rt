@@ -11,7 +11,7 @@ use obs_record::HeaderFault;
 use std::alloc::Global;
 
 /// Where a line of a batch stands.
-#[derive(Clone, Copy)]
+#[derive(Clone, Copy, Debug)]
 pub(crate) enum Place {
     /// Before all other lines: it is the line of the format's version.
     Opening,

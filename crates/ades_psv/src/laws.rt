@@ -42,20 +42,23 @@ pub fn room()
 
 /// The first fault in the complete lines of the front of a batch is the fault of the batch, whatever may follow.
 pub fn faults_stay()
-    ensures { (text more : List ℕ) (fault : HeaderFault × ℕ) → fed unfed text ≡ Err fault → psv_lines_of (text ++ more) ≡ Err fault }
+    ensures { (text more : List ℕ) (fault : HeaderFault × ℕ) → fed unfed text ≡ Err fault → psv_lines_of (text ++ more)
+        ≡ Err fault }
 {
     laws::lines();
 }
 
-/// The data lines of a batch are the lines below a column header: each has the columns of the nearest column header above
-/// it, which breaks no rule, and each line that stands so is a data line.
+/// The data lines of a batch are the lines below a column header: each has the columns of the nearest column header
+/// above it, which breaks no rule, and each line that stands so is a data line.
 pub fn nearest_header()
-    ensures { (body : List ℕ) (data_lines : List DataLine) → data_lines_of body ≡ Ok data_lines → (data_line : DataLine) → Contains data_lines data_line ↔ StandsBelow (numbered_lines body) data_line }
+    ensures { (body : List ℕ) (data_lines : List DataLine) → data_lines_of body ≡ Ok data_lines
+        → (data_line : DataLine) → Contains data_lines data_line ↔ StandsBelow (numbered_lines body) data_line }
 {}
 
 /// The line of the version is `#`, blanks, `version=2017` and blanks, no blank being asked for.
 pub fn version_line()
-    ensures { (line : List ℕ) → (is_version line ≡ true) ↔ ((before : ℕ) × (after : ℕ) × (line ≡ 35 ∷ (blanks before ++ (codes "version=2017" ++ blanks after)))) }
+    ensures { (line : List ℕ) → (is_version line ≡ true)
+        ↔ ((before : ℕ) × (after : ℕ) × (line ≡ 35 ∷ (blanks before ++ (codes "version=2017" ++ blanks after)))) }
 {
     ascii_text::laws::texts();
 }
@@ -63,7 +66,8 @@ pub fn version_line()
 /// A data line has one reading, and no two.
 pub fn one_reading()
     ensures some { (fields : Fields) → (reading : Result Sighting RuleCode) × IsReading fields reading }
-    ensures only { (fields : Fields) (one other : Result Sighting RuleCode) → IsReading fields one → IsReading fields other → one ≡ other }
+    ensures only { (fields : Fields) (one other : Result Sighting RuleCode) → IsReading fields one
+        → IsReading fields other → one ≡ other }
 {
     ascii_text::laws::texts();
     angle_fixed::laws::angles();

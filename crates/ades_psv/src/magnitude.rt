@@ -14,8 +14,8 @@ const MOST_DECIMALS: usize = 6;
 /// The greatest magnitude, 99.99, in units of 0.000001.
 const GREATEST: u32 = 99_990_000;
 
-/// The magnitude in a field, in units of 0.000001, and the number of its decimals; or rule S9 where it shows none. An empty
-/// field says that there is no magnitude.
+/// The magnitude in a field, in units of 0.000001, and the number of its decimals; or rule S9 where it shows none. An
+/// empty field says that there is no magnitude.
 #[tactic(auto, unfolding(crate::specs::Magnitudes::magnitude_in))]
 pub(crate) fn magnitude_in(text: &[u8]) -> Result<Option<(u32, u8)>, RuleCode>
     ensures { result ≡ magnitude_in text.now }

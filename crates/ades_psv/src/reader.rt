@@ -1,6 +1,7 @@
 //! The reader of a batch.
 
-ghost use Rattle.std.specs.Prelude.{◌≡◌, ℕ, List, [], Some, None, ◌+◌, ◌<◌, ◌≤◌, ◌++◌, length, take, IfOk, IfErr, OnOk, OnErr, Ok, Err};
+ghost use Rattle.std.specs.Prelude.{◌≡◌, ℕ, List, [], Some, None, ◌+◌, ◌<◌, ◌≤◌, ◌++◌, length, take, IfOk, IfErr, OnOk};
+ghost use Rattle.std.specs.Prelude.{OnErr, Ok, Err};
 ghost use Rattle.text_lines.specs.Lines.{IsNumberable};
 ghost use Rattle.text_lines.specs.Pieces.{complete_lines, unfinished};
 ghost use Rattle.ades_psv.specs.declared.fault.PsvFault.TheVariants as faults;
@@ -24,7 +25,7 @@ use text_lines::pieces::line_end;
 /// A reader of a batch that comes in pieces.
 ///
 /// Lines are read as they come. Of the text the reader keeps the unfinished last line alone.
-#[derive(Drop)]
+#[derive(Debug, Drop)]
 pub struct PsvReader {
     alloc: Global,
     reached: Reached,
@@ -47,8 +48,9 @@ impl Model for PsvReader {
     ghost invariant = { λ r. r.told ≡ None → IsUnderWay r.reached r.rest };
 }
 
-/// Reads the lines that a piece ends, the first of which begins in the rest; what stands behind the last line feed is the
-/// rest from then on. Takes memory. After a fault the rest and what was found are those before with something behind.
+/// Reads the lines that a piece ends, the first of which begins in the rest; what stands behind the last line feed is
+/// the rest from then on. Takes memory. After a fault the rest and what was found are those before with something
+/// behind.
 fn read_piece(
     alloc: Global,
     reached: &mut Reached,
@@ -60,7 +62,8 @@ fn read_piece(
     ensures exact { Reads reached.old (complete_lines (rest.old ++ piece.now)) reached.new result }
     ensures rest { OnOk result (rest.new ≡ unfinished (rest.old ++ piece.now)) }
     ensures alone { OnOk result (unfinished rest.new ≡ rest.new) }
-    ensures few { OnOk result (reached.new.count + length rest.new ≤ reached.old.count + length rest.old + length piece.now) }
+    ensures few { OnOk result (reached.new.count + length rest.new ≤ reached.old.count + length rest.old
+        + length piece.now) }
     ensures kept_found { take (length reached.old.found) reached.new.found ≡ reached.old.found }
     ensures kept_rest { OnErr result (take (length rest.old) rest.new ≡ rest.old) }
     ensures range { AreInRange reached.old.found → AreInRange reached.new.found }
@@ -79,6 +82,10 @@ fn read_piece(
 
 impl PsvReader {
     /// A reader to which nothing was fed.
+    ///
+    /// # Errors
+    ///
+    /// Memory was refused.
     pub fn new(alloc: Global) -> Result<PsvReader, NoMemory>
         ensures exact { IfOk result (λ reader. reader ≡ unfed) }
         // No text came.
@@ -102,7 +109,8 @@ impl PsvReader {
         requires { HasRoom self.old (length piece.now) }
         ensures exact { Feeds self.old piece.now self.new result }
         ensures room { OnOk result ((more : ℕ) → HasRoom self.old (length piece.now + more) → HasRoom self.new more) }
-        ensures stays { IfErr self.old (λ fault. (result ≡ Err (faults.Header fault.0 fault.1)) × (self.new ≡ self.old)) }
+        ensures stays { IfErr self.old (λ fault. (result ≡ Err (faults.Header fault.0 fault.1))
+            × (self.new ≡ self.old)) }
         ensures no_memory { result ≡ Err faults.NoMemory → self.new ≡ self.old }
     {
         if let Some((fault, line)) = self.told {
@@ -132,12 +140,16 @@ impl PsvReader {
 
     /// Feeds the next piece of the batch.
     ///
-    /// The answer is Header once a line with a fault of the headers is complete, that is, once its line feed was fed; the
-    /// fault is the first of the batch. From then on the answer is the same, and the piece is let go. After NoMemory the
-    /// reader is as it was, and the piece may be fed again. Where no fault was told, the complete lines so far, the bytes
-    /// of the unfinished line and those of the piece are together fewer than 4,294,967,295, as they are where all pieces
-    /// together have fewer bytes (`laws::room`). Takes memory for the lines that are read and for the unfinished line,
-    /// and while a column header is tested, for its names.
+    /// The answer is Header once a line with a fault of the headers is complete, that is, once its line feed was fed;
+    /// the fault is the first of the batch. From then on the answer is the same, and the piece is let go. After
+    /// NoMemory the reader is as it was, and the piece may be fed again. Where no fault was told, the complete lines so
+    /// far, the bytes of the unfinished line and those of the piece are together fewer than 4,294,967,295, as they are
+    /// where all pieces together have fewer bytes (`laws::room`). Takes memory for the lines that are read and for the
+    /// unfinished line, and while a column header is tested, for its names.
+    ///
+    /// # Errors
+    ///
+    /// `Header` with the first fault of the headers and its line, and `NoMemory` where memory was refused.
     pub fn feed(&mut self, piece: &[u8]) -> Result<(), PsvFault>
         requires { HasRoom self.old (length piece.now) }
         ensures exact { Feeds self.old piece.now self.new result }
@@ -146,10 +158,12 @@ impl PsvReader {
         ensures ok { (text : List ℕ) → self.old ≡ fed unfed text
             → OnOk result ((self.new ≡ fed unfed (text ++ piece.now)) × (complete_fault (text ++ piece.now) ≡ None)) }
         // Header only where the complete lines of the text have a fault, and it is their first one.
-        ensures header { (text : List ℕ) (fault : HeaderFault) (line : ℕ) → self.old ≡ fed unfed text → result ≡ Err (faults.Header fault line)
+        ensures header { (text : List ℕ) (fault : HeaderFault) (line : ℕ) → self.old ≡ fed unfed text
+            → result ≡ Err (faults.Header fault line)
             → (self.new ≡ fed unfed (text ++ piece.now)) × (complete_fault (text ++ piece.now) ≡ Some (fault, line)) }
         // Once a fault was told, it is told again, and memory isn't wanting.
-        ensures stays { IfErr self.old (λ fault. (result ≡ Err (faults.Header fault.0 fault.1)) × (self.new ≡ self.old)) }
+        ensures stays { IfErr self.old (λ fault. (result ≡ Err (faults.Header fault.0 fault.1))
+            × (self.new ≡ self.old)) }
         ensures no_memory { result ≡ Err faults.NoMemory → self.new ≡ self.old }
     {
         laws::lines();
@@ -181,6 +195,10 @@ impl PsvReader {
     /// The fault is the one that was told, or the first of the batch that wasn't told, since no line feed ends its line
     /// or since it is one of the whole batch: it has no line that isn't blank (H1, line 1), or it ends inside a header
     /// (H2, its last line). Takes memory for the last line.
+    ///
+    /// # Errors
+    ///
+    /// `Header` with the first fault of the headers and its line, and `NoMemory` where memory was refused.
     pub fn finish(self) -> Result<Lines, PsvFault>
         ensures exact { IsAnswer (finished self) result }
         // The answer is what the text that was fed says.
@@ -198,11 +216,15 @@ impl PsvReader {
 
 /// The data lines of a whole batch, each with its number and what it says; or the first fault of its headers.
 ///
-/// The batch is cut into lines at line feeds; a carriage return before a line feed belongs to it, and what stands behind
-/// the last line feed is a line where it isn't empty. Lines count from 1, all of them. Lines of blanks alone are passed
-/// over. The first other line is `# version=2017`; the lines of headers begin with `#` or `!`; the first line below them is
-/// the column header, and data lines follow, up to the next line that begins with `#`. The batch has fewer than
-/// 4,294,967,295 bytes. Takes memory.
+/// The batch is cut into lines at line feeds; a carriage return before a line feed belongs to it, and what stands
+/// behind the last line feed is a line where it isn't empty. Lines count from 1, all of them. Lines of blanks alone are
+/// passed over. The first other line is `# version=2017`; the lines of headers begin with `#` or `!`; the first line
+/// below them is the column header, and data lines follow, up to the next line that begins with `#`. The batch has
+/// fewer than 4,294,967,295 bytes. Takes memory.
+///
+/// # Errors
+///
+/// `Header` with the first fault of the headers and its line, and `NoMemory` where memory was refused.
 pub fn read_psv(alloc: Global, body: &[u8]) -> Result<Lines, PsvFault>
     requires { IsNumberable body.now }
     ensures exact { IsAnswer (psv_lines_of body.now) result }

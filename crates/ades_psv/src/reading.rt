@@ -10,7 +10,8 @@ ghost use Rattle.obs_record.specs.Sighting.{IsSighting};
 ghost use Rattle.ades_psv.specs.Cutting.{seen};
 ghost use Rattle.ades_psv.specs.Fields.{Fields as Texts};
 ghost use Rattle.ades_psv.specs.Rules.{IsReading, coded};
-ghost use Rattle.ades_psv.specs.Reading.{is_text_byte, names_in, lacks_field, lacks_name, lacks_band, position_in, observed, reading_of};
+ghost use Rattle.ades_psv.specs.Reading.{is_text_byte, names_in, lacks_field, lacks_name, lacks_band, position_in};
+ghost use Rattle.ades_psv.specs.Reading.{observed, reading_of};
 
 use crate::fields::Fields;
 use crate::magnitude::magnitude_in;

@@ -1,19 +1,39 @@
+ghost use Rattle.std.specs.Prelude.{◌≡◌, ◌<◌, length};
+ghost use Rattle.ades_psv.specs.Feeding.{unfed};
+
 use super::*;
 use obs_record::{Coded, HeaderFault, Line, Lines, RuleCode, Shape, Short, Sighting, TrackName};
 use packed_names::{Designation, HalfMonth, Number, Provisional, Survey};
 use std::alloc::Global;
-use std::test::*;
+use std::process::Abort;
 
-/// What is said of a batch that isn't long and has these parts, one behind the other.
-fn said(alloc: Global, parts: &[&[u8]]) -> Result<Lines, PsvFault> {
-    let mut body = Vec::new(alloc);
-    for part in parts {
-        body.extend_from_slice(part)?;
-    }
+/// Expects that no row of a table is wrong; the first that is stands in this place, counted from 0.
+fn expect_none_wrong<R: Abort>(rt: &R, wrong: Option<usize>) {
+    assert_eq!(rt; wrong, None);
+}
+
+/// What is said of a batch that isn't long.
+fn said(alloc: Global, body: &[u8]) -> Result<Lines, PsvFault> {
     if body.len() > 9999 {
         return Ok(Lines::new(alloc));
     }
-    read_psv(alloc, &body)
+    read_psv(alloc, body)
+}
+
+/// The fault of a batch; none where it has none.
+fn fault_of(alloc: Global, body: &[u8]) -> Option<PsvFault> {
+    said(alloc, body).err()
+}
+
+/// These parts, one behind the other.
+fn joined(alloc: Global, parts: &[&[u8]]) -> Option<Vec<u8>> {
+    let mut body = Vec::new(alloc);
+    for part in parts {
+        if body.extend_from_slice(part).is_err() {
+            return None;
+        }
+    }
+    Some(body)
 }
 
 /// The only line of a batch; none where it has a fault, or not one line.
@@ -24,10 +44,25 @@ fn only_line(said: &Result<Lines, PsvFault>) -> Option<Line> {
     }
 }
 
-/// The number of the only line of a batch, and the rule that it breaks.
-fn only_rule(alloc: Global, parts: &[&[u8]]) -> Option<(u32, Option<RuleCode>)> {
-    let line = only_line(&said(alloc, parts))?;
-    Some((line.number, line.read.err()))
+/// The only line of a batch of these parts; none where it has a fault, or not one line.
+fn only_line_of(alloc: Global, parts: &[&[u8]]) -> Option<Line> {
+    match joined(alloc, parts) {
+        Some(body) => only_line(&said(alloc, &body)),
+        None => None,
+    }
+}
+
+/// The number of a line, and the rule that it breaks.
+fn rule_of(line: &Line) -> (u32, Option<RuleCode>) {
+    (line.number, line.read.err())
+}
+
+/// Whether a batch of these parts has one line, the third, which breaks this rule.
+fn breaks(alloc: Global, parts: &[&[u8]], rule: Option<RuleCode>) -> bool {
+    match only_line_of(alloc, parts) {
+        Some(line) => rule_of(&line) == (3, rule),
+        None => false,
+    }
 }
 
 /// The first line of a batch.
@@ -157,12 +192,20 @@ const FIELD_TEXTS: [(usize, &[u8], Option<RuleCode>); 79] = [
     (7, b"100||", Some(RuleCode::S9)),
 ];
 
+/// The first row whose line breaks another rule, counted from 0; None where there is none. So are those below.
+fn wrong_field(alloc: Global) -> Option<usize> {
+    for (row, &(place, text, rule)) in FIELD_TEXTS.iter().enumerate() {
+        if !breaks(alloc, &batch_with(place, text), rule) {
+            return Some(row);
+        }
+    }
+    None
+}
+
 #[test]
 fn breaks_the_first_rule(rt: HostRuntime) {
-    for &(place, text, rule) in &FIELD_TEXTS {
-        let found = only_rule(rt.alloc(), &batch_with(place, text));
-        assert_eq!(rt; found, Some((3, rule)), "{text:?} in field {place}");
-    }
+    let wrong = wrong_field(rt.alloc());
+    expect_none_wrong(&rt, wrong);
 }
 
 /// Whole lines below the same columns, and the rule that each breaks.
@@ -197,12 +240,19 @@ const LINE_TEXTS: [(&[u8], Option<RuleCode>); 9] = [
     ),
 ];
 
+fn wrong_line(alloc: Global) -> Option<usize> {
+    for (row, &(line, rule)) in LINE_TEXTS.iter().enumerate() {
+        if !breaks(alloc, &[VERSION, COLUMNS, b"\n", line], rule) {
+            return Some(row);
+        }
+    }
+    None
+}
+
 #[test]
 fn reads_lines_with_fewer_fields(rt: HostRuntime) {
-    for &(line, rule) in &LINE_TEXTS {
-        let found = only_rule(rt.alloc(), &[VERSION, COLUMNS, b"\n", line]);
-        assert_eq!(rt; found, Some((3, rule)), "{line:?}");
-    }
+    let wrong = wrong_line(rt.alloc());
+    expect_none_wrong(&rt, wrong);
 }
 
 /// A temporary designation.
@@ -253,21 +303,36 @@ fn name_of(s: Sighting) -> Option<TrackName> {
     }
 }
 
-/// The name of the only line of a batch, or the rule that the line breaks.
-fn only_name(alloc: Global, parts: &[&[u8]]) -> Option<Result<TrackName, RuleCode>> {
-    let line = only_line(&said(alloc, parts))?;
-    match line.read {
-        Ok(sighting) => Some(Ok(name_of(sighting)?)),
-        Err(rule) => Some(Err(rule)),
+/// Whether a line is of an observation that goes by this name, or breaks this rule.
+fn is_named(line: &Line, name: Result<TrackName, RuleCode>) -> bool {
+    match (line.read, name) {
+        (Ok(sighting), Ok(name)) => name_of(sighting) == Some(name),
+        (Err(found), Err(rule)) => found == rule,
+        _ => false,
     }
+}
+
+/// Whether a batch of these parts has one line, of an observation that goes by this name, or that breaks this rule.
+fn is_line_named(alloc: Global, parts: &[&[u8]], name: Result<TrackName, RuleCode>) -> bool {
+    match only_line_of(alloc, parts) {
+        Some(line) => is_named(&line, name),
+        None => false,
+    }
+}
+
+fn wrong_name(alloc: Global) -> Option<usize> {
+    for (row, &(text, name)) in names().iter().enumerate() {
+        if !is_line_named(alloc, &[VERSION, NAME_COLUMNS, text, BEHIND_NAMES], name) {
+            return Some(row);
+        }
+    }
+    None
 }
 
 #[test]
 fn reads_names(rt: HostRuntime) {
-    for (text, name) in names() {
-        let found = only_name(rt.alloc(), &[VERSION, NAME_COLUMNS, text, BEHIND_NAMES]);
-        assert_eq!(rt; found, Some(name), "{text:?}");
-    }
+    let wrong = wrong_name(rt.alloc());
+    expect_none_wrong(&rt, wrong);
 }
 
 /// A batch of four lines in two tracklets.
@@ -286,12 +351,17 @@ fn word(text: &[u8]) -> Coded {
     Coded::Word(Short::new(text))
 }
 
-/// The observation in a place of a batch.
-fn sighting_at(said: &Result<Lines, PsvFault>, place: u64) -> Option<Sighting> {
+/// The observation in a place of what is said.
+fn sighting_in(said: &Result<Lines, PsvFault>, place: u64) -> Option<Sighting> {
     match said {
         Ok(lines) => lines.get(place)?.read.ok(),
         Err(_) => None,
     }
+}
+
+/// The observation in a place of a batch.
+fn sighting_at(alloc: Global, body: &[u8], place: u64) -> Option<Sighting> {
+    sighting_in(&said(alloc, body), place)
 }
 
 /// The observation in the first line of that batch: 2024-03-15T23:59:59.999Z, 150 and -5.5 degrees of 9,000,000,000,000
@@ -302,30 +372,56 @@ fn is_first(s: &Sighting) -> bool {
         && s.dec.units() == -49_500_000_000_000
 }
 
+/// Whether an observation has the temporary designation of that line and no other name.
+fn has_first_name(s: &Sighting) -> bool {
+    s.perm == None && s.prov == None && s.sub == Some(Short::new(b"AAA1"))
+}
+
+/// Whether it has the magnitude of that line, of two decimals.
+fn has_first_magnitude(s: &Sighting) -> bool {
+    s.mag == Some(20_250_000) && s.shape == Shape::Psv { mag: 2 }
+}
+
+/// Whether it has the words of that line.
+fn has_first_words(s: &Sighting) -> bool {
+    s.band == word(b"V") && s.mode == word(b"CCD") && s.catalogue == word(b"Gaia3")
+}
+
+/// Whether it is of the station of that line and has no note.
+fn has_first_station(s: &Sighting) -> bool {
+    s.station == Short::new(b"703") && s.note1 == b' '
+}
+
+/// Whether the first line of that batch has its moment and its position, its name, its magnitude, its words, and its
+/// station.
+fn first_fields(alloc: Global) -> Option<[bool; 5]> {
+    let s = sighting_at(alloc, BATCH, 0)?;
+    Some([
+        is_first(&s),
+        has_first_name(&s),
+        has_first_magnitude(&s),
+        has_first_words(&s),
+        has_first_station(&s),
+    ])
+}
+
+/// Whether an observation has neither a magnitude nor a band.
+fn has_no_magnitude(s: &Sighting) -> bool {
+    s.mag == None && s.band == Coded::Nothing && s.shape == Shape::Psv { mag: 0 }
+}
+
+/// Whether the third line of that batch has neither.
+fn third_fields(alloc: Global) -> Option<bool> {
+    let s = sighting_at(alloc, BATCH, 2)?;
+    Some(has_no_magnitude(&s))
+}
+
 #[test]
-fn reads_the_fields(rt: HostRuntime) -> Result<(), Fail> {
-    let lines = said(rt.alloc(), &[BATCH]);
-    let first = sighting_at(&lines, 0).ok_or("the first line is read")?;
-    let third = sighting_at(&lines, 2).ok_or("the third line is read")?;
-    assert!(rt; is_first(&first));
-    assert_eq!(rt;
-        (first.perm, first.prov, first.sub),
-        (None, None, Some(Short::new(b"AAA1")))
-    );
-    assert_eq!(rt;
-        (first.mag, first.shape),
-        (Some(20_250_000), Shape::Psv { mag: 2 })
-    );
-    assert_eq!(rt;
-        (first.band, first.mode, first.catalogue),
-        (word(b"V"), word(b"CCD"), word(b"Gaia3"))
-    );
-    assert_eq!(rt; (first.station, first.note1), (Short::new(b"703"), b' '));
-    assert_eq!(rt;
-        (third.mag, third.band, third.shape),
-        (None, Coded::Nothing, Shape::Psv { mag: 0 })
-    );
-    Ok(())
+fn reads_the_fields(rt: HostRuntime) {
+    let first = first_fields(rt.alloc());
+    assert_eq!(rt; first, Some([true; 5]));
+    let third = third_fields(rt.alloc());
+    assert_eq!(rt; third, Some(true));
 }
 
 /// Batches whose headers have a fault, which it is, and its line.
@@ -413,15 +509,19 @@ const FAULTY: [(&[u8], HeaderFault, u32); 32] = [
     (b"# version=2010\nra|dec|dec\n", HeaderFault::H1, 1),
 ];
 
+fn wrong_fault(alloc: Global) -> Option<usize> {
+    for (row, &(body, fault, line)) in FAULTY.iter().enumerate() {
+        if fault_of(alloc, body) != Some(PsvFault::Header { fault, line }) {
+            return Some(row);
+        }
+    }
+    None
+}
+
 #[test]
 fn finds_the_first_fault(rt: HostRuntime) {
-    for &(body, fault, line) in &FAULTY {
-        assert_eq!(rt;
-            said(rt.alloc(), &[body]).err(),
-            Some(PsvFault::Header { fault, line }),
-            "{body:?}"
-        );
-    }
+    let wrong = wrong_fault(rt.alloc());
+    expect_none_wrong(&rt, wrong);
 }
 
 /// Batches without a fault in their headers, and the numbers of their lines, 0 for none.
@@ -452,8 +552,8 @@ const SOUND: [(&[u8], [u32; 4]); 9] = [
     ),
 ];
 
-/// The numbers of the lines of a batch, 0 for none; none of them where it has a fault or more than four lines.
-fn numbers(said: &Result<Lines, PsvFault>) -> Option<[u32; 4]> {
+/// The numbers of the lines of what is said, 0 for none; none of them for a fault or more than four lines.
+fn numbers_in(said: &Result<Lines, PsvFault>) -> Option<[u32; 4]> {
     match said {
         Ok(lines) if lines.len() <= 4 => Some([
             number_at(lines, 0),
@@ -470,12 +570,24 @@ fn number_at(lines: &Lines, place: u64) -> u32 {
     lines.get(place).map_or(0, |line| line.number)
 }
 
+/// The numbers of the lines of a batch, 0 for none; none of them where it has a fault or more than four lines.
+fn numbers(alloc: Global, body: &[u8]) -> Option<[u32; 4]> {
+    numbers_in(&said(alloc, body))
+}
+
+fn wrong_numbers(alloc: Global) -> Option<usize> {
+    for (row, &(body, wanted)) in SOUND.iter().enumerate() {
+        if numbers(alloc, body) != Some(wanted) {
+            return Some(row);
+        }
+    }
+    None
+}
+
 #[test]
 fn passes_over_headers_and_blank_lines(rt: HostRuntime) {
-    for &(body, wanted) in &SOUND {
-        let found = numbers(&said(rt.alloc(), &[body]));
-        assert_eq!(rt; found, Some(wanted), "{body:?}");
-    }
+    let wrong = wrong_numbers(rt.alloc());
+    expect_none_wrong(&rt, wrong);
 }
 
 /// A batch of two headers with other columns.
@@ -489,14 +601,25 @@ ra|notes|dec| trkSub |astCat|stn|  mode|obsTime|remarks
 150.0|\xc8| -5.5 |AAA1 | Gaia3|703|CCD|2024-03-15T23:59:59.999Z|\xc8
 ";
 
+/// Whether the line in this place of that batch says what the first line of the batch above says.
+fn is_first_at(alloc: Global, place: u64) -> bool {
+    match sighting_at(alloc, TWO_HEADERS, place) {
+        Some(s) => is_first(&s),
+        None => false,
+    }
+}
+
 #[test]
 fn reads_each_line_below_its_columns(rt: HostRuntime) {
-    let lines = said(rt.alloc(), &[TWO_HEADERS]);
-    for place in 0..3 {
-        let found = sighting_at(&lines, place);
-        assert!(rt; found.is_some_and(|s| is_first(&s)), "line {place}");
-    }
-    assert_eq!(rt; numbers(&lines), Some([3, 7, 8, 0]));
+    let alloc = rt.alloc();
+    let found = [
+        is_first_at(alloc, 0),
+        is_first_at(alloc, 1),
+        is_first_at(alloc, 2),
+    ];
+    assert_eq!(rt; found, [true; 3]);
+    let numbers = numbers(alloc, TWO_HEADERS);
+    assert_eq!(rt; numbers, Some([3, 7, 8, 0]));
 }
 
 /// What is said of a batch that isn't long and comes in pieces of this size.
@@ -512,6 +635,11 @@ fn said_in_pieces(alloc: Global, body: &[u8], size: usize) -> Result<Lines, PsvF
         rest = behind;
     }
     reader.finish()
+}
+
+/// The fault of a batch that comes in pieces of this size; none where it has none.
+fn fault_in_pieces(alloc: Global, body: &[u8], size: usize) -> Option<PsvFault> {
+    said_in_pieces(alloc, body, size).err()
 }
 
 /// Whether the same is said.
@@ -533,29 +661,47 @@ const FED_BATCHES: [&[u8]; 4] = [
 
 /// Whether a batch says the same in pieces of this size as whole.
 fn is_same_in_pieces(alloc: Global, body: &[u8], size: usize) -> bool {
-    is_same(&said_in_pieces(alloc, body, size), &said(alloc, &[body]))
+    is_same(&said_in_pieces(alloc, body, size), &said(alloc, body))
+}
+
+/// Whether it says the same in pieces of 1, 2, 3 and 7 bytes.
+fn is_same_in_any_pieces(alloc: Global, body: &[u8]) -> bool {
+    for size in [1, 2, 3, 7] {
+        if !is_same_in_pieces(alloc, body, size) {
+            return false;
+        }
+    }
+    true
+}
+
+fn wrong_pieces(alloc: Global) -> Option<usize> {
+    for (row, &body) in FED_BATCHES.iter().enumerate() {
+        if !is_same_in_any_pieces(alloc, body) {
+            return Some(row);
+        }
+    }
+    None
 }
 
 #[test]
 fn says_the_same_in_any_pieces(rt: HostRuntime) {
-    for &body in &FED_BATCHES {
-        for size in [1, 2, 3, 7] {
-            let same = is_same_in_pieces(rt.alloc(), body, size);
-            assert!(rt; same, "{body:?} in pieces of {size}");
+    let wrong = wrong_pieces(rt.alloc());
+    expect_none_wrong(&rt, wrong);
+}
+
+fn wrong_fault_in_pieces(alloc: Global) -> Option<usize> {
+    for (row, &(body, fault, line)) in FAULTY.iter().enumerate() {
+        if fault_in_pieces(alloc, body, 3) != Some(PsvFault::Header { fault, line }) {
+            return Some(row);
         }
     }
+    None
 }
 
 #[test]
 fn finds_the_first_fault_in_any_pieces(rt: HostRuntime) {
-    for &(body, fault, line) in &FAULTY {
-        let fed = said_in_pieces(rt.alloc(), body, 3);
-        assert_eq!(rt;
-            fed.err(),
-            Some(PsvFault::Header { fault, line }),
-            "{body:?}"
-        );
-    }
+    let wrong = wrong_fault_in_pieces(rt.alloc());
+    expect_none_wrong(&rt, wrong);
 }
 
 /// The last line of a batch as it ends, its number and the rule that it breaks. A carriage return that no line feed
@@ -579,8 +725,8 @@ const ENDINGS: [(&[u8], Option<(u32, Option<RuleCode>)>); 4] = [
     ),
 ];
 
-/// The number of the only line of a batch that ends so, fed in two pieces, the second of which has so many bytes, and the
-/// rule that the line breaks.
+/// The number of the only line of a batch that ends so, fed in two pieces, the second of which has so many bytes, and
+/// the rule that the line breaks.
 fn rule_cut_apart(alloc: Global, end: &[u8], last: usize) -> Option<(u32, Option<RuleCode>)> {
     let mut reader = PsvReader::new(alloc).ok()?;
     reader
@@ -596,52 +742,92 @@ fn rule_cut_apart(alloc: Global, end: &[u8], last: usize) -> Option<(u32, Option
     Some((line.number, line.read.err()))
 }
 
+/// Whether that is so wherever the end is cut: before its last two bytes, its last byte, or behind it.
+fn is_ending(alloc: Global, end: &[u8], wanted: Option<(u32, Option<RuleCode>)>) -> bool {
+    for last in 0..3 {
+        if rule_cut_apart(alloc, end, last) != wanted {
+            return false;
+        }
+    }
+    true
+}
+
+fn wrong_ending(alloc: Global) -> Option<usize> {
+    for (row, &(end, wanted)) in ENDINGS.iter().enumerate() {
+        if !is_ending(alloc, end, wanted) {
+            return Some(row);
+        }
+    }
+    None
+}
+
 #[test]
 fn cuts_a_line_end_apart(rt: HostRuntime) {
-    for &(end, wanted) in &ENDINGS {
-        for last in 0..3 {
-            let found = rule_cut_apart(rt.alloc(), end, last);
-            assert_eq!(rt; found, wanted, "{end:?}, the last {last} bytes apart");
+    let wrong = wrong_ending(rt.alloc());
+    expect_none_wrong(&rt, wrong);
+}
+
+/// The faults that a new reader tells at the end of a text, at whose front nothing was wrong, and at a piece behind it.
+fn tell(reader: &mut PsvReader, front: &[u8], end: &[u8]) -> [Option<PsvFault>; 2]
+    requires new { reader.old ≡ unfed }
+    requires front { length front.now < 100 }
+    requires end { length end.now < 100 }
+{
+    if reader.feed(front).is_err() {
+        return [None; 2];
+    }
+    let Err(PsvFault::Header { fault, line }) = reader.feed(end) else {
+        return [None; 2];
+    };
+    let again = reader.feed(b"\n# version=2017\nra|dec\n").err();
+    [Some(PsvFault::Header { fault, line }), again]
+}
+
+/// The same, and the fault that the reader tells when it is finished.
+fn told(alloc: Global, front: &[u8], end: &[u8]) -> Option<[Option<PsvFault>; 3]> {
+    if front.len() > 99 || end.len() > 99 {
+        return None;
+    }
+    match PsvReader::new(alloc) {
+        Ok(new) => {
+            let mut reader = new;
+            let [at_end, behind] = tell(&mut reader, front, end);
+            Some([at_end, behind, reader.finish().err()])
         }
+        Err(_) => None,
     }
 }
 
-/// The faults that a reader tells at the end of a text, at a piece behind it, and when it is finished; nothing was wrong at
-/// the text's front.
-fn told(alloc: Global, front: &[u8], end: &[u8]) -> Result<[Option<PsvFault>; 3], PsvFault> {
-    if front.len() > 99 || end.len() > 99 {
-        return Ok([None; 3]);
+/// The front of a text, its end with a line feed, the fault that is told there, and its line.
+const TOLD: [(&[u8], &[u8], HeaderFault, u32); 4] = [
+    (b"# version=2010", b"\n# version=2017", HeaderFault::H1, 1),
+    (b"# version=2017\nra", b"\r\n", HeaderFault::H3, 2),
+    (
+        b"# version=2017\nra|dec\nx\n#\nra|dec|pos1",
+        b"\nx\n",
+        HeaderFault::H4,
+        5,
+    ),
+    (
+        b"# version=2017\n!\nra|dec|",
+        b"dec\n#\nra\n",
+        HeaderFault::H5,
+        3,
+    ),
+];
+
+fn wrong_told(alloc: Global) -> Option<usize> {
+    for (row, &(front, end, fault, line)) in TOLD.iter().enumerate() {
+        let fault = Some(PsvFault::Header { fault, line });
+        if told(alloc, front, end) != Some([fault; 3]) {
+            return Some(row);
+        }
     }
-    let mut reader = PsvReader::new(alloc)?;
-    reader.feed(front)?;
-    let Err(PsvFault::Header { fault, line }) = reader.feed(end) else {
-        return Ok([None; 3]);
-    };
-    let again = reader.feed(b"\n# version=2017\nra|dec\n").err();
-    let finished = reader.finish().err();
-    Ok([Some(PsvFault::Header { fault, line }), again, finished])
+    None
 }
 
 #[test]
 fn tells_a_fault_at_its_line_feed(rt: HostRuntime) {
-    let rows: [(&[u8], &[u8], HeaderFault, u32); 4] = [
-        (b"# version=2010", b"\n# version=2017", HeaderFault::H1, 1),
-        (b"# version=2017\nra", b"\r\n", HeaderFault::H3, 2),
-        (
-            b"# version=2017\nra|dec\nx\n#\nra|dec|pos1",
-            b"\nx\n",
-            HeaderFault::H4,
-            5,
-        ),
-        (
-            b"# version=2017\n!\nra|dec|",
-            b"dec\n#\nra\n",
-            HeaderFault::H5,
-            3,
-        ),
-    ];
-    for (front, end, fault, line) in rows {
-        let fault = Some(PsvFault::Header { fault, line });
-        assert_eq!(rt; told(rt.alloc(), front, end), Ok([fault; 3]), "{front:?}");
-    }
+    let wrong = wrong_told(rt.alloc());
+    expect_none_wrong(&rt, wrong);
 }

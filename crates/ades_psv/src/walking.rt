@@ -17,7 +17,7 @@ use text_lines::laws;
 use text_lines::lines::next_complete;
 
 /// How far a batch was read.
-#[derive(Drop)]
+#[derive(Debug, Drop)]
 pub(crate) struct Reached {
     /// Where the next line stands.
     pub(crate) place: Place,

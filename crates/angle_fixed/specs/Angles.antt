@@ -48,7 +48,8 @@ pub record Parts : Type 0 where
 -- the text of parts, with this many blanks behind
 unfoldable pub spelling : Parts → ℕ → List ℕ
 spelling p space =
-    digits_text Ten 2 p.whole ++ (32 ∷ (digits_text Ten 2 p.minute ++ (32 ∷ (digits_text Ten 2 p.second ++ (decimals_text p.count p.value ++ blanks space)))))
+    digits_text Ten 2 p.whole ++ (32 ∷ (digits_text Ten 2 p.minute
+    ++ (32 ∷ (digits_text Ten 2 p.second ++ (decimals_text p.count p.value ++ blanks space)))))
 
 -- the text is two digits of hours or degrees, of minutes and of seconds with a blank between them, then the decimals if
 -- there are any, then blanks
@@ -71,7 +72,8 @@ IsSpelledSigned p text = (rest : List ℕ) × (text ≡ sign_byte p.0 ∷ rest) 
 
 -- the value of parts is the sum of each times its unit; a decimal's unit is a tenth of the one before it
 abbrev pub sum_of_parts : ℕ → ℕ → ℕ → Parts → ℕ
-sum_of_parts whole minute second p = p.whole * whole + p.minute * minute + p.second * second + p.value * (second / 10 ^ p.count)
+sum_of_parts whole minute second p = p.whole * whole + p.minute * minute + p.second * second
+    + p.value * (second / 10 ^ p.count)
 
 -- the units of a right ascension
 unfoldable pub time_units : Parts → ℕ

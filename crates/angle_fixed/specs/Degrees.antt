@@ -1,6 +1,7 @@
 -- Right ascension and declination in degrees with decimals: what a text spells, what it is worth, and which answer of a
 -- reader is right.
-use Rattle.std.specs.Prelude.{◌≡◌, ℕ, ◌+◌, ◌-◌, ◌*◌, ◌/◌, ◌%◌, ◌^◌, ◌<◌, ◌≤◌, Bool, true, false, nat_lt, nat_le, ◌==◌, if◌then◌else◌, ◌⊎◌, ℤ, nat_abs, List, [], ◌∷◌, ◌++◌, Option, Some, Result, Ok, Err}
+use Rattle.std.specs.Prelude.{◌≡◌, ℕ, ◌+◌, ◌-◌, ◌*◌, ◌/◌, ◌%◌, ◌^◌, ◌<◌, ◌≤◌, Bool, true, false, nat_lt, nat_le, ◌==◌}
+use Rattle.std.specs.Prelude.{if◌then◌else◌, ◌⊎◌, ℤ, nat_abs, List, [], ◌∷◌, ◌++◌, Option, Some, Result, Ok, Err}
 use Rattle.ascii_text.specs.Blanks.{blanks}
 use Rattle.ascii_text.specs.Judged.{answer_of}
 use Rattle.ascii_text.specs.Reading.{◌>>=◌}
@@ -10,8 +11,8 @@ use Rattle.angle_fixed.specs.declared.fault.AngleFault.TheVariants.{Spelling, Ra
 use Rattle.angle_fixed.specs.Angles.{circle, degree, quarter, sign_byte, signed}
 use Rattle.angle_fixed.specs.Writing.{nearest, is_negative}
 
--- the text is a decimal number behind a sign, where the first of the pair says whether it is a minus; or without a sign,
--- which is no minus
+-- the text is a decimal number behind a sign, where the first of the pair says whether it is a minus; or without a
+-- sign, which is no minus
 abbrev pub IsSpelledSignedDegrees : ℕ → Bool × NumberParts → List ℕ → Type 0
 IsSpelledSignedDegrees most p text =
     ((rest : List ℕ) × (text ≡ sign_byte p.0 ∷ rest) × IsSpelledNumber most p.1 rest)
@@ -26,7 +27,8 @@ degree_units p = p.whole * degree + p.value * (degree / 10 ^ p.count)
 -- whether a minus stands at the front, and the text behind the sign; the sign may be left out
 unfoldable pub past_sign : List ℕ → Bool × List ℕ
 past_sign [] = (false, [])
-past_sign (byte ∷ text) = if byte == 43 then (false, text) else (if byte == 45 then (true, text) else (false, byte ∷ text))
+past_sign (byte ∷ text) = if byte == 43 then (false, text)
+    else (if byte == 45 then (true, text) else (false, byte ∷ text))
 
 -- the sign and the parts that a text spells
 unfoldable pub signed_degrees_at : ℕ → List ℕ → Option (Bool × NumberParts)
@@ -60,15 +62,16 @@ dec_degrees_of text = answer_of dec_degrees_answer Spelling (signed_degrees_at 2
 
 -- ---- which answer is right
 
--- A right ascension is what the text spells, where it has at most twelve decimals and is below 360 degrees. Where no parts
--- are spelled, the spelling is wrong; where there are more decimals, they are too many; where it is 360 degrees or more, it
--- is out of range.
+-- A right ascension is what the text spells, where it has at most twelve decimals and is below 360 degrees. Where no
+-- parts are spelled, the spelling is wrong; where there are more decimals, they are too many; where it is 360 degrees
+-- or more, it is out of range.
 abbrev pub ReadsRaDegrees : List ℕ → Result ℕ AngleFault → Type 0
 ReadsRaDegrees text (Ok units) =
     (p : NumberParts) × IsSpelledNumber 3 p text × (p.count ≤ 12) × (degree_units p < circle) × (units ≡ degree_units p)
 ReadsRaDegrees text (Err Spelling) = (p : NumberParts) → IsSpelledNumber 3 p text → ⊥
 ReadsRaDegrees text (Err Decimals) = (p : NumberParts) × IsSpelledNumber 3 p text × (12 < p.count)
-ReadsRaDegrees text (Err Range) = (p : NumberParts) × IsSpelledNumber 3 p text × (p.count ≤ 12) × (circle ≤ degree_units p)
+ReadsRaDegrees text (Err Range) = (p : NumberParts) × IsSpelledNumber 3 p text × (p.count ≤ 12)
+    × (circle ≤ degree_units p)
 
 -- A declination is what the text spells, with its sign, where it has at most twelve decimals and is at most 90 degrees
 -- either way. The faults are as above.
@@ -78,7 +81,8 @@ ReadsDecDegrees text (Ok units) =
     × (units ≡ signed p.0 (degree_units p.1))
 ReadsDecDegrees text (Err Spelling) = (p : Bool × NumberParts) → IsSpelledSignedDegrees 2 p text → ⊥
 ReadsDecDegrees text (Err Decimals) = (p : Bool × NumberParts) × IsSpelledSignedDegrees 2 p text × (12 < p.1.count)
-ReadsDecDegrees text (Err Range) = (p : Bool × NumberParts) × IsSpelledSignedDegrees 2 p text × (p.1.count ≤ 12) × (quarter < degree_units p.1)
+ReadsDecDegrees text (Err Range) = (p : Bool × NumberParts) × IsSpelledSignedDegrees 2 p text × (p.1.count ≤ 12)
+    × (quarter < degree_units p.1)
 
 -- ---- writing
 
@@ -112,7 +116,8 @@ ra_degrees_text units =
 unfoldable pub rounded_dec_degrees : ℤ → ℤ
 rounded_dec_degrees units = signed (is_negative units) (nearest (nat_abs units) twelfth_decimal * twelfth_decimal)
 
--- the written text of a declination, sixteen bytes: a minus exactly before a value below zero, two digits, twelve decimals
+-- the written text of a declination, sixteen bytes: a minus exactly before a value below zero, two digits, twelve
+-- decimals
 unfoldable pub dec_degrees_text : ℤ → List ℕ
 dec_degrees_text units =
     sign_byte (is_negative units) ∷ number_spelling (twelve_decimals 2 (nearest (nat_abs units) twelfth_decimal))

@@ -18,9 +18,11 @@ pub record AngleLaws : Type 0 where
   pub arc_only : (text : List ℕ) (other : Result (ℤ × ℕ × Bool) AngleFault) → ReadsArc text other
       → answer_of arc_answer Spelling (signed_parts_at text) ≡ other
   pub ra_degrees_reads : (text : List ℕ) → ReadsRaDegrees text (ra_degrees_of text)
-  pub ra_degrees_only : (text : List ℕ) (other : Result ℕ AngleFault) → ReadsRaDegrees text other → ra_degrees_of text ≡ other
+  pub ra_degrees_only : (text : List ℕ) (other : Result ℕ AngleFault) → ReadsRaDegrees text other → ra_degrees_of text
+      ≡ other
   pub dec_degrees_reads : (text : List ℕ) → ReadsDecDegrees text (dec_degrees_of text)
-  pub dec_degrees_only : (text : List ℕ) (other : Result ℤ AngleFault) → ReadsDecDegrees text other → dec_degrees_of text ≡ other
+  pub dec_degrees_only : (text : List ℕ) (other : Result ℤ AngleFault) → ReadsDecDegrees text other
+      → dec_degrees_of text ≡ other
   -- Twelve bytes that were read are written again, declinations with the minus that stood before zero.
   pub time_text_again : (text : List ℕ) (units count : ℕ) → length text ≡ 12 → ReadsTime text (Ok (units, count))
       → time_text units count ≡ text

@@ -1,5 +1,6 @@
 -- Reading sexagesimal texts, and the faults of what they spell.
-use Rattle.std.specs.Prelude.{ℕ, Bool, true, false, nat_lt, ◌||◌, ◌==◌, if◌then◌else◌, ℤ, List, [], ◌∷◌, Option, Some, None, Result, Ok, Err}
+use Rattle.std.specs.Prelude.{ℕ, Bool, true, false, nat_lt, ◌||◌, ◌==◌, if◌then◌else◌, ℤ, List, [], ◌∷◌, Option, Some}
+use Rattle.std.specs.Prelude.{None, Result, Ok, Err}
 use Rattle.ascii_text.specs.declared.digits.Radix.TheVariants.{Ten}
 use Rattle.ascii_text.specs.Blanks.{are_blanks}
 use Rattle.ascii_text.specs.Reading.{◌>>=◌, digits_at, behind, decimals_at}
@@ -17,7 +18,13 @@ parts_at text = do
   second ← digits_at Ten 2 seconds
   decimals ← decimals_at second.1
   if are_blanks decimals.1
-      then Some (record { whole = whole.0; minute = minute.0; second = second.0; count = decimals.0.0; value = decimals.0.1 })
+      then Some (record {
+        whole = whole.0;
+        minute = minute.0;
+        second = second.0;
+        count = decimals.0.0;
+        value = decimals.0.1;
+      })
       else None
 
 -- whether a sign is a minus, and the text behind it
@@ -36,7 +43,8 @@ signed_parts_at text = do
 abbrev pub past_sixty : Parts → Bool
 past_sixty p = nat_lt 59 p.minute || nat_lt 59 p.second
 
--- What spells a right ascension: more than three decimals are too many; then hours go up to 23, minutes and seconds up to
+-- What spells a right ascension: more than three decimals are too many; then hours go up to 23, minutes and seconds up
+-- to
 -- 59. It is given with the number of its decimals.
 unfoldable pub time_answer : Parts → Result (ℕ × ℕ) AngleFault
 time_answer p =
@@ -44,8 +52,8 @@ time_answer p =
     else (if nat_lt 23 p.whole || past_sixty p then Err Range
     else Ok (time_units p, p.count))
 
--- What spells a declination: more than two decimals are too many; then minutes and seconds go up to 59, and the value up
--- to 90 degrees either way. It is given with the number of its decimals, and whether a minus stands before it.
+-- What spells a declination: more than two decimals are too many; then minutes and seconds go up to 59, and the value
+-- up to 90 degrees either way. It is given with the number of its decimals, and whether a minus stands before it.
 unfoldable pub arc_answer : Bool × Parts → Result (ℤ × ℕ × Bool) AngleFault
 arc_answer p =
     if nat_lt 2 p.1.count then Err Decimals

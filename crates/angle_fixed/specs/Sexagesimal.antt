@@ -4,7 +4,13 @@ use Rattle.angle_fixed.specs.declared.reading.Sexagesimal.{Sexagesimal}
 use Rattle.angle_fixed.specs.Angles.{Parts}
 
 abbrev pub parts : Sexagesimal → Parts
-parts s = record { whole = s.whole; minute = s.minute; second = s.second; count = s.decimals.count; value = s.decimals.value }
+parts s = record {
+  whole = s.whole;
+  minute = s.minute;
+  second = s.second;
+  count = s.decimals.count;
+  value = s.decimals.value;
+}
 
 -- each part has two digits, and the decimals have as many as they say
 pub record IsBounded (s : Sexagesimal) : Type 0 where

@@ -1,5 +1,6 @@
 -- The written text of an angle: its value rounded to the last decimal, spelled with as many decimals.
-use Rattle.std.specs.Prelude.{ℕ, zero, suc, ◌+◌, ◌-◌, ◌*◌, ◌/◌, ◌%◌, ◌^◌, Bool, true, false, ◌==◌, if◌then◌else◌, ℤ, pos, negsuc, nat_abs, List, ◌∷◌}
+use Rattle.std.specs.Prelude.{ℕ, zero, suc, ◌+◌, ◌-◌, ◌*◌, ◌/◌, ◌%◌, ◌^◌, Bool, true, false, ◌==◌, if◌then◌else◌, ℤ}
+use Rattle.std.specs.Prelude.{pos, negsuc, nat_abs, List, ◌∷◌}
 use Rattle.ascii_text.specs.Digits.{decimals_width}
 use Rattle.angle_fixed.specs.Angles.{Parts, spelling, sign_byte, signed, circle, second_of_time, arcsecond}
 
@@ -30,7 +31,8 @@ rounded_time units count =
 -- the written text of a right ascension, twelve bytes
 unfoldable pub time_text : ℕ → ℕ → List ℕ
 time_text units count =
-    spelling (parts_of count (nearest units (last_unit second_of_time count) % (86400 * 10 ^ count))) (4 - decimals_width count)
+    spelling (parts_of count (nearest units (last_unit second_of_time count) % (86400 * 10 ^ count)))
+    (4 - decimals_width count)
 
 -- whether a number is below zero
 abbrev pub is_negative : ℤ → Bool
@@ -45,9 +47,11 @@ has_minus (pos (suc n)) minus = false
 
 -- a declination rounded to its last decimal, half away from zero
 unfoldable pub rounded_arc : ℤ → ℕ → ℤ
-rounded_arc units count = signed (is_negative units) (nearest (nat_abs units) (last_unit arcsecond count) * last_unit arcsecond count)
+rounded_arc units count = signed (is_negative units) (nearest (nat_abs units)
+    (last_unit arcsecond count) * last_unit arcsecond count)
 
 -- the written text of a declination, twelve bytes
 unfoldable pub arc_text : ℤ → ℕ → Bool → List ℕ
 arc_text units count minus =
-    sign_byte (has_minus units minus) ∷ spelling (parts_of count (nearest (nat_abs units) (last_unit arcsecond count))) (3 - decimals_width count)
+    sign_byte (has_minus units minus) ∷ spelling (parts_of count (nearest (nat_abs units) (last_unit arcsecond count)))
+    (3 - decimals_width count)

@@ -13,7 +13,8 @@ pub record IsBoundedDegrees (d : DecimalNumber) : Type 0 where
   pub value : d.decimals.value < 10 ^ d.decimals.count
 
 -- the answer to what was found
-abbrev pub found_answer : {V : Type 0} → (NumberParts → Result V AngleFault) → Option (Option NumberParts) → Result V AngleFault
+abbrev pub found_answer : {V : Type 0} → (NumberParts → Result V AngleFault) → Option (Option NumberParts)
+    → Result V AngleFault
 found_answer judge None = Err Spelling
 found_answer judge (Some None) = Err Decimals
 found_answer judge (Some (Some p)) = judge p

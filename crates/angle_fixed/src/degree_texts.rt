@@ -1,10 +1,12 @@
 //! Writing degrees with twelve decimals, without memory.
 
-ghost use Rattle.std.specs.Prelude.{◌≡◌, ◌+◌, ◌-◌, ◌*◌, ◌/◌, ◌%◌, ◌^◌, ◌<◌, ◌≤◌, ◌++◌, ℕ, List, Ok, length, nat_abs, slice_index};
+ghost use Rattle.std.specs.Prelude.{◌≡◌, ◌+◌, ◌-◌, ◌*◌, ◌/◌, ◌%◌, ◌^◌, ◌<◌, ◌≤◌, ◌++◌, ℕ, List, Ok, length, nat_abs};
+ghost use Rattle.std.specs.Prelude.{slice_index};
 ghost use Rattle.arrayvec.specs.ArrayVec.{array_vec_len};
 ghost use Rattle.ascii_text.specs.Blanks.{blanks, trimmed_end};
 ghost use Rattle.angle_fixed.specs.Angles.{circle, quarter, sign_byte};
-ghost use Rattle.angle_fixed.specs.Degrees.{ReadsDecDegrees, ReadsRaDegrees, dec_degrees_of, degree_units, ra_degrees_of};
+ghost use Rattle.angle_fixed.specs.Degrees.{ReadsDecDegrees, ReadsRaDegrees, dec_degrees_of, degree_units};
+ghost use Rattle.angle_fixed.specs.Degrees.{ra_degrees_of};
 ghost use Rattle.angle_fixed.specs.Degrees.{plain_digits, ra_steps, twelfth_decimal, twelve_decimals};
 ghost use Rattle.angle_fixed.specs.Degrees.{dec_degrees_text, ra_degrees_text, rounded_dec_degrees, rounded_ra_degrees};
 ghost use Rattle.ascii_text.specs.DecimalNumbers.{NumberParts, IsSpelledNumber, number_spelling};
@@ -128,13 +130,15 @@ fn dec_text(dec: Dec) -> [u8; 16]
     sixteen(&out)
 }
 
-/// Writes a right ascension in degrees: the whole degrees without leading zeros, a point and twelve decimals, and blanks
-/// up to sixteen bytes. The value is rounded half away from zero to the last decimal; 360 degrees are written as 0.
+/// Writes a right ascension in degrees: the whole degrees without leading zeros, a point and twelve decimals, and
+/// blanks up to sixteen bytes. The value is rounded half away from zero to the last decimal; 360 degrees are written as
+/// 0.
 pub fn write_ra_degrees(ra: Ra) -> [u8; 16]
     ensures exact { result ≡ ra_degrees_text ra }
     ensures read { ReadsRaDegrees (trimmed_end result) (Ok (rounded_ra_degrees ra)) }
     ensures value { ra_degrees_of (trimmed_end result) ≡ Ok (rounded_ra_degrees ra) }
-    ensures again { (p : NumberParts) (text : List ℕ) → IsSpelledNumber 3 p text → p.count ≡ 12 → p.digits ≡ plain_digits p.whole → degree_units p ≡ ra
+    ensures again { (p : NumberParts) (text : List ℕ) → IsSpelledNumber 3 p text → p.count ≡ 12
+        → p.digits ≡ plain_digits p.whole → degree_units p ≡ ra
         → result ≡ text ++ blanks (16 - length text) }
 {
     ascii_text::laws::texts();
@@ -148,7 +152,8 @@ pub fn write_dec_degrees(dec: Dec) -> [u8; 16]
     ensures exact { result ≡ dec_degrees_text dec }
     ensures read { ReadsDecDegrees result (Ok (rounded_dec_degrees dec)) }
     ensures value { dec_degrees_of result ≡ Ok (rounded_dec_degrees dec) }
-    ensures again { (text : List ℕ) → length text ≡ 16 → slice_index text 0 ≡ sign_byte (is_negative dec) → ReadsDecDegrees text (Ok dec)
+    ensures again { (text : List ℕ) → length text ≡ 16 → slice_index text 0 ≡ sign_byte (is_negative dec)
+        → ReadsDecDegrees text (Ok dec)
         → result ≡ text }
 {
     ascii_text::laws::texts();

@@ -23,7 +23,8 @@ const MOST_DECIMALS: usize = 12;
 // Degrees with so many digits before the point at most, and with twelve decimals at most.
 fn degrees(most: usize, text: &[u8]) -> Option<Option<DecimalNumber>>
     requires { most ≤ 3 }
-    ensures exact { option_map (λ found. option_map (λ d. number_parts d) found) result ≡ option_map (λ p. within 12 p) (number_parts_at most text.now) }
+    ensures exact { option_map (λ found. option_map (λ d. number_parts d) found) result
+        ≡ option_map (λ p. within 12 p) (number_parts_at most text.now) }
     ensures below { IfSome result (λ found. IfSome found (λ d. IsBoundedDegrees d)) }
 {
     decimal_number(most, MOST_DECIMALS, text)
@@ -75,7 +76,8 @@ fn past_sign(text: &[u8]) -> (bool, &[u8])
 }
 
 fn dec_degrees(text: &[u8]) -> Result<Dec, AngleFault>
-    ensures { let sign = past_sign text.now in result ≡ found_answer (λ p. dec_within (sign.0, p)) (option_map (λ p. within 12 p) (number_parts_at 2 sign.1)) }
+    ensures { let sign = past_sign text.now in result ≡ found_answer (λ p. dec_within (sign.0, p))
+        (option_map (λ p. within 12 p) (number_parts_at 2 sign.1)) }
 {
     let (minus, rest) = past_sign(text);
     let Some(found) = degrees(2, rest) else {
@@ -94,8 +96,12 @@ fn dec_degrees(text: &[u8]) -> Result<Dec, AngleFault>
 /// Reads a right ascension in degrees, as the field `ra` of ADES has it: 1 to 3 digits, or these, a point and 1 to 12
 /// decimals. Leading zeros may be among the digits, and nothing else stands in the text, which may be of any length.
 ///
-/// The fault is `Spelling` where the text has another shape, whatever the number of decimals; else `Decimals` where they
-/// are more than twelve; else `Range` where the value is 360 degrees or more.
+/// The fault is `Spelling` where the text has another shape, whatever the number of decimals; else `Decimals` where
+/// they are more than twelve; else `Range` where the value is 360 degrees or more.
+///
+/// # Errors
+///
+/// The first of `Spelling`, `Decimals` and `Range` that the text gives cause for.
 pub fn read_ra_degrees(text: &[u8]) -> Result<Ra, AngleFault>
     ensures exact { result ≡ ra_degrees_of text.now }
     ensures answer { ReadsRaDegrees text.now result }
@@ -105,12 +111,16 @@ pub fn read_ra_degrees(text: &[u8]) -> Result<Ra, AngleFault>
     ra_degrees(text)
 }
 
-/// Reads a declination in degrees, as the field `dec` of ADES has it: `+`, `-` or no sign, then 1 or 2 digits, or these,
-/// a point and 1 to 12 decimals. Leading zeros may be among the digits, and nothing else stands in the text, which may be
-/// of any length.
+/// Reads a declination in degrees, as the field `dec` of ADES has it: `+`, `-` or no sign, then 1 or 2 digits, or
+/// these, a point and 1 to 12 decimals. Leading zeros may be among the digits, and nothing else stands in the text,
+/// which may be of any length.
 ///
-/// The fault is `Spelling` where the text has another shape, whatever the number of decimals; else `Decimals` where they
-/// are more than twelve; else `Range` where the value is over 90 degrees either way.
+/// The fault is `Spelling` where the text has another shape, whatever the number of decimals; else `Decimals` where
+/// they are more than twelve; else `Range` where the value is over 90 degrees either way.
+///
+/// # Errors
+///
+/// The first of `Spelling`, `Decimals` and `Range` that the text gives cause for.
 pub fn read_dec_degrees(text: &[u8]) -> Result<Dec, AngleFault>
     ensures exact { result ≡ dec_degrees_of text.now }
     ensures answer { ReadsDecDegrees text.now result }

@@ -1,3 +1,5 @@
+//! Why a text is no angle.
+
 /// Why a text is no angle. Where several hold, the first in the order Spelling, Decimals, Range is answered.
 #[derive(Clone, Copy, Debug, PartialEq, Eq)]
 pub enum AngleFault {

@@ -12,7 +12,8 @@ ghost use Rattle.angle_fixed.specs.Laws.{AngleLaws};
 pub fn half_a_step()
     ensures above { (value step : ℕ) → 0 < step → 2 * (nearest value step * step) ≤ 2 * value + step }
     ensures below { (value step : ℕ) → 0 < step → 2 * value < 2 * (nearest value step * step) + step }
-    ensures only { (value step n : ℕ) → 0 < step → 2 * (n * step) ≤ 2 * value + step → 2 * value < 2 * (n * step) + step → n ≡ nearest value step }
+    ensures only { (value step n : ℕ) → 0 < step → 2 * (n * step) ≤ 2 * value + step
+        → 2 * value < 2 * (n * step) + step → n ≡ nearest value step }
 {}
 
 /// Each text of an angle has one right answer, and what was read is written again.

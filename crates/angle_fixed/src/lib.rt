@@ -1,5 +1,5 @@
-//! Right ascensions and declinations in exact units; the sexagesimal texts of the Minor Planet Center's 80-column records,
-//! and the texts in degrees with decimals of ADES, the IAU's Astrometry Data Exchange Standard.
+//! Right ascensions and declinations in exact units; the sexagesimal texts of the Minor Planet Center's 80-column
+//! records, and the texts in degrees with decimals of ADES, the IAU's Astrometry Data Exchange Standard.
 #![tactic(auto)]
 
 mod angle;

@@ -165,11 +165,15 @@ fn dms(text: &[u8]) -> Result<(Dec, u8, bool), AngleFault>
     arc_answer(minus, s)
 }
 
-/// Reads a right ascension as columns 33-44 of an 80-column record have it: `HH MM SS`, or `HH MM SS.d` with up to three
-/// decimals, then blanks. Gives it with the number of its decimals.
+/// Reads a right ascension as columns 33-44 of an 80-column record have it: `HH MM SS`, or `HH MM SS.d` with up to
+/// three decimals, then blanks. Gives it with the number of its decimals.
 ///
-/// The fault is `Spelling` where the text has another shape, whatever the number of decimals; else `Decimals` where they
-/// are more than three; else `Range` where hours are past 23, or minutes or seconds past 59.
+/// The fault is `Spelling` where the text has another shape, whatever the number of decimals; else `Decimals` where
+/// they are more than three; else `Range` where hours are past 23, or minutes or seconds past 59.
+///
+/// # Errors
+///
+/// The first of `Spelling`, `Decimals` and `Range` that the text gives cause for.
 pub fn read_hms(text: &[u8; 12]) -> Result<(Ra, u8), AngleFault>
     ensures exact { result ≡ answer_of time_answer AngleFault.Spelling (parts_at text.now) }
     ensures answer { ReadsTime text.now result }
@@ -179,11 +183,16 @@ pub fn read_hms(text: &[u8; 12]) -> Result<(Ra, u8), AngleFault>
     hms(text)
 }
 
-/// Reads a declination as columns 45-56 of an 80-column record have it: a sign, then `DD MM SS`, or `DD MM SS.d` with up
-/// to two decimals, then blanks. Gives it with the number of its decimals, and whether a minus stood before it.
+/// Reads a declination as columns 45-56 of an 80-column record have it: a sign, then `DD MM SS`, or `DD MM SS.d` with
+/// up to two decimals, then blanks. Gives it with the number of its decimals, and whether a minus stood before it.
 ///
-/// The fault is `Spelling` where the text has another shape, whatever the number of decimals; else `Decimals` where they
-/// are more than two; else `Range` where minutes or seconds are past 59, or the value is over 90 degrees either way.
+/// The fault is `Spelling` where the text has another shape, whatever the number of decimals; else `Decimals` where
+/// they are more than two; else `Range` where minutes or seconds are past 59, or the value is over 90 degrees either
+/// way.
+///
+/// # Errors
+///
+/// The first of `Spelling`, `Decimals` and `Range` that the text gives cause for.
 pub fn read_dms(text: &[u8; 12]) -> Result<(Dec, u8, bool), AngleFault>
     ensures exact { result ≡ answer_of arc_answer AngleFault.Spelling (signed_parts_at text.now) }
     ensures answer { ReadsArc text.now result }

@@ -6,7 +6,8 @@ ghost use Rattle.ascii_text.specs.Digits.{decimals_width};
 ghost use Rattle.angle_fixed.specs.Angles.{arcsecond, circle, quarter, second_of_time, sign_byte, spelling};
 ghost use Rattle.angle_fixed.specs.Answer.{ReadsTime, ReadsArc};
 ghost use Rattle.angle_fixed.specs.Sexagesimal.{parts, IsBounded};
-ghost use Rattle.angle_fixed.specs.Writing.{nearest, last_unit, parts_of, rounded_time, time_text, has_minus, rounded_arc, arc_text};
+ghost use Rattle.angle_fixed.specs.Writing.{nearest, last_unit, parts_of, rounded_time, time_text, has_minus};
+ghost use Rattle.angle_fixed.specs.Writing.{rounded_arc, arc_text};
 
 use crate::angle::{Dec, Ra};
 use crate::reading::Sexagesimal;
@@ -51,7 +52,8 @@ fn put_parts(out: &mut ArrayVec<u8, 12>, s: Sexagesimal)
     requires room { array_vec_len out.old + decimals_width s.decimals.count ≤ 4 }
     requires few { s.decimals.count ≤ 3 }
     requires bounded { IsBounded s }
-    ensures text { out.new.items ≡ out.old.items ++ spelling (parts s) (4 - (array_vec_len out.old + decimals_width s.decimals.count)) }
+    ensures text { out.new.items ≡ out.old.items ++ spelling (parts s)
+        (4 - (array_vec_len out.old + decimals_width s.decimals.count)) }
     ensures len { array_vec_len out.new ≡ 12 }
 {
     put_digits(out, Radix::Ten, 2, s.whole);
@@ -162,9 +164,10 @@ pub fn write_hms(ra: Ra, decimals: u8) -> [u8; 12]
     time_text(ra, decimals)
 }
 
-/// Writes a declination as columns 45-56 of an 80-column record have it: a sign, `DD MM SS`, a point and the decimals if
-/// there are any, at most two, and blanks. The value is rounded half away from zero to the last decimal, and carried into
-/// arcseconds, arcminutes and degrees. The sign is `-` exactly where the value is negative, or where it is zero and
+/// Writes a declination as columns 45-56 of an 80-column record have it: a sign, `DD MM SS`, a point and the decimals
+/// if there are any, at most two, and blanks. The value is rounded half away from zero to the last decimal, and carried
+/// into arcseconds, arcminutes and degrees. The sign is `-` exactly where the value is negative, or where it is zero
+/// and
 /// `minus` is true.
 pub fn write_dms(dec: Dec, decimals: u8, minus: bool) -> [u8; 12]
     requires { decimals ≤ 2 }

@@ -1,5 +1,6 @@
 -- Blanks, the bytes 32.
-use Rattle.std.specs.Prelude.{◌≡◌, ◌≢◌, ◌-◌, ◌++◌, length, slice_index, ℕ, Bool, if◌then◌else◌, ◌==◌, List, [], ◌∷◌, replicate, reverse}
+use Rattle.std.specs.Prelude.{◌≡◌, ◌≢◌, ◌-◌, ◌++◌, length, slice_index, ℕ, Bool, if◌then◌else◌, ◌==◌, List, [], ◌∷◌}
+use Rattle.std.specs.Prelude.{replicate, reverse}
 use Rattle.std.specs.List.{list_all}
 
 -- this many blanks

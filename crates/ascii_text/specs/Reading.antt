@@ -1,5 +1,6 @@
 -- Reading from the front of a text: a reader gives a value and the text behind it, or nothing.
-use Rattle.std.specs.Prelude.{◌≡◌, refl, ℕ, zero, suc, ◌+◌, ◌-◌, ◌*◌, nat_lt, nat_le, ◌==◌, ◌&&◌, ◌||◌, if◌then◌else◌, slice_index, List, [], ◌∷◌, Option, Some, None}
+use Rattle.std.specs.Prelude.{◌≡◌, refl, ℕ, zero, suc, ◌+◌, ◌-◌, ◌*◌, nat_lt, nat_le, ◌==◌, ◌&&◌, ◌||◌, if◌then◌else◌}
+use Rattle.std.specs.Prelude.{slice_index, List, [], ◌∷◌, Option, Some, None}
 use Rattle.std.specs.Char.{is_ascii_digit}
 use Rattle.std.specs.List.{prefix_len}
 use Rattle.ascii_text.specs.declared.digits.Radix.{Radix}
@@ -12,9 +13,10 @@ abbrev pub ◌>>=◌ : {A B : Type 0} → Option A → (A → Option B) → Opti
 (Some x) >>= f = f x
 None >>= f = None
 
--- where the steps give something, the first gave something too, and the next steps give this of it; a clause can't range
--- over all types, so this law stands beside its word
-pub bind_some : {A B : Type 0} (o : Option A) (f : A → Option B) (y : B) → (o >>= f) ≡ Some y → (x : A) × (o ≡ Some x) × (f x ≡ Some y)
+-- where the steps give something, the first gave something too, and the next steps give this of it; a clause can't
+-- range over all types, so this law stands beside its word
+pub bind_some : {A B : Type 0} (o : Option A) (f : A → Option B) (y : B) → (o >>= f) ≡ Some y → (x : A) × (o ≡ Some x)
+    × (f x ≡ Some y)
 bind_some (Some x) f y e = (x, refl, e)
 bind_some None f y e = absurd cc
 
@@ -83,5 +85,6 @@ decimals_within most text = decimals_at text >>= at_most most
 -- a number without leading zeros: all the decimal digits at the front, which are at most this many
 unfoldable pub number_at : ℕ → List ℕ → Option (ℕ × List ℕ)
 number_at most text =
-    if (digit_run text == 0) || (nat_lt most (digit_run text) || (nat_lt 1 (digit_run text) && (slice_index text 0 == 48))) then None
+    if (digit_run text == 0) || (nat_lt most (digit_run text)
+    || (nat_lt 1 (digit_run text) && (slice_index text 0 == 48))) then None
     else digits_at Ten (digit_run text) text

@@ -1,4 +1,5 @@
-//! What holds of the texts themselves, whoever reads or writes them. Each function does nothing: its contract is the law.
+//! What holds of the texts themselves, whoever reads or writes them. Each function does nothing: its contract is the
+//! law.
 
 ghost use Rattle.ascii_text.specs.Laws.{TextLaws};
 

@@ -37,9 +37,11 @@ fn whole_front(most: usize, text: &[u8]) -> Option<(usize, u64, &[u8])>
 fn number_within(most: usize, few: usize, text: &[u8]) -> Option<Option<DecimalNumber>>
     requires most { most ≤ 18 }
     requires few { few ≤ 18 }
-    ensures exact { option_map (λ found. option_map (λ n. number_parts n) found) result ≡ number_within most few text.now }
+    ensures exact { option_map (λ found. option_map (λ n. number_parts n) found) result
+        ≡ number_within most few text.now }
     ensures whole { IfSome result (λ found. IfSome found (λ n. (n.digits ≤ most) × (n.whole < 10 ^ n.digits))) }
-    ensures decimals { IfSome result (λ found. IfSome found (λ n. (n.decimals.count ≤ few) × (n.decimals.value < 10 ^ n.decimals.count))) }
+    ensures decimals { IfSome result (λ found. IfSome found
+        (λ n. (n.decimals.count ≤ few) × (n.decimals.value < 10 ^ n.decimals.count))) }
 {
     let (digits, whole, rest) = whole_front(most, text)?;
     let (decimals, rest) = decimals_within(few, rest)?;
@@ -56,15 +58,17 @@ fn number_within(most: usize, few: usize, text: &[u8]) -> Option<Option<DecimalN
     }))
 }
 
-/// The decimal number that the whole text is: 1 to `most` digits, then a point and one decimal or more, or nothing. None
-/// where the text has another shape; `None` in the number's place where it has more than `few` decimals. Both are at most
-/// 18.
+/// The decimal number that the whole text is: 1 to `most` digits, then a point and one decimal or more, or nothing.
+/// None where the text has another shape; `None` in the number's place where it has more than `few` decimals. Both are
+/// at most 18.
 pub fn decimal_number(most: usize, few: usize, text: &[u8]) -> Option<Option<DecimalNumber>>
     requires most { most ≤ 18 }
     requires few { few ≤ 18 }
-    ensures exact { option_map (λ found. option_map (λ n. number_parts n) found) result ≡ option_map (λ p. within few p) (number_parts_at most text.now) }
+    ensures exact { option_map (λ found. option_map (λ n. number_parts n) found) result
+        ≡ option_map (λ p. within few p) (number_parts_at most text.now) }
     ensures whole { IfSome result (λ found. IfSome found (λ n. (n.digits ≤ most) × (n.whole < 10 ^ n.digits))) }
-    ensures decimals { IfSome result (λ found. IfSome found (λ n. (n.decimals.count ≤ few) × (n.decimals.value < 10 ^ n.decimals.count))) }
+    ensures decimals { IfSome result (λ found. IfSome found
+        (λ n. (n.decimals.count ≤ few) × (n.decimals.value < 10 ^ n.decimals.count))) }
 {
     number_within(most, few, text)
 }

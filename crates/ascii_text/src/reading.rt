@@ -3,7 +3,8 @@
 ghost use Rattle.std.specs.Prelude.{◌≡◌, ◌+◌, ◌^◌, ◌<◌, ◌≤◌, length, drop, Some, IfSome, option_map};
 ghost use Rattle.ascii_text.specs.Digits.{base};
 ghost use Rattle.ascii_text.specs.declared.digits.Radix.TheVariants as radixes;
-ghost use Rattle.ascii_text.specs.Reading.{decimals_within, run_within, digit_at, digits_at, behind, digit_run, run_at, decimals_at, number_at};
+ghost use Rattle.ascii_text.specs.Reading.{decimals_within, run_within, digit_at, digits_at, behind, digit_run, run_at};
+ghost use Rattle.ascii_text.specs.Reading.{decimals_at, number_at};
 
 use crate::digits::{Radix, base_of, digit_of};
 
@@ -24,8 +25,8 @@ fn digit_front(radix: Radix, text: &[u8]) -> Option<(u64, &[u8])>
 }
 
 /// The number that the first `count` bytes spell as digits of the radix, and the text behind them; `None` where fewer
-/// bytes stand there, or one of them is no digit. The radix to the power of `count` is at most 2^63: at most 18 digits of
-/// the radix ten.
+/// bytes stand there, or one of them is no digit. The radix to the power of `count` is at most 2^63: at most 18 digits
+/// of the radix ten.
 pub fn digits_at(radix: Radix, count: usize, text: &[u8]) -> Option<(u64, &[u8])>
     requires { base radix ^ count ≤ 2 ^ 63 }
     ensures exact { option_map (λ x. (x.0, x.1.now)) result ≡ digits_at radix count text.now }
@@ -72,7 +73,8 @@ pub struct Decimals {
     pub value: u64,
 }
 
-/// The decimal digits at the front of a text, at most so many of them, and the text behind them. Each byte is looked at once.
+/// The decimal digits at the front of a text, at most so many of them, and the text behind them. Each byte is looked at
+/// once.
 pub(crate) fn digits_front(most: usize, text: &[u8]) -> (Decimals, &[u8])
     requires { most ≤ 18 }
     ensures value { Some (result.0.value, result.1.now) ≡ digits_at radixes.Ten result.0.count text.now }
@@ -131,7 +133,8 @@ pub fn decimals_at(text: &[u8]) -> Option<(Decimals, &[u8])>
 #[tactic(auto, unfolding(crate::specs::Reading::run_at))]
 fn run_within(most: usize, text: &[u8]) -> Option<(Option<Decimals>, &[u8])>
     requires { most ≤ 18 }
-    ensures exact { option_map (λ x. (option_map (λ d. (d.count, d.value)) x.0, x.1.now)) result ≡ run_within most text.now }
+    ensures exact { option_map (λ x. (option_map (λ d. (d.count, d.value)) x.0, x.1.now)) result
+        ≡ run_within most text.now }
     ensures below { IfSome result (λ x. IfSome x.0 (λ d. (d.count ≤ most) × (d.value < 10 ^ d.count))) }
     ensures rest { IfSome result (λ x. length x.1.now ≤ length text.now) }
 {
@@ -151,7 +154,8 @@ fn run_within(most: usize, text: &[u8]) -> Option<(Option<Decimals>, &[u8])>
 #[tactic(auto, unfolding(crate::specs::Reading::decimals_at, crate::specs::Reading::decimals_within))]
 pub fn decimals_within(most: usize, text: &[u8]) -> Option<(Option<Decimals>, &[u8])>
     requires { most ≤ 18 }
-    ensures exact { option_map (λ x. (option_map (λ d. (d.count, d.value)) x.0, x.1.now)) result ≡ decimals_within most text.now }
+    ensures exact { option_map (λ x. (option_map (λ d. (d.count, d.value)) x.0, x.1.now)) result
+        ≡ decimals_within most text.now }
     ensures below { IfSome result (λ x. IfSome x.0 (λ d. (d.count ≤ most) × (d.value < 10 ^ d.count))) }
     ensures rest { IfSome result (λ x. length x.1.now ≤ length text.now) }
 {

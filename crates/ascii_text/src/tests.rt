@@ -45,7 +45,8 @@ fn reads(rt: HostRuntime) {
     }
 }
 
-// A right ascension of ADES in degrees has at most three digits before its point, and this office takes twelve decimals.
+// A right ascension of ADES in degrees has at most three digits before its point, and this office takes twelve
+// decimals.
 #[test]
 fn reads_decimal_numbers(rt: HostRuntime) {
     for (text, found) in [

@@ -1,5 +1,7 @@
 -- Groups of observations by their keys, and what their lines in the order of time say of a group.
-use Rattle.std.specs.Prelude.{◌≤◌, ℤ, pos, ◌+ℤ◌, ◌-ℤ◌, ◌*◌, unsigned_abs, Bool, true, false, ◌&&◌, ◌||◌, nat_lt, int_lt, List, [], ◌∷◌, count_by, Option, Some, None, is_none, filter, Result, Ok, Err, if◌then◌else◌}
+use Rattle.std.specs.Prelude.{◌≤◌, ℤ, pos, ◌+ℤ◌, ◌-ℤ◌, ◌*◌, unsigned_abs, Bool, true, false, ◌&&◌, ◌||◌, nat_lt, int_lt}
+use Rattle.std.specs.Prelude.{List, [], ◌∷◌, count_by, Option, Some, None, is_none, filter, Result, Ok, Err}
+use Rattle.std.specs.Prelude.{if◌then◌else◌}
 use Rattle.std.specs.Ordering.{int_eq}
 use Rattle.packed_names.specs.Order.{survey_place}
 use Rattle.packed_names.specs.declared.name.Designation.TheVariants as designations

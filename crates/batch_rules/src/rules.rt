@@ -6,7 +6,8 @@ ghost use Rattle.obs_time.specs.Dates.{day_of};
 ghost use Rattle.obs_time.specs.Calendar.{year_of};
 ghost use Rattle.act_model.specs.Rows.{first_row};
 ghost use Rattle.act_model.specs.Ruling.{is_in_row, station_serving};
-ghost use Rattle.act_model.specs.BatchRules.{is_in_years, is_ungiven, names_ungiven, stands_already, stands_elsewhere, object_of, are_two, is_of_two_objects, line_rules};
+ghost use Rattle.act_model.specs.BatchRules.{is_in_years, is_ungiven, names_ungiven, stands_already, stands_elsewhere};
+ghost use Rattle.act_model.specs.BatchRules.{object_of, are_two, is_of_two_objects, line_rules};
 
 use crate::earlier::Earlier;
 use crate::names::{designation_of, number_of, same_designation};

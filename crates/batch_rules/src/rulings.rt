@@ -1,3 +1,5 @@
+//! The rulings on all lines of a batch.
+
 ghost use Rattle.std.specs.Prelude.{◌≡◌, length};
 
 use act_model::Ruling;

@@ -4,13 +4,12 @@ ghost use Rattle.batch_rules.specs.Memory.{order_of_2024, memory_office};
 use super::*;
 use act_model::Known;
 use angle_fixed::{Dec, Ra};
-use item_list::{ItemList, NoMemory};
+use item_list::ItemList;
 use obs_record::{Coded, Line, Lines, RuleCode, Shape, Short, Sighting};
 use obs_time::Instant;
 use packed_names::{Designation, HalfMonth, Name, Number, Provisional};
 use station_tables::Tables;
-use std::alloc::{AllocError, Global};
-use std::test::Fail;
+use std::alloc::Global;
 
 const DAY: i64 = 86_400_000_000_000;
 
@@ -111,41 +110,80 @@ fn seen(who: Who, station: &[u8], time: i64, dec: i64) -> Option<Sighting> {
 // A line of a batch: who, where, when, at which declination, and the rule that it breaks.
 type Row = (Who, &'static [u8], i64, i64, Option<RuleCode>);
 
-fn lines(alloc: Global, rows: &[Row]) -> Result<Lines, NoMemory> {
-    let mut lines = ItemList::new(alloc);
-    for (who, station, time, dec, _fault) in rows {
-        let Some(s) = seen(*who, station, *time, *dec) else {
-            return Err(AllocError);
-        };
-        lines.push(Line {
-            number: 1,
-            read: Ok(s),
-        })?;
+fn add(lines: &mut Lines, row: &Row) -> bool {
+    let (who, station, time, dec, _fault) = *row;
+    match seen(who, station, time, dec) {
+        Some(s) => {
+            let line = Line {
+                number: 1,
+                read: Ok(s),
+            };
+            lines.push(line).is_ok()
+        }
+        None => false,
     }
-    Ok(lines)
 }
 
-fn tables(alloc: Global) -> Result<Tables, NoMemory> {
-    let mut tables = Tables::new(alloc)?;
-    for code in [*b"703", *b"W84"] {
-        if tables.overlaps(code, FROM, TO) {
-            return Err(AllocError);
+fn lines(alloc: Global, rows: &[Row]) -> Option<Lines> {
+    let mut lines = ItemList::new(alloc);
+    for row in rows {
+        if !add(&mut lines, row) {
+            return None;
         }
-        tables = tables.with_station(code, FROM, TO)?;
     }
-    Ok(tables)
+    Some(lines)
+}
+
+// Enters a station that serves on all days; false where it has days already or memory was refused.
+fn enter(tables: &mut Tables, code: [u8; 3]) -> bool {
+    if tables.overlaps(code, FROM, TO) {
+        return false;
+    }
+    match tables.with_station(code, FROM, TO) {
+        Ok(more) => {
+            *tables = more;
+            true
+        }
+        Err(_) => false,
+    }
+}
+
+// Tables with two stations.
+fn tables(alloc: Global) -> Option<Tables> {
+    let mut tables = Tables::new(alloc).ok()?;
+    let done = enter(&mut tables, *b"703") && enter(&mut tables, *b"W84");
+    done.then_some(tables)
+}
+
+// The rulings on a batch that comes at this moment.
+fn ruled(alloc: Global, tables: &Tables, moment: Instant, batch: &Lines) -> Option<Rulings> {
+    judge(alloc, tables, &Office, moment, batch).ok()
+}
+
+// The rulings on the lines of a batch that comes at this moment.
+fn rulings_on(alloc: Global, tables: &Tables, moment: Instant, rows: &[Row]) -> Option<Rulings> {
+    match lines(alloc, rows) {
+        Some(batch) => ruled(alloc, tables, moment, &batch),
+        None => None,
+    }
+}
+
+// Whether the rulings find the faults beside the lines.
+fn are_wanted(rulings: &[Ruling], rows: &[Row]) -> bool {
+    for (ruling, row) in rulings.iter().zip(rows) {
+        if ruling.fault != row.4 {
+            return false;
+        }
+    }
+    rulings.len() == rows.len()
 }
 
 // Whether the lines break the rules beside them, in a batch that comes at this moment.
-fn breaks(alloc: Global, tables: &Tables, moment: Instant, rows: &[Row]) -> Result<bool, NoMemory> {
-    let batch = lines(alloc, rows)?;
-    let rulings = judge(alloc, tables, &Office, moment, &batch)?;
-    let same = rulings
-        .as_slice()
-        .iter()
-        .zip(rows)
-        .all(|(ruling, row)| ruling.fault == row.4);
-    Ok(same && rulings.len() == rows.len() as u64)
+fn breaks(alloc: Global, tables: &Tables, moment: Instant, rows: &[Row]) -> bool {
+    match rulings_on(alloc, tables, moment, rows) {
+        Some(rulings) => are_wanted(rulings.as_slice(), rows),
+        None => false,
+    }
 }
 
 const A: Who = Who::Sub(b'A');
@@ -232,41 +270,72 @@ const BATCHES: &[&[Row]] = &[
     &[(A, b"W85", NIGHT, 0, Some(RuleCode::T1))],
 ];
 
-#[test]
-fn rules_at_their_edges(rt: HostRuntime) -> Result<(), Fail> {
-    let tables = tables(rt.alloc())?;
-    let moment = Instant::new(FROM_2100 + DAY);
+// The first batch whose lines break other rules than those beside them, counted from 0; None where there is none.
+fn wrong_batch(alloc: Global, tables: &Tables, moment: Instant) -> Option<usize> {
     for (place, rows) in BATCHES.iter().enumerate() {
-        if let Some(moment) = moment {
-            assert!(rt; breaks(rt.alloc(), &tables, moment, rows)?, "batch {place}");
+        if !breaks(alloc, tables, moment, rows) {
+            return Some(place);
         }
     }
-    Ok(())
+    None
+}
+
+// The same over tables with two stations; None where memory was refused.
+fn found_wrong(alloc: Global) -> Option<Option<usize>> {
+    let moment = Instant::new(FROM_2100 + DAY)?;
+    match tables(alloc) {
+        Some(tables) => Some(wrong_batch(alloc, &tables, moment)),
+        None => None,
+    }
+}
+
+#[test]
+fn rules_at_their_edges(rt: HostRuntime) {
+    let wrong = found_wrong(rt.alloc());
+    assert_eq!(rt; wrong, Some(None));
 }
 
 // Groups that alternate, with a refused line before them.
-fn groups(alloc: Global, tables: &Tables) -> Result<(u32, [Option<u32>; 4]), NoMemory> {
-    let rows = [
-        (Who::Order(3), S703, NIGHT, 0, None),
-        (Who::Order(2), S703, NIGHT, 1, None),
-        (Who::Order(1), S703, NIGHT, 2, None),
-        (Who::Order(2), S703, NIGHT + 1, 1, None),
-    ];
-    let batch = lines(alloc, &rows)?;
-    let Some(moment) = Instant::new(FROM_2100) else {
-        return Err(AllocError);
-    };
-    let rulings = judge(alloc, tables, &Office, moment, &batch)?;
-    let of = |place: usize| rulings.as_slice().get(place).map(|ruling| ruling.group);
-    Ok((rulings.groups(), [of(0), of(1), of(2), of(3)]))
+const ALTERNATING: [Row; 4] = [
+    (Who::Order(3), S703, NIGHT, 0, None),
+    (Who::Order(2), S703, NIGHT, 1, None),
+    (Who::Order(1), S703, NIGHT, 2, None),
+    (Who::Order(2), S703, NIGHT + 1, 1, None),
+];
+
+fn group_at(rulings: &[Ruling], place: usize) -> Option<u32> {
+    rulings.get(place).map(|ruling| ruling.group)
+}
+
+// The groups of the first four lines.
+fn first_groups(rulings: &[Ruling]) -> [Option<u32>; 4] {
+    [
+        group_at(rulings, 0),
+        group_at(rulings, 1),
+        group_at(rulings, 2),
+        group_at(rulings, 3),
+    ]
+}
+
+// How many groups those lines have, and the group of each.
+fn groups_over(tables: &Tables, alloc: Global, moment: Instant) -> Option<(u32, [Option<u32>; 4])> {
+    match rulings_on(alloc, tables, moment, &ALTERNATING) {
+        Some(rulings) => Some((rulings.groups(), first_groups(rulings.as_slice()))),
+        None => None,
+    }
+}
+
+// The same over tables with two stations; None where memory was refused.
+fn groups(alloc: Global) -> Option<(u32, [Option<u32>; 4])> {
+    let moment = Instant::new(FROM_2100)?;
+    match tables(alloc) {
+        Some(tables) => groups_over(&tables, alloc, moment),
+        None => None,
+    }
 }
 
 #[test]
-fn groups_by_their_first_accepted_lines(rt: HostRuntime) -> Result<(), Fail> {
-    let tables = tables(rt.alloc())?;
-    assert_eq!(rt;
-        groups(rt.alloc(), &tables)?,
-        (2, [Some(0), Some(0), Some(1), Some(0)])
-    );
-    Ok(())
+fn groups_by_their_first_accepted_lines(rt: HostRuntime) {
+    let found = groups(rt.alloc());
+    assert_eq!(rt; found, Some((2, [Some(0), Some(0), Some(1), Some(0)])));
 }

@@ -14,10 +14,11 @@ use Rattle.act_model.specs.Holdings.{holdings}
 use Rattle.act_model.specs.Shelves.{has_no_home}
 use Rattle.act_model.specs.Tallies.{tally, tally_text}
 use Rattle.act_model.specs.Texts.{line_of}
-use Rattle.act_model.specs.Catalogue.{in_object, object_head, also_line, object_line, in_track, has_live, track_head_line, track_line}
+use Rattle.act_model.specs.Catalogue.{in_object, object_head, also_line, object_line, in_track, has_live}
+use Rattle.act_model.specs.Catalogue.{track_head_line, track_line}
 
--- what is written at one go: the lines at the front; the head of an object, the line of one of its designations, the line
--- of one of its observations; the head of a tracklet, the line of one of its observations; the last line
+-- what is written at one go: the lines at the front; the head of an object, the line of one of its designations, the
+-- line of one of its observations; the head of a tracklet, the line of one of its observations; the last line
 pub data Piece : Type 0 where
   Front : Piece
   ObjectHead : Designation → Piece

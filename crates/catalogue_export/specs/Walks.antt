@@ -10,7 +10,8 @@ use Rattle.act_model.specs.Shelves.{numbers_to}
 use Rattle.catalogue_export.specs.declared.walk.Stage.{Stage}
 use Rattle.catalogue_export.specs.declared.walk.Stage.TheVariants as stages
 use Rattle.catalogue_export.specs.declared.walk.Walk.{Walk}
-use Rattle.catalogue_export.specs.Pieces.{Piece, Front, ObjectName, ObjectLine, TrackLine, End, piece_text, object_pieces, track_pieces}
+use Rattle.catalogue_export.specs.Pieces.{Piece, Front, ObjectName, ObjectLine, TrackLine, End, piece_text}
+use Rattle.catalogue_export.specs.Pieces.{object_pieces, track_pieces}
 
 -- what comes behind the tracklet with this number
 abbrev pub tracks_after : List Deed → ℕ → List Piece

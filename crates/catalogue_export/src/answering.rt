@@ -1,3 +1,5 @@
+//! The answers to queries.
+
 ghost use Rattle.std.specs.Prelude.{◌≡◌, ℕ, List, Result, Ok, Err, IfOk};
 ghost use Rattle.act_model.specs.Queries.{IsReadQuery};
 ghost use Rattle.act_model.specs.Rows.{IsDue};

@@ -20,7 +20,7 @@ pub const PAGE_BYTES: usize = 4096;
 /// Contracts see what is still to come of it (`to_come` of the crate's definitions): over the same history, the pages
 /// that were handed out and what is still to come are the whole catalogue. It keeps its place in the office, so that no
 /// page costs a walk over what went before.
-#[derive(Drop)]
+#[derive(Debug, Drop)]
 pub struct Pages {
     /// Bytes of the catalogue that were made, those of the last pages at the front.
     made: Bytes,

@@ -55,7 +55,7 @@ pub(crate) enum Stage {
 }
 
 /// A walk: where it stands, and the lists that it took from the office on its way.
-#[derive(Drop)]
+#[derive(Debug, Drop)]
 pub(crate) struct Walk {
     /// The principal designations of the office, from the first object on.
     principals: Names,

@@ -1,5 +1,6 @@
 -- The lines of a batch.
-use Rattle.std.specs.Prelude.{◌≡◌, ℕ, Bool, ◌&&◌, ◌||◌, ◌==◌, nat_eq, if◌then◌else◌, List, [], ◌∷◌, length, map, slice_index, codes}
+use Rattle.std.specs.Prelude.{◌≡◌, ℕ, Bool, ◌&&◌, ◌||◌, ◌==◌, nat_eq, if◌then◌else◌, List, [], ◌∷◌, length, map}
+use Rattle.std.specs.Prelude.{slice_index, codes}
 use Rattle.std.specs.List.{list_any, starts_with}
 use Rattle.ascii_text.specs.Bytes.{blank}
 use Rattle.ascii_text.specs.Blanks.{are_blanks}
@@ -16,7 +17,8 @@ header_words =
 
 -- the line begins with this word, and a blank or the line's end follows it
 abbrev pub begins_with_word : List ℕ → List ℕ → Bool
-begins_with_word word line = starts_with nat_eq line word && (length line == length word || slice_index line (length word) == blank)
+begins_with_word word line = starts_with nat_eq line word
+    && (length line == length word || slice_index line (length word) == blank)
 
 -- a header line
 unfoldable pub is_header_line : List ℕ → Bool

@@ -1,5 +1,6 @@
 -- The text of an observation as a line of 80 columns.
-use Rattle.std.specs.Prelude.{◌≡◌, ℕ, ◌-◌, ◌/◌, ◌%◌, ◌^◌, min, Bool, true, false, List, [], ◌∷◌, ◌++◌, length, take, Option, Some, None, Contains}
+use Rattle.std.specs.Prelude.{◌≡◌, ℕ, ◌-◌, ◌/◌, ◌%◌, ◌^◌, min, Bool, true, false, List, [], ◌∷◌, ◌++◌, length, take}
+use Rattle.std.specs.Prelude.{Option, Some, None, Contains}
 use Rattle.ascii_text.specs.Digits.{decimals_text, decimals_width}
 use Rattle.ascii_text.specs.Bytes.{blank, asterisk}
 use Rattle.ascii_text.specs.Blanks.{blanks}
@@ -19,10 +20,16 @@ use Rattle.col80_format.specs.Columns.{columns}
 use Rattle.obs_record.specs.Modes.{refused_modes}
 use Rattle.col80_format.specs.Magnitudes.{whole_text}
 
--- The decimals with which an observation is written: those that an 80-column line came with; else 6 of the day, 3 of the
--- second, 2 of the arcsecond, and as many of the magnitude as it came with, at most 2.
+-- The decimals with which an observation is written: those that an 80-column line came with; else 6 of the day, 3 of
+-- the second, 2 of the arcsecond, and as many of the magnitude as it came with, at most 2.
 abbrev pub form_of : Shape → Form
-form_of (Eighty date ra dec minus mag) = record { days = date; seconds = ra; arcseconds = dec; minus = minus; places = mag }
+form_of (Eighty date ra dec minus mag) = record {
+  days = date;
+  seconds = ra;
+  arcseconds = dec;
+  minus = minus;
+  places = mag;
+}
 form_of (Psv mag) = record { days = 6; seconds = 3; arcseconds = 2; minus = false; places = min mag 2 }
 
 -- note 1: that of an 80-column line, and a blank for a line of another form
@@ -48,7 +55,8 @@ steps_of places mag = nearest mag (10 ^ (6 - places))
 unfoldable pub magnitude_text : ℕ → Option ℕ → List ℕ
 magnitude_text places None = blanks 5
 magnitude_text places (Some mag) =
-    whole_text (steps_of places mag / 10 ^ places) ++ decimals_text places (steps_of places mag % 10 ^ places) ++ blanks (3 - decimals_width places)
+    whole_text (steps_of places mag / 10 ^ places) ++ decimals_text places (steps_of places mag % 10 ^ places)
+    ++ blanks (3 - decimals_width places)
 
 -- columns 1 to 15
 abbrev pub front_text : Sighting → Front → Letters → List ℕ
@@ -62,20 +70,23 @@ angles_text s form = time_text s.ra form.seconds ++ arc_text s.dec form.arcsecon
 -- columns 57 to 80: nine blanks, the magnitude, the letters of band and catalogue, five blanks, the station
 abbrev pub back_text : Sighting → Form → Letters → List ℕ
 back_text s form letters =
-    blanks 9 ++ magnitude_text form.places s.mag ++ (letters.band ∷ letters.catalogue ∷ []) ++ blanks 5 ++ take 3 s.station.bytes
+    blanks 9 ++ magnitude_text form.places s.mag ++ (letters.band ∷ letters.catalogue ∷ []) ++ blanks 5
+    ++ take 3 s.station.bytes
 
 -- the line
 unfoldable pub line_text : Sighting → Front → Letters → List ℕ
 line_text s front letters =
     front_text s front letters
-    ++ (day_text_of s.time (form_of s.shape).days ++ (angles_text s (form_of s.shape) ++ back_text s (form_of s.shape) letters))
+    ++ (day_text_of s.time (form_of s.shape).days ++ (angles_text s (form_of s.shape)
+    ++ back_text s (form_of s.shape) letters))
 
 -- what makes it right: columns 16 to 32 are the text of the time, and the others are as they are
 pub record IsLineText (s : Sighting) (front : Front) (letters : Letters) (text : List ℕ) : Type 0 where
   pub day : List ℕ
   pub day_long : length day ≡ 17
   pub day_is : IsTextOf s.time (form_of s.shape).days day
-  pub text_is : text ≡ front_text s front letters ++ (day ++ (angles_text s (form_of s.shape) ++ back_text s (form_of s.shape) letters))
+  pub text_is : text ≡ front_text s front letters ++ (day
+      ++ (angles_text s (form_of s.shape) ++ back_text s (form_of s.shape) letters))
 
 -- the letters are printed, and the mode's is none of those of refused records
 pub record AreLetters (letters : Letters) : Type 0 where

@@ -1,5 +1,6 @@
 -- The magnitude in columns 66 to 70, in units of 0.000001.
-use Rattle.std.specs.Prelude.{◌≡◌, ℕ, ◌^◌, ◌<◌, ◌≤◌, nat_lt, nat_le, ◌&&◌, ◌==◌, if◌then◌else◌, List, [], ◌∷◌, ◌++◌, Option, Some, None, Result, Ok, Err}
+use Rattle.std.specs.Prelude.{◌≡◌, ℕ, ◌^◌, ◌<◌, ◌≤◌, nat_lt, nat_le, ◌&&◌, ◌==◌, if◌then◌else◌, List, [], ◌∷◌, ◌++◌}
+use Rattle.std.specs.Prelude.{Option, Some, None, Result, Ok, Err}
 use Rattle.ascii_text.specs.declared.digits.Radix.TheVariants.{Ten}
 use Rattle.ascii_text.specs.Digits.{digits_text, decimals_text}
 use Rattle.ascii_text.specs.Bytes.{blank}
@@ -31,7 +32,8 @@ pub record SpellsMagnitude (written : WrittenMagnitude) (text : List ℕ) : Type
 abbrev pub IsMagnitudeText : List ℕ → Option ℕ → ℕ → Type 0
 IsMagnitudeText text None count = (text ≡ blanks 5) × (count ≡ 0)
 IsMagnitudeText text (Some mag) count =
-    (written : WrittenMagnitude) × SpellsMagnitude written text × (mag ≡ magnitude_of written.whole written.count written.decimals) × (count ≡ written.count)
+    (written : WrittenMagnitude) × SpellsMagnitude written text
+    × (mag ≡ magnitude_of written.whole written.count written.decimals) × (count ≡ written.count)
 
 -- ---- reading it
 
@@ -47,7 +49,8 @@ unfoldable pub written_in : List ℕ → Option WrittenMagnitude
 written_in text = do
   whole ← whole_at text
   decimals ← decimals_at whole.1
-  if nat_le decimals.0.0 2 && are_blanks decimals.1 then Some (record { whole = whole.0; count = decimals.0.0; decimals = decimals.0.1 }) else None
+  if nat_le decimals.0.0 2 && are_blanks decimals.1 then Some
+      (record { whole = whole.0; count = decimals.0.0; decimals = decimals.0.1 }) else None
 
 abbrev pub magnitude_from : Option WrittenMagnitude → Result (Option ℕ × ℕ) RuleCode
 magnitude_from (Some written) = Ok (Some (magnitude_of written.whole written.count written.decimals), written.count)

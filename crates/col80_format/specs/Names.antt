@@ -1,5 +1,6 @@
 -- The names in columns 1 to 12.
-use Rattle.std.specs.Prelude.{◌≡◌, ◌≢◌, ℕ, ◌≤◌, Bool, not, ◌&&◌, ◌==◌, if◌then◌else◌, List, length, All, Option, Some, None, Result, Ok, Err}
+use Rattle.std.specs.Prelude.{◌≡◌, ◌≢◌, ℕ, ◌≤◌, Bool, not, ◌&&◌, ◌==◌, if◌then◌else◌, List, length, All, Option, Some}
+use Rattle.std.specs.Prelude.{None, Result, Ok, Err}
 use Rattle.std.specs.List.{list_all}
 use Rattle.ascii_text.specs.Bytes.{blank, vertical_bar}
 use Rattle.ascii_text.specs.Blanks.{blanks, are_blanks, trimmed, IsTrimmed}

@@ -44,7 +44,15 @@ position_of line = do
   time ← or_breaks S5 (day_fraction_of (columns 16 32 line))
   ra ← or_breaks S6 (right_ascension_of (columns 33 44 line))
   dec ← or_breaks S7 (declination_of (columns 45 56 line))
-  Ok (record { time = time.0; days = time.1; ra = ra.0; seconds = ra.1; dec = dec.0; arcseconds = dec.1; minus = dec.2 })
+  Ok (record {
+    time = time.0;
+    days = time.1;
+    ra = ra.0;
+    seconds = ra.1;
+    dec = dec.0;
+    arcseconds = dec.1;
+    minus = dec.2;
+  })
 
 -- columns 57 to 70: rules S8 and S9
 unfoldable pub tail_of : List ℕ → Result (Option ℕ × ℕ) RuleCode

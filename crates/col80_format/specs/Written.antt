@@ -3,4 +3,8 @@ use Rattle.col80_format.specs.declared.magnitude.Written.{Written}
 use Rattle.col80_format.specs.Magnitudes.{WrittenMagnitude}
 
 abbrev pub written : Written → WrittenMagnitude
-written magnitude = record { whole = magnitude.whole; count = magnitude.decimals.count; decimals = magnitude.decimals.value }
+written magnitude = record {
+  whole = magnitude.whole;
+  count = magnitude.decimals.count;
+  decimals = magnitude.decimals.value;
+}

@@ -19,7 +19,7 @@ const HEADER_WORDS: [[u8; 3]; 11] = [
 ];
 
 /// What was seen of a batch so far.
-#[derive(Drop)]
+#[derive(Debug, Drop)]
 pub(crate) struct Seen {
     /// The number of the next line.
     pub(crate) next: u32,

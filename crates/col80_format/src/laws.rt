@@ -12,7 +12,8 @@ ghost use Rattle.col80_format.specs.Feeding.{none_seen, seen_all};
 /// A line has one reading, and no two.
 pub fn one_reading()
     ensures some { (line : List ℕ) → (reading : Result Sighting RuleCode) × IsReading line reading }
-    ensures only { (line : List ℕ) (one other : Result Sighting RuleCode) → IsReading line one → IsReading line other → one ≡ other }
+    ensures only { (line : List ℕ) (one other : Result Sighting RuleCode) → IsReading line one → IsReading line other
+        → one ≡ other }
 {
     ascii_text::laws::texts();
     angle_fixed::laws::angles();

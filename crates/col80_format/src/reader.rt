@@ -18,7 +18,7 @@ use text_lines::pieces::line_end;
 ///
 /// It keeps the last line, which isn't finished, the number of the next line, whether an observation line came, and the
 /// lines that it read. It is seen as how far the batch was read; `progress_of` says which text came.
-#[derive(Drop)]
+#[derive(Debug, Drop)]
 pub struct EightyReader {
     alloc: Global,
     rest: Bytes,
@@ -68,7 +68,8 @@ impl EightyReader {
         // All that was fed is short enough, this piece included.
         requires { (text : List ℕ) × (self.old ≡ progress_of text) × IsNumberable (text ++ piece.now) }
         // The piece follows what was fed before.
-        ensures fed { (text : List ℕ) → self.old ≡ progress_of text → OnOk result (self.new ≡ progress_of (text ++ piece.now)) }
+        ensures fed { (text : List ℕ) → self.old ≡ progress_of text
+            → OnOk result (self.new ≡ progress_of (text ++ piece.now)) }
         ensures no_memory { OnErr result (self.new ≡ self.old) }
     {
         text_lines::laws::lines();
@@ -97,7 +98,8 @@ impl EightyReader {
     pub fn finish(self) -> Result<Lines, NoMemory>
         ensures exact { (text : List ℕ) → self ≡ progress_of text → IfOk result (λ found. found ≡ lines_of text) }
         // Each observation line stands there in its place, with the reading of its columns.
-        ensures lines { (text : List ℕ) → self ≡ progress_of text → IfOk result (λ found. AllZip IsReadFrom (observation_lines text) found) }
+        ensures lines { (text : List ℕ) → self ≡ progress_of text
+            → IfOk result (λ found. AllZip IsReadFrom (observation_lines text) found) }
         ensures range { IfOk result AreInRange }
     {
         text_lines::laws::lines();
@@ -114,10 +116,11 @@ impl EightyReader {
     }
 }
 
-/// Reads the lines that the piece ends, and keeps the rest of it. Where memory is refused, more may stand after what was
-/// kept.
+/// Reads the lines that the piece ends, and keeps the rest of it. Where memory is refused, more may stand after what
+/// was kept.
 fn read_on(alloc: Global, rest: &mut Bytes, seen: &mut Seen, piece: &[u8]) -> Result<(), NoMemory>
-    requires { (text : List ℕ) × (record { rest = rest.old; seen = seen.old } ≡ progress_of text) × IsNumberable (text ++ piece.now) }
+    requires { (text : List ℕ) × (record { rest = rest.old; seen = seen.old } ≡ progress_of text)
+        × IsNumberable (text ++ piece.now) }
     ensures progress { (text : List ℕ) → record { rest = rest.old; seen = seen.old } ≡ progress_of text
         → OnOk result (record { rest = rest.new; seen = seen.new } ≡ progress_of (text ++ piece.now)) }
     ensures rest { OnErr result (take (length rest.old) rest.new ≡ rest.old) }

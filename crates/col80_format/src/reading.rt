@@ -158,6 +158,10 @@ fn reading(line: &[u8]) -> Result<Sighting, RuleCode>
 /// What an 80-column line says: the observation, or the first rule of S1 to S9 that the line breaks.
 ///
 /// The rules are tested in their order, S1 to S9; other rules aren't answered. Takes no memory.
+///
+/// # Errors
+///
+/// The first rule of S1 to S9 that the line breaks.
 pub fn read_line(line: &[u8]) -> Result<Sighting, RuleCode>
     ensures exact { result ≡ reading_of line.now }
     // The observation is that of the columns; or the rule is the first that the line breaks.

@@ -1,6 +1,7 @@
 //! Writing lines.
 
-ghost use Rattle.std.specs.Prelude.{◌≡◌, ℕ, ◌+◌, ◌-◌, ◌*◌, ◌/◌, ◌^◌, ◌<◌, ◌≤◌, List, [], ◌∷◌, ◌++◌, length, take, Ok, All, IfSome};
+ghost use Rattle.std.specs.Prelude.{◌≡◌, ℕ, ◌+◌, ◌-◌, ◌*◌, ◌/◌, ◌^◌, ◌<◌, ◌≤◌, List, [], ◌∷◌, ◌++◌, length, take, Ok};
+ghost use Rattle.std.specs.Prelude.{All, IfSome};
 ghost use Rattle.arrayvec.specs.ArrayVec.{array_vec_len};
 ghost use Rattle.packed_names.specs.Ranges.{IsNumber};
 ghost use Rattle.obs_record.specs.Sighting.{IsPrintable, IsShape, places_of};
@@ -8,7 +9,9 @@ ghost use Rattle.obs_record.specs.Magnitudes.{greatest_magnitude, HasDecimals};
 ghost use Rattle.col80_format.specs.Columns.{column};
 ghost use Rattle.col80_format.specs.Magnitudes.{whole_text};
 ghost use Rattle.col80_format.specs.Rules.{IsReading};
-ghost use Rattle.col80_format.specs.LineText.{number_text, star_byte, steps_of, magnitude_text, front_text, angles_text, back_text, form_of, line_text, IsLineText, AreLetters, IsSameLine};
+ghost use Rattle.col80_format.specs.LineText.{number_text, star_byte, steps_of, magnitude_text, front_text};
+ghost use Rattle.col80_format.specs.LineText.{angles_text, back_text, form_of, line_text, IsLineText, AreLetters};
+ghost use Rattle.col80_format.specs.LineText.{IsSameLine};
 
 use crate::form::{Form, form_of, note_of};
 use angle_fixed::{write_dms, write_hms};
@@ -188,15 +191,15 @@ fn put_back(out: &mut Text, s: &Sighting, form: Form, letters: Letters)
 /// Writes an observation as a line of 80 columns.
 ///
 /// Columns 1 to 13 are those of `front`, columns 15, 71 and 72 those of `letters`; columns 57 to 65 and 73 to 77 are
-/// blank. An observation that came in 80 columns keeps its note 1 and the decimals that it came with, and a minus before
-/// a declination of zero; another has a blank for note 1, 6 decimals of the day, 3 of the second, 2 of the arcsecond, and
-/// as many of the magnitude as it came with, at most 2. Each number is rounded to its last decimal, halves away from
-/// zero, and carried: right ascension that reaches 24 hours is written as 0, and a time that reaches the day's end goes
-/// into the next day. Takes no memory.
+/// blank. An observation that came in 80 columns keeps its note 1 and the decimals that it came with, and a minus
+/// before a declination of zero; another has a blank for note 1, 6 decimals of the day, 3 of the second, 2 of the
+/// arcsecond, and as many of the magnitude as it came with, at most 2. Each number is rounded to its last decimal,
+/// halves away from zero, and carried: right ascension that reaches 24 hours is written as 0, and a time that reaches
+/// the day's end goes into the next day. Takes no memory.
 ///
-/// The observation's magnitude and decimals are such as an observation may have, and its station has 3 bytes; the number is
-/// 1 to 15,396,335; name and letters are printable, and the mode isn't one of the six letters of records that this office
-/// doesn't take.
+/// The observation's magnitude and decimals are such as an observation may have, and its station has 3 bytes; the
+/// number is 1 to 15,396,335; name and letters are printable, and the mode isn't one of the six letters of records that
+/// this office doesn't take.
 pub fn write_line(s: &Sighting, front: Front, letters: Letters) -> [u8; 80]
     requires shape { IsShape s.now.shape }
     requires magnitude { IfSome s.now.mag (λ mag. mag ≤ greatest_magnitude) }
@@ -208,7 +211,8 @@ pub fn write_line(s: &Sighting, front: Front, letters: Letters) -> [u8; 80]
     ensures exact { result ≡ line_text s.now front letters }
     ensures text { IsLineText s.now front letters result }
     // A line that was read is written again as it was, but for the columns that aren't kept.
-    ensures again { (line : List ℕ) → IsReading line (Ok s.now) → letters.mode ≡ column 15 line → letters.band ≡ column 71 line
+    ensures again { (line : List ℕ) → IsReading line (Ok s.now) → letters.mode ≡ column 15 line
+        → letters.band ≡ column 71 line
         → IsSameLine result line }
     // No other text is right.
     ensures only { (other : List ℕ) → IsLineText s.now front letters other → other ≡ result }

@@ -1,5 +1,6 @@
 -- Options: a name and a value, as one word `--name=value` or as two words `--name value`.
-use Rattle.std.specs.Prelude.{ℕ, ◌+◌, Bool, false, ◌==◌, ◌&&◌, bytes_eq, if◌then◌else◌, position, List, [], ◌∷◌, take, drop, Option, Some, None, option_map}
+use Rattle.std.specs.Prelude.{ℕ, ◌+◌, Bool, false, ◌==◌, ◌&&◌, bytes_eq, if◌then◌else◌, position, List, [], ◌∷◌, take}
+use Rattle.std.specs.Prelude.{drop, Option, Some, None, option_map}
 use Rattle.ascii_text.specs.Reading.{◌>>=◌}
 
 -- the name and the value of an option

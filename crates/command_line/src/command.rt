@@ -1,7 +1,8 @@
 //! The commands that words name.
 
 ghost use Rattle.std.specs.Prelude.{◌≡◌, IfSome};
-ghost use Rattle.command_line.specs.Commands.{run_of, serve_of, export_of, workload_of, command_named, command_of, IsInRange};
+ghost use Rattle.command_line.specs.Commands.{run_of, serve_of, export_of, workload_of, command_named, command_of};
+ghost use Rattle.command_line.specs.Commands.{IsInRange};
 
 use crate::keys::founder_key;
 use crate::numbers::number_in;

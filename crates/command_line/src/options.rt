@@ -1,7 +1,8 @@
 //! Options: a name and a value, as one word `--name=value` or as two words `--name value`.
 
 ghost use Rattle.std.specs.Prelude.{◌≡◌, ◌<◌, ◌==◌, IfSome, length, option_map, position};
-ghost use Rattle.command_line.specs.Options.{begins_with_hyphen, in_one_word, in_two_words, option_at, last_option, value_of, one_value, values_of, two_values};
+ghost use Rattle.command_line.specs.Options.{begins_with_hyphen, in_one_word, in_two_words, option_at, last_option};
+ghost use Rattle.command_line.specs.Options.{value_of, one_value, values_of, two_values};
 
 use item_list::Bytes;
 

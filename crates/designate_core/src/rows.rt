@@ -19,7 +19,7 @@ use std::marker::Model;
 /// on, to at most its limit.
 ///
 /// Contracts see the list of all takes, the newest first, and for how many more takes memory is there.
-#[derive(Drop)]
+#[derive(Debug, Drop)]
 pub struct Rows {
     taken: Vec<Taken>,
     counts: OrderedList<Count>,

@@ -47,7 +47,8 @@ pub record IsFrame (f : Frame) : Type 0 where
   pub verb : IsVerb f.verb
   pub body : length f.body < 10 ^ LENGTH_DIGITS
 
--- the bytes of a frame before what follows it: key, blank, number, blank, verb, blank, length of the body, line feed, body
+-- the bytes of a frame before what follows it: key, blank, number, blank, verb, blank, length of the body, line feed,
+-- body
 abbrev pub framed : Frame → List ℕ → List ℕ
 framed f rest =
     f.key ++ 32 ∷ (decimal f.number ++ 32 ∷ (f.verb ++ 32 ∷ (decimal (length f.body) ++ 10 ∷ (f.body ++ rest))))

@@ -1,5 +1,6 @@
 -- What a reader of the bytes that have come so far says of the part of a head at their front.
-use Rattle.std.specs.Prelude.{◌≡◌, ◌≢◌, ℕ, ◌+◌, ◌-◌, ◌*◌, ◌≤◌, List, [], ◌∷◌, ◌++◌, length, drop, Result, Ok, Err, decimal}
+use Rattle.std.specs.Prelude.{◌≡◌, ◌≢◌, ℕ, ◌+◌, ◌-◌, ◌*◌, ◌≤◌, List, [], ◌∷◌, ◌++◌, length, drop, Result, Ok, Err}
+use Rattle.std.specs.Prelude.{decimal}
 use Rattle.std.specs.List.{AllByRecursion}
 use Rattle.desk_frames.specs.declared.parts.Unread.{Unread}
 use Rattle.desk_frames.specs.declared.parts.Unread.TheVariants as unread
@@ -26,7 +27,8 @@ Fails good spelled bytes unread.Part = Lacks good spelled bytes × Begins good s
 Fails good spelled bytes unread.Bad = (more : List ℕ) → Lacks good spelled (bytes ++ more)
 
 -- a part is read with the bytes behind it where it stands at the front, and otherwise it is said why it isn't
-abbrev pub Reads : {V X : Type 0} → (V → Type 0) → (V → List ℕ → List ℕ) → (X → V × List ℕ) → List ℕ → Result X Unread → Type 0
+abbrev pub Reads : {V X : Type 0} → (V → Type 0) → (V → List ℕ → List ℕ) → (X → V × List ℕ) → List ℕ → Result X Unread
+    → Type 0
 Reads good spelled view bytes (Ok x) = good (view x).0 × (bytes ≡ spelled (view x).0 (view x).1)
 Reads good spelled view bytes (Err e) = Fails good spelled bytes e
 
@@ -50,11 +52,13 @@ pub record IsBegun (IsOfClass : ℕ → Type 0) (most : ℕ) (bytes : List ℕ) 
 -- why a field of bytes of one class isn't read
 abbrev pub FailsToken : (ℕ → Type 0) → ℕ → ℕ → List ℕ → Unread → Type 0
 FailsToken IsOfClass most stop bytes unread.Part = IsBegun IsOfClass most bytes
-FailsToken IsOfClass most stop bytes unread.Bad = (more : List ℕ) → Lacks (IsToken IsOfClass most) (stopped stop) (bytes ++ more)
+FailsToken IsOfClass most stop bytes unread.Bad = (more : List ℕ)
+    → Lacks (IsToken IsOfClass most) (stopped stop) (bytes ++ more)
 
 -- a field of bytes of one class, up to the byte that ends it
 abbrev pub ReadsToken : {X : Type 0} → (ℕ → Type 0) → ℕ → ℕ → (X → List ℕ × List ℕ) → List ℕ → Result X Unread → Type 0
-ReadsToken IsOfClass most stop view bytes (Ok x) = IsToken IsOfClass most (view x).0 × (bytes ≡ stopped stop (view x).0 (view x).1)
+ReadsToken IsOfClass most stop view bytes (Ok x) = IsToken IsOfClass most (view x).0
+    × (bytes ≡ stopped stop (view x).0 (view x).1)
 ReadsToken IsOfClass most stop view bytes (Err e) = FailsToken IsOfClass most stop bytes e
 
 -- a number's text before the byte that ends it

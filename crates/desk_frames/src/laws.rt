@@ -4,7 +4,8 @@
 ghost use Rattle.std.specs.Prelude.{◌≡◌, ◌≢◌, ◌+◌, ◌<◌, ◌≤◌, ℕ, List, [], ◌∷◌, ◌++◌, length, take, drop};
 ghost use Rattle.std.specs.List.{AllByRecursion};
 ghost use Rattle.desk_frames.specs.Reading.{IsHeadAt};
-ghost use Rattle.desk_frames.specs.Frames.{Frame, IsFrame, framed, streamed, NoFrame, NeverFrame, IsSession, reached, HeadParts, IsHead, headed, head_of, frame_of, NoHead};
+ghost use Rattle.desk_frames.specs.Frames.{Frame, IsFrame, framed, streamed, NoFrame, NeverFrame, IsSession, reached};
+ghost use Rattle.desk_frames.specs.Frames.{HeadParts, IsHead, headed, head_of, frame_of, NoHead};
 
 /// A text is cut once at its first byte of a kind: neither piece before that byte has it.
 pub fn one_cut()
@@ -44,7 +45,8 @@ pub fn session_behind()
     ensures streams { (fs gs : List Frame) (rest : List ℕ) →
         streamed (fs ++ gs) rest ≡ streamed fs (streamed gs rest) }
     ensures sessions { (bytes middle : List ℕ) (fs gs : List Frame) (rest : List ℕ) →
-        AllByRecursion IsFrame fs → bytes ≡ streamed fs middle → IsSession middle gs rest → IsSession bytes (fs ++ gs) rest }
+        AllByRecursion IsFrame fs → bytes ≡ streamed fs middle → IsSession middle gs rest
+        → IsSession bytes (fs ++ gs) rest }
 {}
 
 /// The offset that a session reaches and the bytes of its rest are all the bytes.

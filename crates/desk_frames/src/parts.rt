@@ -56,6 +56,10 @@ fn token_at(class: Class, most: usize, stop: u8, bytes: &[u8]) -> Result<(&[u8],
 }
 
 /// The key at the front, before its blank, and the bytes behind it.
+///
+/// # Errors
+///
+/// What the bytes are instead of a key and its blank.
 pub fn key_at(bytes: &[u8]) -> Result<(&[u8], &[u8]), Unread>
     ensures { Reads IsKey (stopped 32) (λ x. (x.0.now, x.1.now)) bytes.now result }
 {
@@ -94,6 +98,10 @@ fn has_zero_in_front(stop: u8, bytes: &[u8]) -> bool
 
 /// The number at the front, without leading zeros and of at most so many digits, before the byte
 /// that ends it, and the bytes behind it.
+///
+/// # Errors
+///
+/// What the bytes are instead of a number and the byte that ends it.
 pub fn number_at(digits: usize, stop: u8, bytes: &[u8]) -> Result<(u64, &[u8]), Unread>
     requires some { 0 < digits }
     requires few { digits ≤ 19 }

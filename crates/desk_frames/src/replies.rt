@@ -9,6 +9,10 @@ use std::alloc::AllocError;
 /// Puts the frame of a reply behind what `out` has: its status, its length, and its text.
 ///
 /// It takes the memory for all of the frame first. Where that is refused, `out` keeps what it had.
+///
+/// # Errors
+///
+/// Memory was refused.
 pub fn put_reply(out: &mut Vec<u8>, status: u16, text: &[u8]) -> Result<(), AllocError>
     ensures ok { OnOk result (out.new.items ≡ out.old.items ++ reply_frame status text.now) }
     ensures err { OnErr result (out.new.items ≡ out.old.items) }

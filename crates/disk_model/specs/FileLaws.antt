@@ -1,7 +1,8 @@
 -- Laws on what writes and cuts make of a file, and on what a crash may leave of it.
 use Rattle.std.specs.Prelude.{◌≡◌, ℕ, ◌+◌, ◌-◌, ◌≤◌, min, max, List, [], ◌∷◌, ◌++◌, length, take, drop, replicate, refl}
 use Rattle.std.proofs.Common.{sym, ◌∙◌, ap, arith}
-use Rattle.std.proofs.lemmas.List.{take-append-le, take-take, take_min, take_all, drop-drop, drop_at, length-append, length-take, length-drop, length-replicate, take-append-drop, append-nil}
+use Rattle.std.proofs.lemmas.List.{take-append-le, take-take, take_min, take_all, drop-drop, drop_at, length-append}
+use Rattle.std.proofs.lemmas.List.{length-take, length-drop, length-replicate, take-append-drop, append-nil}
 use Rattle.disk_model.specs.Files.{lengthened, written}
 use Rattle.disk_model.specs.Crashes.{Torn, CutTo}
 

@@ -1,5 +1,6 @@
 -- Laws on the images of a disk in memory.
-use Rattle.std.specs.Prelude.{◌≡◌, ℕ, zero, suc, ◌+◌, ◌≤◌, true, false, List, [], ◌∷◌, length, refl, Option, Some, unwrap_or}
+use Rattle.std.specs.Prelude.{◌≡◌, ℕ, zero, suc, ◌+◌, ◌≤◌, true, false, List, [], ◌∷◌, length, refl, Option, Some}
+use Rattle.std.specs.Prelude.{unwrap_or}
 use Rattle.std.proofs.Common.{ap, subst, arith}
 use Rattle.disk_model.specs.FileLaws.{torn_same, torn_part, cut_same, cut_front}
 use Rattle.disk_model.specs.Memory.{Deed, Wrote, Cut, Synced, MemoryState, file_after, file_of, IsImage, IsImageSince}

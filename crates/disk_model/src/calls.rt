@@ -24,6 +24,9 @@ impl Model for CallLog {
 }
 
 impl CallLog {
+    /// # Errors
+    ///
+    /// Memory was refused.
     pub fn new(alloc: Global, fails: &[u64]) -> Result<CallLog, NoMemory>
         ensures { IfOk result (λ log. log ≡ no_calls fails.now) }
     {

@@ -1,10 +1,14 @@
 //! A disk in memory. It fails at the calls that it is told to, and else does what it can.
 
-ghost use Rattle.std.specs.Prelude.{◌≡◌, ℕ, ◌+◌, ◌-◌, ◌*◌, ◌^◌, ◌<◌, ◌≤◌, ◌↔◌, ◌⊎◌, ◌++◌, [], ◌∷◌, List, Bool, true, false, length, take, drop, min, max, vec_capacity, IsTrue, IsErr, IfOk, IfSome, OnOk, OnErr, Some, refl};
+ghost use Rattle.std.specs.Prelude.{◌≡◌, ℕ, ◌+◌, ◌-◌, ◌*◌, ◌^◌, ◌<◌, ◌≤◌, ◌↔◌, ◌⊎◌, ◌++◌, [], ◌∷◌, List, Bool, true};
+ghost use Rattle.std.specs.Prelude.{false, length, take, drop, min, max, vec_capacity, IsTrue, IsErr, IfOk, IfSome};
+ghost use Rattle.std.specs.Prelude.{OnOk, OnErr, Some, refl};
 ghost use Rattle.disk_model.specs.Counts.{Rises, FailsNext};
 ghost use Rattle.disk_model.specs.Files.{Gives, written, cut_to};
 ghost use Rattle.disk_model.specs.Crashes.{Torn, CutTo, After, Passes, EachSince};
-ghost use Rattle.disk_model.specs.Memory.{Wrote, Cut, Synced, new_disk, file_of, HasRoom, Fails, after_passed, after_fault, after_done, after_failed, images_of, moment_of, images_since, Records, record_size, last_synced};
+ghost use Rattle.disk_model.specs.Memory.{Wrote, Cut, Synced, new_disk, file_of, HasRoom, Fails, after_passed};
+ghost use Rattle.disk_model.specs.Memory.{after_fault, after_done, after_failed, images_of, moment_of, images_since};
+ghost use Rattle.disk_model.specs.Memory.{Records, record_size, last_synced};
 ghost use Rattle.disk_model.specs.MemoryLaws.{as_read, is_image_since, only_image_now};
 
 use crate::calls::CallLog;

@@ -2,7 +2,8 @@
 
 ghost use Rattle.std.specs.Prelude.{◌≡◌, ◌+◌, ◌<◌, ◌≤◌, [], ◌∷◌, List, ℕ, length, vec_capacity, IfOk};
 ghost use Rattle.disk_model.specs.Entries.{deed_of, IsWithin};
-ghost use Rattle.disk_model.specs.Memory.{Wrote, Cut, Synced, Deed, record_size, with_deed, file_after, IsImage, last_synced};
+ghost use Rattle.disk_model.specs.Memory.{Wrote, Cut, Synced, Deed, record_size, with_deed, file_after, IsImage};
+ghost use Rattle.disk_model.specs.Memory.{last_synced};
 
 use crate::NoMemory;
 use crate::file::{tear, tear_cut, write_over};
@@ -54,6 +55,9 @@ impl Model for Record {
 }
 
 impl Record {
+    /// # Errors
+    ///
+    /// Memory was refused.
     pub fn new(alloc: Global, capacity: usize) -> Result<Record, NoMemory>
         ensures { IfOk result (λ r. r ≡ record { deeds = []; capacity = capacity }) }
     {

@@ -1,4 +1,5 @@
--- Frames that are read out of a source: what each answer says of the bytes that were read ahead and those that came behind them.
+-- Frames that are read out of a source: what each answer says of the bytes that were read ahead and those that came
+-- behind them.
 use Rattle.std.specs.Prelude.{◌≡◌, ℕ, ◌<◌, ◌≤◌, ◌⊎◌, List, [], ◌++◌, length, drop, Result, Ok, Err, IfSome}
 use Rattle.std.specs.declared.option.Option.{Option}
 use Rattle.std.specs.Io.KnownBytes.{IsAtEnd}
@@ -20,14 +21,15 @@ use Rattle.frame_reader.specs.declared.head.HeldFront.TheVariants as fronts
 
 -- ---- frames
 
--- what is told of a body is true of its text: what was kept is all of it, what is too long to be kept has this length, and room was
--- wanting only for what isn't too long
+-- what is told of a body is true of its text: what was kept is all of it, what is too long to be kept has this length,
+-- and room was wanting only for what isn't too long
 abbrev pub IfKept : FrameBody → List ℕ → Type 0
 IfKept (bodies.Whole bytes) text = (bytes ≡ text) × (length text ≤ BODY_BYTES)
 IfKept (bodies.TooLong size) text = (size ≡ length text) × (BODY_BYTES < size)
 IfKept bodies.NoRoom text = length text ≤ BODY_BYTES
 
--- a frame stands at the front of the bytes, before this rest, and was read: each of its parts, what is told of its body, and how many bytes it has
+-- a frame stands at the front of the bytes, before this rest, and was read: each of its parts, what is told of its
+-- body, and how many bytes it has
 pub record IsFrameRead (front : List ℕ) (read : ReadFrame) (rest : List ℕ) : Type 0 where
   pub frame : Frame
   pub good : IsFrame frame
@@ -122,7 +124,8 @@ IsCut left endings.Bad = IsAtEnd left
 IsCut left endings.Failed = Unit {0}
 
 -- a text was read, of which an answer tells something, or fewer bytes have come than it has
-abbrev pub ReadsText : {X : Type 0} → (X → List ℕ → Type 0) → List ℕ → ℕ → List ℕ → Option (List ℕ) → Result X Ending → Type 0
+abbrev pub ReadsText : {X : Type 0} → (X → List ℕ → Type 0) → List ℕ → ℕ → List ℕ → Option (List ℕ) → Result X Ending
+    → Type 0
 ReadsText IsTold front size rest left (Ok x) = IsTextRead front size (IsTold x) rest
 ReadsText IsTold front size rest left (Err ending) = (length front < size) × IsCut left ending
 

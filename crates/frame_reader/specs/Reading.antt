@@ -19,7 +19,8 @@ abbrev pub LacksText : List ℕ → ℕ → List ℕ → Type 0
 LacksText ahead size came = length (ahead ++ came) < size
 
 -- one read gave a piece of the source's bytes, or none, behind those that were read ahead
-pub record ReadsOnce {S : Type 0} (left : S → Option (List ℕ)) (gives : Passes S) (before after : S) (ahead grown : List ℕ) : Type 0 where
+pub record ReadsOnce {S : Type 0} (left : S → Option (List ℕ)) (gives : Passes S) (before after : S)
+    (ahead grown : List ℕ) : Type 0 where
   pub piece : List ℕ
   pub consumed : Consumes (left before) (left after) piece
   pub gave : gives before piece after
@@ -30,6 +31,7 @@ abbrev pub ReadsAhead : {S : Type 0} → (S → Option (List ℕ)) → Passes S 
 ReadsAhead left gives before after ahead grown =
     ((after ≡ before) × (grown ≡ ahead)) ⊎ ((ahead ≡ []) × ReadsOnce left gives before after ahead grown)
 
--- how much work is left at most: a buffer and one more for each read that can still give bytes, and the bytes that were read ahead
+-- how much work is left at most: a buffer and one more for each read that can still give bytes, and the bytes that were
+-- read ahead
 abbrev pub work : ℕ → List ℕ → ℕ
 work reads ahead = reads * (BUFFER_BYTES + 1) + length ahead

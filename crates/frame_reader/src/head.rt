@@ -7,7 +7,7 @@ use arrayvec::ArrayVec;
 use desk_frames::{Front, KEY_BYTES, VERB_BYTES, laws, read_head};
 
 /// The head of a frame.
-#[derive(Drop)]
+#[derive(Debug, Drop)]
 pub struct HeldHead {
     /// The key by which the caller is known.
     pub key: ArrayVec<u8, KEY_BYTES>,
@@ -22,7 +22,7 @@ pub struct HeldHead {
 }
 
 /// What the front of the bytes that have come is.
-#[derive(Drop)]
+#[derive(Debug, Drop)]
 pub enum HeldFront {
     /// They begin with this head.
     Whole(HeldHead),

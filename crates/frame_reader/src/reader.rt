@@ -1,12 +1,14 @@
 //! The reader and its buffer.
 
-ghost use Rattle.std.specs.Prelude.{◌≡◌, ◌≢◌, ℕ, ◌+◌, ◌<◌, ◌≤◌, List, [], ◌++◌, length, take, drop, Option, Ok, Err, IfOk, IfErr, OnOk, OnErr, IfSome, IsSomeAnd};
+ghost use Rattle.std.specs.Prelude.{◌≡◌, ◌≢◌, ℕ, ◌+◌, ◌<◌, ◌≤◌, List, [], ◌++◌, length, take, drop, Option, Ok, Err};
+ghost use Rattle.std.specs.Prelude.{IfOk, IfErr, OnOk, OnErr, IfSome, IsSomeAnd};
 ghost use Rattle.std.specs.Io.KnownBytes.{Consumes, IsAtEnd, Keeps};
 ghost use Rattle.desk_io.specs.Outside.{Rises};
 ghost use Rattle.desk_io.specs.Reads.{Comes};
 ghost use Rattle.desk_frames.specs.Frames.{NoFrame};
 ghost use Rattle.frame_reader.specs.Reading.{AwaitsFrame, LacksText, ReadsOnce, ReadsAhead, work};
-ghost use Rattle.frame_reader.specs.Frames.{ReadsFrame, OnFrame, Counts, Ends, Counted, IfKept, ReadsHead, IsAllOf, ReadsText, ReadsWhole, IsCut};
+ghost use Rattle.frame_reader.specs.Frames.{ReadsFrame, OnFrame, Counts, Ends, Counted, IfKept, ReadsHead, IsAllOf};
+ghost use Rattle.frame_reader.specs.Frames.{ReadsText, ReadsWhole, IsCut};
 
 use crate::frame::{Ending, FrameBody, NextFrame, ReadFrame};
 use crate::head::{HeldFront, HeldHead, held_front};
@@ -18,7 +20,7 @@ use std::alloc::Global;
 use std::marker::Model;
 
 /// A reader of frames. It is seen as the bytes that it has read ahead and not yet used.
-#[derive(Drop)]
+#[derive(Debug, Drop)]
 pub struct FrameReader {
     buffer: Vec<u8>,
     start: usize,
@@ -38,6 +40,10 @@ impl Model for FrameReader {
 
 impl FrameReader {
     /// A reader that has read nothing ahead. It takes its buffer now, and none later.
+    ///
+    /// # Errors
+    ///
+    /// Memory was refused.
     pub fn new(alloc: Global) -> Result<FrameReader, NoMemory>
         ensures { IfOk result (λ reader. reader ≡ []) }
     {

@@ -27,6 +27,10 @@ fn reply_head(status: u16, length: u64) -> ArrayVec<u8, REPLY_HEAD_BYTES>
 /// Writes the frame of a reply: its status, its length, and its text.
 ///
 /// It takes no memory. After a failure the sink took a front of the frame and not all of it.
+///
+/// # Errors
+///
+/// The sink failed.
 pub fn write_reply_frame<K: Sink>(sink: &mut K, status: u16, text: &[u8]) -> Result<(), Failed>
     ensures whole { OnOk result (Appends (K.taken sink.old) (K.taken sink.new) (reply_frame status text.now)) }
     ensures part { OnErr result (AppendsPart (K.taken sink.old) (K.taken sink.new) (reply_frame status text.now)) }

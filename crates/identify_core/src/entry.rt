@@ -1,3 +1,5 @@
+//! The index from a designation to its principal.
+
 use packed_names::Designation;
 
 /// A designation, by which it is ordered, and the principal designation of its object.

@@ -1,3 +1,5 @@
+//! Links, each from a designation to its principal.
+
 ghost use Rattle.std.specs.Prelude.{◌≡◌};
 ghost use Rattle.identify_core.specs.Principals.{is_own};
 

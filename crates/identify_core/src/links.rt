@@ -21,7 +21,7 @@ use std::marker::Model;
 ///
 /// Contracts see the links, from which `principal_of` gives the principal of each designation, and for how many more
 /// memory is there.
-#[derive(Drop)]
+#[derive(Debug, Drop)]
 pub struct Links {
     links: Vec<Link>,
     entries: OrderedList<PrincipalEntry>,

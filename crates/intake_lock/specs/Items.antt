@@ -1,5 +1,6 @@
 -- Calls on the office, as a pass keeps them.
-use Rattle.std.specs.Prelude.{◌≡◌, ◌⊎◌, ℕ, ◌+◌, ◌-◌, ◌^◌, min, ◌≤◌, ◌<◌, ℤ, pos, Bool, true, List, [], ◌∷◌, length, sum_by, Option, Some, None, unwrap_or}
+use Rattle.std.specs.Prelude.{◌≡◌, ◌⊎◌, ℕ, ◌+◌, ◌-◌, ◌^◌, min, ◌≤◌, ◌<◌, ℤ, pos, Bool, true, List, [], ◌∷◌, length}
+use Rattle.std.specs.Prelude.{sum_by, Option, Some, None, unwrap_or}
 use Rattle.std.specs.List.{AllByRecursion}
 use Rattle.act_bodies.specs.declared.key.Key.{Key}
 use Rattle.act_model.specs.declared.entry.Entry.{Entry}
@@ -37,7 +38,8 @@ pub record IsTrue (founder : Key) (limit : Option ℕ) (history : List Entry) (i
   pub past : List Entry
   pub place : item.position ≡ length past
   pub first : Extends past history
-  pub answered : ((after : List Entry) × Answers founder limit past item.request (reading_of item) item.reply after × Extends after history) ⊎ Failed item
+  pub answered : ((after : List Entry) × Answers founder limit past item.request (reading_of item) item.reply after
+      × Extends after history) ⊎ Failed item
 
 abbrev pub AreTrue : Key → Option ℕ → List Entry → List Item → Type 0
 AreTrue founder limit history items = AllByRecursion (IsTrue founder limit history) items
@@ -57,10 +59,11 @@ abbrev pub TakesAt : Key → Option ℕ → OfficeState → Item → Option ℤ 
 TakesAt founder limit before item (Some reading) after =
     (FailsToMend before (turn_of item) after × (item.position ≡ length before.settled))
     ⊎ ((acts : ActsMended founder limit before (turn_of item) reading after) × (item.position ≡ length acts.mended))
-TakesAt founder limit before item None after = Asks founder limit before (turn_of item) after × (item.position ≡ length before.settled)
+TakesAt founder limit before item None after = Asks founder limit before (turn_of item) after
+    × (item.position ≡ length before.settled)
 
--- The keeper took this call. Its count of faults rose by as much as the call says, and the founding officer's key and the
--- limit are as they were.
+-- The keeper took this call. Its count of faults rose by as much as the call says, and the founding officer's key and
+-- the limit are as they were.
 pub record Calls (before : Office) (item : Item) (after : Office) : Type 0 where
   pub reads : TakesReading item.request.verb item.reading
   pub takes : TakesAt before.founder before.limit before.state item item.reading after.state
@@ -74,7 +77,8 @@ Called before [] after = after ≡ before
 Called before (item ∷ items) after = (between : Office) × Called before items between × Calls between item after
 
 -- the call asked this, with this reading, and was answered so
-pub record IsItemOf (before : Office) (request : Request) (reading : Option ℤ) (reply : Reply) (after : Office) (item : Item) : Type 0 where
+pub record IsItemOf (before : Office) (request : Request) (reading : Option ℤ) (reply : Reply) (after : Office)
+    (item : Item) : Type 0 where
   pub asked : item.request ≡ request
   pub read : item.reading ≡ reading
   pub answered : item.reply ≡ reply

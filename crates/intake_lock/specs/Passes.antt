@@ -20,8 +20,8 @@ pub record PassState : Type 0 where
   pub id : ℕ
   pub view : View
 
--- a turn: the pass that has it, as it knew the office when it entered; the office as the keeper stands for it now; and the
--- calls between, the newest first
+-- a turn: the pass that has it, as it knew the office when it entered; the office as the keeper stands for it now; and
+-- the calls between, the newest first
 pub record TurnState : Type 0 where
   pub lock : TableId
   pub id : ℕ

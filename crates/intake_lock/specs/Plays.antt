@@ -29,7 +29,8 @@ module _ {V : Type 0} where
 
     -- another ticket is served, and nothing changed; or the pass's own
     abbrev pub Looks : Mine V → ℕ → Mine V → Type 0
-    Looks m found n = (ticket : ℕ) → m.0.stage ≡ Waiting ticket → ((found ≢ word ticket) × (n ≡ m)) ⊎ ((found ≡ word ticket) × Gets ticket m n)
+    Looks m found n = (ticket : ℕ) → m.0.stage ≡ Waiting ticket → ((found ≢ word ticket) × (n ≡ m))
+        ⊎ ((found ≡ word ticket) × Gets ticket m n)
 
   -- these calls were published, and this office seen
   abbrev pub Publishes : Office → List Item → Mine V → Mine V → Type 0

@@ -1,8 +1,9 @@
 -- What holds of the lock between any two steps.
 --
--- The words are the tickets drawn, the ticket served, and the length of the history, all modulo 2^64. The one slot has the
--- keeper while no pass has the turn.
-use Rattle.std.specs.Prelude.{◌≡◌, ◌⊎◌, ℕ, ◌+◌, ◌^◌, ◌%◌, ◌<◌, ◌≤◌, List, [], ◌∷◌, ◌++◌, length, sum_by, Option, Some, IfSome, Contains}
+-- The words are the tickets drawn, the ticket served, and the length of the history, all modulo 2^64. The one slot has
+-- the keeper while no pass has the turn.
+use Rattle.std.specs.Prelude.{◌≡◌, ◌⊎◌, ℕ, ◌+◌, ◌^◌, ◌%◌, ◌<◌, ◌≤◌, List, [], ◌∷◌, ◌++◌, length, sum_by, Option, Some}
+use Rattle.std.specs.Prelude.{IfSome, Contains}
 use mathlib.Core.Option as slot
 use lib.ListN.{get_elem?}
 use Rattle.atomic_table.specs.Table.{State}
@@ -29,8 +30,8 @@ word n = n % 2 ^ 64
 
 -- ---- one view
 
--- what a pass waits for, where these tickets are drawn and this one is served: one that waits has a ticket that was drawn
--- and not called past; the one that has the turn has the ticket that is served, and knows the office as it is
+-- what a pass waits for, where these tickets are drawn and this one is served: one that waits has a ticket that was
+-- drawn and not called past; the one that has the turn has the ticket that is served, and knows the office as it is
 abbrev pub FitsStage : Office → ℕ → ℕ → View → Stage → Type 0
 FitsStage office drawn served v Idle = Unit {0}
 FitsStage office drawn served v (Waiting ticket) = (served ≤ ticket) × (ticket < drawn)
@@ -65,7 +66,8 @@ At views id v = get_elem? views id ≡ slot.some v
 
 -- the tickets that are out are different
 abbrev pub Apart : List View → Type 0
-Apart views = (i j : ℕ) (v w : View) (ticket : ℕ) → At views i v → At views j w → HasTicket v ticket → HasTicket w ticket → i ≡ j
+Apart views = (i j : ℕ) (v w : View) (ticket : ℕ) → At views i v → At views j w → HasTicket v ticket
+    → HasTicket w ticket → i ≡ j
 
 -- one view is the root, and it has as many branches out as there are live branches
 pub record Rooted (views : List View) : Type 0 where
@@ -87,12 +89,14 @@ IsCall views item = (id : ℕ) × (v : View) × At views id v × Contains v.mine
 -- the entry is what the step adds at this history for a call of some pass there
 abbrev pub IsOrigin : Office → List View → List Entry → Entry → Type 0
 IsOrigin opening views past entry =
-    (item : Item) × IsCall views item × (item.position ≡ length past) × AddsAt opening.founder opening.limit past item entry
+    (item : Item) × IsCall views item × (item.position ≡ length past)
+    × AddsAt opening.founder opening.limit past item entry
 
 -- each of the newer entries that came to the history at the opening has such a call
 abbrev pub Origins : Office → List View → List Entry → Type 0
 Origins opening views [] = Unit {0}
-Origins opening views (entry ∷ newer) = IsOrigin opening views (newer ++ opening.state.settled) entry × Origins opening views newer
+Origins opening views (entry ∷ newer) = IsOrigin opening views (newer ++ opening.state.settled) entry
+    × Origins opening views newer
 
 -- the history is that at the opening with newer entries, each of which some call added, and so is the act in doubt
 pub record Comes (opening office : Office) (views : List View) : Type 0 where
@@ -103,7 +107,8 @@ pub record Comes (opening office : Office) (views : List View) : Type 0 where
 
 -- the history is legal, also with the act in doubt, if that at the opening was
 abbrev pub StaysLegal : Office → Office → Type 0
-StaysLegal opening office = IsLegal opening.founder opening.state.settled → EitherWay (IsLegal opening.founder) office.state
+StaysLegal opening office = IsLegal opening.founder opening.state.settled
+    → EitherWay (IsLegal opening.founder) office.state
 
 -- ---- the slot
 
@@ -145,9 +150,9 @@ module _ {V : Type 0} (office_of : V → Office) where
 
 -- ---- the end of a lock
 
--- What the keeper stands for once the root was closed. The history extends what the root has seen, by as many entries as its
--- passes made; each entry past that at the opening was added by a call of the root's, at its place, and so is the act in
--- doubt; and the count of faults rose by at least what the root's calls say.
+-- What the keeper stands for once the root was closed. The history extends what the root has seen, by as many entries
+-- as its passes made; each entry past that at the opening was added by a call of the root's, at its place, and so is
+-- the act in doubt; and the count of faults rose by at least what the root's calls say.
 pub record Closes (opening : Office) (view : View) (office : Office) : Type 0 where
   pub founder : office.founder ≡ opening.founder
   pub limit : office.limit ≡ opening.limit

@@ -127,7 +127,12 @@ spent =
     record {
       role = Spent;
       stage = Idle;
-      office = record { founder = record { len = 0; bytes = [] }; limit = None; state = record { settled = []; doubt = None }; faults = 0 };
+      office = record {
+        founder = record { len = 0; bytes = [] };
+        limit = None;
+        state = record { settled = []; doubt = None };
+        faults = 0;
+      };
       also = [];
       mine = [];
       made = 0;

@@ -1,5 +1,5 @@
-//! Laws of histories that were seen and of calls, each the contract of a function that does nothing: a caller that calls it
-//! may use it.
+//! Laws of histories that were seen and of calls, each the contract of a function that does nothing: a caller that
+//! calls it may use it.
 
 ghost use Rattle.std.specs.Prelude.{◌≡◌, ◌≤◌, ℕ, List, Option, length};
 ghost use Rattle.act_bodies.specs.declared.key.Key.{Key};
@@ -17,8 +17,8 @@ pub fn beginnings()
     ensures one { (a b c : List Entry) → Extends a c → Extends b c → length a ≡ length b → a ≡ b }
 {}
 
-/// A call on a keeper is true of the history that it leaves, which extends the one before; its place is no earlier than the
-/// end of that. What is true of a history is true of a longer one.
+/// A call on a keeper is true of the history that it leaves, which extends the one before; its place is no earlier than
+/// the end of that. What is true of a history is true of a longer one.
 pub fn calls_are_true()
     ensures here { (before after : Office) (item : Item) → Calls before item after →
         IsTrue before.founder before.limit after.state.settled item }

@@ -1,4 +1,7 @@
-ghost use Rattle.std.specs.Prelude.{◌≡◌, ℕ, ◌^◌, ◌<◌, ◌%◌, List, [], ◌∷◌, length, Some, None, IfOk, IfErr, IfSome, IfNone};
+//! The lock, and how it is entered, left, split, joined and closed.
+
+ghost use Rattle.std.specs.Prelude.{◌≡◌, ℕ, ◌^◌, ◌<◌, ◌%◌, List, [], ◌∷◌, length, Some, None, IfOk, IfErr, IfSome};
+ghost use Rattle.std.specs.Prelude.{IfNone};
 ghost use Rattle.act_model.specs.Conducts.{Extends};
 ghost use Rattle.intake_lock.specs.declared.view.Role.TheVariants.{Root, Branch};
 ghost use Rattle.intake_lock.specs.declared.view.Stage.TheVariants.{Waiting, Holding};
@@ -6,7 +9,8 @@ ghost use Rattle.intake_lock.specs.Items.{Called};
 ghost use Rattle.intake_lock.specs.Passes.{MaySplit, IsRoot};
 ghost use Rattle.intake_lock.specs.Plays.{Gets};
 ghost use Rattle.intake_lock.specs.Rule.{word, Closes};
-ghost use Rattle.intake_lock.specs.Views.{live, seen, first_view, waiting, holding, published, idle, stem, branch, joined};
+ghost use Rattle.intake_lock.specs.Views.{live, seen, first_view, waiting, holding, published, idle, stem, branch};
+ghost use Rattle.intake_lock.specs.Views.{joined};
 
 use crate::keeping::{DRAWN, KEEPER, LENGTH, LockTable, SERVED, Seat, Words};
 use crate::pass::Pass;
@@ -70,13 +74,14 @@ impl<V: Keeper> TurnLock<V> {
         }
     }
 
-    /// Enters: waits for the turn of the pass, and takes it with the keeper. The history that the keeper has extends what
-    /// the pass has seen.
+    /// Enters: waits for the turn of the pass, and takes it with the keeper. The history that the keeper has extends
+    /// what the pass has seen.
     pub fn enter<R: Wait>(&self, rt: &R, pass: Pass) -> Turn<V>
         requires { pass.lock ≡ self.now.id }
         ensures lock { (result.lock ≡ pass.lock) × (result.id ≡ pass.id) }
         ensures pass { (ticket : ℕ) × (result.view ≡ holding ticket result.office pass.view) }
-        ensures office { (result.office.founder ≡ pass.view.office.founder) × (result.office.limit ≡ pass.view.office.limit) }
+        ensures office { (result.office.founder ≡ pass.view.office.founder)
+            × (result.office.limit ≡ pass.view.office.limit) }
         ensures grows { Extends (seen pass.view) result.office.state.settled }
         ensures items { result.items ≡ [] }
     {
@@ -121,6 +126,10 @@ impl<V: Keeper> TurnLock<V> {
 
     /// Splits a branch off the root, which has fewer than 1,000 branches out. The branch has seen as much, and made no
     /// calls. It takes no memory, and doesn't fail.
+    ///
+    /// # Errors
+    ///
+    /// Never, as the root has fewer than 1,000 branches out; the type keeps the pass for that case.
     pub fn split(&self, pass: Pass) -> Result<(Pass, Pass), Pass>
         requires lock { pass.lock ≡ self.now.id }
         requires root { MaySplit pass.view.role }
@@ -181,8 +190,8 @@ impl<V: Keeper> TurnLock<V> {
     }
 }
 
-// Looks at the ticket that is served, and takes the slot where it is the pass's own. None then, and else the ticket that is
-// served.
+// Looks at the ticket that is served, and takes the slot where it is the pass's own. None then, and else the ticket
+// that is served.
 fn look<V: Keeper>(words: &Words<V>, seat: &mut Seat<V>, ticket: u64) -> Option<u64>
     requires seat { (seat.old.table_id ≡ words.now.table_id) × (words.now.table_id.words ≡ 3) × (seat.old.me.1 ≡ []) }
     requires ticket { (t : ℕ) × (seat.old.me.0.stage ≡ Waiting t) × (ticket ≡ word t) }

@@ -1,3 +1,5 @@
+//! Passes, the leave to enter the lock.
+
 use crate::view::View;
 use atomic_table::Badge;
 use std::marker::Model;

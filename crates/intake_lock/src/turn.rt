@@ -1,3 +1,5 @@
+//! Turns at the keeper behind the lock.
+
 ghost use Rattle.std.specs.Prelude.{◌≡◌, ℤ, true, false, [], Option, Some, None};
 ghost use Rattle.act_model.specs.declared.keeper.Office.{Office};
 ghost use Rattle.act_model.specs.declared.reply.Reply.{Reply};
@@ -133,7 +135,8 @@ impl<V: Keeper> Turn<V> {
     /// Takes the turn of an act at this reading of the clock. The request has the verb of an act. It takes memory.
     pub fn act(&mut self, request: &Request, reading: Instant) -> Reply
         requires act { is_act request.now.verb ≡ true }
-        ensures call { Noted self.old.office request.now (Some reading) result self.new.office self.old.items self.new.items }
+        ensures call { Noted self.old.office request.now
+            (Some reading) result self.new.office self.old.items self.new.items }
         ensures lock { (self.new.lock ≡ self.old.lock) × (self.new.id ≡ self.old.id) }
         ensures view { self.new.view ≡ self.old.view }
     {

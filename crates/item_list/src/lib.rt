@@ -2,7 +2,8 @@
 //! see it as the list of its items, and not its capacity or its place in memory.
 #![tactic(auto)]
 
-ghost use Rattle.std.specs.Prelude.{◌≡◌, ◌+◌, ◌<◌, ◌≤◌, ◌↔◌, List, [], ◌∷◌, ◌++◌, length, take, IsTrue, IsNone, IfOk, OnOk, OnErr, slice_get, option_copied};
+ghost use Rattle.std.specs.Prelude.{◌≡◌, ◌+◌, ◌<◌, ◌≤◌, ◌↔◌, List, [], ◌∷◌, ◌++◌, length, take, IsTrue, IsNone, IfOk};
+ghost use Rattle.std.specs.Prelude.{OnOk, OnErr, slice_get, option_copied};
 ghost use Rattle.std.specs.Slice.Iter.{iter_rest};
 
 use std::alloc::{AllocError, Global};
@@ -38,6 +39,10 @@ impl<T> ItemList<T> {
     }
 
     /// The empty list with room for so many items.
+    ///
+    /// # Errors
+    ///
+    /// Memory was refused.
     pub fn with_capacity(alloc: Global, capacity: usize) -> Result<Self, NoMemory>
         ensures { IfOk result (λ list. list ≡ []) }
     {
@@ -92,6 +97,10 @@ impl<T: Drop> ItemList<T> {
     }
 
     /// Puts an item at the end. Where memory is refused the list is as it was, and the item is let go.
+    ///
+    /// # Errors
+    ///
+    /// Memory was refused.
     pub fn push(&mut self, item: T) -> Result<(), NoMemory>
         ensures ok { OnOk result (self.new ≡ self.old ++ item ∷ []) }
         ensures err { OnErr result (self.new ≡ self.old) }
@@ -111,6 +120,10 @@ impl<T: Copy> ItemList<T> {
     }
 
     /// A list of copies of the items.
+    ///
+    /// # Errors
+    ///
+    /// Memory was refused.
     pub fn from_slice(alloc: Global, items: &[T]) -> Result<Self, NoMemory>
         ensures { IfOk result (λ list. list ≡ items.now) }
     {

@@ -1,3 +1,5 @@
+//! The index entries of verdicts and numbers.
+
 use packed_names::{Designation, Number};
 
 /// A principal designation, by which it is ordered, and the verdict on it.

@@ -1,3 +1,5 @@
+//! Numbers that were given.
+
 use packed_names::{Designation, Number};
 
 /// A number, and the designation of the object that it was given to.

@@ -20,7 +20,7 @@ use std::marker::Model;
 ///
 /// Contracts see the verdicts, from which `verdict_of` gives the one on each designation, the numbers with the newest
 /// first, and for how many more of each memory is there.
-#[derive(Drop)]
+#[derive(Debug, Drop)]
 pub struct Register {
     verdicts: OrderedList<VerdictEntry>,
     numbered: Vec<Numbering>,

@@ -1,3 +1,5 @@
+//! Verdicts on orbits.
+
 use packed_names::Designation;
 
 /// What an officer stated of the orbit of a principal designation's object.

@@ -1,6 +1,8 @@
 //! A journal that is open: parcels are added to it, and a parcel in doubt is settled.
 
-ghost use Rattle.std.specs.Prelude.{◌≡◌, ◌≢◌, ◌⊎◌, ◌↔◌, ◌+◌, ◌-◌, ◌<◌, ◌≤◌, ◌^◌, ℕ, List, [], ◌∷◌, ◌++◌, slice_index, if◌then◌else◌, IfOk, IfErr, IfSome, IsSome, OnOk, OnErr, IsErrOf, is_ok, Ok, Some, None};
+ghost use Rattle.std.specs.Prelude.{◌≡◌, ◌≢◌, ◌⊎◌, ◌↔◌, ◌+◌, ◌-◌, ◌<◌, ◌≤◌, ◌^◌, ℕ, List, [], ◌∷◌, ◌++◌, slice_index};
+ghost use Rattle.std.specs.Prelude.{if◌then◌else◌, IfOk, IfErr, IfSome, IsSome, OnOk, OnErr, IsErrOf, is_ok, Ok, Some};
+ghost use Rattle.std.specs.Prelude.{None};
 ghost use Rattle.disk_model.specs.Counts.{Rises};
 ghost use Rattle.disk_model.specs.Crashes.{During};
 ghost use Rattle.obs_journal.specs.Parcels.{RawParcel, room};
@@ -53,7 +55,7 @@ pub enum Settled {
 }
 
 /// An open journal.
-#[derive(Drop)]
+#[derive(Debug, Drop)]
 pub struct Journal<D: Disk> {
     disk: D,
     // the bytes up to and with the closed gate

@@ -4,9 +4,9 @@
 //! parcel is added behind the closed gate, with a new closed gate after it, and is safe before its own gate is opened.
 //! So a stop leaves the parcels from before, with the new one or without it.
 //!
-//! A call that fails says whether the parcel is out (`Untouched`) or in doubt (`InDoubt`). `mend` settles a doubt by the
-//! gate. Of a disk of whose content nothing is known, as a real file, the contracts say what its calls ask and give; what
-//! its file holds they say of disks whose reads are known.
+//! A call that fails says whether the parcel is out (`Untouched`) or in doubt (`InDoubt`). `mend` settles a doubt by
+//! the gate. Of a disk of whose content nothing is known, as a real file, the contracts say what its calls ask and
+//! give; what its file holds they say of disks whose reads are known.
 #![tactic(auto)]
 
 mod fault;

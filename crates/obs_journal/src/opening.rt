@@ -1,6 +1,7 @@
 //! Opening a journal: its file is read from the front, and a fresh one gets its first gate.
 
-ghost use Rattle.std.specs.Prelude.{◌≡◌, ◌≢◌, ◌↔◌, ◌+◌, ◌<◌, ◌≤◌, ◌∷◌, [], ℕ, List, length, IfOk, IfSome, IsErr, IsErrOf, OnErr, OnOk, IsTrue, true, false, Ok, Err, Some};
+ghost use Rattle.std.specs.Prelude.{◌≡◌, ◌≢◌, ◌↔◌, ◌+◌, ◌<◌, ◌≤◌, ◌∷◌, [], ℕ, List, length, IfOk, IfSome, IsErr};
+ghost use Rattle.std.specs.Prelude.{IsErrOf, OnErr, OnOk, IsTrue, true, false, Ok, Err, Some};
 ghost use Rattle.disk_model.specs.Counts.{Rises};
 ghost use Rattle.disk_model.specs.Crashes.{During};
 ghost use Rattle.obs_journal.specs.Files.{IsFresh, IsRow, Spells, IsDamagedAt, row_length};

@@ -12,7 +12,8 @@ use disk_model::{Disk, Failed};
 /// Writes the bytes, and waits until they are safe.
 pub(crate) fn write_and_sync<D: Disk>(disk: &mut D, at: u64, bytes: &[u8]) -> Result<(), Failed>
     ensures safe { OnOk result (IsSafe D.reads D.leaves at bytes.now disk.old disk.new) }
-    ensures wrote { OnOk result (IfSome (D.reads disk.old) (λ file. D.reads disk.new ≡ Some (written at bytes.now file))) }
+    ensures wrote { OnOk result (IfSome (D.reads disk.old)
+        (λ file. D.reads disk.new ≡ Some (written at bytes.now file))) }
 
     ensures time { Passes D.moment D.since disk.old disk.new }
     ensures images { EachSince D.moment D.since disk.old disk.new
@@ -27,7 +28,8 @@ pub(crate) fn write_and_sync<D: Disk>(disk: &mut D, at: u64, bytes: &[u8]) -> Re
 /// Writes a parcel and the closed gate after it behind the closed gate, and waits until they are safe.
 pub(crate) fn stage<D: Disk>(disk: &mut D, position: u64, bytes: &[u8]) -> Result<(), Failed>
     ensures safe { OnOk result (IsSafe D.reads D.leaves position bytes.now disk.old disk.new) }
-    ensures wrote { OnOk result (IfSome (D.reads disk.old) (λ file. D.reads disk.new ≡ Some (written position bytes.now file))) }
+    ensures wrote { OnOk result (IfSome (D.reads disk.old)
+        (λ file. D.reads disk.new ≡ Some (written position bytes.now file))) }
 
     ensures time { Passes D.moment D.since disk.old disk.new }
     ensures images { EachSince D.moment D.since disk.old disk.new
@@ -41,7 +43,8 @@ pub(crate) fn stage<D: Disk>(disk: &mut D, position: u64, bytes: &[u8]) -> Resul
 /// Opens the gate at this offset, and waits until that is safe.
 pub(crate) fn open_gate<D: Disk>(disk: &mut D, gate: u64) -> Result<(), Failed>
     ensures safe { OnOk result (IsSafe D.reads D.leaves gate (1 ∷ []) disk.old disk.new) }
-    ensures wrote { OnOk result (IfSome (D.reads disk.old) (λ file. D.reads disk.new ≡ Some (written gate (1 ∷ []) file))) }
+    ensures wrote { OnOk result (IfSome (D.reads disk.old)
+        (λ file. D.reads disk.new ≡ Some (written gate (1 ∷ []) file))) }
 
     ensures time { Passes D.moment D.since disk.old disk.new }
     ensures images { EachSince D.moment D.since disk.old disk.new (After (Torn gate 1) (D.leaves disk.old)) }

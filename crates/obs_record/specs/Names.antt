@@ -8,7 +8,8 @@ use Rattle.obs_record.specs.declared.name.TrackName.TheVariants as tracks
 abbrev pub HasName : Sighting → Type 0
 HasName s = IsSome s.perm ⊎ IsSome s.prov ⊎ IsSome s.sub
 
--- the name is the number; where there is none, the designation; and where there is none either, the temporary designation
+-- the name is the number; where there is none, the designation; and where there is none either, the temporary
+-- designation
 abbrev pub IsNameOf : Sighting → TrackName → Type 0
 IsNameOf s (tracks.Number number) = s.perm ≡ Some number
 IsNameOf s (tracks.Designation designation) = (s.perm ≡ None) × (s.prov ≡ Some designation)

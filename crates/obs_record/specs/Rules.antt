@@ -1,7 +1,8 @@
 -- The names of the rules that lines break.
 use Rattle.std.specs.Prelude.{ℕ, List, codes}
 use Rattle.obs_record.specs.declared.rule.RuleCode.{RuleCode}
-use Rattle.obs_record.specs.declared.rule.RuleCode.TheVariants.{S1, S2, S3, S4, S5, S6, S7, S8, S9, S10, S11, S12, T1, T2, T3, T4, T5, B1, B2, B3, B4, B5, B6, B7, B8, B9}
+use Rattle.obs_record.specs.declared.rule.RuleCode.TheVariants.{S1, S2, S3, S4, S5, S6, S7, S8, S9, S10, S11, S12, T1}
+use Rattle.obs_record.specs.declared.rule.RuleCode.TheVariants.{T2, T3, T4, T5, B1, B2, B3, B4, B5, B6, B7, B8, B9}
 
 abbrev pub rule_name : RuleCode → List ℕ
 rule_name S1 = codes "S1"

@@ -1,5 +1,5 @@
-//! What a line of a batch says: an observation, or the rule that the line breaks. Names of the lines' rules and of the faults
-//! of headers stand here too, since lines of both formats have them.
+//! What a line of a batch says: an observation, or the rule that the line breaks. Names of the lines' rules and of the
+//! faults of headers stand here too, since lines of both formats have them.
 #![tactic(auto)]
 
 pub mod laws;

@@ -1,3 +1,5 @@
+//! The lines of a batch that were read.
+
 use crate::rule::RuleCode;
 use crate::sighting::Sighting;
 use item_list::ItemList;

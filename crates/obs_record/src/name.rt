@@ -1,3 +1,5 @@
+//! The names that observations go by.
+
 ghost use Rattle.std.specs.Prelude.{◌≡◌};
 ghost use Rattle.obs_record.specs.declared.name.TrackName.{TrackName};
 ghost use Rattle.obs_record.specs.Names.{HasName, IsNameOf};

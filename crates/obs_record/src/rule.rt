@@ -1,3 +1,5 @@
+//! The rules that a line may break.
+
 ghost use Rattle.std.specs.Prelude.{◌≡◌};
 ghost use Rattle.obs_record.specs.Rules.{rule_name};
 

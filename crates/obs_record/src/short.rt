@@ -1,3 +1,5 @@
+//! Short texts, kept where they stand.
+
 ghost use Rattle.std.specs.Prelude.{◌≡◌, min, length};
 ghost use Rattle.obs_record.specs.Short.{IsShort, kept_short};
 

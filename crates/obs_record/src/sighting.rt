@@ -1,3 +1,5 @@
+//! An observation as a line gives it.
+
 use crate::short::Short;
 use angle_fixed::{Dec, Ra};
 use obs_time::Instant;

@@ -1,5 +1,6 @@
 -- The date of a day number, and the half-month that it lies in.
-use Rattle.std.specs.Prelude.{ℕ, zero, suc, ◌+◌, ◌-◌, ◌*◌, ◌<◌, ◌≤◌, ◌&&◌, nat_le, if◌then◌else◌, Option, Some, None, ℤ, ◌-ℤ◌, unsigned_abs}
+use Rattle.std.specs.Prelude.{ℕ, zero, suc, ◌+◌, ◌-◌, ◌*◌, ◌<◌, ◌≤◌, ◌&&◌, nat_le, if◌then◌else◌, Option, Some, None, ℤ}
+use Rattle.std.specs.Prelude.{◌-ℤ◌, unsigned_abs}
 use Rattle.std.specs.Int.Signed.{le_z}
 use Rattle.obs_time.specs.Dates.{day_number, day_of}
 use Rattle.obs_time.specs.DateText.{WrittenDate}
@@ -26,8 +27,8 @@ date_of_day day = record {
   day = unsigned_abs (day -ℤ day_number (year_of day) (month_of day) 1) + 1;
 }
 
--- the half-month of a date, as the Minor Planet Center's designations have them: 0 for 1 to 15 January, 1 for the rest of
--- January, and so on to 23
+-- the half-month of a date, as the Minor Planet Center's designations have them: 0 for 1 to 15 January, 1 for the rest
+-- of January, and so on to 23
 abbrev pub half_index : WrittenDate → ℕ
 half_index date = 2 * (date.month - 1) + (if nat_le date.day 15 then 0 else 1)
 

@@ -1,5 +1,6 @@
 -- Dates as text: four digits of the year, two of the month and two of the day, with a separator between them.
-use Rattle.std.specs.Prelude.{◌≡◌, ℕ, ◌^◌, ◌<◌, Bool, not, ◌&&◌, nat_le, ◌==◌, if◌then◌else◌, List, [], ◌∷◌, ◌++◌, length, Option, Some, None, Result, Ok, Err, ℤ, pos}
+use Rattle.std.specs.Prelude.{◌≡◌, ℕ, ◌^◌, ◌<◌, Bool, not, ◌&&◌, nat_le, ◌==◌, if◌then◌else◌, List, [], ◌∷◌, ◌++◌}
+use Rattle.std.specs.Prelude.{length, Option, Some, None, Result, Ok, Err, ℤ, pos}
 use Rattle.jiff_core.specs.Calendar.{days_in_month}
 use Rattle.ascii_text.specs.declared.digits.Radix.TheVariants.{Ten}
 use Rattle.ascii_text.specs.Digits.{digits_text}
@@ -25,7 +26,8 @@ pub record HasDigits (date : WrittenDate) : Type 0 where
 -- a date, and behind it the rest of a text
 abbrev pub date_text : ℕ → WrittenDate → List ℕ → List ℕ
 date_text separator date rest =
-    digits_text Ten 4 date.year ++ (separator ∷ (digits_text Ten 2 date.month ++ (separator ∷ (digits_text Ten 2 date.day ++ rest))))
+    digits_text Ten 4 date.year ++ (separator ∷ (digits_text Ten 2 date.month
+    ++ (separator ∷ (digits_text Ten 2 date.day ++ rest))))
 
 -- the text is `YYYY-MM-DD`
 pub record SpellsDate (date : WrittenDate) (text : List ℕ) : Type 0 where
@@ -61,7 +63,8 @@ date_exists year month day =
 unfoldable pub judge_date : WrittenDate → Result ℤ TimeFault
 judge_date date =
     if not (is_observed_year date.year) then Err Range
-    else (if date_exists date.year date.month date.day then Ok (day_number date.year date.month date.day) else Err NoSuchDate)
+    else (if date_exists date.year date.month date.day then Ok (day_number date.year date.month date.day)
+    else Err NoSuchDate)
 
 -- the day number that a text `YYYY-MM-DD` stands for
 unfoldable pub date_of : List ℕ → Result ℤ TimeFault

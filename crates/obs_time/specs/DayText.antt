@@ -1,5 +1,6 @@
 -- Moments as text: a date and decimals of the day, `2024 03 15.12345`, as columns 16 to 32 of an 80-column record.
-use Rattle.std.specs.Prelude.{◌≡◌, ℕ, ◌*◌, ◌/◌, ◌^◌, ◌<◌, ◌≤◌, ◌&&◌, nat_lt, nat_le, if◌then◌else◌, List, ◌++◌, Option, Some, None, Result, Ok, Err, ℤ}
+use Rattle.std.specs.Prelude.{◌≡◌, ℕ, ◌*◌, ◌/◌, ◌^◌, ◌<◌, ◌≤◌, ◌&&◌, nat_lt, nat_le, if◌then◌else◌, List, ◌++◌, Option}
+use Rattle.std.specs.Prelude.{Some, None, Result, Ok, Err, ℤ}
 use Rattle.ascii_text.specs.Digits.{decimals_text}
 use Rattle.ascii_text.specs.Blanks.{blanks, are_blanks}
 use Rattle.ascii_text.specs.Reading.{◌>>=◌, decimals_at}
@@ -56,7 +57,8 @@ unfoldable pub day_at : List ℕ → Option WrittenDay
 day_at text = do
   date ← date_at 32 text
   decimals ← decimals_at date.1
-  if nat_le 1 decimals.0.0 && are_blanks decimals.1 then Some (record { date = date.0; count = decimals.0.0; decimals = decimals.0.1 }) else None
+  if nat_le 1 decimals.0.0 && are_blanks decimals.1 then Some
+      (record { date = date.0; count = decimals.0.0; decimals = decimals.0.1 }) else None
 
 -- the nanoseconds of one in the last place of so many decimals of a day
 abbrev pub decimal_unit : ℕ → ℕ

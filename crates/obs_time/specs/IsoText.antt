@@ -1,5 +1,7 @@
--- Moments as ISO 8601 text: `2024-03-15T23:59:59.999Z`, a date, a time of day in UTC, and decimals of the second or none.
-use Rattle.std.specs.Prelude.{◌≡◌, ℕ, ◌+◌, ◌-◌, ◌*◌, ◌/◌, ◌%◌, ◌^◌, ◌<◌, ◌≤◌, Bool, not, ◌&&◌, nat_lt, nat_le, ◌==◌, if◌then◌else◌, List, [], ◌∷◌, ◌++◌, length, Option, Some, None, Result, Ok, Err, ℤ}
+-- Moments as ISO 8601 text: `2024-03-15T23:59:59.999Z`, a date, a time of day in UTC, and decimals of the second or
+-- none.
+use Rattle.std.specs.Prelude.{◌≡◌, ℕ, ◌+◌, ◌-◌, ◌*◌, ◌/◌, ◌%◌, ◌^◌, ◌<◌, ◌≤◌, Bool, not, ◌&&◌, nat_lt, nat_le, ◌==◌}
+use Rattle.std.specs.Prelude.{if◌then◌else◌, List, [], ◌∷◌, ◌++◌, length, Option, Some, None, Result, Ok, Err, ℤ}
 use Rattle.ascii_text.specs.declared.digits.Radix.TheVariants.{Ten}
 use Rattle.ascii_text.specs.Digits.{digits_text, decimals_text}
 use Rattle.ascii_text.specs.Reading.{◌>>=◌, digits_at, behind, decimals_at, decimals_within}
@@ -33,11 +35,13 @@ pub record WrittenIso : Type 0 where
 -- a time of day `hh:mm:ss`, and behind it the rest of a text
 abbrev pub clock_text : WrittenClock → List ℕ → List ℕ
 clock_text clock rest =
-    digits_text Ten 2 clock.hour ++ (58 ∷ (digits_text Ten 2 clock.minute ++ (58 ∷ (digits_text Ten 2 clock.second ++ rest))))
+    digits_text Ten 2 clock.hour ++ (58 ∷ (digits_text Ten 2 clock.minute
+    ++ (58 ∷ (digits_text Ten 2 clock.second ++ rest))))
 
 -- `YYYY-MM-DDThh:mm:ssZ`, or with a point and the decimals before the Z
 abbrev pub spelled_iso : WrittenIso → List ℕ
-spelled_iso iso = date_text 45 iso.date (84 ∷ (clock_text iso.clock (decimals_text iso.count iso.decimals ++ (90 ∷ []))))
+spelled_iso iso = date_text 45 iso.date (84 ∷ (clock_text iso.clock
+    (decimals_text iso.count iso.decimals ++ (90 ∷ []))))
 
 -- the text is that one, without a point where there are no decimals; they may be any number
 pub record SpellsIso (iso : WrittenIso) (text : List ℕ) : Type 0 where
@@ -64,7 +68,8 @@ nanos_of_a_second = 1_000_000_000
 pub record IsIsoMoment (iso : WrittenIso) (t : ℤ) : Type 0 where
   pub ns : ℕ
   pub part : ns * 10 ^ iso.count ≡ iso.decimals * nanos_of_a_second
-  pub exact : t ≡ moment (day_number iso.date.year iso.date.month iso.date.day) (seconds_of iso.clock * nanos_of_a_second + ns)
+  pub exact : t ≡ moment (day_number iso.date.year iso.date.month iso.date.day)
+      (seconds_of iso.clock * nanos_of_a_second + ns)
 
 -- what is to be said of the numbers of an ISO time: the moment, or the first that is wrong with them
 abbrev pub IsIsoVerdict : WrittenIso → Result ℤ TimeFault → Type 0
@@ -106,7 +111,12 @@ iso_at text = do
   time ← time_at text
   decimals ← decimals_at time.1
   zone ← behind 90 decimals.1
-  if length zone == 0 then Some (record { date = time.0.0; clock = time.0.1; count = decimals.0.0; decimals = decimals.0.1 }) else None
+  if length zone == 0 then Some (record {
+    date = time.0.0;
+    clock = time.0.1;
+    count = decimals.0.0;
+    decimals = decimals.0.1;
+  }) else None
 
 -- the same parts, with nothing in place of the decimals where they are more than nine
 unfoldable pub iso_within : List ℕ → Option ((WrittenDate × WrittenClock) × Option (ℕ × ℕ))

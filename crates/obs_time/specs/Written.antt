@@ -27,4 +27,9 @@ written_time time = (written time.date, written_clock time.clock)
 
 -- a date and a time of day with decimals of the second
 abbrev pub written_iso : Time → Decimals → WrittenIso
-written_iso time decimals = record { date = written time.date; clock = written_clock time.clock; count = decimals.count; decimals = decimals.value }
+written_iso time decimals = record {
+  date = written time.date;
+  clock = written_clock time.clock;
+  count = decimals.count;
+  decimals = decimals.value;
+}

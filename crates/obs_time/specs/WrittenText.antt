@@ -15,7 +15,11 @@ pub record IsTextOf (t : ℤ) (count : ℕ) (text : List ℕ) : Type 0 where
 
 -- the numbers of a moment that is a whole number of units of the last decimal of the day
 abbrev pub day_numbers : ℤ → ℕ → WrittenDay
-day_numbers t count = record { date = date_of_day (day_of t); count = count; decimals = ns_of_day t / decimal_unit count }
+day_numbers t count = record {
+  date = date_of_day (day_of t);
+  count = count;
+  decimals = ns_of_day t / decimal_unit count;
+}
 
 -- the text of a moment with so many decimals: the day of the rounded moment, and blanks up to the place of six
 unfoldable pub day_text_of : ℤ → ℕ → List ℕ

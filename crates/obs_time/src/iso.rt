@@ -4,7 +4,8 @@ ghost use Rattle.std.specs.Prelude.{◌≡◌, ◌+◌, ◌-◌, ◌*◌, ◌^�
 ghost use Rattle.obs_time.specs.declared.fault.TimeFault.{TimeFault};
 ghost use Rattle.obs_time.specs.Instants.{nanos_of_a_day};
 ghost use Rattle.obs_time.specs.DateText.{HasDigits};
-ghost use Rattle.obs_time.specs.IsoText.{ClockHasDigits, clock_at, time_at, iso_within, judge_iso, iso_of, nanos_of_a_second, seconds_of, ns_of_iso, is_time_of_day, IsIsoAnswer};
+ghost use Rattle.obs_time.specs.IsoText.{ClockHasDigits, clock_at, time_at, iso_within, judge_iso, iso_of};
+ghost use Rattle.obs_time.specs.IsoText.{nanos_of_a_second, seconds_of, ns_of_iso, is_time_of_day, IsIsoAnswer};
 ghost use Rattle.obs_time.specs.Written.{written, written_clock, written_iso, written_time};
 
 use crate::dates::{Numbers, date_at, judge_date};
@@ -65,10 +66,12 @@ fn time_at(text: &[u8]) -> Option<(Time, &[u8])>
     Some((Time { date, clock }, rest))
 }
 
-/// The date, the time of day and the decimals of the second where a Z ends the text; no decimals where they are too many.
+/// The date, the time of day and the decimals of the second where a Z ends the text; no decimals where they are too
+/// many.
 #[tactic(auto, unfolding(crate::specs::IsoText::iso_within))]
 fn iso_within(text: &[u8]) -> Option<(Time, Option<Decimals>)>
-    ensures exact { option_map (λ x. (written_time x.0, option_map (λ d. (d.count, d.value)) x.1)) result ≡ iso_within text.now }
+    ensures exact { option_map (λ x. (written_time x.0, option_map (λ d. (d.count, d.value)) x.1)) result
+        ≡ iso_within text.now }
     ensures date { IfSome result (λ x. HasDigits (written x.0.date)) }
     ensures clock { IfSome result (λ x. ClockHasDigits (written_clock x.0.clock)) }
     ensures below { IfSome result (λ x. IfSome x.1 (λ d. (d.count ≤ 9) × (d.value < 10 ^ d.count))) }
@@ -149,8 +152,8 @@ fn answer(text: &[u8]) -> Result<Instant, TimeFault>
     }
 }
 
-/// Reads `YYYY-MM-DDThh:mm:ssZ`, a date and time of ISO 8601 in UTC of the years 1800 to 2199, or with a point and 1 to 9
-/// decimals of the second before the Z: the moment, which is exact. The text may be of any length.
+/// Reads `YYYY-MM-DDThh:mm:ssZ`, a date and time of ISO 8601 in UTC of the years 1800 to 2199, or with a point and 1 to
+/// 9 decimals of the second before the Z: the moment, which is exact. The text may be of any length.
 ///
 /// # Errors
 ///

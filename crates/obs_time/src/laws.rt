@@ -1,4 +1,5 @@
-//! What holds of the texts of moments, whoever reads or writes them. Each function does nothing: its contract is the law.
+//! What holds of the texts of moments, whoever reads or writes them. Each function does nothing: its contract is the
+//! law.
 
 ghost use Rattle.std.specs.Prelude.{ℕ, ℤ, List, Ok};
 ghost use Rattle.obs_time.specs.Instants.{IsInstantNs};

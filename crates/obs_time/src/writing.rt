@@ -22,8 +22,8 @@ use ascii_text::writing::{put_blanks, put_decimals, put_digits};
 const MOST_DECIMALS: usize = 6;
 
 /// Writes columns 16 to 32 of an 80-column record: `YYYY MM DD.d` with 1 to 6 decimals of the day, and blanks behind.
-/// The moment is rounded to the last decimal, halves away from 1970-01-01T00:00:00; what reaches the day's end goes into
-/// the next day, which may be 2200-01-01.
+/// The moment is rounded to the last decimal, halves away from 1970-01-01T00:00:00; what reaches the day's end goes
+/// into the next day, which may be 2200-01-01.
 pub fn write_day_fraction(t: Instant, decimals: u8) -> [u8; 17]
     requires some { 1 ≤ decimals }
     requires few { decimals ≤ 6 }

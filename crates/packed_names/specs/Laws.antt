@@ -15,9 +15,11 @@ use Rattle.packed_names.specs.Judging.{is_in_range, answered}
 
 pub record NameLaws : Type 0 where
   -- a text is answered with a name exactly where it is the name's packed form
-  pub packed_exactly : (text : List ℕ) (name : Name) → (answered is_in_range (packed_in text) ≡ Ok name) ↔ IsPackedAs name text
+  pub packed_exactly : (text : List ℕ) (name : Name) → (answered is_in_range (packed_in text) ≡ Ok name)
+      ↔ IsPackedAs name text
   -- a text is answered with a name exactly where it is the name's printed form
-  pub printed_exactly : (text : List ℕ) (name : Name) → (answered is_in_range (printed_in text) ≡ Ok name) ↔ IsPrintedAs name text
+  pub printed_exactly : (text : List ℕ) (name : Name) → (answered is_in_range (printed_in text) ≡ Ok name)
+      ↔ IsPrintedAs name text
 
 -- What holds of the orders of half-months and designations.
 pub record OrderLaws : Type 0 where

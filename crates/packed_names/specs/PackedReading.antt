@@ -1,5 +1,6 @@
 -- Reading packed names: the values that a text shows, or nothing where it has no shape.
-use Rattle.std.specs.Prelude.{ℕ, ◌+◌, ◌-◌, ◌*◌, nat_le, ◌==◌, ◌&&◌, if◌then◌else◌, List, [], ◌∷◌, length, Option, Some, None, option_map}
+use Rattle.std.specs.Prelude.{ℕ, ◌+◌, ◌-◌, ◌*◌, nat_le, ◌==◌, ◌&&◌, if◌then◌else◌, List, [], ◌∷◌, length, Option, Some}
+use Rattle.std.specs.Prelude.{None, option_map}
 use Rattle.ascii_text.specs.declared.digits.Radix.TheVariants.{Ten, SixtyTwo}
 use Rattle.ascii_text.specs.Reading.{◌>>=◌, digits_at, behind}
 use Rattle.packed_names.specs.declared.half_month.HalfMonth.{HalfMonth}

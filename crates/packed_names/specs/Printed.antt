@@ -28,7 +28,8 @@ cycle_text (suc before) = decimal (suc before)
 unfoldable pub provisional_text : Provisional → List ℕ
 provisional_text provisional =
     digits_text Ten 4 provisional.half.year
-    ++ (32 ∷ letter_of provisional.half.index ∷ letter_of (letter_index provisional.order) ∷ cycle_text (cycle_of provisional.order))
+    ++ (32 ∷ letter_of provisional.half.index ∷ letter_of (letter_index provisional.order)
+    ∷ cycle_text (cycle_of provisional.order))
 
 -- what a survey's designations end with
 unfoldable pub suffix : Survey → List ℕ

@@ -20,8 +20,10 @@ pub fn packed_one_to_one()
 
 /// Two names never share a printed form, and a name never has two.
 pub fn printed_one_to_one()
-    ensures one_name { (one other : Name) (text : List ℕ) → IsPrintedAs one text → IsPrintedAs other text → one ≡ other }
-    ensures one_text { (name : Name) (one other : List ℕ) → IsPrintedAs name one → IsPrintedAs name other → one ≡ other }
+    ensures one_name { (one other : Name) (text : List ℕ) → IsPrintedAs one text → IsPrintedAs other text
+        → one ≡ other }
+    ensures one_text { (name : Name) (one other : List ℕ) → IsPrintedAs name one → IsPrintedAs name other
+        → one ≡ other }
 {
     ascii_text::laws::texts();
 }

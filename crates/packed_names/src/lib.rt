@@ -9,14 +9,14 @@
 //!
 //! **Packed.** A number has five characters: five digits up to 99,999; then a digit of base 62 (0 to 9, A to Z, a to z)
 //! for the ten thousands and four digits, up to 619,999; then `~` and four digits of base 62 that count from 620,000. A
-//! designation has seven. A provisional one up to order 15,500 has the century's letter (J for 19, K for 20), two digits
-//! of the year, the half-month's letter, the cycle with its tens as a digit of base 62, and the order letter: `K24E01A`.
-//! One of a later order, in the years 2000 to 2061, has `_`, the year from 2000 on as a digit of base 62, the half-month's
-//! letter, and four digits of base 62 that count the orders from 15,501: `_OE0000`. A survey designation has three letters
-//! of the survey and four digits: `PLS2040`.
+//! designation has seven. A provisional one up to order 15,500 has the century's letter (J for 19, K for 20), two
+//! digits of the year, the half-month's letter, the cycle with its tens as a digit of base 62, and the order letter:
+//! `K24E01A`. One of a later order, in the years 2000 to 2061, has `_`, the year from 2000 on as a digit of base 62,
+//! the half-month's letter, and four digits of base 62 that count the orders from 15,501: `_OE0000`. A survey
+//! designation has three letters of the survey and four digits: `PLS2040`.
 //!
-//! The rules are those of the Minor Planet Center's pages on new- and old-style designations and on packed designations.
-//! The ranges of orders follow from the two packed forms. No call takes memory.
+//! The rules are those of the Minor Planet Center's pages on new- and old-style designations and on packed
+//! designations. The ranges of orders follow from the two packed forms. No call takes memory.
 #![tactic(auto)]
 
 mod half_month;

@@ -30,6 +30,10 @@ fn unpacked(text: &[u8]) -> Result<Name, NameFault>
 ///
 /// Any other text is `OutOfRange` where it has the shape of a packed name, as `00000` or `J24E00A`, the year 1924, and
 /// `Spelling` where it has none, as `K24e00A`.
+///
+/// # Errors
+///
+/// `OutOfRange` where the text has the shape of a packed name, `Spelling` where it has none.
 pub fn unpack(text: &[u8]) -> Result<Name, NameFault>
     ensures exact { result ≡ answered is_in_range (packed_in text.now) }
     ensures in_range { IfOk result IsName }

@@ -4,7 +4,8 @@ ghost use Rattle.std.specs.Prelude.{◌≡◌, ◌↔◌, IfOk};
 ghost use Rattle.packed_names.specs.Judging.{is_in_range, is_half_month, judge, answered};
 ghost use Rattle.packed_names.specs.Labels.{IsLabelOf};
 ghost use Rattle.packed_names.specs.Ranges.{IsName, IsHalfMonth};
-ghost use Rattle.packed_names.specs.Printed.{printed_text, half_text, IsPrintedAs, HasPrintedShape, IsPrintedName, IsHalfPrintedAs, HasPrintedHalfShape, IsPrintedHalf};
+ghost use Rattle.packed_names.specs.Printed.{printed_text, half_text, IsPrintedAs, HasPrintedShape, IsPrintedName};
+ghost use Rattle.packed_names.specs.Printed.{IsHalfPrintedAs, HasPrintedHalfShape, IsPrintedHalf};
 ghost use Rattle.packed_names.specs.PrintedReading.{printed_in, half_in};
 ghost use Rattle.packed_names.specs.declared.name.Designation.TheVariants as designations;
 ghost use Rattle.packed_names.specs.declared.name.Name.TheVariants as names;
@@ -66,6 +67,10 @@ fn printed(text: &[u8]) -> Result<Name, NameFault>
 ///
 /// Any other text is `OutOfRange` where it has the shape of a printed name, as `15396336` or `2100 EA`, and `Spelling`
 /// where it has none, as `2024 EA0`.
+///
+/// # Errors
+///
+/// `OutOfRange` where the text has the shape of a printed name, `Spelling` where it has none.
 pub fn read(text: &[u8]) -> Result<Name, NameFault>
     ensures exact { result ≡ answered is_in_range (printed_in text.now) }
     ensures in_range { IfOk result IsName }
@@ -93,12 +98,17 @@ fn printed_half(text: &[u8]) -> Result<HalfMonth, NameFault>
 /// The half-month that the text is the printed form of: year, blank, letter, as `2024 E`.
 ///
 /// Any other text is `OutOfRange` where four digits, a blank and a half-month's letter make it up, and `Spelling` else.
+///
+/// # Errors
+///
+/// `OutOfRange` where the text has the shape of a half-month, `Spelling` where it has none.
 pub fn read_half(text: &[u8]) -> Result<HalfMonth, NameFault>
     ensures exact { result ≡ answered is_half_month (half_in text.now) }
     ensures in_range { IfOk result IsHalfMonth }
 
     ensures half { (half : HalfMonth) → (result ≡ Ok half) ↔ IsHalfPrintedAs half text.now }
-    ensures out_of_range { (result ≡ Err NameFault.OutOfRange) ↔ (HasPrintedHalfShape text.now × ¬ IsPrintedHalf text.now) }
+    ensures out_of_range { (result ≡ Err NameFault.OutOfRange)
+        ↔ (HasPrintedHalfShape text.now × ¬ IsPrintedHalf text.now) }
     ensures spelling { (result ≡ Err NameFault.Spelling) ↔ (¬ HasPrintedHalfShape text.now) }
 {
     ascii_text::laws::texts();

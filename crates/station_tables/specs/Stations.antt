@@ -19,7 +19,8 @@ holds_day date row = int_le row.from date && int_le date row.to
 abbrev pub rows_with_code : Short → List StationRow → List StationRow
 rows_with_code code rows = filter (λ row. is_code code row.code) rows
 
--- how these rows of one code stand on a day: Unknown where there are none, Serving where one of them holds the day, else Outside
+-- how these rows of one code stand on a day: Unknown where there are none, Serving where one of them holds the day,
+-- else Outside
 abbrev pub serving_by : List StationRow → ℤ → Serving
 serving_by [] date = Unknown
 serving_by (row ∷ rows) date = if list_any (holds_day date) (row ∷ rows) then InService else Outside

@@ -38,7 +38,8 @@ pub(crate) fn with_word(
     word: Short,
 ) -> Result<WordIndex, NoMemory>
     requires { has_code (map code_row words.now.entries) kind letter word ≡ false }
-    ensures { IfOk result (λ longer. longer.entries ≡ words.now.entries ++ (record { kind = kind; letter = letter }, word) ∷ []) }
+    ensures { IfOk result (λ longer. longer.entries ≡ words.now.entries
+        ++ (record { kind = kind; letter = letter }, word) ∷ []) }
 {
     let mut longer = words_copied(words)?;
     longer.insert(LetterKey { kind, letter }, word)?;

@@ -7,20 +7,20 @@ use crate::kind::Kind;
 use obs_record::Short;
 
 /// The code of a station.
-#[derive(Clone, Copy, PartialEq, Eq, Hash)]
+#[derive(Clone, Copy, Debug, PartialEq, Eq, Hash)]
 pub(crate) struct StationCode {
     pub(crate) code: [u8; 3],
 }
 
 /// The letter of a code row. No two rows of a kind have the same letter.
-#[derive(Clone, Copy, PartialEq, Eq, Hash)]
+#[derive(Clone, Copy, Debug, PartialEq, Eq, Hash)]
 pub(crate) struct LetterKey {
     pub(crate) kind: Kind,
     pub(crate) letter: u8,
 }
 
 /// The word of a code row, as a short text's length and bytes. No two rows of a kind have the same word.
-#[derive(Clone, Copy, PartialEq, Eq, Hash)]
+#[derive(Clone, Copy, Debug, PartialEq, Eq, Hash)]
 pub(crate) struct WordKey {
     pub(crate) kind: Kind,
     pub(crate) len: u8,

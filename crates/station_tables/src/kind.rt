@@ -1,3 +1,5 @@
+//! What letters and words stand for.
+
 /// What a letter of the 80-column format, or a word of ADES, names.
 #[derive(Clone, Copy, Debug, PartialEq, Eq, Hash)]
 pub enum Kind {

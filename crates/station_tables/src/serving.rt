@@ -1,3 +1,5 @@
+//! How a station stands on a day.
+
 /// How a station code stands on a day.
 #[derive(Clone, Copy, Debug, PartialEq, Eq)]
 pub enum Serving {

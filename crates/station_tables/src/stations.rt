@@ -1,6 +1,7 @@
 //! The station rows, in the order in which they were entered, and by their code.
 
-ghost use Rattle.std.specs.Prelude.{◌≡◌, ◌&&◌, ◌==◌, true, false, [], ◌∷◌, ◌++◌, map, filter, take, IfOk, IfSome, IfNone};
+ghost use Rattle.std.specs.Prelude.{◌≡◌, ◌&&◌, ◌==◌, true, false, [], ◌∷◌, ◌++◌, map, filter, take, IfOk, IfSome};
+ghost use Rattle.std.specs.Prelude.{IfNone};
 ghost use Rattle.std.specs.List.{list_any};
 ghost use Rattle.station_tables.specs.Stations.{holds_day, shares_day, serving_by, serving_of, overlaps};
 ghost use Rattle.station_tables.specs.Indexed.{station_row, has_code, shares_days};
@@ -17,7 +18,7 @@ use std::marker::Model;
 const FIRST_ROOM: usize = 16;
 
 /// A station's row: the first and the last day on which the code serves.
-#[derive(Clone, Copy)]
+#[derive(Clone, Copy, Debug)]
 pub(crate) struct Row {
     pub(crate) code: [u8; 3],
     pub(crate) from: i32,
@@ -25,7 +26,7 @@ pub(crate) struct Row {
 }
 
 /// The rows of one code, in the order in which they were entered.
-#[derive(Drop)]
+#[derive(Debug, Drop)]
 pub(crate) struct CodeRows {
     rows: Vec<Row>,
 }
@@ -52,7 +53,7 @@ impl Clone for CodeRows {
 }
 
 /// The station rows.
-#[derive(Drop)]
+#[derive(Debug, Drop)]
 pub(crate) struct StationRows {
     rows: Vec<Row>,
     by_code: IndexMap<StationCode, CodeRows>,

@@ -1,3 +1,5 @@
+//! The tables of stations and codes.
+
 ghost use Rattle.std.specs.Prelude.{◌≡◌, false, ◌≤ℤ◌, is_some, IfOk};
 ghost use Rattle.std.specs.List.{list_any};
 ghost use Rattle.station_tables.specs.Rows.{no_rows};
@@ -20,7 +22,7 @@ const FIRST_ROOM: usize = 16;
 /// The office's tables: the station rows and the code rows, each in the order in which officers entered them.
 ///
 /// Days are counted from 1970-01-01, and are negative before it.
-#[derive(Drop)]
+#[derive(Debug, Drop)]
 pub struct Tables {
     stations: StationRows,
     words: WordIndex,
@@ -64,7 +66,8 @@ impl Tables {
     pub fn with_station(&self, code: [u8; 3], from: i32, to: i32) -> Result<Tables, NoMemory>
         requires forward { from ≤ℤ to }
         requires apart { overlaps self.now.stations code from to ≡ false }
-        ensures { IfOk result (λ tables. tables ≡ with_station_row self.now (record { code = code; from = from; to = to })) }
+        ensures { IfOk result (λ tables. tables ≡ with_station_row self.now
+            (record { code = code; from = from; to = to })) }
     {
         Ok(Tables {
             stations: self.stations.with_row(Row { code, from, to })?,
@@ -81,7 +84,8 @@ impl Tables {
     /// Memory was refused.
     pub fn with_code(&self, kind: Kind, letter: u8, word: Short) -> Result<Tables, NoMemory>
         requires { has_code self.now.codes kind letter word ≡ false }
-        ensures { IfOk result (λ tables. tables ≡ with_code_row self.now (record { kind = kind; letter = letter; word = word })) }
+        ensures { IfOk result (λ tables. tables ≡ with_code_row self.now
+            (record { kind = kind; letter = letter; word = word })) }
     {
         Ok(Tables {
             stations: self.stations.copied()?,

@@ -89,7 +89,8 @@ const DAYS: [(&[u8], i32, Serving); 10] = [
     (b"W841", FROM_2016, Serving::Unknown),
 ];
 
-// The first of these cases that the tables answer otherwise, counted from 0; None where there is none. So are those below.
+// The first of these cases that the tables answer otherwise, counted from 0; None where there is none. So are those
+// below.
 fn wrong_day(tables: &Tables) -> Option<usize> {
     for (place, &(code, date, want)) in DAYS.iter().enumerate() {
         if tables.station(Short::new(code), date) != want {
@@ -175,8 +176,8 @@ fn wrong_code(tables: &Tables) -> Option<usize> {
     None
 }
 
-// The first wrong case of each table of cases, those of stations, of spans, of letters, of words and of codes; None where
-// memory was refused.
+// The first wrong case of each table of cases, those of stations, of spans, of letters, of words and of codes; None
+// where memory was refused.
 fn wrong_cases(alloc: Global) -> Option<[Option<usize>; 5]> {
     let tables = filled(alloc)?;
     Some([

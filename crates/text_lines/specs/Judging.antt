@@ -1,5 +1,5 @@
--- What holds of rules in their order, whatever the rules are of. A clause can't range over all predicates, so these laws
--- stand beside the words that they are of.
+-- What holds of rules in their order, whatever the rules are of. A clause can't range over all predicates, so these
+-- laws stand beside the words that they are of.
 use Rattle.std.specs.Prelude.{◌≡◌, Bool, true, false, if◌then◌else◌, List, [], ◌∷◌, ◌++◌, Result, Ok, Err, refl}
 use Rattle.std.proofs.Common.{inl, inr, sym, ap, ◌∙◌}
 use Rattle.text_lines.specs.Steps.{◌>>=◌, or_breaks}
@@ -15,21 +15,25 @@ one_broken Keeps (rule ∷ more) one other (inr first) (inl second) = absurd (se
 one_broken Keeps (rule ∷ more) one other (inr first) (inr second) = one_broken Keeps more one other first.1 second.1
 
 -- where each rule is kept, none is broken
-pub none_broken : {R : Type 0} (Keeps : R → Type 0) (rules : List R) (rule : R) → KeepsEach Keeps rules → IsFirstBroken Keeps rules rule → ⊥
+pub none_broken : {R : Type 0} (Keeps : R → Type 0) (rules : List R) (rule : R) → KeepsEach Keeps rules
+    → IsFirstBroken Keeps rules rule → ⊥
 none_broken Keeps [] rule kept broken = broken
 none_broken Keeps (next ∷ more) rule kept (inl broken) = broken.0 kept.0
 none_broken Keeps (next ∷ more) rule kept (inr later) = none_broken Keeps more rule kept.1 later.1
 
-kept_join : {R : Type 0} (Keeps : R → Type 0) (rules more : List R) → KeepsEach Keeps rules → KeepsEach Keeps more → KeepsEach Keeps (rules ++ more)
+kept_join : {R : Type 0} (Keeps : R → Type 0) (rules more : List R) → KeepsEach Keeps rules → KeepsEach Keeps more
+    → KeepsEach Keeps (rules ++ more)
 kept_join Keeps [] more kept others = others
 kept_join Keeps (rule ∷ rules) more kept others = (kept.0, kept_join Keeps rules more kept.1 others)
 
-broken_join : {R : Type 0} (Keeps : R → Type 0) (rules more : List R) (rule : R) → IsFirstBroken Keeps rules rule → IsFirstBroken Keeps (rules ++ more) rule
+broken_join : {R : Type 0} (Keeps : R → Type 0) (rules more : List R) (rule : R) → IsFirstBroken Keeps rules rule
+    → IsFirstBroken Keeps (rules ++ more) rule
 broken_join Keeps [] more rule broken = absurd broken
 broken_join Keeps (next ∷ rules) more rule (inl broken) = inl broken
 broken_join Keeps (next ∷ rules) more rule (inr later) = inr (later.0, broken_join Keeps rules more rule later.1)
 
-behind_kept : {R : Type 0} (Keeps : R → Type 0) (rules more : List R) (rule : R) → KeepsEach Keeps rules → IsFirstBroken Keeps more rule → IsFirstBroken Keeps (rules ++ more) rule
+behind_kept : {R : Type 0} (Keeps : R → Type 0) (rules more : List R) (rule : R) → KeepsEach Keeps rules
+    → IsFirstBroken Keeps more rule → IsFirstBroken Keeps (rules ++ more) rule
 behind_kept Keeps [] more rule kept broken = broken
 behind_kept Keeps (next ∷ rules) more rule kept broken = inr (kept.0, behind_kept Keeps rules more rule kept.1 broken)
 
@@ -40,22 +44,28 @@ judged_behind Keeps rules more IsRight (Ok x) kept judged = (kept_join Keeps rul
 judged_behind Keeps rules more IsRight (Err rule) kept judged = behind_kept Keeps rules more rule kept judged
 
 -- one step after another
-pub judged_on : {R A B : Type 0} (Keeps : R → Type 0) (rules more : List R) (IsRight : A → Type 0) (IsRightThen : B → Type 0) (r : Result A R) (f : A → Result B R)
-    → Judges Keeps rules IsRight r → ((x : A) → IsRight x → Judges Keeps more IsRightThen (f x)) → Judges Keeps (rules ++ more) IsRightThen (r >>= f)
-judged_on Keeps rules more IsRight IsRightThen (Ok x) f judged step = judged_behind Keeps rules more IsRightThen (f x) judged.0 (step x judged.1)
+pub judged_on : {R A B : Type 0} (Keeps : R → Type 0) (rules more : List R) (IsRight : A → Type 0)
+    (IsRightThen : B → Type 0) (r : Result A R) (f : A → Result B R)
+    → Judges Keeps rules IsRight r → ((x : A) → IsRight x → Judges Keeps more IsRightThen (f x))
+    → Judges Keeps (rules ++ more) IsRightThen (r >>= f)
+judged_on Keeps rules more IsRight IsRightThen (Ok x) f judged step =
+    judged_behind Keeps rules more IsRightThen (f x) judged.0 (step x judged.1)
 judged_on Keeps rules more IsRight IsRightThen (Err rule) f judged step = broken_join Keeps rules more rule judged
 
 -- a test of one rule
-pub judged_test : {R A : Type 0} (Keeps : R → Type 0) (rule : R) (more : List R) (IsRight : A → Type 0) (broken : Bool) (r : Result A R)
+pub judged_test : {R A : Type 0} (Keeps : R → Type 0) (rule : R) (more : List R) (IsRight : A → Type 0) (broken : Bool)
+    (r : Result A R)
     → (broken ≡ true → Keeps rule → ⊥) → (broken ≡ false → Keeps rule) → (broken ≡ false → Judges Keeps more IsRight r)
     → Judges Keeps (rule ∷ more) IsRight (if broken then Err rule else r)
 judged_test Keeps rule more IsRight true r breaks keeps rest = inl (breaks refl, refl)
-judged_test Keeps rule more IsRight false r breaks keeps rest = judged_behind Keeps (rule ∷ []) more IsRight r (keeps refl, tt) (rest refl)
+judged_test Keeps rule more IsRight false r breaks keeps rest =
+    judged_behind Keeps (rule ∷ []) more IsRight r (keeps refl, tt) (rest refl)
 
 -- a part that one rule is of: what is read is right, the rule is kept exactly where something is read, and the part
 -- breaks no other rule
 pub judged_part : {R A : Type 0} (Keeps : R → Type 0) (rule : R) (IsRight : A → Type 0) (r : Result A R)
-    → ((x : A) → r ≡ Ok x → IsRight x) → ((x : A) → IsRight x → Keeps rule) → (Keeps rule → (x : A) × (r ≡ Ok x)) → ((other : R) → r ≡ Err other → other ≡ rule)
+    → ((x : A) → r ≡ Ok x → IsRight x) → ((x : A) → IsRight x → Keeps rule) → (Keeps rule → (x : A) × (r ≡ Ok x))
+    → ((other : R) → r ≡ Err other → other ≡ rule)
     → Judges Keeps (rule ∷ []) IsRight r
 judged_part Keeps rule IsRight (Ok x) given keeps found fault = let right = given x refl in ((keeps x right, tt), right)
 judged_part Keeps rule IsRight (Err other) given keeps found fault =
@@ -70,8 +80,13 @@ judged_breaks Keeps rule IsRight (Err fault) given keeps found = inl (λ kept. (
 
 -- What is said under the rules is determined, where what is right of a thing that keeps them all is.
 pub one_judgement : {R A : Type 0} (Keeps : R → Type 0) (rules : List R) (IsRight : A → Type 0) (one other : Result A R)
-    → (KeepsEach Keeps rules → (x y : A) → IsRight x → IsRight y → x ≡ y) → Judges Keeps rules IsRight one → Judges Keeps rules IsRight other → one ≡ other
-one_judgement {A = A} Keeps rules IsRight (Ok x) (Ok y) same first second = ap (λ (v : A). Ok v) (same first.0 x y first.1 second.1)
-one_judgement Keeps rules IsRight (Ok x) (Err rule) same first second = absurd (none_broken Keeps rules rule first.0 second)
-one_judgement Keeps rules IsRight (Err rule) (Ok y) same first second = absurd (none_broken Keeps rules rule second.0 first)
-one_judgement {R = R} Keeps rules IsRight (Err rule) (Err next) same first second = ap (λ (v : R). Err v) (one_broken Keeps rules rule next first second)
+    → (KeepsEach Keeps rules → (x y : A) → IsRight x → IsRight y → x ≡ y) → Judges Keeps rules IsRight one
+    → Judges Keeps rules IsRight other → one ≡ other
+one_judgement {A = A} Keeps rules IsRight (Ok x) (Ok y) same first second =
+    ap (λ (v : A). Ok v) (same first.0 x y first.1 second.1)
+one_judgement Keeps rules IsRight (Ok x) (Err rule) same first second =
+    absurd (none_broken Keeps rules rule first.0 second)
+one_judgement Keeps rules IsRight (Err rule) (Ok y) same first second =
+    absurd (none_broken Keeps rules rule second.0 first)
+one_judgement {R = R} Keeps rules IsRight (Err rule) (Err next) same first second =
+    ap (λ (v : R). Err v) (one_broken Keeps rules rule next first second)

@@ -7,14 +7,17 @@ use Rattle.text_lines.specs.Pieces.{complete_lines, unfinished, joined, uncut, c
 pub record LineLaws : Type 0 where
   -- in whatever pieces a text comes, its lines are those of the whole
   pub any_cut : (pieces : List (List ℕ)) → all_lines (cut_all uncut pieces) ≡ lines (joined pieces)
-  -- One more piece: the complete lines stay, and those follow that the piece ends, the first of which began in the rest.
+  -- One more piece: the complete lines stay, and those follow that the piece ends, the first of which began in the
+  -- rest.
   pub one_piece : (text piece : List ℕ) → cut_of (text ++ piece) ≡ cut_on (cut_of text) piece
-  pub complete_on : (text more : List ℕ) → complete_lines (text ++ more) ≡ complete_lines text ++ complete_lines (unfinished text ++ more)
+  pub complete_on : (text more : List ℕ) → complete_lines (text ++ more)
+      ≡ complete_lines text ++ complete_lines (unfinished text ++ more)
   pub unfinished_on : (text more : List ℕ) → unfinished (text ++ more) ≡ unfinished (unfinished text ++ more)
   pub lines_on : (text more : List ℕ) → lines (text ++ more) ≡ complete_lines text ++ lines (unfinished text ++ more)
   -- a text that ends here: its complete lines, and the rest, which is a line where it isn't empty
   pub whole : (text : List ℕ) → lines text ≡ complete_lines text ++ lines (unfinished text)
-  pub last_line : (text : List ℕ) → 0 < length (unfinished text) → lines text ≡ complete_lines text ++ unfinished text ∷ []
+  pub last_line : (text : List ℕ) → 0 < length (unfinished text) → lines text ≡ complete_lines text ++ unfinished text
+      ∷ []
   pub no_last_line : (text : List ℕ) → length (unfinished text) ≡ 0 → lines text ≡ complete_lines text
   -- each complete line takes a byte at least, its line feed
   pub few : (text : List ℕ) → length (complete_lines text) + length (unfinished text) ≤ length text

@@ -1,5 +1,6 @@
--- The lines of a text, numbered. A text is cut into lines at line feeds as std's `lines` has it: a carriage return before
--- a line feed belongs to the line's end, and what stands after the last line feed is a line where it isn't empty.
+-- The lines of a text, numbered. A text is cut into lines at line feeds as std's `lines` has it: a carriage return
+-- before a line feed belongs to the line's end, and what stands after the last line feed is a line where it isn't
+-- empty.
 use Rattle.std.specs.Prelude.{ℕ, ◌<◌, not, List, length, filter}
 use Rattle.std.specs.List.{enumerate_from}
 use Rattle.std.specs.Str.Lines.{lines}

@@ -48,7 +48,10 @@ cut_of text = record { lines = complete_lines text; rest = unfinished text }
 
 -- One more piece came: its line feeds end lines, the first of which began in the rest.
 abbrev pub cut_on : Cut → List ℕ → Cut
-cut_on cut piece = record { lines = cut.lines ++ complete_lines (cut.rest ++ piece); rest = unfinished (cut.rest ++ piece) }
+cut_on cut piece = record {
+  lines = cut.lines ++ complete_lines (cut.rest ++ piece);
+  rest = unfinished (cut.rest ++ piece);
+}
 
 -- the pieces came, in their order
 abbrev pub cut_all : Cut → List (List ℕ) → Cut

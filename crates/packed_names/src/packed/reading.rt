@@ -1,7 +1,10 @@
 //! Reading packed names: the values that a text shows.
 
 ghost use Rattle.std.specs.Prelude.{◌≡◌, ◌<◌, ◌≤◌, length, IfSome, option_map};
-ghost use Rattle.packed_names.specs.PackedReading.{small_number_in, large_number_in, number_in, century_at, century_half_at, century_order_in, century_form_in, extended_form_in, provisional_in, survey_of, survey_at, survey_in, designation_in, packed_in};
+ghost use Rattle.packed_names.specs.PackedReading.{small_number_in, large_number_in, number_in, century_at};
+ghost use Rattle.packed_names.specs.PackedReading.{century_half_at, century_order_in, century_form_in};
+ghost use Rattle.packed_names.specs.PackedReading.{extended_form_in, provisional_in, survey_of, survey_at, survey_in};
+ghost use Rattle.packed_names.specs.PackedReading.{designation_in, packed_in};
 
 use crate::half_month::HalfMonth;
 use crate::letters::letter_at;

@@ -2,7 +2,8 @@
 
 ghost use Rattle.std.specs.Prelude.{◌≡◌, ◌≤◌};
 ghost use Rattle.packed_names.specs.Ranges.{IsProvisional};
-ghost use Rattle.packed_names.specs.Packed.{number_text, century_text, extended_text, provisional_text, prefix, survey_text, HasCenturyShape, HasExtendedShape};
+ghost use Rattle.packed_names.specs.Packed.{number_text, century_text, extended_text, provisional_text, prefix};
+ghost use Rattle.packed_names.specs.Packed.{survey_text, HasCenturyShape, HasExtendedShape};
 
 use crate::letters::letter_of;
 use crate::provisional::Provisional;

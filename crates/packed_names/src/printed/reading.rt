@@ -1,7 +1,8 @@
 //! Reading printed names: the values that a text shows.
 
 ghost use Rattle.std.specs.Prelude.{◌≡◌, ◌<◌, ◌^◌, IfSome, option_map};
-ghost use Rattle.packed_names.specs.PrintedReading.{number_in, half_at, half_in, cycle_in, provisional_in, suffix_of, suffix_in, survey_in};
+ghost use Rattle.packed_names.specs.PrintedReading.{number_in, half_at, half_in, cycle_in, provisional_in, suffix_of};
+ghost use Rattle.packed_names.specs.PrintedReading.{suffix_in, survey_in};
 
 use crate::half_month::HalfMonth;
 use crate::letters::letter_at;

@@ -3,7 +3,8 @@
 ghost use Rattle.std.specs.Prelude.{◌≡◌, ◌+◌, ◌^◌, ◌<◌, ◌≤◌, ◌++◌, decimal};
 ghost use Rattle.arrayvec.specs.ArrayVec.{array_vec_len};
 ghost use Rattle.packed_names.specs.Ranges.{IsProvisional};
-ghost use Rattle.packed_names.specs.Printed.{FitsPrintedHalf, half_text, cycle_text, provisional_text, suffix, survey_text};
+ghost use Rattle.packed_names.specs.Printed.{FitsPrintedHalf, half_text, cycle_text, provisional_text, suffix};
+ghost use Rattle.packed_names.specs.Printed.{survey_text};
 
 use crate::half_month::HalfMonth;
 use crate::letters::letter_of;
