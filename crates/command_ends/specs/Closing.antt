@@ -5,7 +5,8 @@ use Rattle.act_model.specs.declared.keeper.OfficeState.{OfficeState}
 use Rattle.act_model.specs.Turns.{Mends}
 use Rattle.mpc_desk.specs.Desks.{DeskState, IsAtRest}
 use Rattle.command_ends.specs.declared.status.Status.{Status}
-use Rattle.command_ends.specs.declared.status.Status.TheVariants.{Done, Usage, BadFrame, DiskFault, Damaged, ReadFault, WriteFault, NoMemory, DoorFault}
+use Rattle.command_ends.specs.declared.status.Status.TheVariants.{Done, Usage, BadFrame, DiskFault, Damaged, ReadFault}
+use Rattle.command_ends.specs.declared.status.Status.TheVariants.{WriteFault, NoMemory, DoorFault}
 use Rattle.command_ends.specs.Disks.{DiskWords, DiskRose}
 
 -- From what was left to what is there at the end, with the rise of the count of faults in the last mending.

@@ -11,7 +11,8 @@ use Rattle.mpc_desk.specs.Desks.{DeskState, IsAtRest}
 use Rattle.mpc_desk.specs.Files.{Stands}
 use Rattle.mpc_desk.specs.Opening.{IsDamagedDesk, StandsAlike}
 use Rattle.command_ends.specs.declared.status.Status.{Status}
-use Rattle.command_ends.specs.declared.status.Status.TheVariants.{Done, Usage, BadFrame, DiskFault, Damaged, ReadFault, WriteFault, NoMemory, DoorFault}
+use Rattle.command_ends.specs.declared.status.Status.TheVariants.{Done, Usage, BadFrame, DiskFault, Damaged, ReadFault}
+use Rattle.command_ends.specs.declared.status.Status.TheVariants.{WriteFault, NoMemory, DoorFault}
 use Rattle.command_ends.specs.Disks.{DiskWords, DiskRose}
 
 -- how many bytes the journal may have
@@ -48,9 +49,11 @@ pub record IsUnopened {D : Type 0} (on : DiskWords D) (disk now : D) (added rise
 -- and the disk, where its reads are known, was not written
 abbrev pub IsAsItWas : {D : Type 0} → DiskWords D → D → D → ℕ → Type 0
 IsAsItWas on disk now added =
-    (rise : ℕ) × IsUnopened on disk now added rise × (IsSome (on.reads disk) → IsUnwritten on.reads on.moment on.since disk now)
+    (rise : ℕ) × IsUnopened on disk now added rise × (IsSome (on.reads disk)
+    → IsUnwritten on.reads on.moment on.since disk now)
 
--- the office couldn't be opened, and the command ends so: the disk failed, the journal is damaged, or memory was refused
+-- the office couldn't be opened, and the command ends so: the disk failed, the journal is damaged, or memory was
+-- refused
 abbrev pub EndsUnopened : {D : Type 0} → DiskWords D → Key → D → D → ℕ → Status → Type 0
 EndsUnopened on founder disk now added DiskFault = (rise : ℕ) × (0 < rise) × IsUnopened on disk now added rise
 EndsUnopened on founder disk now added (Damaged offset) =

@@ -1,7 +1,8 @@
 -- The statuses: their numbers, with which the program ends, and those that need no fault.
 use Rattle.std.specs.Prelude.{ℕ}
 use Rattle.command_ends.specs.declared.status.Status.{Status}
-use Rattle.command_ends.specs.declared.status.Status.TheVariants.{Done, Usage, BadFrame, DiskFault, Damaged, ReadFault, WriteFault, NoMemory, DoorFault}
+use Rattle.command_ends.specs.declared.status.Status.TheVariants.{Done, Usage, BadFrame, DiskFault, Damaged, ReadFault}
+use Rattle.command_ends.specs.declared.status.Status.TheVariants.{WriteFault, NoMemory, DoorFault}
 
 -- the number with which the program ends
 abbrev pub number_of : Status → ℕ

@@ -2,7 +2,8 @@
 //! mending.
 //!
 //! What stands on the disk at the end of a command is told in the same words by each of them: `specs/Opening.antt` for
-//! an office that was opened or couldn't be, `specs/Closing.antt` for an act in doubt, `specs/Left.antt` for the history.
+//! an office that was opened or couldn't be, `specs/Closing.antt` for an act in doubt, `specs/Left.antt` for the
+//! history.
 #![tactic(auto)]
 
 mod closing;

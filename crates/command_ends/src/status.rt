@@ -58,7 +58,7 @@ impl Status {
 }
 
 /// How a call ended, the disk, and by how many entries the office's history grew.
-#[derive(Drop)]
+#[derive(Debug, Drop)]
 pub struct Ended<D: Disk> {
     pub status: Status,
     pub disk: D,

@@ -2,6 +2,7 @@
 use Rattle.std.proofs.Common.{◌≡◌, ℕ, ◌+◌, ◌-◌, ◌<◌, ◌≤◌, List, [], ◌∷◌, ◌++◌, length, refl, sym, ap, subst, ◌∙◌, arith, suc}
 use Rattle.std.specs.Prelude.{◌^◌, min, reverse, unwrap_or}
 use Rattle.std.proofs.lemmas.List.{reverse-append}
+use Rattle.ordered_list.specs.Contents.{UsesOne}
 use Rattle.station_tables.specs.Rows.{TableRows}
 use Rattle.act_model.specs.declared.deed.Deed.{Deed}
 use Rattle.act_model.specs.declared.entry.Entry.{Entry}
@@ -68,17 +69,17 @@ module _ (items : List Filed) (f : Filed) (ready : Ready) (at : IsReadyAt (histo
   objects_are new stand = subst (λ (ds : List Deed). StandFor ds new) (sym deeds_are) stand
 
 -- what was used of the room
-pub used : (deed : Deed) (cap cap' len len' mcap mcap' mlen mlen' obs obs' tr tr' : ℕ) (o o' : ObjectsValue) → UsesObjects deed o o' → cap' ≡ cap → mcap' ≡ mcap → len' ≡ len + 1 → mlen ≤ mlen' → mlen' ≤ mlen + 1 → obs ≤ obs' + added_by deed → tr ≤ tr' + added_by deed
-    → UsesRoom deed (record { entries = cap - len; callers = mcap - mlen; observations = obs; tracklets = tr; takes = o.take_room; links = o.link_room; register = o.register_room }) (record { entries = cap' - len'; callers = mcap' - mlen'; observations = obs'; tracklets = tr'; takes = o'.take_room; links = o'.link_room; register = o'.register_room })
-used deed cap cap' len len' mcap mcap' mlen mlen' obs obs' tr tr' o o' objects same same_m one no_fewer one_more observations tracklets =
+pub used : (deed : Deed) (room room' : ℕ) → UsesOne room room' → (mcap mcap' mlen mlen' obs obs' tr tr' : ℕ) (o o' : ObjectsValue) → UsesObjects deed o o' → mcap' ≡ mcap → mlen ≤ mlen' → mlen' ≤ mlen + 1 → obs ≤ obs' + added_by deed → tr ≤ tr' + added_by deed
+    → UsesRoom deed (record { entries = room; callers = mcap - mlen; observations = obs; tracklets = tr; takes = o.take_room; links = o.link_room; register = o.register_room }) (record { entries = room'; callers = mcap' - mlen'; observations = obs'; tracklets = tr'; takes = o'.take_room; links = o'.link_room; register = o'.register_room })
+used deed room room' one mcap mcap' mlen mlen' obs obs' tr tr' o o' objects same_m no_fewer one_more observations tracklets =
     record {
-      entries = omega arith;
+      entries = one.0;
       callers = omega arith;
       observations = observations;
       tracklets = tracklets;
       takes = objects.takes;
       links = objects.links;
       register = objects.register;
-      no_more_entries = omega arith;
+      no_more_entries = one.1;
       no_more_callers = omega arith;
     }

@@ -1,4 +1,5 @@
 pub mod FiledLemmas
+pub mod BookLemmas
 pub mod Kept
 pub mod HearingLemmas
 pub mod RosterLemmas

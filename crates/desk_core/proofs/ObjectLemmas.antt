@@ -1,7 +1,6 @@
 -- What a deed on objects fits, and what it asks of what is kept.
 use Rattle.std.proofs.Common.{◌≡◌, ℤ, ◌<◌, List, ◌++◌, reverse, true, Result, Ok, Err, sym, subst, ◌∙◌}
 use Rattle.std.specs.Prelude.{IfOk}
-use Rattle.packed_names.specs.declared.name.Designation.{Designation}
 use Rattle.packed_names.specs.declared.name.Designation.TheVariants.{Provisional}
 use Rattle.packed_names.specs.Ranges.{limit_of}
 use Rattle.designate_core.specs.Takes.{Take, given_in}
@@ -17,11 +16,10 @@ use Rattle.act_model.specs.declared.reply.Refusal.{Refusal}
 use Rattle.act_model.specs.Acts.{IsRead}
 use Rattle.act_model.specs.Deeds.{deeds}
 use Rattle.act_model.specs.Doing.{does}
-use Rattle.act_model.specs.Fitting.{FitsObjects, AreTracklets}
+use Rattle.act_model.specs.Fitting.{FitsObjects}
 use Rattle.act_model.specs.Holdings.{Holdings, holdings}
 use Rattle.act_model.specs.Rows.{IsDue}
 use Rattle.object_rules.specs.Noting.{is_of_objects}
-use Rattle.desk_core.specs.Holding.{HoldsDeed}
 use Rattle.desk_core.specs.Objects.{ObjectsValue, StandFor, HoldsObjects}
 use Rattle.desk_core.specs.Office.{Fits, held_in}
 

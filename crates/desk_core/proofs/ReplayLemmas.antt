@@ -1,5 +1,5 @@
 -- Entries that come again.
-use Rattle.std.proofs.Common.{◌≡◌, ℕ, ℤ, ◌+◌, Bool, true, false, cond, List, [], ◌∷◌, length, Option, Some, None, Err, refl, sym, ap, subst, ◌∙◌, arith}
+use Rattle.std.proofs.Common.{◌≡◌, ℕ, ℤ, Bool, true, false, cond, List, [], ◌∷◌, length, Option, Some, None, Err, refl, sym, ap, subst, ◌∙◌, arith}
 use Rattle.std.specs.Prelude.{◌==◌, IfSome, IsErrOf, IsSomeAnd, option_map}
 use Rattle.obs_time.specs.Instants.{IsInstantNs}
 use Rattle.act_bodies.specs.declared.key.Key.{Key}

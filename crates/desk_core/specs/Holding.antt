@@ -14,8 +14,8 @@ use Rattle.desk_core.specs.Office.{AreTracked}
 abbrev pub is_added : Taken → ℕ
 is_added taken = if is_accepted taken then 1 else 0
 
--- the tracklets of a batch's lines are there or begin one after the other, those that get a home or lose it are there, and
--- what is retracted is live
+-- the tracklets of a batch's lines are there or begin one after the other, those that get a home or lose it are there,
+-- and what is retracted is live
 abbrev pub HoldsDeed : Contents → Deed → Type 0
 HoldsDeed file (Submitted lines) = AreTracked (length file.tracklets) lines
 HoldsDeed file (Designated tracklets given discovery) = AreTracklets file.tracklets tracklets

@@ -1,4 +1,5 @@
 pub mod Filed
+pub mod Book
 pub mod Objects
 pub mod Office
 pub mod Holding

@@ -1,5 +1,6 @@
 -- The office as contracts see it, and an act that is ready to become its next entry.
-use Rattle.std.specs.Prelude.{◌≡◌, ℕ, ◌+◌, ◌<◌, ◌≤◌, ◌≤ℤ◌, true, false, List, [], ◌∷◌, length, unwrap_or, IsTrue, Option, Result, Ok, Err}
+use Rattle.std.specs.Prelude.{◌≡◌, ℕ, ◌+◌, ◌<◌, ◌≤◌, ◌≤ℤ◌, true, false, List, [], ◌∷◌, length, unwrap_or, IsTrue}
+use Rattle.std.specs.Prelude.{Option, Result, Ok, Err}
 use Rattle.obs_record.specs.declared.rule.RuleCode.{RuleCode}
 use Rattle.station_tables.specs.Stations.{overlaps}
 use Rattle.station_tables.specs.Codes.{has_code}
@@ -7,7 +8,9 @@ use Rattle.tracklet_file.specs.Contents.{Contents}
 use Rattle.tracklet_file.specs.Observations.{is_live}
 use Rattle.act_bodies.specs.declared.key.Key.{Key}
 use Rattle.act_model.specs.declared.deed.Deed.{Deed}
-use Rattle.act_model.specs.declared.deed.Deed.TheVariants.{Enrolled, Stationed, Coded, Submitted, Designated, Attributed, Released, Identified, Separated, Judged, Numbered, Retracted, Nothing}
+use Rattle.act_model.specs.declared.deed.Deed.TheVariants.{Enrolled, Stationed, Coded, Submitted, Designated}
+use Rattle.act_model.specs.declared.deed.Deed.TheVariants.{Attributed, Released, Identified, Separated, Judged}
+use Rattle.act_model.specs.declared.deed.Deed.TheVariants.{Numbered, Retracted, Nothing}
 use Rattle.act_model.specs.declared.entry.Entry.{Entry}
 use Rattle.act_model.specs.declared.request.TheConstants.{BODY_BYTES}
 use Rattle.act_model.specs.declared.roster.TheConstants.{CALLERS}
@@ -54,7 +57,8 @@ held_in file = record { observations = file.observations; tracklets = file.track
 abbrev pub IsOfAct : Entry → Type 0
 IsOfAct entry = (is_act entry.verb ≡ true) × (length entry.body ≤ BODY_BYTES)
 
--- an act that is ready to become an entry: the entry, its answer, its deed, and the tables with it, or None where they stay
+-- an act that is ready to become an entry: the entry, its answer, its deed, and the tables with it, or None where they
+-- stay
 pub record Ready : Type 0 where
   pub entry : Entry
   pub answer : List ℕ
@@ -87,8 +91,8 @@ Fits past (Numbered pairs) = FitsObjects past (Numbered pairs)
 Fits past (Retracted k) = IsTrue (is_live (holdings past).observations k)
 Fits past Nothing = Unit {0}
 
--- The act was worked out at this history: its answer and its deed are those of the entry there, and so are the tables with
--- it. The deed fits what was before it, and the roster with it has no more callers than it may have.
+-- The act was worked out at this history: its answer and its deed are those of the entry there, and so are the tables
+-- with it. The deed fits what was before it, and the roster with it has no more callers than it may have.
 pub record IsReadyAt (past : List Entry) (ready : Ready) : Type 0 where
   pub answer : ready.answer ≡ entry_answer past ready.entry
   pub deed : ready.deed ≡ deed_of (deeds past) ready.entry

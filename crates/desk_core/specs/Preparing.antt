@@ -19,8 +19,8 @@ IsRefused due refusal = (due ≡ Refuses refusal) ⊎ (refusal ≡ NoMemory)
 abbrev pub IsWithin : Option ℕ → List Entry → List ℕ → Type 0
 IsWithin limit past body = IfSome limit (λ most. used past + entry_size body ≤ most)
 
--- A reply is kept where the number was used. A refusal is the one that the request meets. An act is ready where it becomes
--- an entry, at the history at which it was worked out, and there is room for it, in the journal too.
+-- A reply is kept where the number was used. A refusal is the one that the request meets. An act is ready where it
+-- becomes an entry, at the history at which it was worked out, and there is room for it, in the journal too.
 abbrev pub Prepares : Option ℕ → List Entry → Outcome → Room → Prep → Type 0
 Prepares limit past due spare (prep.Kept reply) = due ≡ Keeps reply
 Prepares limit past due spare (prep.Refused refusal) = IsRefused due refusal

@@ -1,6 +1,9 @@
-ghost use Rattle.std.specs.Prelude.{◌≡◌, ◌<◌, length, option_map, option_copied, IfOk, IfSome, IfNone, reverse, int_lt, if◌then◌else◌};
+//! Entries with the replies to their acts, and how they are found.
+
+ghost use Rattle.std.specs.Prelude.{◌≡◌, ◌<◌, length, option_map, IfOk, reverse, int_lt};
+ghost use Rattle.std.specs.Prelude.{if◌then◌else◌};
 ghost use Rattle.tracklet_file.specs.Numbering.{numbered};
-ghost use Rattle.act_model.specs.History.{Kept, kept, is_numbered, next_moment};
+ghost use Rattle.act_model.specs.History.{Kept, next_moment};
 ghost use Rattle.act_model.specs.Replies.{entry_answer};
 ghost use Rattle.act_model.specs.Step.{kept_reply};
 ghost use Rattle.desk_core.specs.Filed.{history_of, done_reply, AreAnswered, IsDone, IsFiledAt};
@@ -18,28 +21,6 @@ pub struct Filed {
     pub entry: Entry,
     /// The reply to its caller: the act was done.
     pub reply: Reply,
-}
-
-fn is_numbered(entry: &Entry, caller: u32, number: u64) -> bool
-    ensures { result ≡ is_numbered caller number entry.now }
-{
-    entry.caller == caller && entry.number == number
-}
-
-/// The place of the newest entry that the caller's number stands for, or None for a number that the
-/// caller has not used.
-pub fn find(filed: &[Filed], caller: u32, number: u64) -> Option<usize>
-    ensures within { IfSome result (λ place. place < length filed.now) }
-    ensures found { IfSome result (λ place. (k : Kept)
-        × (kept (history_of filed.now) caller number ≡ Some k) × IsFiledAt filed.now place k) }
-    ensures none { IfNone result (kept (history_of filed.now) caller number ≡ None) }
-{
-    for place in (0..filed.len()).rev() {
-        if is_numbered(&filed[place].entry, caller, number) {
-            return Some(place);
-        }
-    }
-    None
 }
 
 /// Who sent the entry with this receipt. None for what isn't there.
@@ -62,17 +43,6 @@ pub fn reply_at(filed: &[Filed], place: usize) -> &Reply
     &filed[place].reply
 }
 
-/// The reply that is kept for the caller's number. None for a number that the caller has not used.
-pub fn kept(filed: &[Filed], caller: u32, number: u64) -> Option<&Reply>
-    requires { AreAnswered (reverse filed.now) }
-    ensures { option_copied result ≡ option_map done_reply (kept (history_of filed.now) caller number) }
-{
-    match find(filed, caller, number) {
-        Some(place) => Some(reply_at(filed, place)),
-        None => None,
-    }
-}
-
 /// A copy of the answer of the entry at this place.
 ///
 /// # Errors
@@ -90,7 +60,11 @@ pub fn kept_answer(alloc: Global, filed: &[Filed], place: usize) -> Result<Bytes
 }
 
 /// The answer to a request under a number that stands for the entry at this place: the entry's own
-/// answer to the same verb and body, and else a refusal. Err where there was no memory for a copy.
+/// answer to the same verb and body, and else a refusal.
+///
+/// # Errors
+///
+/// Memory was refused.
 pub fn kept_reply(
     alloc: Global,
     filed: &[Filed],

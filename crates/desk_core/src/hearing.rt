@@ -31,6 +31,10 @@ fn size_refusal(bytes: &[u8]) -> Option<Refusal>
 }
 
 /// The bytes of a body that is small enough.
+///
+/// # Errors
+///
+/// `TooLarge` for a body that was too long, and `NoMemory` for one that there was no memory for.
 pub fn bytes_in(body: &Body) -> Result<&[u8], Refusal>
     ensures bytes { IfOk result (λ bytes. bytes_in body.now ≡ Ok bytes.now) }
     ensures short { IfOk result (λ bytes. length bytes.now ≤ BODY_BYTES) }
@@ -75,6 +79,10 @@ fn number_in(verb: Verb, number: Option<u64>) -> Result<u64, Refusal>
 
 /// What is heard of a request with these bytes, where these were enrolled: its verb, its number, what it
 /// asks, and who asks. The body is read here, and nowhere else.
+///
+/// # Errors
+///
+/// The first refusal that the request meets before its act is worked out.
 pub fn hear(
     alloc: Global,
     founder: &Key,

@@ -3,6 +3,7 @@
 #![tactic(auto)]
 
 mod answering;
+mod book;
 mod doing;
 mod filed;
 mod hearing;

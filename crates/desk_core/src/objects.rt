@@ -19,7 +19,7 @@ use std::marker::Model;
 use tracklet_file::TrackletFile;
 
 /// The designations that were given, their principals, the verdicts in force and the numbers.
-#[derive(Drop)]
+#[derive(Debug, Drop)]
 pub(crate) struct Objects {
     rows: Rows,
     links: Links,

@@ -1,4 +1,7 @@
-ghost use Rattle.std.specs.Prelude.{◌≡◌, ◌<◌, ◌^◌, ◌∷◌, [], ℕ, Option, IfOk, IfSome, OnOk, ℤ, length, reverse, true, false, unwrap_or};
+//! The office in memory.
+
+ghost use Rattle.std.specs.Prelude.{◌≡◌, ◌<◌, ◌^◌, ◌∷◌, [], ℕ, Option, IfOk, IfSome, OnOk, ℤ, length, reverse, true};
+ghost use Rattle.std.specs.Prelude.{false, unwrap_or};
 ghost use Rattle.act_model.specs.declared.roster.TheConstants.{CALLERS};
 ghost use Rattle.act_model.specs.Requests.{is_act};
 ghost use Rattle.act_model.specs.Roster.{members, IsFounder};
@@ -14,6 +17,7 @@ ghost use Rattle.desk_core.specs.Office.{IsReadyAt, IsRoomFor, UsesRoom, held_in
 ghost use Rattle.desk_core.specs.Objects.{StandFor};
 ghost use Rattle.desk_core.specs.Preparing.{Prepares};
 
+use crate::book::Book;
 use crate::filed::Filed;
 use crate::holding::{added_by, hold};
 use crate::limiting::entry_size;
@@ -33,10 +37,10 @@ use tracklet_file::TrackletFile;
 /// with their designations, verdicts and numbers.
 ///
 /// Contracts see the key, the history with its newest entry first, and for how much more there is room.
-#[derive(Drop)]
+#[derive(Debug, Drop)]
 pub struct Core {
     founder: Key,
-    filed: Vec<Filed>,
+    filed: Book,
     members: Vec<Member>,
     tables: Tables,
     file: TrackletFile,
@@ -63,7 +67,7 @@ impl Model for Core {
       founder = c.founder;
       history = history_of c.filed.items;
       spare = record {
-        entries = vec_capacity c.filed - vec_len c.filed;
+        entries = c.filed.room;
         callers = vec_capacity c.members - vec_len c.members;
         observations = c.file.observation_room;
         tracklets = c.file.tracklet_room;
@@ -97,7 +101,7 @@ impl Core {
     {
         Ok(Core {
             founder,
-            filed: Vec::new(alloc),
+            filed: Book::new(alloc)?,
             members: Vec::new(alloc),
             tables: Tables::new(alloc)?,
             file: TrackletFile::new(alloc)?,
@@ -110,8 +114,8 @@ impl Core {
     ///
     /// The request has the verb of an act. The reading is the clock's, and may be before the last
     /// entry's moment. The limit is how many bytes the journal may have, if it has one; then the bytes that the entries
-    /// take are fewer than 2 ^ 64. Answers `Kept` only where the caller has used the number, with the reply that is kept
-    /// for it; `Refused` with the first refusal that the request meets in the office's table, or with `NoMemory`
+    /// take are fewer than 2 ^ 64. Answers `Kept` only where the caller has used the number, with the reply that is
+    /// kept for it; `Refused` with the first refusal that the request meets in the office's table, or with `NoMemory`
     /// where memory was refused for reading, for a reply or for an entry; else `Ready` with the entry and its
     /// answer. A request for whose body there was no room is refused with `NoMemory`, whatever else it says.
     pub fn prepare(&mut self, request: &Request, reading: Instant, limit: Option<u64>) -> Prep
@@ -149,7 +153,7 @@ impl Core {
     pub fn entries(&self) -> u64
         ensures { result ≡ length self.now.history }
     {
-        self.filed.len() as u64
+        self.filed().len() as u64
     }
 
     /// Adds the entry of an act, and gives the act's answer. It takes no memory: the room that `prepare` left
@@ -168,7 +172,7 @@ impl Core {
         let (filed, answer, deed, tables) = prepared.into_parts();
         let size = entry_size(filed.entry.body.as_slice());
         self.used = self.used.saturating_add(size);
-        self.filed.push_reserved(filed);
+        self.filed.push(filed);
         replace(&mut self.tables, tables);
         self.objects.note(&self.file, &deed);
         hold(&mut self.file, receipt, &deed);
@@ -180,7 +184,7 @@ impl Core {
 
     /// The allocator that the office takes its memory from.
     pub(crate) fn allocator(&self) -> Global {
-        *self.filed.allocator()
+        *self.members.allocator()
     }
 
     /// The founding officer's key.
@@ -188,6 +192,14 @@ impl Core {
         ensures { result.now ≡ self.now.founder }
     {
         &self.founder
+    }
+
+    /// What was filed, with the numbers that its callers have used.
+    pub(crate) fn book(&self) -> &Book
+        ensures history { history_of result.now.items ≡ self.now.history }
+        ensures answered { AreAnswered (reverse result.now.items) }
+    {
+        &self.filed
     }
 
     /// What was filed, the oldest entry first.
@@ -238,7 +250,7 @@ impl Core {
     pub(crate) fn next_receipt(&self) -> u64
         ensures { result ≡ next_receipt self.now.history }
     {
-        self.filed.len() as u64 + 1
+        self.filed().len() as u64 + 1
     }
 
     /// Takes the room for one more entry that does this deed.
@@ -248,7 +260,7 @@ impl Core {
         ensures history { self.new.history ≡ self.old.history }
         ensures founder { self.new.founder ≡ self.old.founder }
     {
-        self.filed.reserve(1)?;
+        self.filed.reserve()?;
         self.members.reserve(1)?;
         let Ok(more) = u32::try_from(added_by(deed)) else {
             return Err(AllocError);

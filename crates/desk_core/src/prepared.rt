@@ -1,3 +1,5 @@
+//! What becomes of an act before it is added.
+
 ghost use Rattle.std.specs.Prelude.{◌≡◌, ◌≤◌, true, length};
 ghost use Rattle.act_model.specs.declared.request.TheConstants.{BODY_BYTES};
 ghost use Rattle.act_model.specs.Requests.{is_act};
@@ -12,7 +14,7 @@ use std::marker::Model;
 /// An act that is ready to become the next entry of the office: all memory that it needs is taken.
 ///
 /// Contracts see its entry, its answer, its deed, and the tables with it, or None where they stay.
-#[derive(Drop)]
+#[derive(Debug, Drop)]
 pub struct Prepared {
     filed: Filed,
     answer: Bytes,
@@ -78,7 +80,7 @@ impl Prepared {
 }
 
 /// What preparing a request gives. Nothing has changed the history yet.
-#[derive(Drop)]
+#[derive(Debug, Drop)]
 pub enum Prep {
     /// The caller has used the number. This is the reply that is kept for it: the answer of that
     /// time to the same request, and the refusal `OtherRequest` to another one.

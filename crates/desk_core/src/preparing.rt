@@ -16,7 +16,7 @@ ghost use Rattle.act_model.specs.Step.{outcome, act_step, unless_refused, new_en
 ghost use Rattle.desk_core.specs.Office.{IsOfAct, IsReadyAt, IsRoomFor, Fits};
 ghost use Rattle.desk_core.specs.Preparing.{IsPrepared};
 
-use crate::filed::{Filed, find, kept_reply, next_moment};
+use crate::filed::{Filed, kept_reply, next_moment};
 use crate::hearing::{bytes_in, hear};
 use crate::office::Core;
 use crate::prepared::{Prep, Prepared};
@@ -88,12 +88,14 @@ impl Core {
         requires asked { asked_of heard.verb bytes.now ≡ Ok heard.asked }
         requires read { IsReadAsked heard.asked }
         ensures answer { IsPrepared limit self.old.history
-            (act_step limit self.old.history heard bytes.now (next_moment self.old.history reading)) self.new.spare result }
+            (act_step limit self.old.history heard bytes.now
+            (next_moment self.old.history reading)) self.new.spare result }
         ensures history { self.new.history ≡ self.old.history }
         ensures founder { self.new.founder ≡ self.old.founder }
     {
-        let filed = self.filed();
-        if let Some(place) = find(filed, heard.caller.number, heard.number) {
+        let book = self.book();
+        let filed = book.as_slice();
+        if let Some(place) = book.find(heard.caller.number, heard.number) {
             let Ok(reply) = kept_reply(alloc, filed, place, heard.verb, bytes) else {
                 return Err(Refusal::NoMemory);
             };
@@ -118,7 +120,8 @@ impl Core {
         requires asked { asked_of heard.verb bytes.now ≡ Ok heard.asked }
         requires read { IsReadAsked heard.asked }
         ensures answer { IsPrepared limit self.old.history
-            (unless_refused (work_within limit self.old.history bytes.now moment heard) (new_entry heard bytes.now moment))
+            (unless_refused (work_within limit self.old.history bytes.now moment heard)
+            (new_entry heard bytes.now moment))
             self.new.spare result }
         ensures history { self.new.history ≡ self.old.history }
         ensures founder { self.new.founder ≡ self.old.founder }

@@ -12,6 +12,10 @@ use std::alloc::Global;
 use tracklet_file::TrackletFile;
 
 /// What is done, unless it is refused.
+///
+/// # Errors
+///
+/// The refusal, where there is one.
 pub fn unless(refusal: Option<Refusal>, deed: Deed) -> Result<Deed, Refusal>
     ensures { result ≡ unless refusal (Ok deed) }
 {

@@ -1,6 +1,7 @@
 //! Entries that come again, as a journal kept them.
 
-ghost use Rattle.std.specs.Prelude.{◌≡◌, ◌∷◌, reverse, true, None, IfOk, IfSome, IsErrOf, IsSomeAnd, IsTrue, ◌↔◌, OnOk, OnErr};
+ghost use Rattle.std.specs.Prelude.{◌≡◌, ◌∷◌, reverse, true, None, IfOk, IfSome, IsErrOf, IsSomeAnd, IsTrue, ◌↔◌, OnOk};
+ghost use Rattle.std.specs.Prelude.{OnErr};
 ghost use Rattle.act_model.specs.declared.entry.Entry.{Entry};
 ghost use Rattle.act_model.specs.declared.reply.Refusal.{Refusal};
 ghost use Rattle.act_model.specs.Deeds.{deeds};
@@ -108,7 +109,8 @@ impl Core {
     /// The act of this request, ready to become the next entry.
     fn come_again(&mut self, request: &Request, moment: Instant) -> Result<Prepared, ReplayFault>
         requires act { is_act request.now.verb ≡ true }
-        ensures ready { IfOk result (λ ready. outcome self.old.founder None self.old.history request.now moment ≡ Adds ready.entry) }
+        ensures ready { IfOk result (λ ready. outcome self.old.founder None self.old.history request.now moment
+            ≡ Adds ready.entry) }
         ensures at { IfOk result (IsReadyAt self.new.history) }
         ensures room { IfOk result (λ ready. IsRoomFor ready.deed self.new.spare) }
         ensures not_legal { IsErrOf result ReplayFault.NotLegal → (entry : Entry) →
@@ -132,7 +134,8 @@ impl Core {
         body: &[u8],
     ) -> Result<Request, NoMemory>
         ensures asks { IfOk result (λ request. (entry : Entry) → entry.caller ≡ caller → entry.number ≡ number →
-            entry.verb ≡ verb → entry.body ≡ body.now → request ≡ entry_request self.now.founder self.now.history entry) }
+            entry.verb ≡ verb → entry.body ≡ body.now → request
+            ≡ entry_request self.now.founder self.now.history entry) }
         ensures verb { IfOk result (λ request. request.verb ≡ verb) }
     {
         let body = Bytes::from_slice(self.allocator(), body)?;

@@ -1,6 +1,5 @@
 //! What can be read of the office by those who answer queries or export it.
 
-use crate::filed;
 use crate::office::Core;
 use act_model::{Ids, Names, Place, Reply, Shelf, Tally, TrackHead};
 use item_list::NoMemory;
@@ -84,6 +83,6 @@ impl Shelf for Core {
     }
 
     fn kept(&self, caller: u32, number: u64) -> Option<&Reply> {
-        filed::kept(self.filed(), caller, number)
+        self.book().kept(caller, number)
     }
 }

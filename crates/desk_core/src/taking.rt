@@ -1,7 +1,8 @@
 //! The lines of a batch, taken in by the rulings on them.
 
 ghost use Rattle.std.specs.Prelude.{◌≡◌, ◌+◌, ◌<◌, ◌≤◌, ◌^◌, length, IfOk};
-ghost use Rattle.act_model.specs.Taken.{first_home, track_of_group, placed_in, found_in, taken_line, tracks_with, taken_lines};
+ghost use Rattle.act_model.specs.Taken.{first_home, track_of_group, placed_in, found_in, taken_line, tracks_with};
+ghost use Rattle.act_model.specs.Taken.{taken_lines};
 ghost use Rattle.desk_core.specs.Office.{IsTracked, AreTracked};
 
 use act_model::{Known, Placed, Ruling, Taken, name_of};

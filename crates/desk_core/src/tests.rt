@@ -2,13 +2,13 @@
 
 ghost use Rattle.std.specs.Prelude.{◌≡◌, true};
 ghost use Rattle.act_model.specs.Requests.{is_act};
+ghost use Rattle.act_model.specs.Roster.{IsFounder};
 
 use crate::{Core, Prep, ReplayFault};
-use act_model::{Body, Key, Reply, Request, Verb, line_feeds, reply_text};
-use item_list::{Bytes, NoMemory};
+use act_model::{Body, Key, Reply, Request, Text, Verb, line_feeds, reply_text};
+use item_list::Bytes;
 use obs_time::Instant;
 use std::alloc::Global;
-use std::test::Fail;
 
 /// Which answer `prepare` gave; a query's answer counts as refused.
 #[derive(Clone, Copy, PartialEq, Eq)]
@@ -28,6 +28,9 @@ struct Case {
     kind: Kind,
     text: &'static str,
 }
+
+/// A moment of 2024.
+const DAY: i64 = 1_711_929_600_000_000_000;
 
 const FOUNDER: &[u8] = b"+founder-1";
 
@@ -276,18 +279,22 @@ const CASES: [Case; 21] = [
     },
 ];
 
-/// A request with this body.
-fn request(alloc: Global, case: Case) -> Result<Request, NoMemory> {
-    let body = match case.body {
-        Some(text) => Body::Whole(Bytes::from_slice(alloc, text.as_bytes())?),
-        None => Body::NoRoom,
-    };
-    Ok(Request {
-        key: Key::new(case.key),
-        number: Some(case.number),
-        verb: case.verb,
-        body,
-    })
+fn founder() -> Key
+    ensures { IsFounder result }
+{
+    Key::new(FOUNDER)
+}
+
+/// An office without entries; None where memory was refused, here and below.
+fn office(alloc: Global) -> Option<Core> {
+    Core::new(alloc, founder()).ok()
+}
+
+fn body(alloc: Global, text: Option<&str>) -> Option<Body> {
+    match text {
+        Some(text) => Some(Body::Whole(Bytes::from_slice(alloc, text.as_bytes()).ok()?)),
+        None => Some(Body::NoRoom),
+    }
 }
 
 /// The answer to an act, with its kind; one that is ready is added.
@@ -302,49 +309,52 @@ fn act(core: &mut Core, request: &Request, reading: Instant) -> (Kind, Reply)
 }
 
 /// The answer to a request, with its kind.
-fn asked(core: &mut Core, request: &Request, reading: Instant) -> (Kind, Reply) {
+fn asked(core: &mut Core, request: &Request) -> Option<(Kind, Reply)> {
+    let reading = Instant::new(DAY)?;
     if request.verb.is_act() {
-        act(core, request, reading)
-    } else {
-        (Kind::Refused, core.answer(request))
+        return Some(act(core, request, reading));
     }
+    Some((Kind::Refused, core.answer(request)))
 }
 
-/// Whether a reply has this text.
-fn says(alloc: Global, reply: Reply, text: &[u8]) -> bool {
-    match reply_text(alloc, reply) {
-        Ok(said) => said.as_slice() == text,
-        Err(_) => false,
-    }
+/// The text of the answer, with its kind.
+fn told(alloc: Global, core: &mut Core, request: &Request) -> Option<(Kind, Text)> {
+    let (kind, reply) = asked(core, request)?;
+    Some((kind, reply_text(alloc, reply).ok()?))
 }
 
 /// Whether a request is answered as it must be.
-fn holds(alloc: Global, core: &mut Core, case: Case, reading: Instant) -> bool {
-    let Ok(request) = request(alloc, case) else {
-        return false;
+fn holds(alloc: Global, core: &mut Core, case: &Case) -> Option<bool> {
+    let request = Request {
+        key: Key::new(case.key),
+        number: Some(case.number),
+        verb: case.verb,
+        body: body(alloc, case.body)?,
     };
-    let (kind, reply) = asked(core, &request, reading);
-    kind == case.kind && says(alloc, reply, case.text.as_bytes())
+    let (kind, text) = told(alloc, core, &request)?;
+    Some(kind == case.kind && text.as_slice() == case.text.as_bytes())
 }
 
-/// How many of the cases are answered as they must be, one after the other.
-fn held(alloc: Global, core: &mut Core, reading: Instant) -> usize {
-    let mut count = 0usize;
-    for case in CASES {
-        if holds(alloc, core, case, reading) {
-            count = count.saturating_add(1);
+/// The first case that is answered otherwise, counted from 0; None where there is none.
+fn wrong_case(alloc: Global, core: &mut Core) -> Option<usize> {
+    for (place, case) in CASES.iter().enumerate() {
+        if holds(alloc, core, case) != Some(true) {
+            return Some(place);
         }
     }
-    count
+    None
+}
+
+/// The first case that a new office answers otherwise.
+fn wrong_answer(alloc: Global) -> Option<Option<usize>> {
+    let mut core = office(alloc)?;
+    Some(wrong_case(alloc, &mut core))
 }
 
 #[test]
-fn answers_each_kind(rt: HostRuntime) -> Result<(), Fail> {
-    let alloc = rt.alloc();
-    let mut core = Core::new(alloc, Key::new(FOUNDER))?;
-    let reading = Instant::new(1_711_929_600_000_000_000).ok_or("out of range")?;
-    assert!(rt; held(alloc, &mut core, reading) == CASES.len());
-    Ok(())
+fn answers_each_kind(rt: HostRuntime) {
+    let wrong = wrong_answer(rt.alloc());
+    assert_eq!(rt; wrong, Some(None));
 }
 
 /// A digit of a number.
@@ -352,33 +362,41 @@ fn digit(number: u32) -> u8 {
     (number % 10) as u8 + b'0'
 }
 
-/// A batch of so many lines, each a little later than the one before.
-fn batch(alloc: Global, count: u32) -> Result<Bytes, NoMemory> {
+/// Adds a line to a batch, a little later than the one before.
+fn add_line(batch: &mut Bytes, line: u32) -> bool {
+    let decimals = [
+        b'2',
+        digit(line / 1_000),
+        digit(line / 100),
+        digit(line / 10),
+        digit(line),
+    ];
+    batch.extend_from_slice(BEFORE.as_bytes()).is_ok()
+        && batch.extend_from_slice(&decimals).is_ok()
+        && batch.extend_from_slice(BEHIND.as_bytes()).is_ok()
+}
+
+/// A batch of so many lines.
+fn batch(alloc: Global, count: u32) -> Option<Bytes> {
     let mut bytes = Bytes::new(alloc);
     for line in 0..count {
-        let decimals = [
-            b'2',
-            digit(line / 1_000),
-            digit(line / 100),
-            digit(line / 10),
-            digit(line),
-        ];
-        bytes.extend_from_slice(BEFORE.as_bytes())?;
-        bytes.extend_from_slice(&decimals)?;
-        bytes.extend_from_slice(BEHIND.as_bytes())?;
+        if !add_line(&mut bytes, line) {
+            return None;
+        }
     }
-    Ok(bytes)
+    Some(bytes)
 }
 
 /// The answer to a batch of 1,001 lines.
-fn long_answer(alloc: Global, core: &mut Core, reading: Instant) -> Result<Reply, NoMemory> {
+fn long_answer(alloc: Global, core: &mut Core) -> Option<Text> {
     let request = Request {
         key: Key::new(OBSERVER),
         number: Some(9),
         verb: Verb::Submit80,
         body: Body::Whole(batch(alloc, 1_001)?),
     };
-    Ok(asked(core, &request, reading).1)
+    let (_, text) = told(alloc, core, &request)?;
+    Some(text)
 }
 
 /// Whether all 1,001 lines were accepted, behind the two that stand.
@@ -388,30 +406,40 @@ fn is_long(text: &[u8]) -> bool {
         && text.ends_with(b"line 1000 obs 1002 track 2\nline 1001 obs 1003 track 2\n")
 }
 
+/// Whether a batch of 1,001 lines is accepted.
+fn accepts_long(alloc: Global, core: &mut Core) -> bool {
+    match long_answer(alloc, core) {
+        Some(text) => is_long(text.as_slice()),
+        None => false,
+    }
+}
+
+/// Whether it is accepted after all cases.
+fn accepts_long_after(alloc: Global, core: &mut Core) -> bool {
+    wrong_case(alloc, core).is_none() && accepts_long(alloc, core)
+}
+
+/// The same in a new office.
+fn takes_long(alloc: Global) -> Option<bool> {
+    let mut core = office(alloc)?;
+    Some(accepts_long_after(alloc, &mut core))
+}
+
 #[test]
-fn takes_a_long_batch(rt: HostRuntime) -> Result<(), Fail> {
-    let alloc = rt.alloc();
-    let mut core = Core::new(alloc, Key::new(FOUNDER))?;
-    let reading = Instant::new(1_711_929_600_000_000_000).ok_or("out of range")?;
-    assert!(rt; held(alloc, &mut core, reading) == CASES.len());
-    let reply = long_answer(alloc, &mut core, reading)?;
-    let text = reply_text(alloc, reply)?;
-    assert!(rt; is_long(text.as_slice()));
-    Ok(())
+fn takes_a_long_batch(rt: HostRuntime) {
+    let taken = takes_long(rt.alloc());
+    assert_eq!(rt; taken, Some(true));
 }
 
 /// The caller, the number, the moment, the number of the verb and the body of an entry, and what becomes of it.
 type Again = (u32, u64, i64, u8, &'static str, Result<(), ReplayFault>);
 
-/// A moment of 2024.
-const DAY: i64 = 1_711_929_600_000_000_000;
-
 /// Entries one after the other. The ones that are not legal leave the office as it was.
 const AGAIN: [Again; 11] = [
     (1, 1, DAY, 4, LINES, Err(ReplayFault::NotLegal)),
     (0, 1, DAY, 1, ENROL, Ok(())),
-    // The number was used, the moment is before the last entry's or no moment of the clock, nobody has the number of the
-    // caller, the verb is no act's, and the body has no such members.
+    // The number was used, the moment is before the last entry's or no moment of the clock, nobody has the number of
+    // the caller, the verb is no act's, and the body has no such members.
     (0, 1, DAY, 1, ENROL, Err(ReplayFault::NotLegal)),
     (0, 2, DAY - 1, 2, STATION, Err(ReplayFault::NotLegal)),
     (0, 2, i64::MAX, 2, STATION, Err(ReplayFault::NotLegal)),
@@ -424,13 +452,31 @@ const AGAIN: [Again; 11] = [
     (0, 3, DAY + 1, 3, BAND, Ok(())),
 ];
 
-#[test]
-fn takes_entries_in_again(rt: HostRuntime) -> Result<(), Fail> {
-    let mut core = Core::new(rt.alloc(), Key::new(FOUNDER))?;
-    for (caller, number, moment, verb, body, want) in AGAIN {
-        let became = core.replay(caller, number, moment, verb, body.as_bytes());
-        assert_eq!(rt; became, want, "{caller} {number} {verb}");
+/// Whether an entry becomes what it must.
+fn becomes(core: &mut Core, again: &Again) -> bool {
+    let &(caller, number, moment, verb, body, want) = again;
+    core.replay(caller, number, moment, verb, body.as_bytes()) == want
+}
+
+/// The first entry that becomes something else, counted from 0; None where there is none.
+fn wrong_entry(core: &mut Core) -> Option<usize> {
+    for (place, again) in AGAIN.iter().enumerate() {
+        if !becomes(core, again) {
+            return Some(place);
+        }
     }
-    assert_eq!(rt; core.entries(), 3);
-    Ok(())
+    None
+}
+
+/// The same in a new office, and how many entries it has then.
+fn come_again(alloc: Global) -> Option<(Option<usize>, u64)> {
+    let mut core = office(alloc)?;
+    let wrong = wrong_entry(&mut core);
+    Some((wrong, core.entries()))
+}
+
+#[test]
+fn takes_entries_in_again(rt: HostRuntime) {
+    let came = come_again(rt.alloc());
+    assert_eq!(rt; came, Some((None, 3)));
 }

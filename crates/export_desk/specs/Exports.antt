@@ -12,7 +12,8 @@ use Rattle.catalogue_export.specs.Exports.{AppendsFront}
 use Rattle.mpc_desk.specs.Files.{Stands}
 use Rattle.mpc_desk.specs.Opening.{StandsAlike}
 use Rattle.command_ends.specs.declared.status.Status.{Status}
-use Rattle.command_ends.specs.declared.status.Status.TheVariants.{Done, Usage, BadFrame, DiskFault, Damaged, ReadFault, WriteFault, NoMemory, DoorFault}
+use Rattle.command_ends.specs.declared.status.Status.TheVariants.{Done, Usage, BadFrame, DiskFault, Damaged, ReadFault}
+use Rattle.command_ends.specs.declared.status.Status.TheVariants.{WriteFault, NoMemory, DoorFault}
 use Rattle.command_ends.specs.Disks.{DiskWords, DiskRose}
 use Rattle.command_ends.specs.Left.{IsLeft}
 use Rattle.command_ends.specs.Opening.{EndsUnopened}
@@ -21,8 +22,8 @@ use Rattle.command_ends.specs.Opening.{EndsUnopened}
 abbrev pub exporter : Key
 exporter = key_of (43 ∷ [])
 
--- The disk stood for a legal history and stands for it still; nothing was added. Each image at some moment was one at the
--- start, or stands for that history.
+-- The disk stood for a legal history and stands for it still; nothing was added. Each image at some moment was one at
+-- the start, or stands for that history.
 pub record KeepsOffice {D : Type 0} (on : DiskWords D) (disk now : D) (added : ℕ) (history : List Entry) : Type 0 where
   pub rise : ℕ
   pub stood : IfSome (on.reads disk) (λ file. Stands file history)
@@ -32,7 +33,8 @@ pub record KeepsOffice {D : Type 0} (on : DiskWords D) (disk now : D) (added : �
   pub stands : (image : List ℕ) → on.leaves now image → Stands image history
   pub is_left : IsLeft history history added
 
--- how much of a text was written: all of it; a front and not all where the sink failed; a front where memory was refused
+-- how much of a text was written: all of it; a front and not all where the sink failed; a front where memory was
+-- refused
 abbrev pub IsWritten : Option (List ℕ) → Option (List ℕ) → List ℕ → Status → Type 0
 IsWritten old new text Done = Appends old new text
 IsWritten old new text WriteFault = AppendsPart old new text
@@ -45,14 +47,15 @@ IsWritten old new text ReadFault = ⊥
 IsWritten old new text DoorFault = ⊥
 
 -- the catalogue of the history that the disk stood for was written, so far as the status says
-pub record Writes {D : Type 0} (on : DiskWords D) (disk now : D) (old new : Option (List ℕ)) (added : ℕ) (status : Status)
+pub record Writes {D : Type 0} (on : DiskWords D) (disk now : D) (old new : Option (List ℕ)) (added : ℕ)
+    (status : Status)
     : Type 0 where
   pub history : List Entry
   pub keeps : KeepsOffice on disk now added history
   pub written : IsWritten old new (catalogue history) status
 
--- What stands at the end, where the sink took `old` before and `new` now: the office couldn't be opened, for the reason that
--- the status says, and the sink was not called; or its catalogue was written.
+-- What stands at the end, where the sink took `old` before and `new` now: the office couldn't be opened, for the reason
+-- that the status says, and the sink was not called; or its catalogue was written.
 abbrev pub Exports : {D : Type 0} → DiskWords D → D → D → Option (List ℕ) → Option (List ℕ) → Type 0 → ℕ → Status
     → Type 0
 Exports on disk now old new Uncalled added status =

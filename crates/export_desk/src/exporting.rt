@@ -73,15 +73,15 @@ fn export_all<K: Sink, D: Disk>(alloc: Global, sink: &mut K, disk: D) -> Ended<D
 /// Writes the catalogue of the office that the disk stands for, page by page. The office is opened with a key that no
 /// founding officer has, and nothing is added to it. It takes memory.
 ///
-/// Ends with `Done`, `DiskFault`, `Damaged`, `WriteFault` or `NoMemory`; `DiskFault` and `Damaged` come while the office is
-/// opened, before anything is written.
+/// Ends with `Done`, `DiskFault`, `Damaged`, `WriteFault` or `NoMemory`; `DiskFault` and `Damaged` come while the
+/// office is opened, before anything is written.
 pub fn export<K: Sink, D: Disk>(alloc: Global, sink: &mut K, disk: D) -> Ended<D>
     // What was written and kept at each end.
     ensures ends { Exports (disk_words D.reads D.leaves D.moment D.since D.faults) disk result.disk
         (K.taken sink.old) (K.taken sink.new) (sink.new ≡ sink.old) result.added result.status }
 
-    // A file that stands for a legal history, under whatever founding officer, and no fault give `Done`, or `NoMemory`. A
-    // fresh file stands for the history without entries.
+    // A file that stands for a legal history, under whatever founding officer, and no fault give `Done`, or `NoMemory`.
+    // A fresh file stands for the history without entries.
     ensures complete { (key : Key) (file : List ℕ) (history : List Entry) → begins_with_plus (key_text key) ≡ true →
         D.reads disk ≡ Some file → Stands file history → IsLegal key history →
         ¬ Rises (K.faults sink.old) (K.faults sink.new) → ¬ Rises (D.faults disk) (D.faults result.disk) →

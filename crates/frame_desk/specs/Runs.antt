@@ -1,5 +1,6 @@
 -- What a run of the program leaves, by the status with which it ended.
-use Rattle.std.specs.Prelude.{◌≡◌, ◌⊎◌, ℕ, ◌+◌, ◌-◌, ◌^◌, ◌<◌, ◌≤◌, min, List, [], ◌∷◌, ◌++◌, length, take, Option, Some, None, IfSome}
+use Rattle.std.specs.Prelude.{◌≡◌, ◌⊎◌, ℕ, ◌+◌, ◌-◌, ◌^◌, ◌<◌, ◌≤◌, min, List, [], ◌∷◌, ◌++◌, length, take, Option}
+use Rattle.std.specs.Prelude.{Some, None, IfSome}
 use Rattle.disk_model.specs.Counts.{Rises}
 use Rattle.disk_model.specs.Crashes.{During}
 use Rattle.desk_io.specs.Reads.{Passes, Comes}
@@ -19,7 +20,8 @@ use Rattle.command_ends.specs.Left.{IsLeft}
 use Rattle.frame_desk.specs.declared.serving.Stop.{Stop}
 use Rattle.frame_desk.specs.declared.serving.Stop.TheVariants.{Over, NoFrameAt, ReadFailed, WriteFailed}
 use Rattle.command_ends.specs.declared.status.Status.{Status}
-use Rattle.command_ends.specs.declared.status.Status.TheVariants.{Done, Usage, BadFrame, DiskFault, Damaged, ReadFault, WriteFault, NoMemory, DoorFault}
+use Rattle.command_ends.specs.declared.status.Status.TheVariants.{Done, Usage, BadFrame, DiskFault, Damaged, ReadFault}
+use Rattle.command_ends.specs.declared.status.Status.TheVariants.{WriteFault, NoMemory, DoorFault}
 use Rattle.act_model.specs.Clocks.{ClockState}
 use Rattle.frame_desk.specs.Serving.{Serves}
 use Rattle.frame_desk.specs.Conducted.{LeavesIn, Grows}

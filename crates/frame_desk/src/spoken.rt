@@ -13,7 +13,7 @@ use frame_reader::write_reply_frame;
 use std::alloc::Global;
 
 /// A reply as it is written: its status and its text.
-#[derive(Drop)]
+#[derive(Debug, Drop)]
 pub struct Spoken {
     status: u16,
     text: Text,
@@ -42,6 +42,10 @@ pub fn speak(alloc: Global, reply: Reply) -> Spoken
 }
 
 /// Writes a reply frame.
+///
+/// # Errors
+///
+/// The sink failed.
 pub fn write_spoken<K: Sink>(sink: &mut K, spoken: &Spoken) -> Result<(), Failed>
     ensures whole { OnOk result (Appends (K.taken sink.old) (K.taken sink.new)
         (reply_frame spoken.now.status (text_bytes spoken.now.text))) }

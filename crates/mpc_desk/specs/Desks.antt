@@ -1,5 +1,6 @@
 -- The desk: the office on a disk.
-use Rattle.std.specs.Prelude.{◌≡◌, ◌⊎◌, ℕ, ◌+◌, ◌-◌, ◌^◌, ◌<◌, min, ℤ, List, ◌∷◌, Option, Some, option_map, IfSome, IsSomeAnd}
+use Rattle.std.specs.Prelude.{◌≡◌, ◌⊎◌, ℕ, ◌+◌, ◌-◌, ◌^◌, ◌<◌, min, ℤ, List, ◌∷◌, Option, Some, option_map, IfSome}
+use Rattle.std.specs.Prelude.{IsSomeAnd}
 use Rattle.disk_model.specs.Counts.{Rises}
 use Rattle.disk_model.specs.Crashes.{During}
 use Rattle.obs_journal.specs.Journals.{JournalState, StandsFor}
@@ -20,8 +21,8 @@ use Rattle.act_model.specs.Turns.{Turn, Mends, FailsToMend, FailsToKeep, Settles
 use Rattle.desk_core.specs.Office.{Office as CoreState, Ready, IsOfAct, IsReadyAt, IsRoomFor}
 use Rattle.mpc_desk.specs.Files.{parcel_of, parcels_in, AreActs, Stands}
 
--- a desk: the founding officer's key, how many bytes the journal may have, what is settled and what is in doubt, and the
--- disk
+-- a desk: the founding officer's key, how many bytes the journal may have, what is settled and what is in doubt, and
+-- the disk
 pub record DeskState (D : Type 0) : Type 0 where
   pub founder : Key
   pub limit : ℕ
@@ -61,8 +62,8 @@ RestsAt state image =
 abbrev pub IsAtRest : {D : Type 0} (leaves : D → List ℕ → Type 0) → DeskState D → Type 0
 IsAtRest leaves desk = (image : List ℕ) → leaves desk.disk image → RestsAt desk.state image
 
--- an image inside an act that mending found at this history: it is one from before, or it stands for the history with the
--- entry that the act becomes there
+-- an image inside an act that mending found at this history: it is one from before, or it stands for the history with
+-- the entry that the act becomes there
 abbrev pub MayLeave : {D : Type 0} → DeskState D → List Entry → Request → ℤ → List ℕ → Type 0
 MayLeave old mended request reading image =
     RestsAt old.state image
@@ -122,8 +123,8 @@ settled_by _ _ history = history
 
 -- ---- an act where nothing was in doubt
 
--- An act that is taken at the settled history: nothing is in doubt after it; or the disk's count rose, and its entry isn't
--- kept, or is in doubt. A crash inside it leaves no more than the history with its entry.
+-- An act that is taken at the settled history: nothing is in doubt after it; or the disk's count rose, and its entry
+-- isn't kept, or is in doubt. A crash inside it leaves no more than the history with its entry.
 pub record TakesAct {D : Type 0} (moment : D → ℕ) (since : D → ℕ → List ℕ → Type 0) (faults : D → ℕ) (old : DeskState D)
     (request : Request) (reading : ℤ) (reply : Reply) (new : DeskState D) : Type 0 where
   pub acts : ((rise : ℕ)

@@ -22,13 +22,13 @@ use obs_journal::AppendFault;
 use obs_time::Instant;
 
 impl<D: Disk> Desk<D> {
-    /// Takes the turn of an act at this reading of the clock. An act in doubt is mended first; then the request is worked
-    /// out at the history that mending left, and its entry is kept in the journal and added. It takes memory, but none
-    /// once anything was written.
+    /// Takes the turn of an act at this reading of the clock. An act in doubt is mended first; then the request is
+    /// worked out at the history that mending left, and its entry is kept in the journal and added. It takes memory,
+    /// but none once anything was written.
     ///
-    /// The request has the verb of an act. Answers `DiskFault` where the disk failed: `untouched` where the act in doubt
-    /// could not be mended, or the entry isn't kept; `doubt` exactly where this call's own parcel was left in doubt. Any
-    /// other answer is that of the step at the history after mending, or that memory was refused.
+    /// The request has the verb of an act. Answers `DiskFault` where the disk failed: `untouched` where the act in
+    /// doubt could not be mended, or the entry isn't kept; `doubt` exactly where this call's own parcel was left in
+    /// doubt. Any other answer is that of the step at the history after mending, or that memory was refused.
     pub fn act(&mut self, request: &Request, reading: Instant) -> Reply
         requires act { is_act request.now.verb ≡ true }
         ensures turn { TakesTurn (office_of D.faults self.old) request.now (Some reading) result

@@ -1,4 +1,7 @@
-ghost use Rattle.std.specs.Prelude.{◌≡◌, ◌≢◌, ◌↔◌, ◌-◌, ◌≤◌, ◌∷◌, length, slice_index, Ok, Some, None, IfOk, IfSome, IsSome, IsSomeAnd, OnErr, option_map};
+//! The office on a disk.
+
+ghost use Rattle.std.specs.Prelude.{◌≡◌, ◌≢◌, ◌↔◌, ◌-◌, ◌≤◌, ◌∷◌, length, slice_index, Ok, Some, None, IfOk, IfSome};
+ghost use Rattle.std.specs.Prelude.{IsSome, IsSomeAnd, OnErr, option_map};
 ghost use Rattle.disk_model.specs.Counts.{Rises};
 ghost use Rattle.obs_journal.specs.Journals.{IsUnwritten};
 ghost use Rattle.act_model.specs.declared.entry.Entry.{Entry};
@@ -17,7 +20,7 @@ use std::marker::Model;
 ///
 /// Contracts see the founding officer's key, how many bytes the journal may have, the settled history with the newest
 /// entry first, the act in doubt, and the disk.
-#[derive(Drop)]
+#[derive(Debug, Drop)]
 pub struct Desk<D: Disk> {
     pub(crate) alloc: Global,
     pub(crate) core: Core,

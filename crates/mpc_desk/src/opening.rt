@@ -1,6 +1,7 @@
 //! Opening a desk: the journal's parcels are taken in one after the other, each as the entry that it was.
 
-ghost use Rattle.std.specs.Prelude.{◌≡◌, ◌≢◌, ◌≤◌, ℕ, List, [], IfOk, IfErr, IfSome, IsErr, IsErrOf, IsSome, OnOk, Err, None};
+ghost use Rattle.std.specs.Prelude.{◌≡◌, ◌≢◌, ◌≤◌, ℕ, List, [], IfOk, IfErr, IfSome, IsErr, IsErrOf, IsSome, OnOk, Err};
+ghost use Rattle.std.specs.Prelude.{None};
 ghost use Rattle.disk_model.specs.Counts.{Rises};
 ghost use Rattle.disk_model.specs.Crashes.{During};
 ghost use Rattle.obs_journal.specs.Files.{IsFresh};
@@ -63,14 +64,14 @@ fn replay_all(core: &mut Core, parcels: &[Placed]) -> Result<(), OpenFault>
 }
 
 impl<D: Disk> Desk<D> {
-    /// Opens the office of the founding officer with this key on a disk, where the journal may have so many bytes. It waits
-    /// until the journal's file is safe, reads its parcels, and takes in the entry of each, by all rules of the office; a
-    /// fresh file gets its first gate. The key begins with a plus and has at most 33 bytes. It takes memory.
+    /// Opens the office of the founding officer with this key on a disk, where the journal may have so many bytes. It
+    /// waits until the journal's file is safe, reads its parcels, and takes in the entry of each, by all rules of the
+    /// office; a fresh file gets its first gate. The key begins with a plus and has at most 33 bytes. It takes memory.
     ///
     /// # Errors
-    /// The disk comes back beside the fault: `DiskFault` where the disk failed; `Damaged` where the file spells no list of
-    /// parcels, with the offset of the gate where it stops, and else where an entry isn't legal after those before it, with
-    /// the offset of its gate; `NoMemory` where memory was refused.
+    /// The disk comes back beside the fault: `DiskFault` where the disk failed; `Damaged` where the file spells no list
+    /// of parcels, with the offset of the gate where it stops, and else where an entry isn't legal after those before
+    /// it, with the offset of its gate; `NoMemory` where memory was refused.
     pub fn open(alloc: Global, founder: Key, limit: u64, disk: D) -> Result<Desk<D>, (OpenFault, D)>
         requires founder { IsFounder founder }
         ensures stands { IfOk result (λ desk. IfSome (D.reads disk) (λ file. Stands file desk.state.settled)) }

@@ -4,11 +4,10 @@ ghost use Rattle.act_model.specs.Roster.{IsFounder};
 
 use crate::Desk;
 use act_model::{Body, Keeper, Key, Reply, Request, Verb, reply_text};
-use disk_model::{Disk, MemDisk};
+use disk_model::MemDisk;
 use item_list::Bytes;
 use obs_time::Instant;
 use std::alloc::Global;
-use std::process::Abort;
 
 /// Whose request it is, under which number, which verb it has, and its body.
 #[derive(Clone, Copy)]
@@ -51,57 +50,68 @@ fn founder() -> Key
     Key::new(FOUNDER)
 }
 
-/// A disk with this file, whose calls fail where `fails` says so.
-fn disk<R: Abort>(rt: &R, alloc: Global, file: &[u8], fails: &[u64]) -> MemDisk {
-    assert!(rt; file.len() <= CAPACITY);
-    MemDisk::new(alloc, file, CAPACITY, fails).expect(rt, "memory")
-}
-
-/// A desk on this disk, whose journal may have so many bytes.
-fn opened<R: Abort, D: Disk>(rt: &R, alloc: Global, limit: u64, disk: D) -> Desk<D> {
-    match Desk::open(alloc, founder(), limit, disk) {
-        Ok(desk) => desk,
-        Err(_) => panic!(rt; "it doesn't open"),
+/// The request; None where memory was refused.
+fn request(alloc: Global, asks: &Asks) -> Option<Request> {
+    match Bytes::from_slice(alloc, asks.body) {
+        Ok(body) => Some(Request {
+            key: Key::new(asks.key),
+            number: Some(asks.number),
+            verb: asks.verb,
+            body: Body::Whole(body),
+        }),
+        Err(_) => None,
     }
-}
-
-fn request<R: Abort>(rt: &R, alloc: Global, asks: Asks) -> Request {
-    Request {
-        key: Key::new(asks.key),
-        number: Some(asks.number),
-        verb: asks.verb,
-        body: Body::Whole(Bytes::from_slice(alloc, asks.body).expect(rt, "memory")),
-    }
-}
-
-fn reading<R: Abort>(rt: &R) -> Instant {
-    Instant::new(MOMENT).expect(rt, "in range")
 }
 
 /// What the keeper replies.
-fn reply<R: Abort, V: Keeper>(rt: &R, alloc: Global, keeper: &mut V, asks: Asks) -> Reply {
-    let request = request(rt, alloc, asks);
+fn reply<V: Keeper>(keeper: &mut V, request: &Request, reading: Instant) -> Reply {
     if request.verb.is_act() {
-        return keeper.act(&request, reading(rt));
+        return keeper.act(request, reading);
     }
-    keeper.ask(&request)
+    keeper.ask(request)
 }
 
-fn expect_text<R: Abort>(rt: &R, alloc: Global, reply: Reply, want: &str) {
-    let text = reply_text(alloc, reply).expect(rt, "memory");
-    assert_eq!(rt; text.as_slice(), want.as_bytes(), "wanted {want}");
+/// Whether a reply has this text.
+fn is_text(alloc: Global, reply: Reply, want: &str) -> bool {
+    match reply_text(alloc, reply) {
+        Ok(text) => text.as_slice() == want.as_bytes(),
+        Err(_) => false,
+    }
 }
 
-/// Sends requests one after another, each of which is to be answered so.
-fn expect_answers<R: Abort, V: Keeper>(
-    rt: &R,
+/// Whether the keeper replies so.
+fn is_answer<V: Keeper>(
     alloc: Global,
     keeper: &mut V,
+    reading: Instant,
+    exchange: &Exchange,
+) -> bool {
+    match request(alloc, &exchange.0) {
+        Some(request) => is_text(alloc, reply(keeper, &request, reading), exchange.1),
+        None => false,
+    }
+}
+
+/// Sends requests one after another; the place of the first that is answered otherwise, counted from 0.
+fn wrong_answer<V: Keeper>(
+    alloc: Global,
+    keeper: &mut V,
+    reading: Instant,
     exchanges: &[Exchange],
-) {
-    for (asks, want) in exchanges {
-        let reply = reply(rt, alloc, keeper, *asks);
-        expect_text(rt, alloc, reply, want);
+) -> Option<usize> {
+    for (place, exchange) in exchanges.iter().enumerate() {
+        if !is_answer(alloc, keeper, reading, exchange) {
+            return Some(place);
+        }
+    }
+    None
+}
+
+/// A desk on an empty disk, whose journal may have so many bytes.
+fn opened(alloc: Global, limit: u64) -> Option<Desk<MemDisk>> {
+    match MemDisk::new(alloc, &[], CAPACITY, &[]) {
+        Ok(disk) => Desk::open(alloc, founder(), limit, disk).ok(),
+        Err(_) => None,
     }
 }
 
@@ -114,16 +124,43 @@ const LIMITS: [(u64, &str); 3] = [
     (155, "receipt 2\ncaller 2\n"),
 ];
 
-fn expect_second<R: Abort>(rt: &R, alloc: Global, limit: u64, text: &'static str) {
-    let disk = disk(rt, alloc, b"", &[]);
-    let mut desk = opened(rt, alloc, limit, disk);
-    expect_answers(rt, alloc, &mut desk, &[ANN, (ENROLS_BOB, text), ANN]);
+/// Whether the second act is answered so, between the first one and the first one again.
+fn is_second<V: Keeper>(
+    alloc: Global,
+    keeper: &mut V,
+    reading: Instant,
+    text: &'static str,
+) -> bool {
+    wrong_answer(alloc, keeper, reading, &[ANN, (ENROLS_BOB, text), ANN]).is_none()
+}
+
+/// Whether it is, at a desk whose journal may have so many bytes.
+fn is_second_within(alloc: Global, limit: u64, reading: Instant, text: &'static str) -> bool {
+    match opened(alloc, limit) {
+        Some(mut desk) => is_second(alloc, &mut desk, reading, text),
+        None => false,
+    }
+}
+
+/// The first of these limits under which it is answered otherwise, counted from 0.
+fn wrong_limit(alloc: Global, reading: Instant) -> Option<usize> {
+    for (place, &(limit, text)) in LIMITS.iter().enumerate() {
+        if !is_second_within(alloc, limit, reading, text) {
+            return Some(place);
+        }
+    }
+    None
+}
+
+/// The same, where each act is read at that moment.
+fn wrong_limit_then(alloc: Global) -> Option<Option<usize>> {
+    let reading = Instant::new(MOMENT)?;
+    Some(wrong_limit(alloc, reading))
 }
 
 // The first act is answered again, also where the journal has no room for another.
 #[test]
 fn full_journals(rt: HostRuntime) {
-    for (limit, text) in LIMITS {
-        expect_second(&rt, rt.alloc(), limit, text);
-    }
+    let wrong = wrong_limit_then(rt.alloc());
+    assert_eq!(rt; wrong, Some(None));
 }

@@ -1,5 +1,5 @@
-//! The usage of the program, rendered by `clap`: its commands with their options, the limits of these, an example of each,
-//! and what the numbers mean with which a call ends.
+//! The usage of the program, rendered by `clap`: its commands with their options, the limits of these, an example of
+//! each, and what the numbers mean with which a call ends.
 //!
 //! The text plays no part in how words are read.
 #![tactic(auto)]
@@ -75,6 +75,27 @@ fn export<'a>(alloc: Global) -> Command<'a> {
     .after_help("Example: mpc_cli export")
 }
 
+fn workload<'a>(alloc: Global) -> Result<Command<'a>, AllocError> {
+    command(
+        alloc,
+        "workload",
+        "Runs made-up requests on an office in memory, and writes a summary of it to standard output",
+    )
+    .after_help("Example: mpc_cli workload --seed 7 --count 3")
+    .arg(option(
+        alloc,
+        "seed",
+        "S",
+        "The number that starts the requests, 0 to 18446744073709551615",
+    ))?
+    .arg(option(
+        alloc,
+        "count",
+        "M",
+        "How many objects the office gets, 1 to 20000",
+    ))
+}
+
 /// The program, with what its commands do.
 fn program<'a>(alloc: Global) -> Result<Command<'a>, AllocError> {
     command(
@@ -85,7 +106,8 @@ fn program<'a>(alloc: Global) -> Result<Command<'a>, AllocError> {
     .after_help(STATUSES)
     .subcommand(run(alloc)?)?
     .subcommand(serve(alloc)?)?
-    .subcommand(export(alloc))
+    .subcommand(export(alloc))?
+    .subcommand(workload(alloc)?)
 }
 
 /// Writes the help of a command under its whole name, behind an empty line.
@@ -106,6 +128,7 @@ pub fn usage_text(alloc: Global) -> Result<String, AllocError> {
     push_help(&mut text, run(alloc)?, "mpc_cli run")?;
     push_help(&mut text, serve(alloc)?, "mpc_cli serve")?;
     push_help(&mut text, export(alloc), "mpc_cli export")?;
+    push_help(&mut text, workload(alloc)?, "mpc_cli workload")?;
     Ok(text)
 }
 

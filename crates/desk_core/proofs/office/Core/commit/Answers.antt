@@ -29,7 +29,7 @@ invariant_of-self c =
     let deed : c.into_parts-filed.result.2 ≡ ready.deed = c.into_parts-filed.ensures.deed in
     let stands : StandFor (ready.deed ∷ past) c.note.new.self =
     subst (λ (d : Deed). StandFor (d ∷ past) c.note.new.self) deed (c.note.ensures.stand past c.self.invariant.4 c.self.invariant.5) in
-    rw c.push_reserved.ensures.items (
+    rw c.push.ensures.items (
       answered items f ready at e a c.self.invariant.0,
       members_are items f ready at e a c.self.inside.members.items c.enrol.new.members.items roster c.self.invariant.1,
       members_within items f ready at e a c.self.inside.members.items (vec_len c.enrol.new.members) (c.enrol.ensures.count ∙ ap (λ (d : Deed). length (with_enrolled d (reverse c.self.inside.members.items))) c.into_parts-filed.ensures.deed) c.self.invariant.1,
@@ -48,7 +48,7 @@ returns-clause-used c =
     let file = c.self.inside.file in
     let held = c.hold.new.file in
     subst (λ (r : Room). UsesRoom c.args.prepared.deed r (record {
-      entries = vec_capacity c.push_reserved.new.self - vec_len c.push_reserved.new.self;
+      entries = c.push.new.self.room;
       callers = vec_capacity c.enrol.new.members - vec_len c.enrol.new.members;
       observations = held.observation_room;
       tracklets = held.tracklet_room;
@@ -56,10 +56,10 @@ returns-clause-used c =
       links = c.note.new.self.link_room;
       register = c.note.new.self.register_room;
     })) (ap (λ (o : Office). o.spare) c.self.view_is)
-    (used c.args.prepared.deed (vec_capacity c.self.inside.filed) (vec_capacity c.push_reserved.new.self) (vec_len c.self.inside.filed) (vec_len c.push_reserved.new.self)
+    (used c.args.prepared.deed c.self.inside.filed.room c.push.new.self.room c.push.ensures.room
     (vec_capacity c.self.inside.members) (vec_capacity c.enrol.new.members) (vec_len c.self.inside.members) (vec_len c.enrol.new.members)
     file.observation_room held.observation_room file.tracklet_room held.tracklet_room
     c.self.inside.objects c.note.new.self (subst (λ (d : Deed). UsesObjects d c.self.inside.objects c.note.new.self) deed c.note.ensures.used)
-    c.push_reserved.ensures.capacity c.enrol.ensures.room c.push_reserved.ensures.len c.enrol.ensures.no_fewer c.enrol.ensures.one_more
+    c.enrol.ensures.room c.enrol.ensures.no_fewer c.enrol.ensures.one_more
     (subst (λ (d : Deed). file.observation_room ≤ held.observation_room + added_by d) deed c.hold.ensures.observations)
     (subst (λ (d : Deed). file.tracklet_room ≤ held.tracklet_room + added_by d) deed c.hold.ensures.tracklets))

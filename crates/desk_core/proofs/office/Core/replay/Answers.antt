@@ -1,4 +1,4 @@
-use Rattle.std.proofs.Common.{◌≡◌, ℤ, List, ◌∷◌, Bool, true, false, w64, refl, sym, ap, subst, ◌∙◌}
+use Rattle.std.proofs.Common.{ℤ, List, ◌∷◌, false, w64, refl, sym, ap, subst, ◌∙◌}
 use Rattle.std.specs.Prelude.{is_some, IsTrue}
 use Rattle.std.proofs.lemmas.Int.{to_z-of_z}
 use Rattle.obs_time.specs.Instants.{IsInstantNs}

@@ -1,8 +1,9 @@
 use Rattle.std.proofs.Common.{◌≡◌, ℕ, ◌<◌, List, inl, refl, sym, ap, subst, ◌∙◌, arith}
-use Rattle.std.specs.Prelude.{◌^◌}
+use Rattle.std.specs.Prelude.{◌^◌, Err}
 use Rattle.disk_model.specs.Moments.{during_weaker}
 use Rattle.obs_journal.specs.Files.{IsDamagedAt, Spells}
 use Rattle.obs_journal.specs.declared.opening.Placed.{Placed}
+use Rattle.obs_journal.specs.declared.fault.OpenFault.{OpenFault}
 use Rattle.obs_journal.specs.Journals.{IsUnwritten}
 use Rattle.obs_journal.specs.Opening.{parcels_of}
 use Rattle.mpc_desk.specs.Opening.{StopsAt, IsDamagedDesk, StandsAlike}
@@ -31,7 +32,7 @@ returns-in-Ok-replay_all-clause-any_moment g c =
 pub returns-in-Err-replay_all-clause-damaged : goal.returns-in-Err-replay_all-clause-damaged
 returns-in-Err-replay_all-clause-damaged g c = λ offset same.
     damaged_entry c.args.founder c.in-Ok.core.founder (g.D.Disk.reads c.args.disk) (parcels_of c.in-Ok-open.opened.1) offset c.in-Ok.ensures.founder
-    (subst (λ (ps : List Placed). StopsAt c.in-Ok.core.founder (parcels_of ps) offset) c.as_slice.ensures (c.in-Err-replay_all.ensures.damaged offset (cc)))
+    (subst (λ (ps : List Placed). StopsAt c.in-Ok.core.founder (parcels_of ps) offset) c.as_slice.ensures (c.in-Err-replay_all.ensures.damaged offset (ap (λ (fault : OpenFault). Err fault) same)))
     c.in-Ok-open.ensures.spelled
 
 pub returns-in-Err-replay_all-clause-unwritten : goal.returns-in-Err-replay_all-clause-unwritten
@@ -46,7 +47,7 @@ returns-in-Err-clause-sound g c = λ offset same known each.
 pub returns-in-Err-replay_all-clause-sound : goal.returns-in-Err-replay_all-clause-sound
 returns-in-Err-replay_all-clause-sound g c = λ offset same known each.
     sound_reads c.one_list.ensures c.args.founder (g.D.Disk.reads c.args.disk) (g.D.Disk.leaves c.args.disk) (g.met.D.Disk.as_read c.args.disk) (parcels_of c.in-Ok-open.opened.1) offset
-    (subst (λ (k : Key). StopsAt k (parcels_of c.in-Ok-open.opened.1) offset) c.in-Ok.ensures.founder (subst (λ (ps : List Placed). StopsAt c.in-Ok.core.founder (parcels_of ps) offset) c.as_slice.ensures (c.in-Err-replay_all.ensures.damaged offset (cc))))
+    (subst (λ (k : Key). StopsAt k (parcels_of c.in-Ok-open.opened.1) offset) c.in-Ok.ensures.founder (subst (λ (ps : List Placed). StopsAt c.in-Ok.core.founder (parcels_of ps) offset) c.as_slice.ensures (c.in-Err-replay_all.ensures.damaged offset (ap (λ (fault : OpenFault). Err fault) same))))
     c.in-Ok-open.ensures.spelled known each
 
 pub returns-in-Ok-replay_all-clause-stands : goal.returns-in-Ok-replay_all-clause-stands

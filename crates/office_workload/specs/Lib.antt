@@ -1,0 +1,5 @@
+pub mod Generating
+pub mod Lines
+pub mod Workloads
+pub mod Running
+pub mod Summaries
