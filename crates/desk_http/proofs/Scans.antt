@@ -1,11 +1,13 @@
 -- A head has ended where the scan says so, and not before.
-use Rattle.std.proofs.Common.{◌≡◌, ◌≢◌, ℕ, zero, suc, ◌+◌, ◌<◌, ◌≤◌, Bool, true, false, cond, List, [], ◌∷◌, ◌++◌, length, fold, refl, sym, ap, ◌∙◌, subst, append_assoc, arith, inl, inr}
+use Rattle.std.proofs.Common.{◌≡◌, ◌≢◌, ℕ, zero, suc, ◌<◌, ◌≤◌, Bool, true, false, cond, List, [], ◌∷◌, ◌++◌, length, fold, refl, sym, ap, ◌∙◌, subst, append_assoc, arith}
+use Rattle.std.proofs.Common.{take, drop}
+use Rattle.std.proofs.lemmas.List.{take-append-drop}
 use Rattle.std.specs.List.{flat_map, AllByRecursion}
 use Rattle.std.proofs.lemmas.List.Sums.{fold-append}
 use Rattle.std.specs.Prelude.{All, ◌==◌}
 use Rattle.std.proofs.lemmas.List.Elements.{All-head, All-tail}
-use Rattle.std.proofs.lemmas.Bool.{eq-eqb, ne_eqb, false≢true}
-use Rattle.httparse.specs.Grammar.{is_token_byte, is_uri_byte, is_value_byte, AllPass, LineEnd, crlf, lf, print_end, print_blank, print_version, Field, print_field, IsField, print_section, RequestHead, IsRequestHead, print_request, ReadsRequest, HasNoRequest}
+use Rattle.std.proofs.lemmas.Bool.{ne_eqb, false≢true}
+use Rattle.httparse.specs.Grammar.{is_token_byte, is_uri_byte, is_value_byte, AllPass, LineEnd, crlf, lf, print_end, print_blank, print_version, Field, print_field, IsField, RequestHead, IsRequestHead, print_request, HasNoRequest}
 use Rattle.httparse.proofs.GrammarLemmas.{print_request-append, cons-append}
 use Rattle.desk_http.specs.declared.scan.Scan.{Scan}
 use Rattle.desk_http.specs.declared.scan.Scan.TheVariants.{Blank, Inside, LineEnd as AtEnd, Return, Ended}
@@ -148,3 +150,23 @@ request_over h rest good =
 pub not_ended : (bytes : List ℕ) (scan : Scan) → scan ≡ scanned bytes → is_ended scan ≡ false → HasNoRequest bytes
 unfolding scanned
 not_ended bytes scan is open_yet h rest reads = false≢true (sym open_yet ∙ ap is_ended (is ∙ ap (over Blank) reads.1 ∙ request_over h rest reads.0))
+
+-- ---- what follows a head's end
+
+ended_is : (scan : Scan) → is_ended scan ≡ true → scan ≡ Ended
+ended_is Blank e = absurd (false≢true e)
+ended_is Inside e = absurd (false≢true e)
+ended_is AtEnd e = absurd (false≢true e)
+ended_is Return e = absurd (false≢true e)
+ended_is Ended e = refl
+
+-- where a front of the bytes has ended a head, the bytes behind it change nothing
+pub ends_early : (scan now : Scan) (before bytes : List ℕ) (n : ℕ) → scan ≡ scanned before → now ≡ over scan (take n bytes) → is_ended now ≡ true
+    → now ≡ scanned (before ++ bytes)
+unfolding scanned
+ends_early scan now before bytes n is so_far end =
+    let ended : now ≡ Ended = ended_is now end in
+    let front : over scan (take n bytes) ≡ Ended = sym so_far ∙ ended in
+    let all : over scan bytes ≡ Ended =
+    ap (over scan) (sym (take-append-drop n bytes)) ∙ step scan Ended (take n bytes) (drop n bytes) front ∙ ended_over (drop n bytes) in
+    sym (fold-append scan_byte Blank before bytes ∙ ap (λ s. over s bytes) (sym is) ∙ all ∙ sym ended)

@@ -1,4 +1,5 @@
--- Requests that are read out of a source: what each answer says of the bytes that were read ahead and those that came behind them.
+-- Requests that are read out of a source: what each answer says of the bytes that were read ahead and those that came
+-- behind them.
 use Rattle.std.specs.Prelude.{◌≡◌, ℕ, Bool, ◌<◌, ◌≤◌, ◌⊎◌, List, [], ◌++◌, length, drop, Result, Ok, Err, IfSome}
 use Rattle.std.specs.declared.option.Option.{Option}
 use Rattle.std.specs.Io.KnownBytes.{IsAtEnd}
@@ -17,15 +18,15 @@ use Rattle.desk_http.specs.Heads.{IsHead, Message, IsMessage, NoMessage, NeverMe
 
 -- ---- requests
 
--- what is said of a body is true of its text: what was kept is all of it, what is too long to be kept has this length, and room was
--- wanting only for what isn't too long
+-- what is said of a body is true of its text: what was kept is all of it, what is too long to be kept has this length,
+-- and room was wanting only for what isn't too long
 abbrev pub IfKept : Body → List ℕ → Type 0
 IfKept (bodies.Whole bytes) text = (bytes ≡ text) × (length text ≤ BODY_BYTES)
 IfKept (bodies.TooLong size) text = (size ≡ length text) × (BODY_BYTES < size)
 IfKept bodies.NoRoom text = length text ≤ BODY_BYTES
 
--- a message stands at the front of the bytes, before this rest, and was read: each of its parts, what is said of its body, and
--- whether the answer to it is the last one
+-- a message stands at the front of the bytes, before this rest, and was read: each of its parts, what is said of its
+-- body, and whether the answer to it is the last one
 pub record IsRequestRead (front : List ℕ) (request : Request) (last : Bool) (rest : List ℕ) : Type 0 where
   pub message : Message
   pub stands : IsMessage front message rest
@@ -102,7 +103,8 @@ IsCut left endings.Unread = IsAtEnd left
 IsCut left endings.ReadFault = Unit {0}
 
 -- a text was read, of which an answer says something, or fewer bytes have come than it has
-abbrev pub ReadsText : {X : Type 0} → (X → List ℕ → Type 0) → List ℕ → ℕ → List ℕ → Option (List ℕ) → Result X Ending → Type 0
+abbrev pub ReadsText : {X : Type 0} → (X → List ℕ → Type 0) → List ℕ → ℕ → List ℕ → Option (List ℕ) → Result X Ending
+    → Type 0
 ReadsText IsSaid front size rest left (Ok x) = IsTextRead front size (IsSaid x) rest
 ReadsText IsSaid front size rest left (Err ending) = (length front < size) × IsCut left ending
 

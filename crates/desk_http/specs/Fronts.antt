@@ -12,7 +12,8 @@ use Rattle.desk_http.specs.Heads.{IsHead, NeverMessage}
 abbrev pub IsNamed : Named → List (List ℕ) → Type 0
 IsNamed named.Absent values = values ≡ []
 IsNamed (named.Once value) values = values ≡ value.now ∷ []
-IsNamed named.Repeated values = (first : List ℕ) × (second : List ℕ) × (more : List (List ℕ)) × (values ≡ first ∷ second ∷ more)
+IsNamed named.Repeated values = (first : List ℕ) × (second : List ℕ) × (more : List (List ℕ))
+    × (values ≡ first ∷ second ∷ more)
 
 -- what the front of the bytes that have come is
 abbrev pub ReadsFront : List ℕ → Front → Type 0

@@ -1,5 +1,6 @@
 -- HTTP requests to the office: what their heads say, what a message is, and the messages of a stream.
-use Rattle.std.specs.Prelude.{◌≡◌, ℕ, ◌≤◌, ◌⊎◌, Bool, true, false, ◌&&◌, ◌||◌, if◌then◌else◌, nat_lt, nat_le, bytes_eq, codes, List, [], ◌∷◌, ◌++◌, length, map, take, drop, ◌==◌}
+use Rattle.std.specs.Prelude.{◌≡◌, ℕ, ◌≤◌, ◌⊎◌, Bool, true, false, ◌&&◌, ◌||◌, if◌then◌else◌, nat_lt, nat_le, bytes_eq}
+use Rattle.std.specs.Prelude.{codes, List, [], ◌∷◌, ◌++◌, length, map, take, drop, ◌==◌}
 use Rattle.std.specs.declared.option.Option.{Option}
 use Rattle.std.specs.declared.option.Option.TheVariants.{Some, None}
 use Rattle.httparse.specs.Grammar.{RequestHead, print_request, ReadsRequest}
@@ -98,7 +99,8 @@ query_verb verb = if is_act verb then Unknown else verb
 abbrev pub act_parts : Option (List ℕ × List ℕ) → Asked
 act_parts None = nothing_asked
 act_parts (Some (number, word)) =
-    if nat_lt 0 (length number) then record { number = number_in number; verb = act_verb (verb_of word) } else nothing_asked
+    if nat_lt 0 (length number) then record { number = number_in number; verb = act_verb (verb_of word) }
+    else nothing_asked
 
 -- an act: POST `/v1/act/{number}/{verb}`
 unfoldable pub act_asked : List ℕ → List ℕ → Asked
@@ -108,7 +110,8 @@ act_asked method text = if bytes_eq method (codes "POST") then act_parts (cut_at
 unfoldable pub query_asked : List ℕ → Option (List ℕ) → Asked
 query_asked method None = nothing_asked
 query_asked method (Some word) =
-    if bytes_eq method (codes "GET") || bytes_eq method (codes "POST") then record { number = Some 0; verb = query_verb (verb_of word) }
+    if bytes_eq method (codes "GET") || bytes_eq method (codes "POST")
+    then record { number = Some 0; verb = query_verb (verb_of word) }
     else nothing_asked
 
 -- an act, where the text of one is given, or else a query
@@ -122,21 +125,27 @@ asked_of method target = act_or_query method (past (codes "/v1/act/") target) (p
 
 -- ---- heads
 
--- What a head says, by its method, its target, the version behind `HTTP/1.` and its fields, where it keeps the rules: neither
--- Desk-Key nor Content-Length twice, a length of 1 to 10 digits, and no Transfer-Encoding. The answer to HTTP/1.0 is the last one,
--- and so is the answer to a request with `close` in its Connection.
+-- What a head says, by its method, its target, the version behind `HTTP/1.` and its fields, where it keeps the rules:
+-- neither Desk-Key nor Content-Length twice, a length of 1 to 10 digits, and no Transfer-Encoding. The answer to
+-- HTTP/1.0 is the last one, and so is the answer to a request with `close` in its Connection.
 unfoldable pub said_of : List ℕ → List ℕ → ℕ → List Header → Option HeadParts
 said_of method target minor fields = do
   none ← uncoded (values_named (codes "transfer-encoding") fields)
   key ← key_in fields
   size ← body_length (values_named (codes "content-length") fields)
-  Some (record { key = key; asked = asked_of method target; length = size; closes = (minor == 0) || names_close fields })
+  Some (record {
+    key = key;
+    asked = asked_of method target;
+    length = size;
+    closes = (minor == 0) || names_close fields;
+  })
 
 -- what a head says
 abbrev pub said_by : RequestHead → Option HeadParts
 said_by head = said_of head.method head.target head.minor (fields_of head)
 
--- a head stands at the front of the bytes, before this rest: it has at most 8,192 bytes and 32 fields, keeps the rules, and says this
+-- a head stands at the front of the bytes, before this rest: it has at most 8,192 bytes and 32 fields, keeps the rules,
+-- and says this
 pub record IsHead (bytes : List ℕ) (parts : HeadParts) (rest : List ℕ) : Type 0 where
   pub head : RequestHead
   pub reads : ReadsRequest bytes head rest
@@ -179,7 +188,8 @@ abbrev pub Behind : Bool → Type 0 → Type 0 → Type 0
 Behind true closing others = closing
 Behind false closing others = others
 
--- The messages of a stream, from its front on, up to a rest that begins with none. Behind a message that closes nothing is read.
+-- The messages of a stream, from its front on, up to a rest that begins with none. Behind a message that closes nothing
+-- is read.
 abbrev pub IsStream : List ℕ → List Message → List ℕ → Type 0
 IsStream bytes [] rest = (bytes ≡ rest) × NoMessage rest
 IsStream bytes (message ∷ messages) rest =

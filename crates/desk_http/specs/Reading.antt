@@ -6,8 +6,8 @@ use Rattle.desk_io.specs.Reads.{Passes}
 use Rattle.desk_http.specs.Heads.{HasHead, NoMessage}
 use Rattle.desk_http.specs.declared.TheConstants.{HEAD_BYTES, BUFFER_BYTES}
 
--- no message stands at the front of the bytes yet, and one still may: a head stands there whose body isn't all there, or fewer
--- bytes have come than the longest head has
+-- no message stands at the front of the bytes yet, and one still may: a head stands there whose body isn't all there,
+-- or fewer bytes have come than the longest head has
 abbrev pub IsAwaited : List ℕ → Type 0
 IsAwaited bytes = NoMessage bytes × (HasHead bytes ⊎ (length bytes < HEAD_BYTES))
 
@@ -20,7 +20,8 @@ abbrev pub LacksText : List ℕ → ℕ → List ℕ → Type 0
 LacksText ahead size came = length (ahead ++ came) < size
 
 -- one read gave a piece of the source's bytes, or none, behind those that were read ahead
-pub record ReadsOnce {S : Type 0} (left : S → Option (List ℕ)) (gives : Passes S) (before after : S) (ahead grown : List ℕ) : Type 0 where
+pub record ReadsOnce {S : Type 0} (left : S → Option (List ℕ)) (gives : Passes S) (before after : S)
+    (ahead grown : List ℕ) : Type 0 where
   pub piece : List ℕ
   pub consumed : Consumes (left before) (left after) piece
   pub gave : gives before piece after
@@ -31,6 +32,7 @@ abbrev pub ReadsAhead : {S : Type 0} → (S → Option (List ℕ)) → Passes S 
 ReadsAhead left gives before after ahead grown =
     ((after ≡ before) × (grown ≡ ahead)) ⊎ ((ahead ≡ []) × ReadsOnce left gives before after ahead grown)
 
--- how much work is left at most: a buffer and one more for each read that can still give bytes, and the bytes that were read ahead
+-- how much work is left at most: a buffer and one more for each read that can still give bytes, and the bytes that were
+-- read ahead
 abbrev pub work : ℕ → List ℕ → ℕ
 work reads ahead = reads * (BUFFER_BYTES + 1) + length ahead

@@ -25,8 +25,8 @@ line_end = 13 ∷ 10 ∷ []
 abbrev pub closing_field : Bool → List ℕ
 closing_field last = if last then codes "Connection: close\r\n" else []
 
--- the head of an answer: the status line, the length of the text, its type, where it is the last answer the closing field, and an
--- empty line
+-- the head of an answer: the status line, the length of the text, its type, where it is the last answer the closing
+-- field, and an empty line
 unfoldable pub answer_head : ℕ → ℕ → Bool → List ℕ
 answer_head status size last =
     codes "HTTP/1.1 " ++ (decimal status ++ (32 ∷ (reason_of status ++ (codes "\r\nContent-Length: "

@@ -10,8 +10,8 @@ use Rattle.act_model.specs.declared.reply.Refusal.TheVariants.{NoLine}
 use Rattle.desk_http.specs.declared.replies.SendFault.{SendFault}
 use Rattle.desk_http.specs.declared.replies.SendFault.TheVariants as faults
 
--- the bytes that a sink took in a call: all of the text; a front of it and not all of it, where the sink failed; none, where memory
--- was refused
+-- the bytes that a sink took in a call: all of the text; a front of it and not all of it, where the sink failed; none,
+-- where memory was refused
 abbrev pub IsSent : Option (List ℕ) → Option (List ℕ) → List ℕ → Result ⊤ SendFault → Type 0
 IsSent old new text (Ok done) = Appends old new text
 IsSent old new text (Err faults.WriteFault) = AppendsPart old new text

@@ -1,7 +1,8 @@
 //! What the head of a request says.
 
 ghost use Rattle.std.specs.Prelude.{◌≡◌, ◌≤◌, ℕ, List, [], ◌∷◌, ◌++◌, length, map, All, codes, is_some};
-ghost use Rattle.httparse.specs.Spans.{IsWithin, IsHeaderWithin, IsRequestWithin, IsRequestOf, header_bytes, span_bytes};
+ghost use Rattle.httparse.specs.Spans.{IsWithin, IsHeaderWithin, IsRequestWithin, IsRequestOf, header_bytes};
+ghost use Rattle.httparse.specs.Spans.{span_bytes};
 ghost use Rattle.http1.specs.Fields.{values_named};
 ghost use Rattle.desk_http.specs.Heads.{key_in, length_in, body_length, uncoded, names_close, said_of};
 ghost use Rattle.desk_http.specs.Scans.{scanned};
@@ -122,7 +123,8 @@ fn body_length(bytes: &[u8], headers: &[HeaderSpan]) -> Option<u64>
 // Whether no Transfer-Encoding stands there.
 fn is_uncoded(bytes: &[u8], headers: &[HeaderSpan]) -> bool
     requires { All (IsHeaderWithin (length bytes.now)) headers.now }
-    ensures { result ≡ is_some (uncoded (values_named (codes "transfer-encoding") (map (header_bytes bytes.now) headers.now))) }
+    ensures { result ≡ is_some (uncoded (values_named (codes "transfer-encoding")
+        (map (header_bytes bytes.now) headers.now))) }
 {
     matches!(
         &field_named(bytes, headers, b"transfer-encoding"),
@@ -145,7 +147,8 @@ fn said_of(bytes: &[u8], spans: &RequestSpans, headers: &[HeaderSpan]) -> Option
     requires method { IsWithin (length bytes.now) spans.now.method }
     requires path { IsWithin (length bytes.now) spans.now.path }
     requires headers { All (IsHeaderWithin (length bytes.now)) headers.now }
-    ensures { result ≡ said_of (span_bytes bytes.now spans.now.method) (span_bytes bytes.now spans.now.path) spans.now.version
+    ensures { result ≡ said_of (span_bytes bytes.now spans.now.method)
+        (span_bytes bytes.now spans.now.path) spans.now.version
         (map (header_bytes bytes.now) headers.now) }
 {
     if !is_uncoded(bytes, headers) {

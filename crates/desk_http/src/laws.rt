@@ -28,8 +28,8 @@ pub fn goes_on()
         IsMessage bytes m rest → IsMessage (bytes ++ more) m (rest ++ more) }
 {}
 
-/// Where no head stands, or a head behind which fewer bytes have come than its body has, no message stands. None stands where
-/// there are no bytes.
+/// Where no head stands, or a head behind which fewer bytes have come than its body has, no message stands. None stands
+/// where there are no bytes.
 pub fn no_message_yet()
     ensures request { (bytes : List ℕ) → HasNoRequest bytes → NoMessage bytes }
     ensures head { (bytes : List ℕ) → NoHead bytes → NoMessage bytes }
@@ -38,8 +38,8 @@ pub fn no_message_yet()
     ensures nothing { NoMessage [] }
 {}
 
-/// Where no message can come, none stands, and none can come behind bytes that come later. A byte has come: before the first
-/// one any message can.
+/// Where no message can come, none stands, and none can come behind bytes that come later. A byte has come: before the
+/// first one any message can.
 pub fn never_a_message()
     ensures now { (bytes : List ℕ) → NeverMessage bytes → NoMessage bytes }
     ensures later { (bytes more : List ℕ) → NeverMessage bytes → NeverMessage (bytes ++ more) }

@@ -1,8 +1,8 @@
 //! HTTP requests out of a source of bytes, and answers into a sink.
 //!
 //! A source gives its bytes in whatever pieces it likes. A `Wire` takes the messages that they make, one
-//! after the other, through one buffer; `write_reply` writes the answer to one, and `write_unread` that to bytes that are
-//! no message.
+//! after the other, through one buffer; `write_reply` writes the answer to one, and `write_unread` that to bytes that
+//! are no message.
 #![tactic(auto)]
 
 mod head;

@@ -5,7 +5,8 @@ ghost use Rattle.ascii_text.specs.ArrayVec.{array_vec_len};
 ghost use Rattle.std.specs.Io.KnownBytes.{Appends};
 ghost use Rattle.desk_io.specs.Outside.{Rises, AppendsPart};
 ghost use Rattle.act_model.specs.Replies.{refusal_status, refusal_text};
-ghost use Rattle.desk_http.specs.ReplyTexts.{reason_of, closing_field, answer_head, answer_text, answer_of, unread_text, unread_answer};
+ghost use Rattle.desk_http.specs.ReplyTexts.{reason_of, closing_field, answer_head, answer_text, answer_of};
+ghost use Rattle.desk_http.specs.ReplyTexts.{unread_text, unread_answer};
 ghost use Rattle.desk_http.specs.Sent.{IsSent, CountsSent, IfWanting};
 
 use act_model::{Refusal, Reply, no_line_text, refusal_line, refusal_status};
@@ -179,7 +180,8 @@ fn write_refusal<K: Sink>(
     refusal: &Refusal,
     last: bool,
 ) -> Result<(), SendFault>
-    ensures sent { IsSent (K.taken sink.old) (K.taken sink.new) (answer_text (refusal_status refusal.now) (refusal_text refusal.now) last) result }
+    ensures sent { IsSent (K.taken sink.old) (K.taken sink.new)
+        (answer_text (refusal_status refusal.now) (refusal_text refusal.now) last) result }
     ensures faults { CountsSent (K.faults sink.old) (K.faults sink.new) result }
     ensures memory { IfWanting (Reply.Refused refusal.now) result }
     ensures stays { K.is_open sink.new ≡ K.is_open sink.old }

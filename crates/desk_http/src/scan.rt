@@ -42,13 +42,17 @@ fn scan_byte(scan: Scan, byte: u8) -> Scan
     }
 }
 
-/// How far a head has come with more bytes, where it had come so far with those before them.
+/// How far a head has come with more bytes, where it had come so far with those before them. It looks at no byte behind
+/// the head's end.
 #[tactic(auto, unfolding(crate::specs::Scans::scanned))]
 pub fn scan_more(scan: Scan, bytes: &[u8]) -> Scan
     ensures { (before : List ℕ) → scan ≡ scanned before → result ≡ scanned (before ++ bytes.now) }
 {
     let mut now = scan;
     for byte in bytes {
+        if now.is_ended() {
+            return now;
+        }
         now = scan_byte(now, *byte);
     }
     now

@@ -1,14 +1,15 @@
+//! Messages in memory, heard and answered.
+
 use crate::{Heard, SendFault, Wire, write_reply};
 use act_model::{Body, Excess, Part, Refusal, Reply, Request, read_verb};
 use desk_io::{MemSink, MemSource};
 use item_list::Bytes;
 use std::alloc::Global;
 use std::process::Abort;
-use std::test::Fail;
 
 // What is heard first of a text: a request with its key, its number, the word of its verb (an empty one for an unknown
 // verb), its body, and whether its answer is the last one.
-#[derive(Clone, Copy, Debug, PartialEq, Eq)]
+#[derive(Clone, Copy)]
 enum Want {
     Asks(&'static str, Option<u64>, &'static str, &'static str, bool),
     End,
@@ -19,7 +20,7 @@ enum Want {
 // A text, and what is heard first of it.
 type Row = (&'static str, Want);
 
-const ROUTES: [Row; 30] = [
+const ROUTES: &[Row] = &[
     (
         "POST /v1/act/7/submit80 HTTP/1.1\r\n\r\n",
         Want::Asks("", Some(7), "submit80", "", false),
@@ -142,7 +143,7 @@ const ROUTES: [Row; 30] = [
     ),
 ];
 
-const FIELDS: [Row; 36] = [
+const FIELDS: &[Row] = &[
     ("", Want::End),
     ("P", Want::Unread),
     ("\r\n", Want::Unread),
@@ -292,62 +293,72 @@ fn is_asked(request: &Request, last: bool, want: Want) -> bool {
 fn hears(wire: &mut Wire, source: &mut MemSource, want: Want) -> bool {
     match wire.read_request(source) {
         Heard::Request { request, last } => is_asked(&request, last, want),
-        Heard::End => want == Want::End,
-        Heard::Unread => want == Want::Unread,
-        Heard::ReadFault => want == Want::Fault,
+        Heard::End => matches!(want, Want::End),
+        Heard::Unread => matches!(want, Want::Unread),
+        Heard::ReadFault => matches!(want, Want::Fault),
     }
 }
 
 // Whether these are heard, one after the other.
-fn hears_all(alloc: Global, source: &mut MemSource, wants: &[Want]) -> bool {
-    let Ok(mut wire) = Wire::new(alloc) else {
-        return false;
-    };
+fn hears_all(wire: &mut Wire, source: &mut MemSource, wants: &[Want]) -> bool {
     for want in wants {
-        if !hears(&mut wire, source, *want) {
+        if !hears(wire, source, *want) {
             return false;
         }
     }
     true
 }
 
-fn expect(
-    rt: &impl Abort,
+// A source of which a read gives so many bytes at most, and in which the read with this number fails; for 0 none fails.
+fn source_of<R: Abort>(
+    rt: &R,
     alloc: Global,
-    text: &str,
+    bytes: &[u8],
     greatest: usize,
+    fails: u64,
+) -> MemSource {
+    MemSource::new(alloc, bytes, greatest.max(1), &[fails]).expect(rt, "memory")
+}
+
+fn is_heard<R: Abort>(
+    rt: &R,
+    alloc: Global,
+    bytes: &[u8],
+    greatest: usize,
+    fails: u64,
     wants: &[Want],
-) -> Result<(), Fail> {
-    assert!(rt; greatest > 0);
-    let mut source = MemSource::new(alloc, text.as_bytes(), greatest, &[])?;
-    assert!(rt;
-        hears_all(alloc, &mut source, wants),
-        "{text} by {greatest}"
-    );
-    Ok(())
+) -> bool {
+    let mut source = source_of(rt, alloc, bytes, greatest, fails);
+    let mut wire = Wire::new(alloc).expect(rt, "memory");
+    hears_all(&mut wire, &mut source, wants)
 }
 
-/// A message that comes in pieces of several sizes.
-fn expect_in_pieces(rt: &impl Abort, alloc: Global, text: &str, want: Want) -> Result<(), Fail> {
-    expect(rt, alloc, text, 1, &[want])?;
-    expect(rt, alloc, text, 7, &[want])?;
-    expect(rt, alloc, text, 4_096, &[want])
+fn expect<R: Abort>(rt: &R, alloc: Global, text: &str, greatest: usize, wants: &[Want]) {
+    let heard = is_heard(rt, alloc, text.as_bytes(), greatest, 0, wants);
+    assert!(rt; heard, "{text} by {greatest}");
+}
+
+// A message that comes in pieces of several sizes.
+fn expect_in_pieces<R: Abort>(rt: &R, alloc: Global, text: &str, want: Want) {
+    for greatest in [1usize, 7, 4_096] {
+        expect(rt, alloc, text, greatest, &[want]);
+    }
+}
+
+fn expect_rows<R: Abort>(rt: &R, alloc: Global, rows: &[Row]) {
+    for (text, want) in rows {
+        expect_in_pieces(rt, alloc, text, *want);
+    }
 }
 
 #[test]
-fn routes(rt: HostRuntime) -> Result<(), Fail> {
-    for (text, want) in ROUTES {
-        expect_in_pieces(&rt, rt.alloc(), text, want)?;
-    }
-    Ok(())
+fn routes(rt: HostRuntime) {
+    expect_rows(&rt, rt.alloc(), ROUTES);
 }
 
 #[test]
-fn fields(rt: HostRuntime) -> Result<(), Fail> {
-    for (text, want) in FIELDS {
-        expect_in_pieces(&rt, rt.alloc(), text, want)?;
-    }
-    Ok(())
+fn fields(rt: HostRuntime) {
+    expect_rows(&rt, rt.alloc(), FIELDS);
 }
 
 // Three messages, one at once after the other.
@@ -355,195 +366,315 @@ const STREAM: &str = "POST /v1/act/7/submit80 HTTP/1.1\r\nContent-Length: 3\r\n\
     \nPOST /v1/act/7/submit80 HTTP/1.1\nContent-Length: 2\n\nxy\
     POST /v1/act/7/submit80 HTTP/1.1\r\nConnection: close\r\n\r\n";
 
+const STREAMED: &[Want] = &[
+    Want::Asks("", Some(7), "submit80", "abc", false),
+    Want::Asks("", Some(7), "submit80", "xy", false),
+    Want::Asks("", Some(7), "submit80", "", true),
+    Want::End,
+];
+
+// A line end behind the last body is a part of a further message.
+const LINE_END_BEHIND: &str = "POST /v1/act/7/submit80 HTTP/1.1\r\nContent-Length: 2\r\n\r\nab\r\n";
+
+const MESSAGE_AND_FAULT: &[Want] = &[
+    Want::Asks("", Some(7), "submit80", "ab", false),
+    Want::Unread,
+];
+
 #[test]
-fn pipelined(rt: HostRuntime) -> Result<(), Fail> {
-    let all = [
-        Want::Asks("", Some(7), "submit80", "abc", false),
-        Want::Asks("", Some(7), "submit80", "xy", false),
-        Want::Asks("", Some(7), "submit80", "", true),
-        Want::End,
-    ];
-    for greatest in [1, 2, 3, 50, 4_096] {
-        expect(&rt, rt.alloc(), STREAM, greatest, &all)?;
+fn pipelined(rt: HostRuntime) {
+    for greatest in [1usize, 2, 3, 50, 4_096] {
+        expect(&rt, rt.alloc(), STREAM, greatest, STREAMED);
     }
-    // A line end behind the last body is a part of a further message.
-    expect(
-        &rt,
-        rt.alloc(),
-        "POST /v1/act/7/submit80 HTTP/1.1\r\nContent-Length: 2\r\n\r\nab\r\n",
-        4_096,
-        &[
-            Want::Asks("", Some(7), "submit80", "ab", false),
-            Want::Unread,
+    expect(&rt, rt.alloc(), LINE_END_BEHIND, 4_096, MESSAGE_AND_FAULT);
+}
+
+// The read that fails, and what is heard of the stream by 40 bytes.
+const FAILING: [(u64, [Want; 2]); 2] = [
+    (
+        1,
+        [
+            Want::Fault,
+            Want::Asks("", Some(7), "submit80", "abc", false),
         ],
-    )
+    ),
+    (
+        3,
+        [
+            Want::Asks("", Some(7), "submit80", "abc", false),
+            Want::Fault,
+        ],
+    ),
+];
+
+fn expect_failing<R: Abort>(rt: &R, alloc: Global, fails: u64, wants: &[Want]) {
+    let heard = is_heard(rt, alloc, STREAM.as_bytes(), 40, fails, wants);
+    assert!(rt; heard, "read {fails}");
 }
 
 #[test]
-fn source_fails(rt: HostRuntime) -> Result<(), Fail> {
-    for (fails, wants) in [
-        (
-            1,
-            [
-                Want::Fault,
-                Want::Asks("", Some(7), "submit80", "abc", false),
-            ],
-        ),
-        (
-            3,
-            [
-                Want::Asks("", Some(7), "submit80", "abc", false),
-                Want::Fault,
-            ],
-        ),
-    ] {
-        let mut source = MemSource::new(rt.alloc(), STREAM.as_bytes(), 40, &[fails])?;
-        assert!(&rt; hears_all(rt.alloc(), &mut source, &wants), "read {fails}");
+fn source_fails(rt: HostRuntime) {
+    for (fails, wants) in FAILING {
+        expect_failing(&rt, rt.alloc(), fails, &wants);
     }
-    Ok(())
 }
 
-// A request line, so many fields of five bytes, and more text, in 8 pieces or more.
-fn long_head(alloc: Global, fields: usize, more: &str, size: usize) -> Result<Vec<u8>, Fail> {
-    let mut bytes = Vec::from_slice(alloc, b"POST /v1/act/7/submit80 HTTP/1.1\r\n")?;
-    for _ in 0..fields {
-        bytes.extend_from_slice(b"a:b\r\n")?;
-    }
-    bytes.extend_from_slice(more.as_bytes())?;
+// A text: its front, so many fields of five bytes, more text, `x` up to a size, and its end; and what is heard of it.
+#[derive(Clone, Copy)]
+struct Long {
+    front: &'static str,
+    fields: usize,
+    more: &'static str,
+    size: usize,
+    end: &'static str,
+    want: Want,
+}
+
+const LINE: &str = "POST /v1/act/7/submit80 HTTP/1.1\r\n";
+
+const ASKS: Want = Want::Asks("", Some(7), "submit80", "", false);
+
+fn put<R: Abort>(rt: &R, bytes: &mut Vec<u8>, text: &str) {
+    bytes
+        .extend_from_slice(text.as_bytes())
+        .expect(rt, "memory");
+}
+
+fn put_up_to<R: Abort>(rt: &R, bytes: &mut Vec<u8>, size: usize) {
     if bytes.len() < size {
-        bytes.resize(size, b'x')?;
+        bytes.resize(size, b'x').expect(rt, "memory");
     }
-    Ok(bytes)
 }
 
-fn expect_long(rt: &impl Abort, alloc: Global, bytes: &[u8], want: Want) -> Result<(), Fail> {
-    let mut source = MemSource::new(alloc, bytes, 1_000, &[])?;
-    assert!(rt;
-        hears_all(alloc, &mut source, &[want]),
-        "{} bytes",
-        bytes.len()
-    );
-    Ok(())
+fn put_fields<R: Abort>(rt: &R, bytes: &mut Vec<u8>, fields: usize) {
+    for _ in 0..fields {
+        put(rt, bytes, "a:b\r\n");
+    }
+}
+
+fn long_text<R: Abort>(rt: &R, alloc: Global, row: Long) -> Vec<u8> {
+    let mut bytes = Vec::new(alloc);
+    put(rt, &mut bytes, row.front);
+    put_fields(rt, &mut bytes, row.fields);
+    put(rt, &mut bytes, row.more);
+    put_up_to(rt, &mut bytes, row.size);
+    put(rt, &mut bytes, row.end);
+    bytes
+}
+
+// Heads of 32 and of 33 fields; of 8,192 and of 8,193 bytes; and 8,192 bytes in which none ends.
+const LONG_HEADS: [Long; 5] = [
+    Long {
+        front: LINE,
+        fields: 32,
+        more: "",
+        size: 0,
+        end: "\r\n",
+        want: ASKS,
+    },
+    Long {
+        front: LINE,
+        fields: 33,
+        more: "",
+        size: 0,
+        end: "\r\n",
+        want: Want::Unread,
+    },
+    Long {
+        front: LINE,
+        fields: 0,
+        more: "a:",
+        size: 8_188,
+        end: "\r\n\r\n",
+        want: ASKS,
+    },
+    Long {
+        front: LINE,
+        fields: 0,
+        more: "a:",
+        size: 8_189,
+        end: "\r\n\r\n",
+        want: Want::Unread,
+    },
+    Long {
+        front: LINE,
+        fields: 0,
+        more: "a:",
+        size: 8_192,
+        end: "",
+        want: Want::Unread,
+    },
+];
+
+fn expect_long<R: Abort>(rt: &R, alloc: Global, bytes: &[u8], greatest: usize, want: Want) {
+    let heard = is_heard(rt, alloc, bytes, greatest, 0, &[want]);
+    assert!(rt; heard, "{} bytes by {greatest}", bytes.len());
+}
+
+fn expect_long_head<R: Abort>(rt: &R, alloc: Global, row: Long) {
+    let bytes = long_text(rt, alloc, row);
+    expect_long(rt, alloc, &bytes, 1, row.want);
+    expect_long(rt, alloc, &bytes, 1_000, row.want);
 }
 
 #[test]
-fn limits_of_heads(rt: HostRuntime) -> Result<(), Fail> {
-    let few = long_head(rt.alloc(), 32, "\r\n", 0)?;
-    expect_long(
-        &rt,
-        rt.alloc(),
-        &few,
-        Want::Asks("", Some(7), "submit80", "", false),
-    )?;
-    let many = long_head(rt.alloc(), 33, "\r\n", 0)?;
-    expect_long(&rt, rt.alloc(), &many, Want::Unread)?;
-    // Heads of 8,192 and of 8,193 bytes, and 8,192 bytes in which none ends.
-    for (size, want) in [
-        (8_192, Want::Asks("", Some(7), "submit80", "", false)),
-        (8_193, Want::Unread),
-    ] {
-        let mut head = long_head(rt.alloc(), 0, "a:", size - 4)?;
-        head.extend_from_slice(b"\r\n\r\n")?;
-        expect_long(&rt, rt.alloc(), &head, want)?;
+fn limits_of_heads(rt: HostRuntime) {
+    for row in LONG_HEADS {
+        expect_long_head(&rt, rt.alloc(), row);
     }
-    let endless = long_head(rt.alloc(), 0, "a:", 8_192)?;
-    expect_long(&rt, rt.alloc(), &endless, Want::Unread)
 }
 
-// What is said of a long body, and whether the next message is heard.
-fn body_of(alloc: Global, source: &mut MemSource) -> Option<(u64, bool)> {
-    let mut wire = Wire::new(alloc).ok()?;
-    let size = match wire.read_request(source) {
-        Heard::Request { request, .. } => match &request.body {
-            Body::Whole(bytes) => bytes.len(),
-            Body::TooLong(size) => *size,
-            Body::NoRoom => 0,
+// 8,192 empty lines, byte by byte.
+#[test]
+fn empty_lines(rt: HostRuntime) {
+    expect_long(&rt, rt.alloc(), &[b'\n'; 8_192], 1, Want::Unread);
+}
+
+fn body_length(request: &Request) -> u64 {
+    match &request.body {
+        Body::Whole(bytes) => bytes.len(),
+        Body::TooLong(size) => *size,
+        Body::NoRoom => 0,
+    }
+}
+
+// How long the body of the next message is.
+fn next_length(wire: &mut Wire, source: &mut MemSource) -> u64 {
+    match wire.read_request(source) {
+        Heard::Request { request, .. } => body_length(&request),
+        _ => 0,
+    }
+}
+
+// How long the body of the first message is, and whether the next message is heard.
+fn first_length<R: Abort>(rt: &R, alloc: Global, source: &mut MemSource) -> (u64, bool) {
+    let mut wire = Wire::new(alloc).expect(rt, "memory");
+    let length = next_length(&mut wire, source);
+    (length, hears(&mut wire, source, ASKS))
+}
+
+// Bodies of 1,048,576 bytes, behind 61 bytes, and of one byte more.
+const LONG_BODIES: [(Long, u64); 2] = [
+    (
+        Long {
+            front: LINE,
+            fields: 0,
+            more: "Content-Length: 1048576\r\n\r\n",
+            size: 1_048_637,
+            end: "POST /v1/act/7/submit80 HTTP/1.1\r\n\r\n",
+            want: ASKS,
         },
-        _ => return None,
-    };
-    Some((
-        size,
-        hears(
-            &mut wire,
-            source,
-            Want::Asks("", Some(7), "submit80", "", false),
-        ),
-    ))
+        1_048_576,
+    ),
+    (
+        Long {
+            front: LINE,
+            fields: 0,
+            more: "Content-Length: 1048577\r\n\r\n",
+            size: 1_048_638,
+            end: "POST /v1/act/7/submit80 HTTP/1.1\r\n\r\n",
+            want: ASKS,
+        },
+        1_048_577,
+    ),
+];
+
+fn expect_long_body<R: Abort>(rt: &R, alloc: Global, row: Long, length: u64) {
+    let bytes = long_text(rt, alloc, row);
+    let mut source = source_of(rt, alloc, &bytes, 60_000, 0);
+    let told = first_length(rt, alloc, &mut source);
+    assert_eq!(rt; told, (length, true));
 }
 
 #[test]
-fn long_bodies(rt: HostRuntime) -> Result<(), Fail> {
-    for (field, size) in [
-        ("Content-Length: 1048576\r\n\r\n", 1_048_576),
-        ("Content-Length: 1048577\r\n\r\n", 1_048_577),
-    ] {
-        let head = long_head(rt.alloc(), 0, field, 0)?;
-        let mut bytes = long_head(rt.alloc(), 0, field, head.len() + size)?;
-        bytes.extend_from_slice(b"POST /v1/act/7/submit80 HTTP/1.1\r\n\r\n")?;
-        let mut source = MemSource::new(rt.alloc(), &bytes, 60_000, &[])?;
-        let told = body_of(rt.alloc(), &mut source);
-        assert_eq!(&rt; told, Some((size as u64, true)), "{size} bytes");
+fn long_bodies(rt: HostRuntime) {
+    for (row, length) in LONG_BODIES {
+        expect_long_body(&rt, rt.alloc(), row, length);
     }
-    Ok(())
 }
 
-fn expect_answer(
-    rt: &impl Abort,
+const DONE: &str = concat!(
+    "HTTP/1.1 200 OK\r\n",
+    "Content-Length: 10\r\n",
+    "Content-Type: text/plain\r\n",
+    "\r\n",
+    "receipt 1\n",
+);
+
+const UNREAD_VERB: &str = concat!(
+    "HTTP/1.1 400 Bad Request\r\n",
+    "Content-Length: 22\r\n",
+    "Content-Type: text/plain\r\n",
+    "Connection: close\r\n",
+    "\r\n",
+    "refused 1 Unread verb\n",
+);
+
+const TOO_LARGE: &str = concat!(
+    "HTTP/1.1 413 Content Too Large\r\n",
+    "Content-Length: 32\r\n",
+    "Content-Type: text/plain\r\n",
+    "\r\n",
+    "refused 14 TooLarge lines 10001\n",
+);
+
+const NO_MEMORY: &str = concat!(
+    "HTTP/1.1 507 Insufficient Storage\r\n",
+    "Content-Length: 20\r\n",
+    "Content-Type: text/plain\r\n",
+    "\r\n",
+    "refused 17 NoMemory\n",
+);
+
+// How an answer is sent into a sink of so many bytes, and what the sink has then.
+fn expect_answer<R: Abort>(
+    rt: &R,
     alloc: Global,
-    reply: &Reply,
+    room: usize,
+    reply: Reply,
     last: bool,
-    want: &str,
-) -> Result<(), Fail> {
-    let mut sink = MemSink::new(alloc, 400, &[])?;
-    let sent = write_reply(alloc, &mut sink, reply, last);
-    assert_eq!(rt; sent, Ok(()), "{want}");
-    assert_eq!(rt; sink.bytes(), want.as_bytes());
-    Ok(())
+    want: Result<(), SendFault>,
+    taken: &str,
+) {
+    let mut sink = MemSink::new(alloc, room, &[]).expect(rt, "memory");
+    let sent = write_reply(alloc, &mut sink, &reply, last);
+    assert_eq!(rt; sent, want);
+    assert_eq!(rt; sink.bytes(), taken.as_bytes());
+}
+
+fn expect_refused<R: Abort>(rt: &R, alloc: Global, refusal: Refusal, last: bool, taken: &str) {
+    expect_answer(rt, alloc, 400, Reply::Refused(refusal), last, Ok(()), taken);
 }
 
 #[test]
-fn answers(rt: HostRuntime) -> Result<(), Fail> {
-    let done = Reply::Done(Bytes::from_slice(rt.alloc(), b"receipt 1\n")?);
-    expect_answer(
+fn done(rt: HostRuntime) {
+    let text = Bytes::from_slice(rt.alloc(), b"receipt 1\n").expect(&rt, "memory");
+    expect_answer(&rt, rt.alloc(), 400, Reply::Done(text), false, Ok(()), DONE);
+}
+
+#[test]
+fn refused(rt: HostRuntime) {
+    let excess = Excess::Lines(10_001);
+    expect_refused(
         &rt,
         rt.alloc(),
-        &done,
-        false,
-        "HTTP/1.1 200 OK\r\nContent-Length: 10\r\nContent-Type: text/plain\r\n\r\nreceipt 1\n",
-    )?;
-    expect_answer(
-        &rt,
-        rt.alloc(),
-        &Reply::Refused(Refusal::Unread(Part::Verb)),
+        Refusal::Unread(Part::Verb),
         true,
-        "HTTP/1.1 400 Bad Request\r\nContent-Length: 22\r\nContent-Type: text/plain\r\nConnection: close\r\n\r\nrefused 1 Unread verb\n",
-    )?;
-    expect_answer(
-        &rt,
-        rt.alloc(),
-        &Reply::Refused(Refusal::TooLarge(Excess::Lines(10_001))),
-        false,
-        "HTTP/1.1 413 Content Too Large\r\nContent-Length: 32\r\nContent-Type: text/plain\r\n\r\nrefused 14 TooLarge lines 10001\n",
-    )?;
-    expect_answer(
-        &rt,
-        rt.alloc(),
-        &Reply::Refused(Refusal::NoMemory),
-        false,
-        "HTTP/1.1 507 Insufficient Storage\r\nContent-Length: 20\r\nContent-Type: text/plain\r\n\r\nrefused 17 NoMemory\n",
-    )
+        UNREAD_VERB,
+    );
+    expect_refused(&rt, rt.alloc(), Refusal::TooLarge(excess), false, TOO_LARGE);
+    expect_refused(&rt, rt.alloc(), Refusal::NoMemory, false, NO_MEMORY);
 }
 
 #[test]
-fn answer_into_a_narrow_sink(rt: HostRuntime) -> Result<(), Fail> {
-    let mut narrow = MemSink::new(rt.alloc(), 12, &[])?;
-    let sent = write_reply(
+fn answer_into_a_narrow_sink(rt: HostRuntime) {
+    expect_answer(
+        &rt,
         rt.alloc(),
-        &mut narrow,
-        &Reply::Refused(Refusal::Role),
+        12,
+        Reply::Refused(Refusal::Role),
         false,
+        Err(SendFault::WriteFault),
+        "HTTP/1.1 403",
     );
-    assert_eq!(&rt; sent, Err(SendFault::WriteFault));
-    assert_eq!(&rt; narrow.bytes(), b"HTTP/1.1 403".as_slice());
-    Ok(())
 }

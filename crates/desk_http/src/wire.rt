@@ -1,12 +1,14 @@
 //! The wire and its buffer.
 
-ghost use Rattle.std.specs.Prelude.{◌≡◌, ◌≢◌, ℕ, ◌+◌, ◌<◌, ◌≤◌, List, [], ◌++◌, length, take, drop, Option, Ok, Err, IfOk, IfErr, OnOk, OnErr, IfSome, IsSomeAnd};
+ghost use Rattle.std.specs.Prelude.{◌≡◌, ◌≢◌, ℕ, ◌+◌, ◌-◌, ◌<◌, ◌≤◌, List, [], ◌++◌, length, take, drop};
+ghost use Rattle.std.specs.Prelude.{slice_range, Option, Ok, Err, IfOk, IfErr, OnOk, OnErr, IfSome, IsSomeAnd};
 ghost use Rattle.std.specs.Io.KnownBytes.{Consumes, IsAtEnd, Keeps};
 ghost use Rattle.desk_io.specs.Outside.{Rises};
 ghost use Rattle.desk_io.specs.Reads.{Comes};
 ghost use Rattle.desk_http.specs.Heads.{NoMessage};
 ghost use Rattle.desk_http.specs.Reading.{AwaitsMessage, LacksText, ReadsOnce, ReadsAhead, work};
-ghost use Rattle.desk_http.specs.Answers.{ReadsMessage, OnRequest, Counts, Ends, Counted, IfKept, ReadsHead, IsAllOf, ReadsText, ReadsWhole, IsCut};
+ghost use Rattle.desk_http.specs.Answers.{ReadsMessage, OnRequest, Counts, Ends, Counted, IfKept, ReadsHead, IsAllOf};
+ghost use Rattle.desk_http.specs.Answers.{ReadsText, ReadsWhole, IsCut};
 
 use crate::head::{Front, HeadParts, next_front};
 use crate::heard::{Ending, Heard, Whole};
@@ -19,7 +21,7 @@ use std::alloc::Global;
 use std::marker::Model;
 
 /// A reader of requests. It is seen as the bytes that it has read ahead and not yet used.
-#[derive(Drop)]
+#[derive(Debug, Drop)]
 pub struct Wire {
     buffer: Vec<u8>,
     start: usize,
@@ -39,6 +41,10 @@ impl Model for Wire {
 
 impl Wire {
     /// A wire that has read nothing ahead. It takes its buffer now, and none later.
+    ///
+    /// # Errors
+    ///
+    /// Memory was refused.
     pub fn new(alloc: Global) -> Result<Wire, NoMemory>
         ensures { IfOk result (λ wire. wire ≡ []) }
     {
@@ -68,7 +74,7 @@ impl Wire {
         self.start += count;
     }
 
-    // Moves what was read ahead to the buffer's front, and reads once behind it. Says how many bytes
+    // Brings what was read ahead to the buffer's front, and reads once behind it. Says how many bytes
     // came: 0 is the end of the source.
     fn refill<S: Source>(&mut self, source: &mut S) -> Result<usize, Failed>
         requires { length self.old < BUFFER_BYTES }
@@ -85,7 +91,7 @@ impl Wire {
             work (S.reads source.new) self.new < work (S.reads source.old) self.old) }
     {
         let (start, end) = (self.start, self.end);
-        self.buffer.copy_within(start..end, 0);
+        move_to_front(self.buffer.as_mut_slice(), start, end);
         self.start = 0;
         self.end = end - start;
         let count = read_behind(source, self.buffer.as_mut_slice(), end - start)?;
@@ -199,7 +205,8 @@ impl Wire {
 
     // Why no message comes at the end of the source, where no head stands at the front.
     fn ending(&self) -> Ending
-        ensures why { (left : Option (List ℕ)) → IsAtEnd left → NoMessage self.now → Ends self.now self.now left result }
+        ensures why { (left : Option (List ℕ)) → IsAtEnd left → NoMessage self.now
+            → Ends self.now self.now left result }
         ensures other { result ≢ Ending.ReadFault }
     {
         if self.pending().is_empty() {
@@ -271,6 +278,18 @@ fn extended(body: Option<Bytes>, text: &[u8]) -> Option<Bytes>
     let mut bytes = body?;
     bytes.extend_from_slice(text).ok()?;
     Some(bytes)
+}
+
+// Moves a part of a buffer to its front. One that stands there is left alone: a head in pieces is moved once, and not
+// at each piece.
+fn move_to_front(buffer: &mut [u8], start: usize, end: usize)
+    requires { (start ≤ end) × (end ≤ length buffer.old) }
+    ensures front { take (end - start) buffer.new ≡ slice_range buffer.old start end }
+    ensures length { length buffer.new ≡ length buffer.old }
+{
+    if start > 0 {
+        buffer.copy_within(start..end, 0);
+    }
 }
 
 // Reads once into a buffer, behind the bytes that it keeps at its front.

@@ -20,7 +20,8 @@ after_giving source n = record source { left = drop n source.left; calls = passe
 -- one read: it gave these bytes, or it failed and gave none
 abbrev pub GivesOnce : SourceState → List ℕ → SourceState → Type 0
 GivesOnce before bytes after =
-    (after ≡ after_giving before (length bytes)) ⊎ ((bytes ≡ []) × (after ≡ record before { calls = failed before.calls }))
+    (after ≡ after_giving before (length bytes)) ⊎ ((bytes ≡ [])
+    × (after ≡ record before { calls = failed before.calls }))
 
 -- the bytes that a sink took, how many it takes at most, its calls, and whether it is open
 pub record SinkState : Type 0 where

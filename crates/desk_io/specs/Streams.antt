@@ -15,7 +15,8 @@ after_read source n = record source { reads = if n == 0 then source.reads else s
 -- one read: it gave these bytes, or it failed and gave none
 abbrev pub GivesOnce : StreamSourceState → List ℕ → StreamSourceState → Type 0
 GivesOnce before bytes after =
-    (after ≡ after_read before (length bytes)) ⊎ ((bytes ≡ []) × (after ≡ record before { faults = one_more before.faults }))
+    (after ≡ after_read before (length bytes)) ⊎ ((bytes ≡ [])
+    × (after ≡ record before { faults = one_more before.faults }))
 
 -- whether a sink still has its stream, and how often it failed
 pub record StreamSinkState : Type 0 where

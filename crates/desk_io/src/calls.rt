@@ -10,7 +10,7 @@ use std::marker::Model;
 pub type NoMemory = AllocError;
 
 // The calls so far, and those that are to fail.
-#[derive(Drop)]
+#[derive(Debug, Drop)]
 pub struct CallLog {
     fails: Vec<u64>,
     made: u64,
@@ -26,6 +26,9 @@ impl Model for CallLog {
 }
 
 impl CallLog {
+    /// # Errors
+    ///
+    /// Memory was refused.
     pub fn new(alloc: Global, fails: &[u64]) -> Result<CallLog, NoMemory>
         ensures { IfOk result (λ log. log ≡ no_calls fails.now) }
     {

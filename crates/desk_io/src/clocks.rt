@@ -17,7 +17,7 @@ const LAST_NS: i64 = 7_258_118_399_999_999_999;
 
 /// A clock whose readings are told: each is a step later than the one before, and no later than the
 /// last moment of the year 2199.
-#[derive(Drop)]
+#[derive(Debug, Drop)]
 pub struct TickClock {
     last: Instant,
     next: Instant,

@@ -12,7 +12,7 @@ use std::collections::VecDeque;
 use std::marker::Model;
 
 /// What a door gives.
-#[derive(Drop)]
+#[derive(Debug, Drop)]
 pub enum Next<I, O> {
     /// A link: the source and the sink of it.
     Link(I, O),
@@ -46,7 +46,7 @@ pub trait Door: Drop {
 }
 
 /// A door that gives links from memory.
-#[derive(Drop)]
+#[derive(Debug, Drop)]
 pub struct MemDoor {
     links: VecDeque<(MemSource, MemSink)>,
     log: CallLog,
@@ -63,6 +63,10 @@ impl Model for MemDoor {
 impl MemDoor {
     /// A door with these links, of which it gives the first one first. Its calls are counted from 1,
     /// and those that `fails` lists fail.
+    ///
+    /// # Errors
+    ///
+    /// Memory was refused.
     pub fn new(
         alloc: Global,
         links: Vec<(MemSource, MemSink)>,

@@ -1,6 +1,7 @@
 //! A source and a sink in memory. They fail at the calls that they are told to, and else do what they can.
 
-ghost use Rattle.std.specs.Prelude.{◌≡◌, ℕ, ◌<◌, ◌≤◌, ◌↔◌, ◌⊎◌, ◌++◌, [], List, length, take, drop, min, true, false, IsTrue, IsErr, IfOk, OnOk, OnErr, Some};
+ghost use Rattle.std.specs.Prelude.{◌≡◌, ℕ, ◌<◌, ◌≤◌, ◌↔◌, ◌⊎◌, ◌++◌, [], List, length, take, drop, min, true, false};
+ghost use Rattle.std.specs.Prelude.{IsTrue, IsErr, IfOk, OnOk, OnErr, Some};
 ghost use Rattle.std.specs.Io.KnownBytes.{ReadConsumes, WriteAppends, Keeps};
 ghost use Rattle.desk_io.specs.Outside.{Rises};
 ghost use Rattle.desk_io.specs.Calls.{no_calls, FailsNext, passed, failed};
@@ -12,7 +13,7 @@ use std::alloc::Global;
 use std::marker::Model;
 
 /// A source that gives bytes from memory.
-#[derive(Drop)]
+#[derive(Debug, Drop)]
 pub struct MemSource {
     bytes: Vec<u8>,
     at: usize,
@@ -27,7 +28,12 @@ impl Model for MemSource {
 
     ghost Value = { SourceState };
 
-    ghost view = { λ s. record { left = drop s.at s.bytes.items; greatest = s.greatest; calls = s.log; is_open = s.is_open } };
+    ghost view = { λ s. record {
+      left = drop s.at s.bytes.items;
+      greatest = s.greatest;
+      calls = s.log;
+      is_open = s.is_open;
+    } };
 
     ghost invariant = { λ s. (s.at ≤ length s.bytes.items) × (0 < s.greatest) };
 }
@@ -35,6 +41,10 @@ impl Model for MemSource {
 impl MemSource {
     /// A source of these bytes, of which one read gives at most `greatest`. Its calls are counted
     /// from 1, and those that `fails` lists fail.
+    ///
+    /// # Errors
+    ///
+    /// Memory was refused.
     pub fn new(
         alloc: Global,
         bytes: &[u8],
@@ -112,7 +122,7 @@ impl Source for MemSource {
 }
 
 /// A sink that takes bytes into memory, which it has from the start.
-#[derive(Drop)]
+#[derive(Debug, Drop)]
 pub struct MemSink {
     bytes: Vec<u8>,
     capacity: usize,
@@ -134,6 +144,10 @@ impl Model for MemSink {
 impl MemSink {
     /// A sink that takes at most so many bytes. Its calls are counted from 1, and those that `fails`
     /// lists fail.
+    ///
+    /// # Errors
+    ///
+    /// Memory was refused.
     pub fn new(alloc: Global, capacity: usize, fails: &[u64]) -> Result<MemSink, NoMemory>
         ensures { IfOk result (λ sink.
             sink ≡ record { taken = []; capacity = capacity; calls = no_calls fails.now; is_open = true }) }

@@ -2,7 +2,8 @@
 //!
 //! What an object holds is told or untold: a file or a socket tells nothing. How often it failed, whether it is
 //! open, and what a clock read last is always told.
-ghost use Rattle.std.specs.Prelude.{◌≡◌, ℕ, ◌<◌, ◌≤◌, ◌+◌, ℤ, Bool, false, List, [], length, take, IfOk, OnOk, OnErr, IfSome, Option};
+ghost use Rattle.std.specs.Prelude.{◌≡◌, ℕ, ◌<◌, ◌≤◌, ◌+◌, ℤ, Bool, false, List, [], length, take, IfOk, OnOk, OnErr};
+ghost use Rattle.std.specs.Prelude.{IfSome, Option};
 ghost use Rattle.std.specs.Io.KnownBytes.{ReadConsumes, WriteAppends, Appends, Keeps};
 ghost use Rattle.desk_io.specs.Outside.{Rises, AppendsPart};
 ghost use Rattle.obs_time.specs.Instants.{IsInstantNs};
@@ -105,6 +106,10 @@ pub trait Clock: Drop {
 
 /// Writes all of the piece, in as many writes as the sink wants. After a failure the sink took a
 /// front of the piece and not all of it.
+///
+/// # Errors
+///
+/// A write failed.
 pub fn write_all<K: Sink>(sink: &mut K, piece: &[u8]) -> Result<(), Failed>
     ensures whole { OnOk result (Appends (K.taken sink.old) (K.taken sink.new) piece.now) }
     ensures part { OnErr result (AppendsPart (K.taken sink.old) (K.taken sink.new) piece.now) }

@@ -1,6 +1,7 @@
 //! A source over a reader and a sink over a writer: standard input and output, files, sockets.
 
-ghost use Rattle.std.specs.Prelude.{◌≡◌, ◌<◌, ◌≤◌, ◌^◌, ◌-◌, [], length, take, true, false, IsErr, IfOk, OnOk, OnErr, Ok, None};
+ghost use Rattle.std.specs.Prelude.{◌≡◌, ◌<◌, ◌≤◌, ◌^◌, ◌-◌, [], length, take, true, false, IsErr, IfOk, OnOk, OnErr};
+ghost use Rattle.std.specs.Prelude.{Ok, None};
 ghost use Rattle.std.specs.Io.KnownBytes.{ReadConsumes, WriteAppends, Keeps};
 ghost use Rattle.desk_io.specs.Outside.{Rises, one_more};
 ghost use Rattle.desk_io.specs.Streams.{after_read, GivesOnce};

@@ -112,6 +112,9 @@ impl<R: Net<Listener = TcpListener, Stream = TcpStream> + Copy> TcpDoor<R> {
             unreachable!();
         };
         let (stream, _) = listener.accept()?;
+        // An answer is written in two pieces. The second doesn't wait until the peer has acknowledged the first, which
+        // takes 40 milliseconds; where the system refuses that, answers come later, and nothing else.
+        let _ = stream.set_nodelay(true);
         Ok(stream)
     }
 }

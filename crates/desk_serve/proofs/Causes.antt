@@ -1,90 +1,184 @@
 -- What a status of a whole call says of the counts of faults.
-use Rattle.std.proofs.Common.{◌≡◌, ℕ, List, length, map, Option, Some, IfSome, refl, sym, ap, subst, ◌∙◌, inl, inr, arith}
+use Rattle.std.proofs.Common.{◌≡◌, ℕ, ◌<◌, ◌≤◌, List, length, map, Option, Some, IfSome, refl, sym, ap, subst, ◌∙◌, inl, inr, arith}
 use Rattle.std.specs.Prelude.{◌⊎◌}
 use Rattle.desk_io.specs.Outside.{Rises}
-use Rattle.obs_journal.specs.declared.fault.OpenFault.{OpenFault}
-use Rattle.obs_journal.specs.declared.fault.OpenFault.TheVariants as opening
 use Rattle.act_bodies.specs.declared.key.Key.{Key}
 use Rattle.act_model.specs.declared.entry.Entry.{Entry}
+use Rattle.act_model.specs.Clocks.{ClockState}
+use Rattle.act_model.specs.Keepers.{RoseBy}
 use Rattle.act_model.specs.Legal.{IsLegal}
+use Rattle.mpc_desk.specs.Desks.{DeskState, count_of}
 use Rattle.mpc_desk.specs.Files.{Stands}
 use Rattle.mpc_desk.specs.Opening.{IsDamagedDesk}
-use Rattle.act_model.specs.Clocks.{ClockState}
+use Rattle.intake_lock.specs.Items.{RisesBy}
+use Rattle.command_ends.specs.declared.status.Status.{Status}
+use Rattle.command_ends.specs.declared.status.Status.TheVariants.{Done, Usage, BadFrame, DiskFault, Damaged, ReadFault, WriteFault, NoMemory, DoorFault}
+use Rattle.command_ends.specs.Disks.{DiskWords}
+use Rattle.command_ends.specs.Opening.{EndsUnopened}
+use Rattle.command_ends.specs.Closing.{MendsLast}
+use Rattle.command_ends.specs.Statuses.{IsDoneOrNoMemory}
 use Rattle.desk_serve.specs.declared.accepting.Stop.{Stop}
+use Rattle.desk_serve.specs.declared.accepting.Stop.TheVariants as stops
 use Rattle.desk_serve.specs.declared.ends.LinkEnd.{LinkEnd}
-use Rattle.desk_serve.specs.declared.status.Status.{Status}
-use Rattle.desk_serve.specs.declared.status.Status.TheVariants.{Done, DiskFault, Damaged, WriteFault, NoMemory, DoorFault}
 use Rattle.desk_serve.specs.Links.{LinkWords, link_of}
 use Rattle.desk_serve.specs.Gathering.{DoorState, Stops}
-use Rattle.command_ends.specs.Disks.{DiskWords}
-use Rattle.desk_serve.specs.Runs.{status_of, IsUnopened, MendsLast, Writes, Runs, IsDoneOrNoMemory}
+use Rattle.desk_serve.specs.Runs.{first_fault, WritesLines, Writes, Runs, Ends}
 use Rattle.desk_serve.specs.Summaries.{summary}
-
--- ---- a fault of opening
-
-no_door : (fault : OpenFault) → status_of fault ≡ DoorFault → ⊥
-no_door opening.DiskFault is = absurd cc
-no_door (opening.Damaged offset) is = absurd cc
-no_door opening.NoMemory is = absurd cc
-
-is_disk : (fault : OpenFault) → status_of fault ≡ DiskFault → fault ≡ opening.DiskFault
-is_disk opening.DiskFault is = refl
-is_disk (opening.Damaged offset) is = absurd cc
-is_disk opening.NoMemory is = absurd cc
-
-is_damaged : (fault : OpenFault) (offset : ℕ) → status_of fault ≡ Damaged offset → fault ≡ opening.Damaged offset
-is_damaged opening.DiskFault offset is = absurd cc
-is_damaged (opening.Damaged at) offset is = let same : at ≡ offset = cc in ap opening.Damaged same
-is_damaged opening.NoMemory offset is = absurd cc
+use Rattle.desk_serve.proofs.Mending.{IsFromMending, first_so}
 
 -- the law that a file which stands for a legal history isn't damaged
 abbrev pub Undamaged : Type 0
 Undamaged = (founder : Key) (file : List ℕ) (offset : ℕ) (history : List Entry) → IsDamagedDesk founder file offset
     → IsLegal founder history → Stands file history → ⊥
 
-module _ {D I O : Type 0} (on : DiskWords D) (links : LinkWords I O) (founder : Key) (limit : ℕ) (disk now : D) (clock : ClockState)
+pub rises_by : (a b rise : ℕ) → 0 < rise → RoseBy rise (count_of a) (count_of b) → Rises a b
+rises_by a b rise some rose = omega arith
+
+-- the count rose in the last mending
+rises_last : (a b c d calls rise : ℕ) → a ≤ b → RisesBy calls (count_of b) (count_of c) → 0 < rise → RoseBy rise (count_of c) (count_of d) → Rises a d
+rises_last a b c d calls rise later grew some rose = omega arith
+
+-- a status with which the call may end once the office was opened
+abbrev pub IsOwn : Status → Type 0
+IsOwn Done = Unit {0}
+IsOwn DiskFault = Unit {0}
+IsOwn DoorFault = Unit {0}
+IsOwn NoMemory = Unit {0}
+IsOwn WriteFault = Unit {0}
+IsOwn Usage = ⊥
+IsOwn (BadFrame offset) = ⊥
+IsOwn (Damaged offset) = ⊥
+IsOwn ReadFault = ⊥
+
+from_mending_own : (status : Status) → IsFromMending status → IsOwn status
+from_mending_own Done from = tt
+from_mending_own DiskFault from = tt
+from_mending_own DoorFault from = tt
+from_mending_own NoMemory from = tt
+from_mending_own WriteFault from = tt
+from_mending_own Usage from = from
+from_mending_own (BadFrame offset) from = from
+from_mending_own (Damaged offset) from = from
+from_mending_own ReadFault from = from
+
+lines_own : (old new : Option (List ℕ)) (lines : List ℕ) (status : Status) → WritesLines old new lines status → IsOwn status
+lines_own old new lines Done writes = tt
+lines_own old new lines WriteFault writes = tt
+lines_own old new lines Usage writes = writes
+lines_own old new lines (BadFrame offset) writes = writes
+lines_own old new lines DiskFault writes = tt
+lines_own old new lines (Damaged offset) writes = writes
+lines_own old new lines ReadFault writes = writes
+lines_own old new lines NoMemory writes = tt
+lines_own old new lines DoorFault writes = tt
+
+-- the lines aren't written where the status is of the disk or the door
+lines_door : (old new : Option (List ℕ)) (lines : List ℕ) (status : Status) → WritesLines old new lines status → status ≡ DoorFault → ⊥
+lines_door old new lines status writes is = subst (WritesLines old new lines) is writes
+
+lines_disk : (old new : Option (List ℕ)) (lines : List ℕ) (status : Status) → WritesLines old new lines status → status ≡ DiskFault → ⊥
+lines_disk old new lines status writes is = subst (WritesLines old new lines) is writes
+
+-- ---- by why no further link was taken
+
+module _ {D I O : Type 0} (on : DiskWords D) (left last : DeskState D) (most : ℕ) (came : List (I × O)) (door after : DoorState I O) where
+  door_failed : (stop : Stop) (mended : Status) → Stops most came door after stop → MendsLast on left mended last → first_fault stop mended ≡ DoorFault
+      → Rises door.faults after.faults
+  door_failed stops.Full mended stopped mends is = absurd (subst (λ (s : Status). MendsLast on left s last) is mends)
+  door_failed stops.Shut mended stopped mends is = absurd (subst (λ (s : Status). MendsLast on left s last) is mends)
+  door_failed stops.Failed mended stopped mends is = stopped.1
+  door_failed stops.NoMemory mended stopped mends is = absurd cc
+
+  door_held : (stop : Stop) (mended : Status) → Stops most came door after stop → (first_fault stop mended ≡ DoorFault → ⊥) → after.faults ≡ door.faults
+  door_held stops.Full mended stopped never = stopped.1
+  door_held stops.Shut mended stopped never = stopped.1
+  door_held stops.Failed mended stopped never = absurd (never refl)
+  door_held stops.NoMemory mended stopped never = stopped
+
+  disk_failed : (stop : Stop) (mended : Status) → MendsLast on left mended last → first_fault stop mended ≡ DiskFault → MendsLast on left DiskFault last
+  disk_failed stops.Full mended mends is = subst (λ (s : Status). MendsLast on left s last) is mends
+  disk_failed stops.Shut mended mends is = subst (λ (s : Status). MendsLast on left s last) is mends
+  disk_failed stops.Failed mended mends is = absurd cc
+  disk_failed stops.NoMemory mended mends is = absurd cc
+
+-- ---- the whole call
+
+module _ {D I O : Type 0} (on : DiskWords D) (links : LinkWords I O) (founder : Key) (disk now : D) (clock : ClockState)
     (door after : DoorState I O) (most : ℕ) (ends : List (LinkEnd I O)) (Uncalled Unwritten : Type 0) (old new : Option (List ℕ))
-    (added : ℕ) (status : Status)
-    (ran : IsUnopened on founder disk now Uncalled added status
-    ⊎ Runs on links founder limit disk now clock door after most ends Unwritten old new added status) where
+    (added : ℕ) (status : Status) (ran : Ends on links founder disk now clock door after most ends Uncalled Unwritten old new added status) where
   pub door_caused : status ≡ DoorFault → Rises door.faults after.faults
   door_caused is = by ran
     where
-      by : IsUnopened on founder disk now Uncalled added status
-          ⊎ Runs on links founder limit disk now clock door after most ends Unwritten old new added status → Rises door.faults after.faults
-      by (inl u) = absurd (no_door u.fault (sym u.status_is ∙ is))
-      by (inr r) =
-          let w = subst (λ (s : Status). Writes r.mended Unwritten old new (summary (length ends) (length r.last.state.settled)) s) is r.writes in
-          let m = subst (λ (s : Status). MendsLast on r.left r.stop s r.last) w.0 r.mends in
-          let s = subst (λ (s : Stop). Stops most (map link_of r.serves.attendances) door after s) m.0 r.serves.stops in
-          s.1
+      of_run : (r : Runs on links founder disk now clock door after most ends Unwritten old new added status) → Writes (first_fault r.stop r.mended) Unwritten old new (summary (length ends) (length r.last.state.settled)) status → Rises door.faults after.faults
+      of_run r (inl (good, lines)) = absurd (lines_door old new (summary (length ends) (length r.last.state.settled)) status lines is)
+      of_run r (inr (bad, same, unwritten)) =
+          door_failed on r.left r.last most (map link_of r.serves.attendances) door after r.stop r.mended r.serves.stops r.mends (sym same ∙ is)
+
+      by : Ends on links founder disk now clock door after most ends Uncalled Unwritten old new added status → Rises door.faults after.faults
+      by (inl (uncalled, unopened)) = absurd (subst (λ (s : Status). EndsUnopened on founder disk now added s) is unopened)
+      by (inr r) = of_run r r.writes
+
+  pub door_faultless : (Uncalled → after.faults ≡ door.faults) → (status ≡ DoorFault → ⊥) → after.faults ≡ door.faults
+  door_faultless untouched never = by ran
+    where
+      of_run : (r : Runs on links founder disk now clock door after most ends Unwritten old new added status) → Writes (first_fault r.stop r.mended) Unwritten old new (summary (length ends) (length r.last.state.settled)) status → after.faults ≡ door.faults
+      of_run r (inl (good, lines)) =
+          door_held on r.left r.last most (map link_of r.serves.attendances) door after r.stop r.mended r.serves.stops (λ is. let no : Done ≡ DoorFault = sym good ∙ is in absurd cc)
+      of_run r (inr (bad, same, unwritten)) =
+          door_held on r.left r.last most (map link_of r.serves.attendances) door after r.stop r.mended r.serves.stops (λ is. never (same ∙ is))
+
+      by : Ends on links founder disk now clock door after most ends Uncalled Unwritten old new added status → after.faults ≡ door.faults
+      by (inl (uncalled, unopened)) = untouched uncalled
+      by (inr r) = of_run r r.writes
 
   pub disk_caused : status ≡ DiskFault → Rises (on.faults disk) (on.faults now)
   disk_caused is = by ran
     where
-      by : IsUnopened on founder disk now Uncalled added status
-          ⊎ Runs on links founder limit disk now clock door after most ends Unwritten old new added status
-          → Rises (on.faults disk) (on.faults now)
-      by (inl u) = u.cause (is_disk u.fault (sym u.status_is ∙ is))
-      by (inr r) =
-          let w = subst (λ (s : Status). Writes r.mended Unwritten old new (summary (length ends) (length r.last.state.settled)) s) is r.writes in
-          let m = subst (λ (s : Status). MendsLast on r.left r.stop s r.last) w.0 r.mends in
-          let rose = m.1.rose in
-          let opened = r.opens.counts in
-          let grew = r.serves.grows.counts in
-          subst (λ (d : D). Rises (on.faults disk) (on.faults d)) (sym r.disk_is) (omega arith)
+      of_run : (r : Runs on links founder disk now clock door after most ends Unwritten old new added status) → Writes (first_fault r.stop r.mended) Unwritten old new (summary (length ends) (length r.last.state.settled)) status → Rises (on.faults disk) (on.faults now)
+      of_run r (inl (good, lines)) = absurd (lines_disk old new (summary (length ends) (length r.last.state.settled)) status lines is)
+      of_run r (inr (bad, same, unwritten)) =
+          let m = disk_failed on r.left r.last most (map link_of r.serves.attendances) door after r.stop r.mended r.mends (sym same ∙ is) in
+          subst (λ (d : D). Rises (on.faults disk) (on.faults d)) (sym r.disk_is)
+          (rises_last (on.faults disk) (on.faults r.opened.disk) (on.faults r.left.disk) (on.faults r.last.disk) _ m.0 r.opens.later r.serves.grows.counts m.1.rose m.2.counts)
 
-  undamaged : Undamaged → (file : List ℕ) (history : List Entry) → on.reads disk ≡ Some file → Stands file history → IsLegal founder history
-      → (offset : ℕ) → status ≡ Damaged offset → ⊥
-  undamaged law file history reads stands legal offset is = by ran
+      by : Ends on links founder disk now clock door after most ends Uncalled Unwritten old new added status → Rises (on.faults disk) (on.faults now)
+      by (inl (uncalled, unopened)) =
+          let u = subst (λ (s : Status). EndsUnopened on founder disk now added s) is unopened in
+          rises_by (on.faults disk) (on.faults now) u.0 u.1 u.2.counts
+      by (inr r) = of_run r r.writes
+
+  -- once the office was opened
+  own_run : Runs on links founder disk now clock door after most ends Unwritten old new added status → IsOwn status
+  own_run r = by r.writes
     where
-      by : IsUnopened on founder disk now Uncalled added status
-          ⊎ Runs on links founder limit disk now clock door after most ends Unwritten old new added status → ⊥
-      by (inl u) =
-          law founder file offset history
-          (subst (λ (o : Option (List ℕ)). IfSome o (λ f. IsDamagedDesk founder f offset)) reads
-          (u.damaged offset (is_damaged u.fault offset (sym u.status_is ∙ is)))) legal stands
-      by (inr r) = subst (λ (s : Status). Writes r.mended Unwritten old new (summary (length ends) (length r.last.state.settled)) s) is r.writes
+      by : Writes (first_fault r.stop r.mended) Unwritten old new (summary (length ends) (length r.last.state.settled)) status → IsOwn status
+      by (inl (good, lines)) = lines_own old new (summary (length ends) (length r.last.state.settled)) status lines
+      by (inr (bad, same, unwritten)) =
+          subst IsOwn (sym same) (from_mending_own (first_fault r.stop r.mended) (first_so on r.left r.last r.stop r.mended r.mends))
+
+  -- a status that is of no end
+  none_such : (s : Status) → (EndsUnopened on founder disk now added s → ⊥) → (IsOwn s → ⊥) → status ≡ s → ⊥
+  none_such s unopened own is = by ran
+    where
+      by : Ends on links founder disk now clock door after most ends Uncalled Unwritten old new added status → ⊥
+      by (inl (uncalled, u)) = unopened (subst (λ (s : Status). EndsUnopened on founder disk now added s) is u)
+      by (inr r) = own (subst IsOwn is (own_run r))
+
+  pub no_usage : status ≡ Usage → ⊥
+  no_usage = none_such Usage (λ e. e) (λ e. e)
+
+  pub no_read : status ≡ ReadFault → ⊥
+  no_read = none_such ReadFault (λ e. e) (λ e. e)
+
+  pub no_frame : (offset : ℕ) → status ≡ BadFrame offset → ⊥
+  no_frame offset = none_such (BadFrame offset) (λ e. e) (λ e. e)
+
+  pub undamaged : Undamaged → (file : List ℕ) (history : List Entry) (offset : ℕ) → on.reads disk ≡ Some file → Stands file history → IsLegal founder history
+      → status ≡ Damaged offset → ⊥
+  undamaged law file history offset reads stands legal =
+      none_such (Damaged offset)
+      (λ e. law founder file offset history (subst (λ (o : Option (List ℕ)). IfSome o (λ f. IsDamagedDesk founder f offset)) reads e.0) legal stands)
+      (λ e. e)
 
   pub completes : Undamaged → (write_rose : Type 0) → (status ≡ WriteFault → write_rose) → (file : List ℕ) (history : List Entry)
       → on.reads disk ≡ Some file → Stands file history → IsLegal founder history → ¬ Rises (on.faults disk) (on.faults now)
@@ -97,4 +191,7 @@ module _ {D I O : Type 0} (on : DiskWords D) (links : LinkWords I O) (founder : 
       by DiskFault is = no_disk (disk_caused is)
       by DoorFault is = no_door (door_caused is)
       by WriteFault is = no_write (wrote is)
-      by (Damaged offset) is = undamaged law file history reads stands legal offset is
+      by (Damaged offset) is = undamaged law file history offset reads stands legal is
+      by Usage is = no_usage is
+      by (BadFrame offset) is = no_frame offset is
+      by ReadFault is = no_read is

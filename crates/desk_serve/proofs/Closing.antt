@@ -1,5 +1,5 @@
 -- From the root's last view to what the closed keeper stands for.
-use Rattle.std.proofs.Common.{◌≡◌, ℕ, zero, suc, List, [], ◌∷◌, ◌++◌, map, reverse, Option, Some, None, IfSome, Contains, refl, sym, ap, subst, ◌∙◌, arith, append-nil, IsPermutation}
+use Rattle.std.proofs.Common.{◌≡◌, ℕ, ◌≤◌, zero, suc, List, [], ◌∷◌, ◌++◌, length, map, reverse, Option, Some, None, IfSome, Contains, refl, sym, ap, subst, ◌∙◌, arith, append-nil, IsPermutation}
 use Rattle.std.proofs.lemmas.List.{reverse-reverse}
 use Rattle.std.proofs.lemmas.List.Sorted.{IsPermutation-sym, Contains-permutation, sum_by-IsPermutation}
 use Rattle.std.specs.List.{AllByRecursion}
@@ -15,13 +15,14 @@ use Rattle.intake_lock.specs.Items.{IsTrue, AreTrue, RisesBy}
 use Rattle.intake_lock.specs.Rule.{IsCall, IsOrigin, Origins, Closes}
 use Rattle.intake_lock.specs.Views.{seen, first_view}
 use Rattle.act_model.specs.Clocks.{ClockState}
+use Rattle.link_desk.specs.Calls.{HasCause, AreInOrder}
 use Rattle.desk_serve.specs.declared.ends.LinkEnd.{LinkEnd}
 use Rattle.desk_serve.specs.declared.accepting.Stop.{Stop}
 use Rattle.desk_serve.specs.declared.accepting.Stop.TheVariants.{NoMemory}
 use Rattle.desk_serve.specs.Links.{LinkWords, Attendance, end_of, calls_of, calls_in}
 use Rattle.desk_serve.specs.Gathering.{DoorState, IsAnother, IsBetween, Gathers}
-use Rattle.desk_serve.specs.Serving.{IsAddedBy, AreAddedBy, Serves}
-use Rattle.desk_serve.proofs.Gathering.{between_on, extends_same}
+use Rattle.desk_serve.specs.Serving.{IsAddedBy, AreAddedBy, StandInOrder, Serves}
+use Rattle.desk_serve.proofs.Gathering.{no_longer, between_on, extends_same}
 
 -- ---- calls
 
@@ -39,6 +40,12 @@ abbrev pub StaysTrue : Type 0
 StaysTrue = (founder : Key) (limit : Option ℕ) (history later : List Entry) (item : Item) → Extends history later
     → IsTrue founder limit history item → IsTrue founder limit later item
 
+-- the law that places stay in order
+abbrev pub StaysInOrder : Type 0
+StaysInOrder = (founder : Key) (limit : Option ℕ) (history later : List Entry) (from least : ℕ) (items : List Item) → Extends history later
+    → least ≤ from → AreTrue founder limit history items → AreInOrder founder limit history from items
+    → AreInOrder founder limit later least items
+
 module _ {I O : Type 0} (on : LinkWords I O) where
   -- the calls for links that were attended are true of the history that all came to
   calls_true : StaysTrue → (clock : ClockState) (opening : Office) (history : List Entry) (attendances : List (Attendance on))
@@ -53,6 +60,24 @@ module _ {I O : Type 0} (on : LinkWords I O) where
       (stays a.before.office.founder a.before.office.limit (seen a.after) history item each.0.last true_there)))
       (calls_of a) a.attended.attended.attends.true_of)
       (calls_true stays clock opening history rest each.1)
+
+  -- the places of the calls for each link rise in the history that all came to
+  all_in_order : StaysInOrder → (clock : ClockState) (opening : Office) (history : List Entry) (attendances : List (Attendance on))
+      → AllByRecursion (IsBetween clock opening history) attendances → AllByRecursion (StandInOrder opening history) attendances
+  all_in_order stays clock opening history [] each = tt
+  all_in_order stays clock opening history (a ∷ rest) each =
+      let was = a.attended.attended.attends in (
+        subst (λ (k : Key). AreInOrder k opening.limit history (length opening.state.settled) (calls_of a)) each.0.founder
+            (subst (λ (l : Option ℕ). AreInOrder a.before.office.founder l history (length opening.state.settled) (calls_of a)) each.0.limit
+            (stays a.before.office.founder a.before.office.limit (seen a.after) history (length (seen a.before)) (length opening.state.settled)
+            (calls_of a) each.0.last (no_longer opening.state.settled (seen a.before) each.0.first) was.true_of was.order)),
+        all_in_order stays clock opening history rest each.1,
+      )
+
+  -- each call that is answered that the disk failed has its cause
+  all_caused : (attendances : List (Attendance on)) → AllByRecursion HasCause (calls_in attendances)
+  all_caused [] = tt
+  all_caused (a ∷ rest) = all_append HasCause (calls_of a) (calls_in rest) a.attended.attended.attends.causes (all_caused rest)
 
 -- the root's calls are all calls
 called_by : (view : View) (calls : List Item) → IsPermutation view.mine calls → (item : Item) → IsCall (view ∷ []) item → Contains calls item
@@ -96,14 +121,16 @@ module _ {I O : Type 0} (on : LinkWords I O) where
           founder = refl;
           limit = refl;
         };
+        orders = tt;
+        causes = tt;
         stops = refl;
       }
 
-  pub serves_closed : StaysTrue → (clock other : ClockState) (opening office : Office) (view : View) (door after : DoorState I O) (most : ℕ)
+  pub serves_closed : StaysTrue → StaysInOrder → (clock other : ClockState) (opening office : Office) (view : View) (door after : DoorState I O) (most : ℕ)
       (ends : List (LinkEnd I O)) (stop : Stop) → IsAnother clock other
       → Gathers on other (first_view opening) view door after most [] ends stop → Closes opening view office
       → Serves on clock opening office door after most (reverse ends) stop
-  serves_closed stays clock other opening office view door after most ends stop another gathers closes =
+  serves_closed stays in_order clock other opening office view door after most ends stop another gathers closes =
       let calls = calls_in gathers.attendances in
       let same : IsPermutation view.mine calls =
       IsPermutation-sym calls view.mine (subst (λ (l : List Item). IsPermutation l view.mine) (append-nil calls) gathers.calls) in
@@ -127,6 +154,8 @@ module _ {I O : Type 0} (on : LinkWords I O) where
           founder = closes.founder;
           limit = closes.limit;
         };
+        orders = all_in_order on in_order clock opening office.state.settled gathers.attendances each;
+        causes = all_caused on gathers.attendances;
         stops = gathers.stops;
       }
 
@@ -139,15 +168,15 @@ module _ {I O : Type 0} (on : LinkWords I O) where
       (subst (λ (o : Office). Serves on clock (office_of keeper) o door door most [] NoMemory) (sym (ap office_of back_is))
       (serves_none clock (office_of keeper) door most settled))
 
-  pub serves_left : StaysTrue → (clock other : ClockState) (opening entered office : Office) (first view : View) (door mid after : DoorState I O)
+  pub serves_left : StaysTrue → StaysInOrder → (clock other : ClockState) (opening entered office : Office) (first view : View) (door mid after : DoorState I O)
       (most : ℕ) (room ends result : List (LinkEnd I O)) (stop : Stop) → IsAnother clock other → first ≡ first_view opening → entered ≡ opening
       → room ≡ [] → result ≡ reverse ends → after ≡ mid → Gathers on other first view door mid most room ends stop
       → Closes entered view office → Serves on clock opening office door after most result stop
-  serves_left stays clock other opening entered office first view door mid after most room ends result stop another first_is entered_is
+  serves_left stays in_order clock other opening entered office first view door mid after most room ends result stop another first_is entered_is
       room_is result_is after_is gathers closes =
       subst (λ (l : List (LinkEnd I O)). Serves on clock opening office door after most l stop) (sym result_is)
       (subst (λ (d : DoorState I O). Serves on clock opening office door d most (reverse ends) stop) (sym after_is)
-      (serves_closed stays clock other opening office view door mid most ends stop another
+      (serves_closed stays in_order clock other opening office view door mid most ends stop another
       (subst (λ (v : View). Gathers on other v view door mid most [] ends stop) first_is
       (subst (λ (l : List (LinkEnd I O)). Gathers on other first view door mid most l ends stop) room_is gathers))
       (subst (λ (o : Office). Closes o view office) entered_is closes)))

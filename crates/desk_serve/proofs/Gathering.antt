@@ -1,6 +1,6 @@
 -- Links that are gathered, one after another.
-use Rattle.std.proofs.Common.{◌≡◌, ℕ, ◌-◌, ◌<◌, Bool, true, false, nat_lt, if◌then◌else◌, List, [], ◌∷◌, ◌++◌, length, map, reverse, Option, Some, None, IfSome, refl, sym, ap, subst, ◌∙◌, arith, append_assoc, append-nil, IsPermutation}
-use Rattle.std.proofs.lemmas.List.{reverse-append}
+use Rattle.std.proofs.Common.{◌≡◌, ℕ, ◌-◌, ◌<◌, ◌≤◌, Bool, true, false, nat_lt, if◌then◌else◌, List, [], ◌∷◌, ◌++◌, length, map, reverse, Option, Some, None, IfSome, refl, sym, ap, subst, ◌∙◌, arith, append_assoc, append-nil, IsPermutation}
+use Rattle.std.proofs.lemmas.List.{length-append, reverse-append}
 use Rattle.std.proofs.lemmas.List.Sorted.{IsPermutation-refl, IsPermutation-trans, IsPermutation-append_left, IsPermutation-append_right, IsPermutation-append_comm}
 use Rattle.std.specs.List.{AllByRecursion}
 use Rattle.desk_io.specs.Outside.{Rises}
@@ -24,6 +24,10 @@ use Rattle.desk_serve.specs.Gathering.{DoorState, Stops, IsAnother, IsBetween, G
 pub extends_on : (a b c : List Entry) → Extends a b → Extends b c → Extends a c
 extends_on a b c (first, is) (second, goes) =
     (second ++ first, goes ∙ ap (λ (l : List Entry). second ++ l) is ∙ sym (append_assoc second first a))
+
+-- an earlier history is no longer
+pub no_longer : (a b : List Entry) → Extends a b → length a ≤ length b
+no_longer a b (newer, is) = let n = ap length is in omega (arith, length-append newer a)
 
 pub extends_same : (a : List Entry) → Extends a a
 extends_same a = ([], refl)

@@ -3,3 +3,4 @@ mod Closing
 mod Lines
 mod Mending
 mod Causes
+mod WatchLemmas

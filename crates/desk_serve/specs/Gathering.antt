@@ -28,8 +28,8 @@ pub record DoorState (I O : Type 0) : Type 0 where
 abbrev pub door_of : {G I O : Type 0} → (G → Option (List (I × O))) → (G → ℕ) → G → DoorState I O
 door_of links faults door = record { links = links door; faults = faults door }
 
--- Why no more links were taken than these: as many came as were wanted; the door was shut, and gave all links that it had told;
--- it failed; or memory was refused.
+-- Why no more links were taken than these: as many came as were wanted; the door was shut, and gave all links that it
+-- had told; it failed; or memory was refused.
 abbrev pub Stops : {I O : Type 0} → ℕ → List (I × O) → DoorState I O → DoorState I O → Stop → Type 0
 Stops most came before after Full = (length came ≡ most) × (after.faults ≡ before.faults)
 Stops most came before after Shut =
@@ -48,8 +48,8 @@ pub record IsAnother (clock other : ClockState) : Type 0 where
   pub to_come : (k : ℕ) → other.to_come k ≡ clock.to_come k
   pub last : other.last ≡ clock.last
 
--- The link was attended with another clock than this one, at this office or one that it grew to: what its pass had seen before
--- begins no earlier, and what it has seen after is a beginning of the later history.
+-- The link was attended with another clock than this one, at this office or one that it grew to: what its pass had seen
+-- before begins no earlier, and what it has seen after is a beginning of the later history.
 pub record IsBetween {I O : Type 0} {on : LinkWords I O} (clock : ClockState) (opening : Office) (later : List Entry)
     (attendance : Attendance on) : Type 0 where
   pub founder : attendance.before.office.founder ≡ opening.founder
@@ -58,9 +58,10 @@ pub record IsBetween {I O : Type 0} {on : LinkWords I O} (clock : ClockState) (o
   pub first : Extends opening.state.settled (seen attendance.before)
   pub last : Extends (seen attendance.after) later
 
--- The root took in these links: the door gave them in this order, their ends stand newest first behind the earlier ones, and
--- the root's calls are its earlier ones and those that were made for the links.
-pub record Gathers {I O : Type 0} (on : LinkWords I O) (clock : ClockState) (before after : View) (door door_after : DoorState I O)
+-- The root took in these links: the door gave them in this order, their ends stand newest first behind the earlier
+-- ones, and the root's calls are its earlier ones and those that were made for the links.
+pub record Gathers {I O : Type 0} (on : LinkWords I O) (clock : ClockState) (before after : View)
+    (door door_after : DoorState I O)
     (most : ℕ) (ends ends_after : List (LinkEnd I O)) (stop : Stop) : Type 0 where
   pub attendances : List (Attendance on)
   pub gave : Gives door.links door_after.links (map link_of attendances)

@@ -1,4 +1,5 @@
 pub mod Links
+pub mod Images
 pub mod Gathering
 pub mod Serving
 pub mod Summaries

@@ -32,14 +32,15 @@ link_words left gives read_faults has_source taken write_faults has_sink = recor
   has_sink = has_sink;
 }
 
--- The link was attended by a pass that knew this before and this after, with this clock, and left so. Then its source and its
--- sink were given up: what they tell is what they told when the link was left.
+-- The link was attended by a pass that knew this before and this after, with this clock, and left so. Then its source
+-- and its sink were given up: what they tell is what they told when the link was left.
 pub record IsLinkAttended {I O : Type 0} (on : LinkWords I O) (source : I) (sink : O) (end : LinkEnd I O)
     (before after : View) (clock : ClockState) : Type 0 where
   pub read : I
   pub written : O
   pub clock_after : ClockState
-  pub attended : IsAttended on.left on.gives before after clock clock_after (on.taken sink) (on.taken written) source read
+  pub attended : IsAttended on.left on.gives before after clock clock_after (on.taken sink)
+      (on.taken written) source read
       end.left
   pub source_stays : Keeps (on.left read) (on.left end.source)
   pub sink_stays : Keeps (on.taken written) (on.taken end.sink)

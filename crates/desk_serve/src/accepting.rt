@@ -30,8 +30,8 @@ pub enum Stop {
     NoMemory,
 }
 
-/// What there is when all links were attended: the root's pass, the door, the ends of the links, of which the first one's stands
-/// last, and why no further link was taken.
+/// What there is when all links were attended: the root's pass, the door, the ends of the links, of which the first
+/// one's stands last, and why no further link was taken.
 #[derive(Drop)]
 pub(crate) struct Gathered<T, I, O> {
     pub root: Pass,
@@ -72,7 +72,8 @@ pub(crate) fn attend_links<V: Keeper + Send, T: Gate, C: Clock + Send, R: Thread
     ensures root { (result.root.lock ≡ root.lock) × (result.root.view.role ≡ root.view.role) }
     ensures gate { T.name result.gate ≡ T.name gate }
     ensures room { (vec_capacity result.ends ≡ vec_capacity ends) × (vec_len result.ends ≤ vec_len ends + left) }
-    ensures gathers { Gathers (link_words T.In.left T.In.gives T.In.faults T.In.is_open T.Out.taken T.Out.faults T.Out.is_open)
+    ensures gathers { Gathers (link_words T.In.left T.In.gives T.In.faults T.In.is_open T.Out.taken T.Out.faults
+        T.Out.is_open)
         (clock_of C.reading C.last clock) root.view result.root.view (door_of T.links T.faults gate)
         (door_of T.links T.faults result.gate) left ends.items result.ends.items result.stop }
 {
@@ -114,7 +115,8 @@ pub(crate) fn attend_links<V: Keeper + Send, T: Gate, C: Clock + Send, R: Thread
                 move || -> (Pass, LinkEnd<T::In, T::Out>)
                     requires { branch.lock ≡ lock.now.id }
                     ensures { (result.0.lock ≡ branch.lock) × (result.0.view.role ≡ branch.view.role)
-                        × IsLinkAttended (link_words T.In.left T.In.gives T.In.faults T.In.is_open T.Out.taken T.Out.faults T.Out.is_open)
+                        × IsLinkAttended (link_words T.In.left T.In.gives T.In.faults T.In.is_open T.Out.taken
+                        T.Out.faults T.Out.is_open)
                         source sink result.1 branch.view result.0.view (clock_of C.reading C.last other) }
                 { attend_link(rt, alloc, lock, branch, source, sink, other) },
                 move || -> Gathered<T, T::In, T::Out>
@@ -123,8 +125,10 @@ pub(crate) fn attend_links<V: Keeper + Send, T: Gate, C: Clock + Send, R: Thread
                         × (vec_len ends + (left - 1) ≤ vec_capacity ends) }
                     ensures { (result.root.lock ≡ root.lock) × (result.root.view.role ≡ root.view.role)
                         × (T.name result.gate ≡ T.name gate)
-                        × (vec_capacity result.ends ≡ vec_capacity ends) × (vec_len result.ends ≤ vec_len ends + (left - 1))
-                        × Gathers (link_words T.In.left T.In.gives T.In.faults T.In.is_open T.Out.taken T.Out.faults T.Out.is_open)
+                        × (vec_capacity result.ends ≡ vec_capacity ends)
+                        × (vec_len result.ends ≤ vec_len ends + (left - 1))
+                        × Gathers (link_words T.In.left T.In.gives T.In.faults T.In.is_open T.Out.taken T.Out.faults
+                        T.Out.is_open)
                         (clock_of C.reading C.last clock) root.view result.root.view (door_of T.links T.faults gate)
                         (door_of T.links T.faults result.gate) (left - 1) ends.items result.ends.items result.stop }
                 { attend_links(rt, alloc, lock, root, gate, clock, ends, left - 1) },

@@ -7,7 +7,7 @@ use std::alloc::Global;
 use std::marker::Model;
 
 /// A link that was attended and ended.
-#[derive(Drop)]
+#[derive(Debug, Drop)]
 pub struct LinkEnd<I, O> {
     /// Why it was left.
     pub left: Left,
@@ -18,7 +18,7 @@ pub struct LinkEnd<I, O> {
 }
 
 /// The ends of the links that a door gave, in the door's order. Contracts see the list of them.
-#[derive(Drop)]
+#[derive(Debug, Drop)]
 pub struct LinkEnds<I, O> {
     ends: Vec<LinkEnd<I, O>>,
 }

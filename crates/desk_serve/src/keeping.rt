@@ -13,6 +13,7 @@ use crate::gates::{Lent, take_back};
 use act_model::Keeper;
 use desk_io::{Clock, Door};
 use intake_lock::{TurnLock, laws as lock_laws};
+use link_desk::laws as link_laws;
 use std::alloc::Global;
 use std::sync::Wait;
 use std::thread::Threads;
@@ -28,8 +29,9 @@ pub struct Attended<V, I, O> {
     pub stop: Stop,
 }
 
-/// Attends up to so many links of a door, at most 1,000, with a keeper of the office without an act in doubt: each link in a
-/// thread of its own, while the next one is awaited. The links take turns at the keeper, and each has a clock of its own.
+/// Attends up to so many links of a door, at most 1,000, with a keeper of the office without an act in doubt: each link
+/// in a thread of its own, while the next one is awaited. The links take turns at the keeper, and each has a clock of
+/// its own.
 ///
 /// Where memory is refused before the first link, the door isn't called. It returns when all links were left.
 pub fn attend_door<V: Keeper + Send, C: Clock + Send, G: Door, R: Threads + Wait + Sync>(
@@ -42,13 +44,16 @@ pub fn attend_door<V: Keeper + Send, C: Clock + Send, G: Door, R: Threads + Wait
 ) -> Attended<V, G::In, G::Out>
     requires settled { (V.office keeper).state.doubt ≡ None }
     requires most { connections ≤ MOST }
-    // The door gave the links whose ends there are, in their order. Each link was attended over its bytes as by itself, at the
-    // keeper's one history, and each newer entry of that comes from a request of one of the links.
-    ensures serves { Serves (link_words G.In.left G.In.gives G.In.faults G.In.is_open G.Out.taken G.Out.faults G.Out.is_open)
+    // The door gave the links whose ends there are, in their order. Each link was attended over its bytes as by itself,
+    // at the keeper's one history, where its calls have places that rise, and each newer entry of that comes from a
+    // request of one of the links.
+    ensures serves { Serves (link_words G.In.left G.In.gives G.In.faults G.In.is_open G.Out.taken G.Out.faults
+        G.Out.is_open)
         (clock_of C.reading C.last clock.old) (V.office keeper) (V.office result.keeper)
         (door_of G.links G.faults door.old) (door_of G.links G.faults door.new) connections result.ends result.stop }
 {
     lock_laws::calls_are_true();
+    link_laws::places_stay_in_order();
     let Ok(room) = Vec::with_capacity(alloc, connections as usize) else {
         return Attended {
             keeper,

@@ -7,11 +7,10 @@ mod ends;
 mod gates;
 mod keeping;
 mod serving;
-mod status;
 mod summaries;
+mod watching;
 
 pub use accepting::Stop;
 pub use ends::{LinkEnd, LinkEnds};
 pub use keeping::{Attended, attend_door};
 pub use serving::serve;
-pub use status::{Served, Status};

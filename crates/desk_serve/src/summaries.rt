@@ -13,16 +13,6 @@ use desk_io::{Failed, Sink, write_all};
 /// The most bytes that the two lines have: their words, their line feeds, and two numbers of at most 20 digits.
 const SUMMARY_BYTES: usize = 62;
 
-// A number in decimal.
-fn decimal(n: u64) -> ArrayVec<u8, 20>
-    ensures text { result.items ≡ decimal n }
-    ensures short { length result.items ≤ 20 }
-{
-    let mut digits = ArrayVec::new();
-    put_decimal(&mut digits, n);
-    digits
-}
-
 // A text behind what stands in the lines so far.
 fn put(lines: &mut ArrayVec<u8, SUMMARY_BYTES>, text: &[u8])
     requires { array_vec_len lines.old + length text.now ≤ SUMMARY_BYTES }
@@ -32,17 +22,24 @@ fn put(lines: &mut ArrayVec<u8, SUMMARY_BYTES>, text: &[u8])
     lines.try_extend_from_slice(text).unwrap();
 }
 
+// A number in decimal behind it.
+fn put_number(lines: &mut ArrayVec<u8, SUMMARY_BYTES>, n: u64)
+    requires { array_vec_len lines.old + 20 ≤ SUMMARY_BYTES }
+    ensures text { lines.new.items ≡ lines.old.items ++ decimal n }
+    ensures len { array_vec_len lines.new ≤ array_vec_len lines.old + 20 }
+{
+    put_decimal(lines, n);
+}
+
 // The two lines.
 fn summary(connections: u64, entries: u64) -> ArrayVec<u8, SUMMARY_BYTES>
     ensures { result.items ≡ summary connections entries }
 {
-    let links = decimal(connections);
-    let acts = decimal(entries);
     let mut lines = ArrayVec::new();
     put(&mut lines, b"connections ");
-    put(&mut lines, links.as_slice());
+    put_number(&mut lines, connections);
     put(&mut lines, b"\nentries ");
-    put(&mut lines, acts.as_slice());
+    put_number(&mut lines, entries);
     put(&mut lines, b"\n");
     lines
 }

@@ -1,14 +1,12 @@
 -- The calls for the messages of a connection, one after another, and the answers to them.
-use Rattle.std.proofs.Common.{◌≡◌, ℕ, ◌+◌, ◌≤◌, ℤ, Bool, List, [], ◌∷◌, ◌++◌, length, Option, Some, None, refl, sym, ap, subst, ◌∙◌, arith, append_assoc, add-zero}
-use Rattle.std.specs.Prelude.{map, filter_map, reverse, option_to_list}
+use Rattle.std.proofs.Common.{◌≡◌, ℕ, ◌+◌, ℤ, Bool, List, [], ◌∷◌, ◌++◌, length, Option, Some, None, refl, sym, ap, subst, ◌∙◌, arith, append_assoc, add-zero}
+use Rattle.std.specs.Prelude.{map, reverse, option_to_list}
 use Rattle.std.specs.List.{AllByRecursion, cons_option}
-use Rattle.std.proofs.lemmas.List.{append-nil, map-append, reverse-append, length-append}
+use Rattle.std.proofs.lemmas.List.{append-nil, map-append, reverse-append}
 use Rattle.std.proofs.lemmas.List.Elements.{filter_map-append}
 use Rattle.act_bodies.specs.declared.key.Key.{Key}
-use Rattle.act_model.specs.declared.entry.Entry.{Entry}
 use Rattle.act_model.specs.declared.request.Body.{Body}
 use Rattle.act_model.specs.declared.request.Request.{Request}
-use Rattle.act_model.specs.Conducts.{Extends}
 use Rattle.intake_lock.specs.declared.view.Item.{Item}
 use Rattle.intake_lock.specs.declared.view.View.{View}
 use Rattle.intake_lock.specs.Items.{IsTrue, AreTrue}
@@ -16,7 +14,7 @@ use Rattle.intake_lock.specs.Views.{seen}
 use Rattle.desk_http.specs.Answers.{IfKept, IsRequestRead}
 use Rattle.desk_http.specs.Heads.{Message}
 use Rattle.act_model.specs.Clocks.{ClockState, Gives}
-use Rattle.link_desk.specs.Calls.{TakesCall, AreInOrder}
+use Rattle.link_desk.specs.Calls.{TakesCall, HasCause, AreInOrder}
 use Rattle.link_desk.specs.Attending.{Exchange, AsksFor, IsExchange, messages_of, items_of, readings_in, Attends, answer_to, answers}
 use Rattle.link_desk.proofs.Readings.{gives_none}
 use Rattle.link_desk.proofs.Calls.{CallLaws, are_true_later, order_more}
@@ -66,7 +64,7 @@ all_more P (y ∷ ys) x all here = (all.0, all_more P ys x all.1 here)
 -- no message was asked yet
 pub attends_none : (view : View) (clock : ClockState) → Attends view view clock clock []
 attends_none view clock =
-    record { asks = tt; mine = refl; true_of = tt; order = tt; grows = ([], refl); clock = gives_none clock; founder = refl; limit = refl }
+    record { asks = tt; mine = refl; true_of = tt; causes = tt; order = tt; grows = ([], refl); clock = gives_none clock; founder = refl; limit = refl }
 
 -- one message more was asked
 pub attends_more : (laws : CallLaws) (before between after : View) (a b c : ClockState) (es : List Exchange) (message : Message) (item : Item)
@@ -84,6 +82,7 @@ attends_more laws before between after a b c es message item so_far call asks =
       mine = call.mine ∙ ap (λ (l : List Item). item ∷ l) so_far.mine ∙ sym (ap (λ (l : List Item). l ++ before.mine) items);
       true_of = subst (λ (l : List Item). AreTrue founder limit (seen after) l) (sym items)
           (here, are_true_later laws founder limit (seen between) (seen after) (items_of es) call.grows so_far.true_of);
+      causes = subst (λ (l : List Item). AllByRecursion HasCause l) (sym items) (call.cause, so_far.causes);
       order = subst (λ (l : List Item). AreInOrder founder limit (seen after) (length (seen before)) l) (sym items)
           (order_more laws founder limit (length (seen before)) (seen between) (seen after) item (items_of es) least call.grows call.place so_far.true_of so_far.order);
       grows = laws.follow (seen before) (seen between) (seen after) so_far.grows call.grows;

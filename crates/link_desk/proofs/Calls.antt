@@ -1,11 +1,13 @@
 -- Calls that are true of a history, and where they stand in it.
-use Rattle.std.proofs.Common.{◌≡◌, ℕ, ℤ, ◌+◌, ◌≤◌, ◌<◌, List, [], ◌∷◌, ◌++◌, length, Option, refl, sym, ap, subst, ◌∙◌, inl, inr, arith}
+use Rattle.std.proofs.Common.{◌≡◌, ℕ, ℤ, Bool, ◌≤◌, ◌<◌, List, [], ◌∷◌, ◌++◌, length, Option, sym, ap, subst, ◌∙◌, inl, inr, arith}
 use Rattle.std.specs.Prelude.{◌⊎◌}
 use Rattle.std.specs.List.{AllByRecursion}
 use Rattle.act_bodies.specs.declared.key.Key.{Key}
 use Rattle.act_model.specs.declared.entry.Entry.{Entry}
 use Rattle.act_model.specs.declared.keeper.Office.{Office}
 use Rattle.act_model.specs.declared.reply.Reply.{Reply}
+use Rattle.act_model.specs.declared.reply.Reply.TheVariants.{Refused}
+use Rattle.act_model.specs.declared.reply.Refusal.TheVariants.{DiskFault}
 use Rattle.act_model.specs.declared.request.Request.{Request}
 use Rattle.act_model.specs.Conducts.{Extends}
 use Rattle.act_model.specs.Step.{Outcome, Adds, outcome, after, step}
@@ -13,7 +15,7 @@ use Rattle.act_model.specs.Turns.{Answers}
 use Rattle.act_model.specs.Clocks.{ClockState, Gives}
 use Rattle.intake_lock.specs.declared.view.Item.{Item}
 use Rattle.intake_lock.specs.Items.{reading_of, IsTrue, AreTrue, Failed, Calls}
-use Rattle.link_desk.specs.Calls.{IsAdded, StandsBehind, AreInOrder, HadNoRise, IsStepped}
+use Rattle.link_desk.specs.Calls.{HasCause, IsAdded, StandsBehind, AreInOrder, HadNoRise, IsStepped}
 
 -- what the lock's laws say of histories and calls, and the office's of readings
 pub record CallLaws : Type 0 where
@@ -89,6 +91,17 @@ module _ (laws : CallLaws) (founder : Key) (limit : Option ℕ) where
   order_later history later from (item ∷ items) goes_on (is, are) (place, behind, order) =
       (place, all_behind_later history later item items goes_on are behind, order_later history later from items goes_on are order)
 
+  order_from : (history : List Entry) (from least : ℕ) (items : List Item) → least ≤ from
+      → AreInOrder founder limit history from items → AreInOrder founder limit history least items
+  order_from history from least [] earlier order = tt
+  order_from history from least (item ∷ items) earlier (place, behind, order) = (omega arith, behind, order_from history from least items earlier order)
+
+  -- in a later history, and from an earlier place on
+  pub order_on : (history later : List Entry) (from least : ℕ) (items : List Item) → Extends history later → least ≤ from
+      → AreTrue founder limit history items → AreInOrder founder limit history from items → AreInOrder founder limit later least items
+  order_on history later from least items goes_on earlier are order =
+      order_from later from least items earlier (order_later history later from items goes_on are order)
+
   all_before : (history later : List Entry) (item : Item) (items : List Item) → Extends history later → length history ≤ item.position → AreTrue founder limit history items
       → AllByRecursion (StandsBehind founder limit later item) items
   all_before history later item [] goes_on place are = tt
@@ -107,6 +120,23 @@ module _ (laws : CallLaws) (founder : Key) (limit : Option ℕ) where
       → AreTrue founder limit history items → AreInOrder founder limit history from items → AreInOrder founder limit later from (item ∷ items)
   order_more from history later item items least goes_on place are order =
       (omega arith, all_before history later item items goes_on place are, order_later history later from items goes_on are order)
+
+-- ---- calls and the disk
+
+-- what the office's laws say of the step: it never answers that the disk failed
+abbrev pub StepKnowsNoDisk : Type 0
+StepKnowsNoDisk = (founder : Key) (limit : Option ℕ) (past after : List Entry) (request : Request) (reading : ℤ) (doubt : Bool)
+    → step founder limit past request reading ≡ (Refused (DiskFault doubt), after) → ⊥
+
+-- a call that is true of a history is answered that the disk failed only where the count rose in it
+pub caused : StepKnowsNoDisk → (founder : Key) (limit : Option ℕ) (history : List Entry) (item : Item) → IsTrue founder limit history item → HasCause item
+caused never founder limit history item is doubt reply = by is.answered
+  where
+    by : ((next : List Entry) × Answers founder limit is.past item.request (reading_of item) item.reply next × Extends next history) ⊎ Failed item → 0 < item.rise
+    by (inl (next, inl stepped, goes_on)) =
+        absurd (never founder limit is.past next item.request (reading_of item) doubt (stepped ∙ ap (λ (r : Reply). (r, next)) reply))
+    by (inl (next, inr (wants, stays), goes_on)) = absurd cc
+    by (inr failed) = failed.rose
 
 -- ---- calls without a rise
 

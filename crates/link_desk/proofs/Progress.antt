@@ -1,6 +1,6 @@
 -- How far a connection has come, step by step, and what its ends leave.
 use Rattle.std.proofs.Common.{◌≡◌, ℕ, ◌+◌, ◌≤◌, ◌<◌, Bool, true, false, List, [], ◌∷◌, ◌++◌, length, take, Option, Some, None, refl, sym, ap, subst, ◌∙◌, inl, inr, arith}
-use Rattle.std.specs.Prelude.{◌⊎◌, IfSome}
+use Rattle.std.specs.Prelude.{IfSome}
 use Rattle.std.specs.Io.KnownBytes.{Consumes, Appends, IsAtEnd}
 use Rattle.std.proofs.KnownBytes.{Consumes-nil, Appends-nil, Appends-trans}
 use Rattle.std.proofs.lemmas.List.{append-nil, length-append, length-map}
@@ -24,9 +24,9 @@ use Rattle.link_desk.specs.declared.left.Left.TheVariants.{Ended, Unread, Enough
 use Rattle.link_desk.specs.declared.TheConstants.{ANSWERS}
 use Rattle.act_model.specs.Clocks.{ClockState}
 use Rattle.link_desk.specs.Calls.{TakesCall}
-use Rattle.link_desk.specs.Streams.{IsOpen, IsClosed, HasNoHeadFault, AwaitsNext}
+use Rattle.link_desk.specs.Streams.{IsOpen, HasNoHeadFault, AwaitsNext}
 use Rattle.link_desk.specs.Attending.{Exchange, messages_of, items_of, Attends, is_last, answer_to, answers, Link, Remains, Supplies, IsUnread, IsPartly, Ends, IsAttended, ReadCounts, WriteCounts, IsEndedOrWanting}
-use Rattle.link_desk.specs.Steps.{IsAnswered, IsRefused, IsUntouched, AnswersRequest, Becomes, GoesOn}
+use Rattle.link_desk.specs.Steps.{IsAnswered, IsRefused, IsUntouched, Becomes, GoesOn}
 use Rattle.link_desk.proofs.Streams.{open_grows, open_more, open_stream, closed_stream, open_whole}
 use Rattle.link_desk.proofs.Calls.{CallLaws, all_stepped}
 use Rattle.link_desk.proofs.Attends.{asks_for, messages_more, answers_more, attends_none, attends_more}

@@ -1,5 +1,5 @@
 -- One request asked in a turn of its own.
-use Rattle.std.proofs.Common.{◌≡◌, ℕ, ◌+◌, ◌≤◌, ℤ, List, [], ◌∷◌, ◌++◌, length, Option, Some, None, refl, sym, ap, subst, ◌∙◌, arith}
+use Rattle.std.proofs.Common.{◌≡◌, ℕ, ◌+◌, ℤ, List, [], ◌∷◌, ◌++◌, Option, Some, None, sym, ap, subst, ◌∙◌, arith}
 use Rattle.std.specs.Prelude.{IfSome, option_to_list}
 use Rattle.act_bodies.specs.declared.key.Key.{Key}
 use Rattle.act_model.specs.declared.keeper.Office.{Office}
@@ -13,7 +13,7 @@ use Rattle.intake_lock.specs.Views.{seen, holding, published, idle}
 use Rattle.act_model.specs.Clocks.{ClockState, Gives}
 use Rattle.link_desk.specs.Calls.{Asks, TakesCall}
 use Rattle.link_desk.proofs.Readings.{gives_none, gives_one}
-use Rattle.link_desk.proofs.Calls.{CallLaws}
+use Rattle.link_desk.proofs.Calls.{CallLaws, StepKnowsNoDisk, caused}
 
 module _ (before : Office) (request : Request) (reply : Reply) (after : Office) (items noted : List Item) where
   -- an act, with the clock's next reading
@@ -26,7 +26,7 @@ module _ (before : Office) (request : Request) (reply : Reply) (after : Office) 
   pub asks_query : (clock : ClockState) → Noted before request None reply after items noted → Asks before request reply after items noted clock clock
   asks_query clock call = record { reading = None; noted = call; clock = gives_none clock }
 
-module _ (laws : CallLaws) (before : View) (ticket : ℕ) (first last : Office) (items noted : List Item) (request : Request) (reply : Reply) (clock clock_after : ClockState)
+module _ (laws : CallLaws) (never : StepKnowsNoDisk) (before : View) (ticket : ℕ) (first last : Office) (items noted : List Item) (request : Request) (reply : Reply) (clock clock_after : ClockState)
     (founder : first.founder ≡ before.office.founder) (limit : first.limit ≡ before.office.limit) (goes_on : Extends (seen before) first.state.settled) (none : items ≡ [])
     (asks : Asks first request reply last items noted clock clock_after) where
   -- the pass that has the turn's calls has this one more
@@ -35,6 +35,8 @@ module _ (laws : CallLaws) (before : View) (ticket : ℕ) (first last : Office) 
       let item = asks.noted.0 in
       let of_item = asks.noted.2 in
       let here = laws.here first last item of_item.calls in
+      let true_here : IsTrue before.office.founder before.office.limit last.state.settled item =
+      subst (λ (l : Option ℕ). IsTrue before.office.founder l last.state.settled item) limit (subst (λ (f : Key). IsTrue f first.limit last.state.settled item) founder here) in
       let least = laws.longer (seen before) first.state.settled goes_on in
       let place = laws.place first last item of_item.calls in (
         item,
@@ -45,7 +47,8 @@ module _ (laws : CallLaws) (before : View) (ticket : ℕ) (first last : Office) 
           entered = first;
           goes_on = goes_on;
           call = of_item.calls;
-          true_of = subst (λ (l : Option ℕ). IsTrue before.office.founder l last.state.settled item) limit (subst (λ (f : Key). IsTrue f first.limit last.state.settled item) founder here);
+          true_of = true_here;
+          cause = caused never before.office.founder before.office.limit last.state.settled item true_here;
           place = omega arith;
           grows = laws.follow (seen before) first.state.settled last.state.settled goes_on (laws.grows first last item of_item.calls);
           clock = subst (λ (r : Option ℤ). Gives clock clock_after (option_to_list r)) (sym of_item.read) asks.clock;

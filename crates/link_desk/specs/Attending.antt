@@ -1,11 +1,11 @@
 -- A connection that was attended: what was read of it, asked and written.
-use Rattle.std.specs.Prelude.{◌≡◌, ◌⊎◌, ℕ, ◌+◌, ◌<◌, ◌≤◌, ℤ, Bool, ◌||◌, ◌==◌, List, [], ◌∷◌, ◌++◌, length, map, filter_map, reverse, take, Option, Some, None, IfSome}
+use Rattle.std.specs.Prelude.{◌≡◌, ◌⊎◌, ℕ, ◌+◌, ◌<◌, ◌≤◌, ℤ, Bool, ◌||◌, ◌==◌, List, [], ◌∷◌, ◌++◌, length, map}
+use Rattle.std.specs.Prelude.{filter_map, reverse, take, Option, Some, None, IfSome}
 use Rattle.std.specs.List.{AllByRecursion}
 use Rattle.std.specs.Io.KnownBytes.{Appends}
 use Rattle.desk_io.specs.Outside.{Rises}
 use Rattle.desk_io.specs.Reads.{Passes, Comes}
 use Rattle.act_model.specs.declared.reply.Fault.{Fault}
-use Rattle.act_model.specs.declared.reply.Reply.{Reply}
 use Rattle.act_model.specs.declared.reply.Reply.TheVariants.{Refused}
 use Rattle.act_model.specs.declared.reply.Refusal.TheVariants.{NoLine}
 use Rattle.act_model.specs.declared.request.Request.{Request}
@@ -22,7 +22,7 @@ use Rattle.link_desk.specs.declared.left.Left.{Left}
 use Rattle.link_desk.specs.declared.left.Left.TheVariants.{Ended, Unread, Enough, ReadFault, WriteFault, NoMemory}
 use Rattle.link_desk.specs.declared.TheConstants.{ANSWERS}
 use Rattle.act_model.specs.Clocks.{ClockState, Gives}
-use Rattle.link_desk.specs.Calls.{AreInOrder, HadNoRise, IsStepped}
+use Rattle.link_desk.specs.Calls.{HasCause, AreInOrder, HadNoRise, IsStepped}
 use Rattle.link_desk.specs.Streams.{IsOpen, IsClosed, AwaitsNext}
 
 -- ---- messages and calls
@@ -55,14 +55,16 @@ items_of exchanges = reverse (map (λ exchange. exchange.item) exchanges)
 abbrev pub readings_in : List Exchange → List ℤ
 readings_in exchanges = filter_map (λ exchange. exchange.item.reading) exchanges
 
--- The calls that the pass made are those for these messages, in their order, with the clock's readings. They are true of the
--- one history that the pass has now seen, at places that rise. Where the disk's count of faults rose in none of them, each
--- was answered by the step, or for want of memory.
+-- The calls that the pass made are those for these messages, in their order, with the clock's readings. They are true
+-- of the one history that the pass has now seen, at places that rise. One is answered that the disk failed only where
+-- the disk's count of faults rose in that call.
 pub record Attends (before after : View) (was now : ClockState) (exchanges : List Exchange) : Type 0 where
   pub asks : AllByRecursion IsExchange exchanges
   pub mine : after.mine ≡ items_of exchanges ++ before.mine
   pub true_of : AreTrue before.office.founder before.office.limit (seen after) (items_of exchanges)
-  pub order : AreInOrder before.office.founder before.office.limit (seen after) (length (seen before)) (items_of exchanges)
+  pub causes : AllByRecursion HasCause (items_of exchanges)
+  pub order : AreInOrder before.office.founder before.office.limit (seen after) (length (seen before))
+      (items_of exchanges)
   pub grows : Extends (seen before) (seen after)
   pub clock : Gives was now (readings_in exchanges)
   pub founder : after.office.founder ≡ before.office.founder
@@ -70,7 +72,8 @@ pub record Attends (before after : View) (was now : ClockState) (exchanges : Lis
 
 -- ---- what is written
 
--- the answer is the last one of its connection, where so many were given before: the message asks to close, or it is the 1,000th
+-- the answer is the last one of its connection, where so many were given before: the message asks to close, or it is
+-- the 1,000th
 abbrev pub is_last : ℕ → Bool → Bool
 is_last before closes = closes || (before + 1 == ANSWERS)
 
@@ -85,8 +88,8 @@ answers before (exchange ∷ exchanges) = answer_to before exchange ++ answers (
 
 -- ---- a connection at its end
 
--- the bytes that came, and behind them those that are left, none where that isn't known; the messages that were asked; and the
--- bytes that were written
+-- the bytes that came, and behind them those that are left, none where that isn't known; the messages that were asked;
+-- and the bytes that were written
 pub record Link : Type 0 where
   pub came : List ℕ
   pub more : List ℕ
@@ -98,15 +101,16 @@ abbrev pub Remains : Option (List ℕ) → List ℕ → Type 0
 Remains None more = more ≡ []
 Remains (Some left) more = left ≡ more
 
--- The connection's bytes came out of the source, and all bytes that the source held, where they are known, are those and what is
--- left. No read was made but while a further message was awaited.
-pub record Supplies {S : Type 0} (left : S → Option (List ℕ)) (gives : Passes S) (before after : S) (link : Link) : Type 0 where
+-- The connection's bytes came out of the source, and all bytes that the source held, where they are known, are those
+-- and what is left. No read was made but while a further message was awaited.
+pub record Supplies {S : Type 0} (left : S → Option (List ℕ)) (gives : Passes S) (before after : S)
+    (link : Link) : Type 0 where
   pub whole : IfSome (left before) (λ bytes. bytes ≡ link.came ++ link.more)
   pub rest : Remains (left after) link.more
   pub comes : Comes left gives (AwaitsNext (length link.exchanges)) before after link.came
 
--- all messages of the stream were answered, and no head fault ends it: the last one asks to close, or they are fewer than 1,000
--- and nothing is left behind them
+-- all messages of the stream were answered, and no head fault ends it: the last one asks to close, or they are fewer
+-- than 1,000 and nothing is left behind them
 pub record IsEnded (link : Link) : Type 0 where
   pub rest : List ℕ
   pub stream : IsStream (link.came ++ link.more) (messages_of link.exchanges) rest
@@ -136,8 +140,8 @@ pub record IsCutOff (link : Link) : Type 0 where
   pub few : length link.exchanges < ANSWERS
   pub texts : link.texts ≡ answers 0 link.exchanges
 
--- all messages before the last one were answered whole, and they ask to go on; of the answer to the last one so many bytes were
--- written
+-- all messages before the last one were answered whole, and they ask to go on; of the answer to the last one so many
+-- bytes were written
 pub record IsPartly (link : Link) (written : ℕ) : Type 0 where
   pub first : List Exchange
   pub last : Exchange
@@ -152,7 +156,8 @@ pub record IsPartly (link : Link) (written : ℕ) : Type 0 where
 abbrev pub IsUnwritten : Link → Type 0
 IsUnwritten link =
     ((n : ℕ) × (cut : IsPartly link n) × (n < length (answer_to (length cut.first) cut.last)))
-    ⊎ ((n : ℕ) × IsUnread link × (n < length unread_answer) × (link.texts ≡ answers 0 link.exchanges ++ take n unread_answer))
+    ⊎ ((n : ℕ) × IsUnread link × (n < length unread_answer)
+    × (link.texts ≡ answers 0 link.exchanges ++ take n unread_answer))
 
 -- memory was refused before anything was read, or for the text of the last reply, of which nothing was written
 abbrev pub IsWanting : Link → Type 0
@@ -169,9 +174,11 @@ Ends link ReadFault = IsCutOff link
 Ends link WriteFault = IsUnwritten link
 Ends link NoMemory = IsWanting link
 
--- A connection was attended and left: what came from the source, which calls the pass made for it, which bytes the sink took, and
--- why it was left. No more than 1,000 messages were asked.
-pub record IsAttended {S : Type 0} (left : S → Option (List ℕ)) (gives : Passes S) (before after : View) (clock clock_after : ClockState) (old new : Option (List ℕ)) (source source_after : S) (ended : Left) : Type 0 where
+-- A connection was attended and left: what came from the source, which calls the pass made for it, which bytes the sink
+-- took, and why it was left. No more than 1,000 messages were asked. Where the disk's count of faults rose in no call,
+-- each was answered by the step, or for want of memory.
+pub record IsAttended {S : Type 0} (left : S → Option (List ℕ)) (gives : Passes S) (before after : View)
+    (clock clock_after : ClockState) (old new : Option (List ℕ)) (source source_after : S) (ended : Left) : Type 0 where
   pub link : Link
   pub supplied : Supplies left gives source source_after link
   pub appended : Appends old new link.texts

@@ -1,11 +1,12 @@
 -- Calls through the lock, one after another: what a pass has of each, and where they stand in the one history.
-use Rattle.std.specs.Prelude.{◌≡◌, ℕ, ◌≤◌, ◌<◌, ℤ, List, [], ◌∷◌, length, Option, option_to_list}
+use Rattle.std.specs.Prelude.{◌≡◌, ℕ, ◌≤◌, ◌<◌, ℤ, Bool, List, [], ◌∷◌, length, Option, option_to_list}
 use Rattle.std.specs.List.{AllByRecursion}
 use Rattle.act_bodies.specs.declared.key.Key.{Key}
 use Rattle.act_model.specs.declared.entry.Entry.{Entry}
 use Rattle.act_model.specs.declared.keeper.Office.{Office}
 use Rattle.act_model.specs.declared.reply.Reply.{Reply}
-use Rattle.act_model.specs.declared.reply.Reply.TheVariants.{Done}
+use Rattle.act_model.specs.declared.reply.Reply.TheVariants.{Done, Refused}
+use Rattle.act_model.specs.declared.reply.Refusal.TheVariants.{DiskFault}
 use Rattle.act_model.specs.declared.request.Request.{Request}
 use Rattle.act_model.specs.Conducts.{Extends}
 use Rattle.act_model.specs.Turns.{Answers}
@@ -18,20 +19,26 @@ use Rattle.act_model.specs.Clocks.{ClockState, Gives}
 -- ---- one call
 
 -- the keeper of a turn was asked this, with a reading of the clock for an act
-pub record Asks (before : Office) (request : Request) (reply : Reply) (after : Office) (items more : List Item) (was now : ClockState) : Type 0 where
+pub record Asks (before : Office) (request : Request) (reply : Reply) (after : Office) (items more : List Item)
+    (was now : ClockState) : Type 0 where
   pub reading : Option ℤ
   pub noted : Noted before request reading reply after items more
   pub clock : Gives was now (option_to_list reading)
 
--- The pass made this one call, at an office that had come no less far than the pass had seen; it has then seen what the call
--- left. The call is true of that, stands at a place that isn't before what the pass had seen, and took the clock's next
--- reading where it is an act.
+-- a reply that the disk failed comes only where the disk's count of faults rose in the call
+abbrev pub HasCause : Item → Type 0
+HasCause item = (doubt : Bool) → item.reply ≡ Refused (DiskFault doubt) → 0 < item.rise
+
+-- The pass made this one call, at an office that had come no less far than the pass had seen; it has then seen what the
+-- call left. The call is true of that, stands at a place that isn't before what the pass had seen, took the clock's
+-- next reading where it is an act, and is answered that the disk failed only where its count of faults rose in it.
 pub record TakesCall (before after : View) (was now : ClockState) (item : Item) : Type 0 where
   pub mine : after.mine ≡ item ∷ before.mine
   pub entered : Office
   pub goes_on : Extends (seen before) entered.state.settled
   pub call : Calls entered item after.office
   pub true_of : IsTrue before.office.founder before.office.limit (seen after) item
+  pub cause : HasCause item
   pub place : length (seen before) ≤ item.position
   pub grows : Extends (seen before) (seen after)
   pub clock : Gives was now (option_to_list item.reading)
@@ -59,7 +66,8 @@ StandsBehind founder limit history item earlier =
 abbrev pub AreInOrder : Key → Option ℕ → List Entry → ℕ → List Item → Type 0
 AreInOrder founder limit history from [] = Unit {0}
 AreInOrder founder limit history from (item ∷ earlier) =
-    (from ≤ item.position) × AllByRecursion (StandsBehind founder limit history item) earlier × AreInOrder founder limit history from earlier
+    (from ≤ item.position) × AllByRecursion (StandsBehind founder limit history item) earlier
+    × AreInOrder founder limit history from earlier
 
 -- the count of the disk's faults rose in none of the calls
 abbrev pub HadNoRise : List Item → Type 0

@@ -17,8 +17,8 @@ use Rattle.act_model.specs.Clocks.{ClockState}
 use Rattle.link_desk.specs.Calls.{TakesCall}
 use Rattle.link_desk.specs.Attending.{is_last}
 
--- the answer to a message was written whole, and the connection goes on unless the message asks to close; or a front of it was
--- written and not all; or nothing, since there was no memory for its text
+-- the answer to a message was written whole, and the connection goes on unless the message asks to close; or a front of
+-- it was written and not all; or nothing, since there was no memory for its text
 abbrev pub IsAnswered : Option (List ℕ) → Option (List ℕ) → List ℕ → Bool → Reply → Option Left → Type 0
 IsAnswered old new text closes reply None = (closes ≡ false) × Appends old new text
 IsAnswered old new text closes reply (Some Ended) = (closes ≡ true) × Appends old new text
@@ -43,14 +43,17 @@ abbrev pub IsUntouched : View → View → ClockState → ClockState → Type 0
 IsUntouched before after clock clock_after = (after ≡ before) × (clock_after ≡ clock)
 
 -- the request was asked by a call of the pass, and answered where so many were answered before
-pub record AnswersRequest (before after : View) (clock clock_after : ClockState) (old new : Option (List ℕ)) (answered : ℕ) (closes : Bool) (result : Option Left) (item : Item) : Type 0 where
+pub record AnswersRequest (before after : View) (clock clock_after : ClockState) (old new : Option (List ℕ))
+    (answered : ℕ) (closes : Bool) (result : Option Left) (item : Item) : Type 0 where
   pub call : TakesCall before after clock clock_after item
   pub written : IsAnswered old new (answer_of item.reply (is_last answered closes)) closes item.reply result
 
 -- what became of what was heard, and why the connection is left, or none where it goes on
-abbrev pub Becomes : View → View → ClockState → ClockState → Option (List ℕ) → Option (List ℕ) → ℕ → Heard → Option Left → Type 0
+abbrev pub Becomes : View → View → ClockState → ClockState → Option (List ℕ) → Option (List ℕ) → ℕ → Heard
+    → Option Left → Type 0
 Becomes before after clock clock_after old new answered (heard.Request request last) result =
-    (item : Item) × (item.request ≡ request) × AnswersRequest before after clock clock_after old new answered last result item
+    (item : Item) × (item.request ≡ request)
+    × AnswersRequest before after clock clock_after old new answered last result item
 Becomes before after clock clock_after old new answered heard.End result =
     IsUntouched before after clock clock_after × (new ≡ old) × (result ≡ Some Ended)
 Becomes before after clock clock_after old new answered heard.Unread result =

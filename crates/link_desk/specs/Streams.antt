@@ -4,7 +4,8 @@ use Rattle.desk_http.specs.Heads.{Message, IsMessage, IsStream}
 use Rattle.desk_http.specs.Reading.{IsAwaited}
 use Rattle.link_desk.specs.declared.TheConstants.{ANSWERS}
 
--- these messages stand at the front of the bytes, one behind the other, before this rest, and none of them asks to close
+-- these messages stand at the front of the bytes, one behind the other, before this rest, and none of them asks to
+-- close
 abbrev pub IsOpen : List ℕ → List Message → List ℕ → Type 0
 IsOpen bytes [] rest = bytes ≡ rest
 IsOpen bytes (message ∷ messages) rest =
@@ -24,8 +25,8 @@ pub record HasNoHeadFault (bytes : List ℕ) : Type 0 where
   pub stream : IsStream bytes messages rest
   pub whole : IsClosed messages ⊎ (rest ≡ [])
 
--- behind the messages that have come, of which all that were answered ask to go on and which are fewer than 1,000, a further
--- one may still come
+-- behind the messages that have come, of which all that were answered ask to go on and which are fewer than 1,000, a
+-- further one may still come
 pub record AwaitsNext (answered : ℕ) (came : List ℕ) : Type 0 where
   pub messages : List Message
   pub rest : List ℕ

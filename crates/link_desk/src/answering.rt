@@ -11,8 +11,8 @@ use intake_lock::{Pass, Turn, TurnLock, laws as lock_laws};
 use std::alloc::Global;
 use std::sync::Wait;
 
-// Asks the keeper of the turn. A request whose verb is an act takes one reading of the clock, whatever its answer, and any
-// other takes none.
+// Asks the keeper of the turn. A request whose verb is an act takes one reading of the clock, whatever its answer, and
+// any other takes none.
 fn take_turn<V: Keeper, C: Clock>(turn: &mut Turn<V>, request: &Request, clock: &mut C) -> Reply
     ensures call { Asks turn.old.office request.now result turn.new.office turn.old.items turn.new.items
         (clock_of C.reading C.last clock.old) (clock_of C.reading C.last clock.new) }
@@ -29,8 +29,8 @@ fn take_turn<V: Keeper, C: Clock>(turn: &mut Turn<V>, request: &Request, clock: 
 
 /// Answers one request: waits for the turn, asks the keeper, and gives the turn back.
 ///
-/// The pass that comes back is the same root or branch, and has one call more: the request's, with the reply that is given.
-/// A request whose verb is an act takes one reading of the clock, whatever its answer, and any other takes none.
+/// The pass that comes back is the same root or branch, and has one call more: the request's, with the reply that is
+/// given. A request whose verb is an act takes one reading of the clock, whatever its answer, and any other takes none.
 pub fn answer_one<V: Keeper, C: Clock, R: Wait>(
     rt: &R,
     _alloc: Global,
@@ -41,11 +41,14 @@ pub fn answer_one<V: Keeper, C: Clock, R: Wait>(
 ) -> (Pass, Reply)
     requires { pass.lock ≡ lock.now.id }
     ensures pass { (result.0.lock ≡ pass.lock) × (result.0.id ≡ pass.id) × (result.0.view.role ≡ pass.view.role) }
-    // One call more, at a place of the one history that isn't before what the pass had seen, and true of what it has seen.
+    // One call more, at a place of the one history that isn't before what the pass had seen, and true of what it has
+    // seen. It is answered that the disk failed only where the keeper's count of faults rose in it.
     ensures call { (item : Item) × (item.request ≡ request.now) × (item.reply ≡ result.1)
-        × TakesCall pass.view result.0.view (clock_of C.reading C.last clock.old) (clock_of C.reading C.last clock.new) item }
+        × TakesCall pass.view result.0.view (clock_of C.reading C.last clock.old)
+        (clock_of C.reading C.last clock.new) item }
 {
     office_laws::readings_go_on();
+    office_laws::disk_faults_have_a_cause();
     lock_laws::calls_are_true();
     lock_laws::beginnings();
     let mut turn = lock.enter(rt, pass);

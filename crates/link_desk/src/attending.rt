@@ -51,7 +51,8 @@ fn answer_heard<V: Keeper, K: Sink, C: Clock, R: Wait>(
     requires lock { pass.lock ≡ lock.now.id }
     requires few { answered < ANSWERS }
     ensures pass { (result.0.lock ≡ pass.lock) × (result.0.id ≡ pass.id) × (result.0.view.role ≡ pass.view.role) }
-    ensures becomes { Becomes pass.view result.0.view (clock_of C.reading C.last clock.old) (clock_of C.reading C.last clock.new)
+    ensures becomes { Becomes pass.view result.0.view (clock_of C.reading C.last clock.old)
+        (clock_of C.reading C.last clock.new)
         (K.taken sink.old) (K.taken sink.new) answered heard result.1 }
     ensures faults { GoesOn WriteCounts result.1 (K.faults sink.old) (K.faults sink.new) }
     ensures stays { K.is_open sink.new ≡ K.is_open sink.old }
@@ -76,12 +77,12 @@ fn answer_heard<V: Keeper, K: Sink, C: Clock, R: Wait>(
     }
 }
 
-/// Attends a connection: reads its requests and answers each in a turn of its own, up to the end of its input, a request that
-/// asks to close, 1,000 answers, or a fault. The answer after which no more comes says so.
+/// Attends a connection: reads its requests and answers each in a turn of its own, up to the end of its input, a
+/// request that asks to close, 1,000 answers, or a fault. The answer after which no more comes says so.
 ///
-/// The pass that comes back is the same root or branch, and has the calls of the connection, each with the reply that was
-/// written. The calls stand at places of the one history that rise: none is before what the pass had seen or before an
-/// earlier call, and each is after the entry that an earlier call added.
+/// The pass that comes back is the same root or branch, and has the calls of the connection, each with the reply that
+/// was written. The calls stand at places of the one history that rise: none is before what the pass had seen or before
+/// an earlier call, and each is after the entry that an earlier call added.
 pub fn attend<V: Keeper, S: Source, K: Sink, C: Clock, R: Wait>(
     rt: &R,
     alloc: Global,
@@ -95,6 +96,7 @@ pub fn attend<V: Keeper, S: Source, K: Sink, C: Clock, R: Wait>(
     ensures pass { (result.0.lock ≡ pass.lock) × (result.0.id ≡ pass.id) × (result.0.view.role ≡ pass.view.role) }
 
     // What was read, asked and written at each end: of the bytes that came, whether the source tells its bytes or not.
+    // A reply that the disk failed comes only where the keeper's count of faults rose in that call.
     ensures attended { IsAttended S.left S.gives pass.view result.0.view (clock_of C.reading C.last clock.old)
         (clock_of C.reading C.last clock.new) (K.taken sink.old) (K.taken sink.new) source.old source.new result.1 }
 

@@ -1,3 +1,5 @@
+//! Why connections are left.
+
 /// Why a connection was left.
 #[derive(Clone, Copy, Debug, PartialEq, Eq)]
 pub enum Left {

@@ -1,12 +1,13 @@
-//! One connection attended: its HTTP requests are read one after another, each is answered by the office in a turn of its
-//! own, and the answers are written.
+//! One connection attended: its HTTP requests are read one after another, each is answered by the office in a turn of
+//! its own, and the answers are written.
 //!
-//! `attend` does this for a whole connection, `answer_one` for one request. Callers in many threads attend one connection
-//! each, with a pass of the same lock. A connection is read, and written to, while the turn is free.
+//! `attend` does this for a whole connection, `answer_one` for one request. Callers in many threads attend one
+//! connection each, with a pass of the same lock. A connection is read, and written to, while the turn is free.
 #![tactic(auto)]
 
 mod answering;
 mod attending;
+pub mod laws;
 mod left;
 #[cfg(test)]
 mod tests;

@@ -177,8 +177,21 @@ fn lock_of<R: Abort>(rt: &R, alloc: Global) -> (TurnLock<Forgetful>, Pass)
     }
 }
 
-// Attends a connection of these bytes, of which a read gives at most 30. Why it is left, and how many readings of the clock
-// were taken.
+// Attends a connection. Why it is left.
+fn left_of<R: Abort + Wait>(
+    rt: &R,
+    alloc: Global,
+    source: &mut MemSource,
+    sink: &mut MemSink,
+    clock: &mut TickClock,
+) -> Left {
+    let (lock, root) = lock_of(rt, alloc);
+    let (_root, left) = attend(rt, alloc, &lock, root, source, sink, clock);
+    left
+}
+
+// Attends a connection of these bytes, of which a read gives at most 30. Why it is left, and how many readings of the
+// clock were taken.
 fn attended<R: Abort + Wait>(
     rt: &R,
     alloc: Global,
@@ -188,8 +201,7 @@ fn attended<R: Abort + Wait>(
 ) -> (Left, i64) {
     let mut source = MemSource::new(alloc, sent, 30, &[read]).expect(rt, "memory");
     let mut clock = TickClock::new(Instant::new(0).expect(rt, "in range"), 1);
-    let (lock, root) = lock_of(rt, alloc);
-    let (_root, left) = attend(rt, alloc, &lock, root, &mut source, sink, &mut clock);
+    let left = left_of(rt, alloc, &mut source, sink, &mut clock);
     (left, clock.now().ns())
 }
 

@@ -15,7 +15,7 @@ pub returns : goal.returns
 returns g c =
     let same : c.door-1.given.0 ≡ c.attend_links-gathered.result.gate.door.now = search rules in
     record {
-      serves = serves_left _ c.calls_are_true.ensures.later _ _ _ _ _ _ _ _ _ _ _ _ _ _ _
+      serves = serves_left _ c.calls_are_true.ensures.later c.places_stay_in_order.ensures _ _ _ _ _ _ _ _ _ _ _ _ _ _ _
           (record { to_come = c.another-other.ensures.same; last = c.another-other.ensures.last })
           c.in-Ok-new.ensures.pass.1 c.in-Ok-new.ensures.lock c.in-Ok.ensures.items c.from_last.ensures
           (ap (door_of g.G.Door.links g.G.Door.faults) same) c.attend_links-gathered.ensures.gathers c.close.ensures;

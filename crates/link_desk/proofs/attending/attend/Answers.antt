@@ -1,4 +1,4 @@
-use Rattle.std.proofs.Common.{◌≡◌, ℕ, ◌<◌, arith, refl, sym, subst, ◌∙◌}
+use Rattle.std.proofs.Common.{◌≡◌, ℕ, ◌<◌, arith, refl, subst, ◌∙◌}
 use Rattle.link_desk.specs.declared.TheConstants.{ANSWERS}
 use Rattle.link_desk.specs.Attending.{ReadCounts, WriteCounts}
 use Rattle.link_desk.proofs.Calls.{CallLaws}

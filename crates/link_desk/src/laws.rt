@@ -1,0 +1,24 @@
+//! Laws of calls in their order, each the contract of a function that does nothing: a caller that calls it may use it.
+
+ghost use Rattle.std.specs.Prelude.{◌≤◌, ℕ, List, Option};
+ghost use Rattle.act_bodies.specs.declared.key.Key.{Key};
+ghost use Rattle.act_model.specs.declared.entry.Entry.{Entry};
+ghost use Rattle.act_model.specs.Conducts.{Extends};
+ghost use Rattle.intake_lock.specs.declared.view.Item.{Item};
+ghost use Rattle.intake_lock.specs.Items.{AreTrue};
+ghost use Rattle.link_desk.specs.Calls.{AreInOrder};
+
+use act_model::laws as office_laws;
+use intake_lock::laws as lock_laws;
+
+/// Calls that are true of a history, and whose places rise in it from one place on, have rising places in every later
+/// history, from every earlier place on.
+pub fn places_stay_in_order()
+    ensures { (founder : Key) (limit : Option ℕ) (history later : List Entry) (from least : ℕ) (items : List Item) →
+        Extends history later → least ≤ from → AreTrue founder limit history items →
+        AreInOrder founder limit history from items → AreInOrder founder limit later least items }
+{
+    office_laws::readings_go_on();
+    lock_laws::calls_are_true();
+    lock_laws::beginnings();
+}
