@@ -9,7 +9,7 @@ is_done_alone None = false
 is_done_alone (Some (Run key)) = true
 is_done_alone (Some (Serve key connections)) = false
 is_done_alone (Some Export) = true
-is_done_alone (Some (Workload seed count)) = false
+is_done_alone (Some (Workload seed count)) = true
 
 -- the words name a command, and it is one that the program does
 abbrev pub is_done : Option Command → Bool
@@ -17,4 +17,4 @@ is_done None = false
 is_done (Some (Run key)) = true
 is_done (Some (Serve key connections)) = true
 is_done (Some Export) = true
-is_done (Some (Workload seed count)) = false
+is_done (Some (Workload seed count)) = true

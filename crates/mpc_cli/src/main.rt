@@ -1,9 +1,9 @@
 //! The clearing house for minor planet astrometry as a program: `run --key K` reads request frames from standard input
-//! and writes reply frames to standard output, `serve --key K --connections N` attends connections at port 8017, `export`
-//! writes the catalogue. The office stands on the journal in the current folder.
+//! and writes reply frames to standard output, `serve --key K --connections N` attends connections at port 8017,
+//! `export` writes the catalogue. The office stands on the journal in the current folder.
 //!
-//! `top` does all that the program does, over any source, sink, disk, clock and door, and carries the theorem. `main` hands
-//! it the real ones.
+//! `top` does all that the program does, over any source, sink, disk, clock and door, and carries the theorem. `main`
+//! hands it the real ones.
 #![tactic(auto)]
 
 ghost use Rattle.std.specs.Prelude.{◌≡◌, List, map, IfOk, string_bytes};
@@ -19,6 +19,7 @@ pub use command_line::Words;
 use desk_io::{NoMemory, StreamSink, StreamSource, SystemClock, TcpDoor};
 use disk_model::FileDisk;
 use item_list::Bytes;
+pub use link_desk::{Left, answer_one, attend};
 use std::alloc::{AllocError, Global};
 use std::env;
 use std::net::{Net, TcpListener, TcpStream};

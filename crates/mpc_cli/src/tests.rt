@@ -18,3 +18,7 @@ mod rows;
 mod runs;
 mod session;
 mod setup;
+mod sockets;
+mod turns;
+mod two_threads;
+mod workload;

@@ -1,6 +1,6 @@
 //! The whole program, over any source, sink, disk, clock and door.
 
-ghost use Rattle.std.specs.Prelude.{◌≡◌, ◌⊎◌, ◌≤◌, ◌↔◌, true, false, ℕ, List, [], Some, None};
+ghost use Rattle.std.specs.Prelude.{◌≡◌, ◌≤◌, ◌↔◌, true, false, ℕ, List, [], Some, None};
 ghost use Rattle.std.specs.Io.KnownBytes.{Appends};
 ghost use Rattle.desk_io.specs.Outside.{Rises};
 ghost use Rattle.act_bodies.specs.declared.key.Key.{Key};
@@ -14,22 +14,24 @@ ghost use Rattle.command_line.specs.Commands.{command_of};
 ghost use Rattle.command_ends.specs.Disks.{disk_words};
 ghost use Rattle.command_ends.specs.Statuses.{IsDoneOrNoMemory};
 ghost use Rattle.frame_desk.specs.Runs.{Run, Supplies, Ends, IsWhole};
-ghost use Rattle.export_desk.specs.Exports.{Exports};
+ghost use Rattle.export_desk.specs.Exports.{Exports, IsWritten};
+ghost use Rattle.office_workload.specs.Summaries.{summary};
 ghost use Rattle.desk_serve.specs.Gathering.{door_of};
 ghost use Rattle.desk_serve.specs.Links.{link_words};
+ghost use Rattle.desk_serve.specs.Runs.{Ends as EndsService};
 ghost use Rattle.mpc_cli.specs.Jobs.{is_done_alone, is_done};
-ghost use Rattle.mpc_cli.specs.Serving.{status_of, Served};
 
-use command_ends::{Ended, JOURNAL_BYTES, Status, not_begun};
+use command_ends::{Ended, Status, not_begun};
 use command_line::{Command, Words, command_of};
 use desk_io::{Clock, Door, Sink, Source};
-use desk_serve::{LinkEnds, Status as ServeStatus, serve};
+use desk_serve::{LinkEnds, serve};
 use disk_model::Disk;
 use export_desk::export;
 use frame_desk::run;
 use std::alloc::Global;
 use std::sync::Wait;
 use std::thread::Threads;
+use workload_desk::workload;
 
 /// All that the program does without threads: each command but `serve`, for which it ends as for words that name no
 /// command.
@@ -37,8 +39,9 @@ use std::thread::Threads;
 /// The office is the one that the disk stands for. Over every source, however it cuts its bytes into pieces, the
 /// answers of `run` are those of one history: the requests of the frames that came, in their order, are answered by a
 /// conduct from the history that the disk stood for, each request under a caller's number acts at most once, and the
-/// sink takes the texts of the replies and nothing else. A crash at any moment leaves a file that stands for a history of
-/// that conduct. `export` writes the catalogue, the written function of the history that the disk stands for.
+/// sink takes the texts of the replies and nothing else. A crash at any moment leaves a file that stands for a history
+/// of that conduct. `export` writes the catalogue, the written function of the history that the disk stands for.
+/// `workload` writes the summary of a made-up workload, and calls nothing but the sink.
 pub fn single<S: Source, K: Sink, D: Disk, C: Clock>(
     alloc: Global,
     words: &Words,
@@ -47,8 +50,8 @@ pub fn single<S: Source, K: Sink, D: Disk, C: Clock>(
     disk: D,
     clock: &mut C,
 ) -> Ended<D>
-    // `run`: what was read, answered, written and kept at each end, of the bytes that came, whether the source tells its
-    // bytes or not, and of each image that a crash may leave.
+    // `run`: what was read, answered, written and kept at each end, of the bytes that came, whether the source tells
+    // its bytes or not, and of each image that a crash may leave.
     ensures run { (key : Key) → command_of words.now ≡ Some (Command.Run key) →
         (run : Run) × Supplies S.left S.gives source.old source.new run
         × Appends (K.taken sink.old) (K.taken sink.new) run.texts
@@ -62,6 +65,12 @@ pub fn single<S: Source, K: Sink, D: Disk, C: Clock>(
         × Exports (disk_words D.reads D.leaves D.moment D.since D.faults) disk result.disk
         (K.taken sink.old) (K.taken sink.new) (sink.new ≡ sink.old) result.added result.status }
 
+    // `workload`: the sink took the summary, so far as the status says. Source and clock aren't called, and the disk is
+    // given back as it was.
+    ensures workload { (seed count : ℕ) → command_of words.now ≡ Some (Command.Workload seed count) →
+        (source.new ≡ source.old) × (clock.new ≡ clock.old) × (result.disk ≡ disk) × (result.added ≡ 0)
+        × IsWritten (K.taken sink.old) (K.taken sink.new) (summary seed count) result.status }
+
     // Good words, a whole session, a file that stands for a legal history, and no fault give `Done`, or `NoMemory`. A
     // fresh file stands for the history without entries. `export` reads no session.
     ensures run_complete { (key : Key) (bytes file : List ℕ) (history : List Entry) →
@@ -74,6 +83,8 @@ pub fn single<S: Source, K: Sink, D: Disk, C: Clock>(
         D.reads disk ≡ Some file → Stands file history → IsLegal key history →
         ¬ Rises (K.faults sink.old) (K.faults sink.new) → ¬ Rises (D.faults disk) (D.faults result.disk) →
         IsDoneOrNoMemory result.status }
+    ensures workload_complete { (seed count : ℕ) → command_of words.now ≡ Some (Command.Workload seed count) →
+        ¬ Rises (K.faults sink.old) (K.faults sink.new) → IsDoneOrNoMemory result.status }
 
     // The words decide alone whether it is `Usage`: they name no command, or one that isn't done here. Then
     // nothing was called, and the disk is given back as it was.
@@ -110,33 +121,20 @@ pub fn single<S: Source, K: Sink, D: Disk, C: Clock>(
     match command_of(words) {
         Some(Command::Run { key }) => run(alloc, key, source, sink, disk, clock),
         Some(Command::Export) => export(alloc, sink, disk),
-        Some(Command::Serve { .. } | Command::Workload { .. }) | None => not_begun(
-            Status::Usage,
-            disk,
-        ),
-    }
-}
-
-/// The status of the program where `serve` ended so.
-fn status_of(status: ServeStatus) -> Status
-    ensures { result ≡ status_of status }
-{
-    match status {
-        ServeStatus::Done => Status::Done,
-        ServeStatus::DiskFault => Status::DiskFault,
-        ServeStatus::Damaged { offset } => Status::Damaged { offset },
-        ServeStatus::WriteFault => Status::WriteFault,
-        ServeStatus::NoMemory => Status::NoMemory,
-        ServeStatus::DoorFault => Status::DoorFault,
+        Some(Command::Workload { seed, count }) => {
+            let status = workload(alloc, seed, count, sink);
+            not_begun(status, disk)
+        }
+        Some(Command::Serve { .. }) | None => not_begun(Status::Usage, disk),
     }
 }
 
 /// All that the program does: the command that the words name.
 ///
-/// For each command but `serve` it is [`single`]. `serve` attends the connections of the door, each in turns of its own at
-/// the one office: over every interleaving, each call is true of one history, which is legal, extends the one that the disk
-/// stood for, and has no newer entry but what a call for one of the links added. How each link ended is given in the door's
-/// order; for every other command there is none.
+/// For each command but `serve` it is [`single`]. `serve` attends the connections of the door, each in turns of its own
+/// at the one office: over every interleaving, each call is true of one history, which is legal, extends the one that
+/// the disk stood for, and has no newer entry but what a call for one of the links added. How each link ended is given
+/// in the door's order; for every other command there is none.
 pub fn top<S: Source, K: Sink, D: Disk + Send, C: Clock + Send, G: Door, R: Threads + Wait + Sync>(
     rt: &R,
     alloc: Global,
@@ -147,8 +145,8 @@ pub fn top<S: Source, K: Sink, D: Disk + Send, C: Clock + Send, G: Door, R: Thre
     clock: &mut C,
     door: &mut G,
 ) -> (Ended<D>, LinkEnds<G::In, G::Out>)
-    // `run`: what was read, answered, written and kept at each end, of the bytes that came, whether the source tells its
-    // bytes or not, and of each image that a crash may leave.
+    // `run`: what was read, answered, written and kept at each end, of the bytes that came, whether the source tells
+    // its bytes or not, and of each image that a crash may leave.
     ensures run { (key : Key) → command_of words.now ≡ Some (Command.Run key) →
         (run : Run) × Supplies S.left S.gives source.old source.new run
         × Appends (K.taken sink.old) (K.taken sink.new) run.texts
@@ -162,10 +160,18 @@ pub fn top<S: Source, K: Sink, D: Disk + Send, C: Clock + Send, G: Door, R: Thre
         × Exports (disk_words D.reads D.leaves D.moment D.since D.faults) disk result.0.disk
         (K.taken sink.old) (K.taken sink.new) (sink.new ≡ sink.old) result.0.added result.0.status }
 
-    // `serve`: what was attended, added, kept, mended and written at each end. The source isn't called.
+    // `workload`: the sink took the summary, so far as the status says. Source and clock aren't called, and the disk is
+    // given back as it was.
+    ensures workload { (seed count : ℕ) → command_of words.now ≡ Some (Command.Workload seed count) →
+        (source.new ≡ source.old) × (clock.new ≡ clock.old) × (result.0.disk ≡ disk) × (result.0.added ≡ 0)
+        × IsWritten (K.taken sink.old) (K.taken sink.new) (summary seed count) result.0.status }
+
+    // `serve`: what was attended, added, kept, mended and written at each end. The source isn't called. The places of
+    // each link's calls rise in the one history, and a reply that the disk failed comes only where the disk's count of
+    // faults rose in that call.
     ensures serve { (key : Key) (connections : ℕ) → command_of words.now ≡ Some (Command.Serve key connections) →
         (source.new ≡ source.old)
-        × Served (disk_words D.reads D.leaves D.moment D.since D.faults)
+        × EndsService (disk_words D.reads D.leaves D.moment D.since D.faults)
         (link_words G.In.left G.In.gives G.In.faults G.In.is_open G.Out.taken G.Out.faults G.Out.is_open)
         key disk result.0.disk (clock_of C.reading C.last clock.old)
         (door_of G.links G.faults door.old) (door_of G.links G.faults door.new) connections result.1
@@ -187,14 +193,16 @@ pub fn top<S: Source, K: Sink, D: Disk + Send, C: Clock + Send, G: Door, R: Thre
         D.reads disk ≡ Some file → Stands file history → IsLegal key history →
         ¬ Rises (K.faults sink.old) (K.faults sink.new) → ¬ Rises (D.faults disk) (D.faults result.0.disk) →
         IsDoneOrNoMemory result.0.status }
+    ensures workload_complete { (seed count : ℕ) → command_of words.now ≡ Some (Command.Workload seed count) →
+        ¬ Rises (K.faults sink.old) (K.faults sink.new) → IsDoneOrNoMemory result.0.status }
     ensures serve_complete { (key : Key) (connections : ℕ) (file : List ℕ) (history : List Entry) →
         command_of words.now ≡ Some (Command.Serve key connections) →
         D.reads disk ≡ Some file → Stands file history → IsLegal key history →
         ¬ Rises (K.faults sink.old) (K.faults sink.new) → ¬ Rises (D.faults disk) (D.faults result.0.disk) →
         ¬ Rises (G.faults door.old) (G.faults door.new) → IsDoneOrNoMemory result.0.status }
 
-    // The words decide alone whether it is `Usage`: they name no command, or one that the program doesn't do yet. Then
-    // nothing was called, and the disk is given back as it was.
+    // The words decide alone whether it is `Usage`: they name no command. Then nothing
+    // was called, and the disk is given back as it was.
     ensures usage { (result.0.status ≡ Status.Usage) ↔ (is_done (command_of words.now) ≡ false) }
     ensures untouched { result.0.status ≡ Status.Usage →
         (source.new ≡ source.old) × (sink.new ≡ sink.old) × (clock.new ≡ clock.old) × (result.0.disk ≡ disk)
@@ -209,12 +217,17 @@ pub fn top<S: Source, K: Sink, D: Disk + Send, C: Clock + Send, G: Door, R: Thre
         command_of words.now ≡ Some Command.Export → begins_with_plus (key_text key) ≡ true →
         D.reads disk ≡ Some file → Stands file history → IsLegal key history →
         result.0.status ≡ Status.Damaged offset → ⊥ }
+    ensures serve_sound { (key : Key) (connections : ℕ) (file : List ℕ) (history : List Entry) (offset : ℕ) →
+        command_of words.now ≡ Some (Command.Serve key connections) →
+        D.reads disk ≡ Some file → Stands file history → IsLegal key history →
+        result.0.status ≡ Status.Damaged offset → ⊥ }
 
     // The disk failed where the end is `DiskFault`.
     ensures disk_cause { result.0.status ≡ Status.DiskFault → Rises (D.faults disk) (D.faults result.0.disk) }
 
-    // The door failed where the end is `DoorFault`.
+    // The door failed where the end is `DoorFault`, and nowhere else.
     ensures door_cause { result.0.status ≡ Status.DoorFault → Rises (G.faults door.old) (G.faults door.new) }
+    ensures door_faultless { (result.0.status ≡ Status.DoorFault → ⊥) → G.faults door.new ≡ G.faults door.old }
 
     // The source failed where the end is `ReadFault`, and nowhere else.
     ensures read_cause { result.0.status ≡ Status.ReadFault → Rises (S.faults source.old) (S.faults source.new) }
@@ -229,25 +242,16 @@ pub fn top<S: Source, K: Sink, D: Disk + Send, C: Clock + Send, G: Door, R: Thre
     ensures stays { (S.is_open source.new ≡ S.is_open source.old) × (K.is_open sink.new ≡ K.is_open sink.old) }
 {
     match command_of(words) {
-        Some(Command::Serve { key, connections }) => {
-            let (served, ends) = serve(
-                rt,
-                alloc,
-                key,
-                JOURNAL_BYTES,
-                u64::from(connections),
-                sink,
-                disk,
-                clock,
-                door,
-            );
-            let ended = Ended {
-                status: status_of(served.status),
-                disk: served.disk,
-                added: served.added,
-            };
-            (ended, ends)
-        }
+        Some(Command::Serve { key, connections }) => serve(
+            rt,
+            alloc,
+            key,
+            u64::from(connections),
+            sink,
+            disk,
+            clock,
+            door,
+        ),
         Some(Command::Run { .. } | Command::Export | Command::Workload { .. }) | None => {
             (
                 single(alloc, words, source, sink, disk, clock),

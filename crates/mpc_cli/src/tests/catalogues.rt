@@ -208,7 +208,8 @@ const FREED_CATALOGUE: &str = concat!(
     "end\n",
 );
 
-/// The tracklet with the discovery of one object is in another one: its star is gone, and the other's stands where it stood.
+/// The tracklet with the discovery of one object is in another one: its star is gone, and the other's stands where it
+/// stood.
 const MOVED_CATALOGUE: &str = concat!(
     "catalogue 1\n",
     "entries 11\n",

@@ -32,6 +32,16 @@ const ENROLLED: &str = concat!(
     "caller 1\n",
 );
 
+const TALLY: &str = "GET /v1/ask/tally HTTP/1.1\r\nDesk-Key: +founder-1\r\n\r\n";
+
+const TALLIED: &str = concat!(
+    "HTTP/1.1 200 OK\r\n",
+    "Content-Length: 54\r\n",
+    "Content-Type: text/plain\r\n",
+    "\r\n",
+    "entries 0\nisolated 0\nobjects 0\nretracted 0\naccepted 0\n",
+);
+
 const CHUNKED: &str = "POST /v1/act/1/enrol HTTP/1.1\r\nTransfer-Encoding: chunked\r\n\r\n";
 
 const UNREAD: &str = concat!(
@@ -58,9 +68,9 @@ const ROWS: [(&[Link], u64, &str, u8, u64, &str); 4] = [
     ),
     (
         &[
-            ("", 0, Left::Ended, ""),
+            (TALLY, 0, Left::Ended, TALLIED),
             (ENROL, 1, Left::ReadFault, ""),
-            ("", 0, Left::Ended, ""),
+            (TALLY, 0, Left::Ended, TALLIED),
         ],
         0,
         "Done",

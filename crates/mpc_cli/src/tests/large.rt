@@ -87,7 +87,8 @@ fn large_bodies(rt: HostRuntime) {
     }
 }
 
-/// A frame of the founder's sixth request, a batch of so many lines of station 703, each a little later than the one before.
+/// A frame of the founder's sixth request, a batch of so many lines of station 703, each a little later than the one
+/// before.
 fn batch_of<R: Abort>(rt: &R, alloc: Global, bytes: &mut Vec<u8>, lines: u64) {
     put(rt, bytes, "+founder-1 6 submit80 ");
     put_number(rt, alloc, bytes, lines.saturating_mul(81));

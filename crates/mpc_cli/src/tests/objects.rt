@@ -25,8 +25,8 @@ pub(super) const MIDNIGHT_TEXT: &str = concat!(
     "line 8 obs 4 track 2\n",
 );
 
-/// Three tracklets: from the first observation it is 11 hours and 59 minutes to the last one of the second, and 12 hours
-/// to that of the third.
+/// Three tracklets: from the first observation it is 11 hours and 59 minutes to the last one of the second, and 12
+/// hours to that of the third.
 pub(super) const NIGHT: &str = concat!(
     "# version=2017\n",
     "# observatory\n",

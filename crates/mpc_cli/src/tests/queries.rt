@@ -9,8 +9,8 @@ use super::session::answers;
 use std::alloc::Global;
 use std::process::Abort;
 
-/// A tracklet of lines of 80 columns. Its first line has the day 15.12345, which is 2 h 57 m 46.08 s, the right ascension
-/// 06 12 34.56 and the declination +23 45 01.2.
+/// A tracklet of lines of 80 columns. Its first line has the day 15.12345, which is 2 h 57 m 46.08 s, the right
+/// ascension 06 12 34.56 and the declination +23 45 01.2.
 const OF_COLUMNS: [Row; 3] = [
     (
         OBSERVER,
@@ -155,7 +155,8 @@ const IDENTIFIED_TEXT: &str = concat!(
     "obs 10 track 5\n",
 );
 
-/// Two objects of two tracklets each are identified; the fifth tracklet comes to the secondary, which is separated again.
+/// Two objects of two tracklets each are identified; the fifth tracklet comes to the secondary, which is separated
+/// again.
 const OF_PLACES: [Row; 12] = [
     (OBSERVER, 1, "submitpsv", FIVE, "200 ", FIVE_TEXT),
     (
@@ -514,8 +515,8 @@ const TRACKLETS: [Row; 8] = [
     ),
 ];
 
-/// What is told of names: a number, a packed number, a secondary designation, and a number that wasn't given; and what a
-/// caller's own act was answered.
+/// What is told of names: a number, a packed number, a secondary designation, and a number that wasn't given; and what
+/// a caller's own act was answered.
 const NAMES: [Row; 7] = [
     (
         OBSERVER,

@@ -1,0 +1,106 @@
+//! One connection over a real socket of this machine.
+
+use super::calls::{done, expect_end, words_of};
+use crate::top;
+use desk_io::{MemSink, MemSource, TcpDoor, TickClock};
+use disk_model::MemDisk;
+use obs_time::Instant;
+use std::alloc::Global;
+use std::io;
+use std::io::{ErrorKind, Read, Write};
+use std::net::{Ipv4Addr, Net, TcpListener, TcpStream};
+use std::process::Abort;
+use std::sync::Wait;
+use std::thread::{Threads, join, yield_now};
+
+/// The port of the program's door.
+const PORT: u16 = 8017;
+
+/// How often the peer tries to connect, until the door is bound.
+const TRIES: u64 = 1_000_000;
+
+const TALLY: &str =
+    "GET /v1/ask/tally HTTP/1.1\r\nDesk-Key: +founder-1\r\nConnection: close\r\n\r\n";
+
+const ANSWER: &str = concat!(
+    "HTTP/1.1 200 OK\r\n",
+    "Content-Length: 54\r\n",
+    "Content-Type: text/plain\r\n",
+    "Connection: close\r\n",
+    "\r\n",
+    "entries 0\nisolated 0\nobjects 0\nretracted 0\naccepted 0\n",
+);
+
+// The stream to the door, once it is bound.
+fn connect<N: Net<Listener = TcpListener, Stream = TcpStream>>(net: &N) -> io::Result<TcpStream> {
+    for _ in 0..TRIES {
+        if let Ok(stream) = TcpStream::connect(net, (Ipv4Addr::LOCALHOST, PORT)) {
+            return Ok(stream);
+        }
+        yield_now();
+    }
+    Err(io::Error::from(ErrorKind::TimedOut))
+}
+
+// Asks for the tally, and gives so many bytes of what is answered.
+fn ask<N: Net<Listener = TcpListener, Stream = TcpStream>>(net: &N) -> io::Result<[u8; 138]> {
+    let mut peer = connect(net)?;
+    peer.write_all(TALLY.as_bytes())?;
+    let mut text = [0u8; 138];
+    peer.read_exact(&mut text)?;
+    Ok(text)
+}
+
+// Waits until nobody else has the port.
+fn expect_free<R: Abort + Net<Listener = TcpListener, Stream = TcpStream>>(rt: &R) {
+    for _ in 0..TRIES {
+        if TcpListener::bind(rt, (Ipv4Addr::LOCALHOST, PORT)).is_ok() {
+            return;
+        }
+        yield_now();
+    }
+    panic!(rt; "port 8017 is in use");
+}
+
+// Serves one connection of the port, with an office in memory.
+fn serve_one<
+    R: Abort + Threads + Wait + Sync,
+    N: Net<Listener = TcpListener, Stream = TcpStream> + Copy,
+>(rt: &R, net: N, alloc: Global) {
+    let words = words_of(
+        rt,
+        alloc,
+        &["serve", "--connections", "1", "--key", "+founder-1"],
+    );
+    let mut source = MemSource::new(alloc, b"", 1, &[]).expect(rt, "memory");
+    let mut sink = MemSink::new(alloc, 64, &[]).expect(rt, "memory");
+    let first = Instant::new(1_711_929_600_000_000_000).expect(rt, "in range");
+    let mut clock = TickClock::new(first, 1_000_000_000);
+    let disk = MemDisk::new(alloc, &[], 65_536, &[]).expect(rt, "memory");
+    let mut door = TcpDoor::new(net, alloc);
+    let (ended, ends) = top(
+        rt,
+        alloc,
+        &words,
+        &mut source,
+        &mut sink,
+        disk,
+        &mut clock,
+        &mut door,
+    );
+    expect_end(rt, alloc, &ended, done(0));
+    assert_eq!(rt; sink.bytes(), b"connections 1\nentries 0\n".as_slice());
+    assert_eq!(rt; ends.len(), 1);
+}
+
+#[test]
+fn tally_over_a_socket(rt: HostRuntime) {
+    expect_free(&rt);
+    let (answer, ()) = join(
+        &rt,
+        move || ask(&rt),
+        move || serve_one(&rt, rt, rt.alloc()),
+    );
+    let text = answer.expect(&rt, "an answer");
+    assert_eq!(rt; text.as_slice(), ANSWER.as_bytes());
+}
