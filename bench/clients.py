@@ -1,5 +1,6 @@
 #!/usr/bin/env python3
-"""Real clients at a running office: curl, Python's http.client, pipelined requests, and peers that are slow or rude.
+"""Real clients at a running office: curl, Python's http.client, pipelined requests, and peers that are slow or rude, or never
+read what they are answered.
 
 Build the program first (examples/office | (cd crates/mpc_cli && rt run -- run --key +founder-1)). The office is served in
 a folder of its own, at port 8017 of this machine, which must be free. Says what passed, and ends with 1 where something
@@ -12,6 +13,8 @@ import subprocess
 import sys
 import tempfile
 import time
+
+from session import SETUP, columns
 
 HERE = os.path.dirname(os.path.abspath(__file__))
 PROGRAM = os.path.join(HERE, "..", "crates", "mpc_cli", "out", "mpc_cli")
@@ -114,11 +117,44 @@ def rude():
     peer.close()
 
 
+def deaf():
+    """A peer that asks for 48 MB and never reads: the office is stuck inside its answers, and answers others meanwhile."""
+    lines = 2_000
+    body = "".join(columns(0, number) for number in range(lines)).encode()
+    link = http.client.HTTPConnection("127.0.0.1", 8017, timeout=20)
+    for number, (verb, text) in enumerate(SETUP[:4], start=2):  # the observer is enrolled
+        link.request("POST", f"/v1/act/{number}/{verb}", text.encode(), {"Desk-Key": KEY})
+        link.getresponse().read()
+    link.request("POST", "/v1/act/6/submit80", body, {"Desk-Key": KEY})
+    answer = link.getresponse().read()
+    check("a batch is taken", answer.startswith(f"receipt 6\naccepted {lines} refused 0\n".encode()), answer[:60])
+    link.close()
+    asked = 48_000_000 // len(answer)
+    peer = socket.socket()
+    peer.setsockopt(socket.SOL_SOCKET, socket.SO_RCVBUF, 4_096)
+    peer.settimeout(5)
+    peer.connect(("127.0.0.1", 8017))
+    try:
+        peer.sendall((head("POST", "/v1/ask/receipt", 1) + b"6") * min(asked, 1_000))
+    except TimeoutError:
+        pass  # the office doesn't read on while it is stuck
+    time.sleep(1)
+    other = http.client.HTTPConnection("127.0.0.1", 8017, timeout=20)
+    start = time.monotonic()
+    for _ in range(20):
+        other.request("GET", "/v1/ask/tally", headers={"Desk-Key": KEY})
+        text = other.getresponse().read().decode()
+    took = time.monotonic() - start
+    check("others are answered while a peer doesn't read", text.startswith("entries 6\n") and took < 10, (text, took))
+    other.close()
+    peer.close()
+
+
 def main():
     if not os.access(PROGRAM, os.X_OK):
         raise SystemExit("build the program first")
     with tempfile.TemporaryDirectory() as folder:
-        office = subprocess.Popen([PROGRAM, "serve", "--connections", "7", "--key", KEY], cwd=folder,
+        office = subprocess.Popen([PROGRAM, "serve", "--connections", "10", "--key", KEY], cwd=folder,
                                   stdout=subprocess.PIPE, stderr=subprocess.PIPE, text=True)
         silent = connect()
         keep_alive()
@@ -127,9 +163,10 @@ def main():
         byte_by_byte()
         cut_off()
         rude()
+        deaf()
         silent.close()
         written, said = office.communicate(timeout=60)
-        check("the office ends when all were left", (office.returncode, written) == (0, "connections 7\nentries 1\n"),
+        check("the office ends when all were left", (office.returncode, written) == (0, "connections 10\nentries 6\n"),
               (office.returncode, written, said))
     return 1 if failed else 0
 
