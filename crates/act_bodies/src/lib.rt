@@ -34,6 +34,3 @@ pub use retract::{Retract, read_retract};
 pub use separate::{Separate, read_separate};
 pub use station::{Station, read_station};
 pub use verdict::{Verdict, read_verdict};
-
-#[cfg(test)]
-mod tests;

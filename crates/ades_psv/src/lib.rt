@@ -30,6 +30,3 @@ mod walking;
 
 pub use fault::PsvFault;
 pub use reader::{PsvReader, read_psv};
-
-#[cfg(test)]
-mod tests;

@@ -17,6 +17,3 @@ pub use degrees::{read_dec_degrees, read_ra_degrees};
 pub use fault::AngleFault;
 pub use reading::{read_dms, read_hms};
 pub use writing::{write_dms, write_hms};
-
-#[cfg(test)]
-mod tests;

@@ -8,6 +8,4 @@ pub mod digits;
 pub mod laws;
 pub mod numbers;
 pub mod reading;
-#[cfg(test)]
-mod tests;
 pub mod writing;

@@ -16,6 +16,3 @@ mod rulings;
 pub use act_model::Ruling;
 pub use judging::judge;
 pub use rulings::Rulings;
-
-#[cfg(test)]
-mod tests;

@@ -14,6 +14,3 @@ mod writing;
 pub use reader::{EightyReader, split_batch};
 pub use reading::read_line;
 pub use writing::{Front, Letters, write_line};
-
-#[cfg(test)]
-mod tests;

@@ -9,7 +9,5 @@ mod command;
 mod keys;
 mod numbers;
 mod options;
-#[cfg(test)]
-mod tests;
 
 pub use command::{Command, Words, command_of};

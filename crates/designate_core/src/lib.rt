@@ -19,6 +19,3 @@ mod rows;
 mod taken;
 
 pub use rows::Rows;
-
-#[cfg(test)]
-mod tests;

@@ -24,6 +24,3 @@ mod taking;
 pub use office::Core;
 pub use prepared::{Prep, Prepared};
 pub use replaying::ReplayFault;
-
-#[cfg(test)]
-mod tests;

@@ -29,6 +29,3 @@ pub const LENGTH_DIGITS: usize = 10;
 
 /// The most bytes that a head has, its three blanks and its line feed among them.
 pub const HEAD_BYTES: usize = KEY_BYTES + NUMBER_DIGITS + VERB_BYTES + LENGTH_DIGITS + 4;
-
-#[cfg(test)]
-mod tests;

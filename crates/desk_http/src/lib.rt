@@ -11,8 +11,6 @@ pub mod laws;
 mod replies;
 mod route;
 mod scan;
-#[cfg(test)]
-mod tests;
 mod wire;
 
 pub use head::{Front, HeadParts, read_head};

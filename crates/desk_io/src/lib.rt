@@ -16,6 +16,3 @@ pub use memory::{MemSink, MemSource};
 pub use outside::{Clock, Failed, Sink, Source, write_all};
 pub use streams::{StreamSink, StreamSource};
 pub use tcp::{HalfStream, TcpDoor};
-
-#[cfg(test)]
-mod tests;

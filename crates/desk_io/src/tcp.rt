@@ -9,7 +9,7 @@ use std::alloc::Global;
 use std::io;
 use std::io::{Read, Write};
 use std::marker::Model;
-use std::net::{Ipv4Addr, Net, TcpListener, TcpStream};
+use std::net::{Ipv4Addr, Net, SocketAddr, TcpListener, TcpStream};
 use std::sync::Arc;
 
 /// The port at which the desk is called.
@@ -75,7 +75,8 @@ impl<R: Net<Listener = TcpListener, Stream = TcpStream> + Copy> TcpDoor<R> {
         TcpDoor::on_port(system, alloc, PORT)
     }
 
-    fn on_port(system: R, alloc: Global, port: u16) -> TcpDoor<R>
+    /// A door at another port, which isn't bound yet. At port 0 the system chooses one.
+    pub fn on_port(system: R, alloc: Global, port: u16) -> TcpDoor<R>
         ensures { result ≡ record { is_bound = false; faults = 0 } }
     {
         TcpDoor {
@@ -87,18 +88,22 @@ impl<R: Net<Listener = TcpListener, Stream = TcpStream> + Copy> TcpDoor<R> {
         }
     }
 
-    // Binds the door, if it isn't bound.
-    fn bind(&mut self) -> io::Result<()>
+    /// Binds the door, if it isn't bound, and says where it is.
+    ///
+    /// # Errors
+    ///
+    /// The system's, as where the port is in use. The door is as it was.
+    pub fn bind(&mut self) -> io::Result<SocketAddr>
         ensures bound { OnOk result (self.new ≡ record self.old { is_bound = true }) }
         ensures unbound { OnErr result (self.new ≡ self.old) }
     {
-        if self.listener.is_none() {
-            self.listener = Some(TcpListener::bind(
-                &self.system,
-                (Ipv4Addr::LOCALHOST, self.port),
-            )?);
+        if let Some(listener) = &self.listener {
+            return listener.local_addr();
         }
-        Ok(())
+        let listener = TcpListener::bind(&self.system, (Ipv4Addr::LOCALHOST, self.port))?;
+        let address = listener.local_addr()?;
+        self.listener = Some(listener);
+        Ok(address)
     }
 
     // The stream of the next peer.
@@ -146,6 +151,3 @@ impl<R: Net<Listener = TcpListener, Stream = TcpStream> + Copy> Door for TcpDoor
         }
     }
 }
-
-#[cfg(test)]
-mod tests;

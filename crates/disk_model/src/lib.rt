@@ -14,6 +14,3 @@ pub use real::FileDisk;
 
 /// Memory was refused.
 pub type NoMemory = std::alloc::AllocError;
-
-#[cfg(test)]
-mod tests;

@@ -8,8 +8,6 @@ mod frame;
 mod head;
 mod reader;
 mod replies;
-#[cfg(test)]
-mod tests;
 
 pub use frame::{FrameBody, NextFrame, ReadFrame};
 pub use reader::FrameReader;

@@ -24,6 +24,3 @@ mod searches;
 
 pub use link::Link;
 pub use links::Links;
-
-#[cfg(test)]
-mod tests;

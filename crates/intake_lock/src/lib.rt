@@ -20,6 +20,3 @@ pub use lock::TurnLock;
 pub use pass::Pass;
 pub use turn::Turn;
 pub use view::{Item, Role, Stage, View};
-
-#[cfg(test)]
-mod tests;

@@ -9,8 +9,6 @@ mod answering;
 mod attending;
 pub mod laws;
 mod left;
-#[cfg(test)]
-mod tests;
 
 pub use answering::answer_one;
 pub use attending::attend;

@@ -18,6 +18,3 @@ pub use desk::Desk;
 pub use disk_model::Failed;
 pub use obs_journal::{OpenFault, Settled};
 pub use plain_keeper::PlainKeeper;
-
-#[cfg(test)]
-mod tests;

@@ -23,6 +23,3 @@ mod verdict;
 pub use numbering::Numbering;
 pub use register::Register;
 pub use verdict::Verdict;
-
-#[cfg(test)]
-mod tests;

@@ -33,6 +33,3 @@ const CLOSED: u8 = 0;
 
 // How many bytes one read asks for, at most.
 const PIECE_BYTES: usize = 8_192;
-
-#[cfg(test)]
-mod tests;

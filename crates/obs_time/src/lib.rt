@@ -25,6 +25,3 @@ pub use instant::Instant;
 pub use iso::read_iso;
 pub use iso_texts::write_iso;
 pub use writing::write_day_fraction;
-
-#[cfg(test)]
-mod tests;

@@ -16,6 +16,3 @@ mod places;
 mod searches;
 
 pub use list::{NoMemory, OrderedList};
-
-#[cfg(test)]
-mod tests;

@@ -38,6 +38,3 @@ pub use packed::{pack, unpack};
 pub use printed::{print, print_half, read, read_half};
 pub use provisional::{Provisional, limit};
 pub use survey::Survey;
-
-#[cfg(test)]
-mod tests;

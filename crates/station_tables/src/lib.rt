@@ -14,6 +14,3 @@ mod tables;
 pub use kind::Kind;
 pub use serving::Serving;
 pub use tables::Tables;
-
-#[cfg(test)]
-mod tests;

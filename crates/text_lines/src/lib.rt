@@ -9,5 +9,3 @@ pub mod cutting;
 pub mod laws;
 pub mod lines;
 pub mod pieces;
-#[cfg(test)]
-mod tests;

@@ -23,6 +23,3 @@ pub use file::TrackletFile;
 pub use observation::Observation;
 pub use searches::numbered;
 pub use tracklet::Tracklet;
-
-#[cfg(test)]
-mod tests;

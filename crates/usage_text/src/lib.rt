@@ -131,6 +131,3 @@ pub fn usage_text(alloc: Global) -> Result<String, AllocError> {
     push_help(&mut text, workload(alloc)?, "mpc_cli workload")?;
     Ok(text)
 }
-
-#[cfg(test)]
-mod tests;

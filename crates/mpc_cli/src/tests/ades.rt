@@ -65,7 +65,7 @@ const TOO_LONG_NAME: &str = concat!(
 );
 
 /// Batches of ADES and what is refused of them, and names of observers.
-pub(super) const ADES: [Exchange; 7] = [
+pub(super) const ADES: &[Exchange] = &[
     Exchange {
         head: "observer-1 3 submitpsv 541\n",
         body: PSV,

@@ -61,7 +61,7 @@ const RULES_ANSWER: &str = concat!(
 );
 
 /// Batches of the observer, sent again, and under a number that was used.
-pub(super) const BATCHES: [Exchange; 5] = [
+pub(super) const BATCHES: &[Exchange] = &[
     Exchange {
         head: "observer-1 1 submit80 411\n",
         body: BATCH,

@@ -1,14 +1,11 @@
 //! The catalogue: after sessions that show each of its rules, as the answer to a query and as what `export` writes.
 
-use super::calls::{RUN, done, expect_end, words_of};
+use super::calls::{RUN, call_on, done, empty_disk, expect_end, words_of};
 use super::objects::{MIDNIGHT, MIDNIGHT_TEXT, NIGHT, NIGHT_TEXT};
-use super::rows::{FOUNDER, OBSERVER, Row, begin, put_rows};
-use super::session::answers;
+use super::rows::{FOUNDER, OBSERVER, Row, put_rows, session_of};
 use super::setup::STATION;
-use crate::single;
-use desk_io::{MemSink, MemSource, TickClock};
-use disk_model::MemDisk;
-use obs_time::Instant;
+use desk_io::MemSink;
+use disk_model::Disk;
 use std::alloc::Global;
 use std::process::Abort;
 
@@ -291,7 +288,7 @@ const TWO_PSV: &str =
     "receipt 6\naccepted 2 refused 0\nline 5 obs 1 track 1\nline 6 obs 2 track 1\n";
 
 /// Batches alone: each is the first of its office.
-const BATCHES: [(&str, &str, &str, &str); 4] = [
+const BATCHES: &[(&str, &str, &str, &str)] = &[
     ("submit80", ZERO_80, TWO_80, ZERO_80_CATALOGUE),
     ("submitpsv", ZERO_PSV, TWO_PSV, ZERO_PSV_CATALOGUE),
     ("submitpsv", LAST, TWO_PSV, LAST_CATALOGUE),
@@ -299,7 +296,7 @@ const BATCHES: [(&str, &str, &str, &str); 4] = [
 ];
 
 /// An object of two tracklets.
-const OBJECT: [Row; 2] = [
+const OBJECT: &[Row] = &[
     (OBSERVER, 1, "submitpsv", MIDNIGHT, "200 ", MIDNIGHT_TEXT),
     (
         FOUNDER,
@@ -312,16 +309,16 @@ const OBJECT: [Row; 2] = [
 ];
 
 /// What comes then, and what the catalogue is after it.
-const LATER: [(&[Row], &str); 6] = [
+const LATER: &[(&[Row], &str)] = &[
     (&[], OBJECT_CATALOGUE),
-    (&LOST, LOST_CATALOGUE),
-    (&EMPTY, EMPTY_CATALOGUE),
-    (&RELEASED, RELEASED_CATALOGUE),
-    (&NUMBERING, NUMBERED_CATALOGUE),
-    (&MOVED, MOVED_CATALOGUE),
+    (LOST, LOST_CATALOGUE),
+    (EMPTY, EMPTY_CATALOGUE),
+    (RELEASED, RELEASED_CATALOGUE),
+    (NUMBERING, NUMBERED_CATALOGUE),
+    (MOVED, MOVED_CATALOGUE),
 ];
 
-const LOST: [Row; 1] = [(
+const LOST: &[Row] = &[(
     OBSERVER,
     2,
     "retract",
@@ -330,7 +327,7 @@ const LOST: [Row; 1] = [(
     "receipt 8\n",
 )];
 
-const EMPTY: [Row; 4] = [
+const EMPTY: &[Row] = &[
     (
         OBSERVER,
         2,
@@ -365,7 +362,7 @@ const EMPTY: [Row; 4] = [
     ),
 ];
 
-const RELEASED: [Row; 2] = [
+const RELEASED: &[Row] = &[
     (
         FOUNDER,
         7,
@@ -384,7 +381,7 @@ const RELEASED: [Row; 2] = [
     ),
 ];
 
-const NUMBERING: [Row; 3] = [
+const NUMBERING: &[Row] = &[
     (
         FOUNDER,
         7,
@@ -411,7 +408,7 @@ const NUMBERING: [Row; 3] = [
     ),
 ];
 
-const FREED: [Row; 1] = [(
+const FREED: &[Row] = &[(
     FOUNDER,
     9,
     "release",
@@ -448,7 +445,7 @@ const THIRD_MADE: &str = concat!(
 );
 
 /// A second object, to which the first one's tracklet goes.
-const MOVED: [Row; 4] = [
+const MOVED: &[Row] = &[
     (OBSERVER, 2, "submitpsv", NIGHT, "200 ", NIGHT_TEXT),
     (
         FOUNDER,
@@ -477,7 +474,7 @@ const MOVED: [Row; 4] = [
 ];
 
 /// A station, and three objects of made-up lines.
-const MADE: [Row; 7] = [
+const MADE: &[Row] = &[
     (FOUNDER, 1, "station", STATION, "200 ", "receipt 1\n"),
     (FOUNDER, 2, "submit80", MADE_1, "200 ", FIRST_MADE),
     (
@@ -508,83 +505,100 @@ const MADE: [Row; 7] = [
     ),
 ];
 
+/// 2025-02-01T00:00:00Z.
+const LATE: i64 = 1_738_368_000_000_000_000;
+
 /// A call with these words over this disk, whose clock begins in 2025, that ends in `Done`. Gives the disk.
-fn expect_done<R: Abort>(
+fn expect_done<D: Disk, R: Abort>(
     rt: &R,
     alloc: Global,
     words: &[&str],
     bytes: &[u8],
-    disk: MemDisk,
+    disk: D,
     added: u64,
     taken: &[u8],
-) -> MemDisk {
+) -> D {
     let words = words_of(rt, alloc, words);
-    let mut source = MemSource::new(alloc, bytes, 4_096, &[]).expect(rt, "memory");
     let mut sink = MemSink::new(alloc, 65_536, &[]).expect(rt, "memory");
-    let first = Instant::new(1_738_368_000_000_000_000).expect(rt, "in range");
-    let mut clock = TickClock::new(first, 1_000_000_000);
-    let ended = single(alloc, &words, &mut source, &mut sink, disk, &mut clock);
+    let ended = call_on(rt, alloc, &words, bytes, 4_096, 0, &mut sink, disk, LATE);
     expect_end(rt, alloc, &ended, done(added));
     assert_eq!(rt; sink.bytes(), taken);
     ended.disk
+}
+
+/// Runs the session, and writes the catalogue out.
+fn expect_written<R: Abort>(
+    rt: &R,
+    alloc: Global,
+    bytes: &[u8],
+    taken: &[u8],
+    added: u64,
+    catalogue: &'static str,
+) {
+    let disk = empty_disk(rt, alloc, 65_536);
+    let disk = expect_done(rt, alloc, &RUN, bytes, disk, added, taken);
+    expect_done(rt, alloc, &["export"], b"", disk, 0, catalogue.as_bytes());
 }
 
 /// Runs the session, asks for the catalogue, and writes it out: both texts are this one.
 fn expect_catalogue<R: Abort>(
     rt: &R,
     alloc: Global,
-    bytes: Vec<u8>,
-    taken: Vec<u8>,
+    session: (Vec<u8>, Vec<u8>),
     added: u64,
     catalogue: &'static str,
 ) {
-    let mut bytes = bytes;
-    let mut taken = taken;
-    let query: [Row; 1] = [(FOUNDER, 0, "catalogue", "", "200 ", catalogue)];
-    put_rows(rt, alloc, &mut bytes, &mut taken, &query);
-    let disk = MemDisk::new(alloc, &[], 65_536, &[]).expect(rt, "memory");
-    let disk = expect_done(rt, alloc, &RUN, &bytes, disk, added, &taken);
-    expect_done(rt, alloc, &["export"], b"", disk, 0, catalogue.as_bytes());
+    let (mut bytes, mut taken) = session;
+    let query = (FOUNDER, 0, "catalogue", "", "200 ", catalogue);
+    put_rows(rt, alloc, &mut bytes, &mut taken, &[query]);
+    expect_written(rt, alloc, &bytes, &taken, added, catalogue);
+}
+
+/// The same for the founder's five requests and these tables.
+fn expect_catalogue_of<R: Abort>(
+    rt: &R,
+    alloc: Global,
+    tables: &[&[Row]],
+    added: u64,
+    catalogue: &'static str,
+) {
+    let session = session_of(rt, alloc, tables);
+    expect_catalogue(rt, alloc, session, added, catalogue);
 }
 
 #[test]
 fn catalogues_of_batches(rt: HostRuntime) {
-    for (verb, body, text, catalogue) in BATCHES {
-        let mut bytes = begin(&rt, rt.alloc());
-        let mut taken = answers(&rt, rt.alloc(), 5);
-        let row: [Row; 1] = [(OBSERVER, 1, verb, body, "200 ", text)];
-        put_rows(&rt, rt.alloc(), &mut bytes, &mut taken, &row);
-        expect_catalogue(&rt, rt.alloc(), bytes, taken, 6, catalogue);
+    for &(verb, body, text, catalogue) in BATCHES {
+        let row = (OBSERVER, 1, verb, body, "200 ", text);
+        expect_catalogue_of(&rt, rt.alloc(), &[&[row]], 6, catalogue);
     }
 }
 
 #[test]
 fn catalogues_of_an_object(rt: HostRuntime) {
-    for (later, catalogue) in LATER {
-        let mut bytes = begin(&rt, rt.alloc());
-        let mut taken = answers(&rt, rt.alloc(), 5);
-        put_rows(&rt, rt.alloc(), &mut bytes, &mut taken, &OBJECT);
-        put_rows(&rt, rt.alloc(), &mut bytes, &mut taken, later);
+    for &(later, catalogue) in LATER {
         let added = (later.len() as u64).saturating_add(7);
-        expect_catalogue(&rt, rt.alloc(), bytes, taken, added, catalogue);
+        expect_catalogue_of(&rt, rt.alloc(), &[OBJECT, later], added, catalogue);
     }
 }
 
 #[test]
 fn catalogue_of_a_numbered_tracklet(rt: HostRuntime) {
-    let mut bytes = begin(&rt, rt.alloc());
-    let mut taken = answers(&rt, rt.alloc(), 5);
-    put_rows(&rt, rt.alloc(), &mut bytes, &mut taken, &OBJECT);
-    put_rows(&rt, rt.alloc(), &mut bytes, &mut taken, &NUMBERING);
-    put_rows(&rt, rt.alloc(), &mut bytes, &mut taken, &FREED);
-    expect_catalogue(&rt, rt.alloc(), bytes, taken, 11, FREED_CATALOGUE);
+    let tables = [OBJECT, NUMBERING, FREED];
+    expect_catalogue_of(&rt, rt.alloc(), &tables, 11, FREED_CATALOGUE);
+}
+
+/// The session of the three objects, without the founder's five requests.
+fn made<R: Abort>(rt: &R, alloc: Global) -> (Vec<u8>, Vec<u8>) {
+    let mut bytes = Vec::new(alloc);
+    let mut taken = Vec::new(alloc);
+    put_rows(rt, alloc, &mut bytes, &mut taken, MADE);
+    (bytes, taken)
 }
 
 #[test]
 fn catalogue_of_three_objects(rt: HostRuntime) {
-    let mut bytes = Vec::new(rt.alloc());
-    let mut taken = Vec::new(rt.alloc());
-    put_rows(&rt, rt.alloc(), &mut bytes, &mut taken, &MADE);
     assert_eq!(rt; MADE_CATALOGUE.len(), 1_170);
-    expect_catalogue(&rt, rt.alloc(), bytes, taken, 7, MADE_CATALOGUE);
+    let session = made(&rt, rt.alloc());
+    expect_catalogue(&rt, rt.alloc(), session, 7, MADE_CATALOGUE);
 }

@@ -1,17 +1,13 @@
 //! Good and bad words of the command line.
 
-use super::calls::{FIRST, FIRST_ANSWER, NONE, RUN, Want, call, done, expect_end, words_of};
-use desk_io::MemSink;
+use super::calls::{FIRST, FIRST_ANSWER, NONE, RUN, Want, done, expect_call};
 use std::alloc::Global;
 use std::process::Abort;
 
 /// Runs the program with these words over the founder's first request.
 fn expect_words<R: Abort>(rt: &R, alloc: Global, texts: &[&str], want: Want, taken: &str) {
-    let words = words_of(rt, alloc, texts);
-    let mut sink = MemSink::new(alloc, 64, &[]).expect(rt, "memory");
-    let ended = call(rt, alloc, &words, FIRST.as_bytes(), 4096, NONE, &mut sink);
-    expect_end(rt, alloc, &ended, want);
-    assert_eq!(rt; sink.bytes(), taken.as_bytes());
+    let bytes = FIRST.as_bytes();
+    expect_call(rt, alloc, texts, bytes, 4096, NONE, want, taken.as_bytes());
 }
 
 #[test]

@@ -1,12 +1,9 @@
 //! Connections that come through a door in memory.
 
-use super::calls::{Want, expect_end, words_of};
-use crate::top;
-use desk_io::{MemDoor, MemSink, MemSource, TickClock};
+use super::calls::{Want, expect_end, serve_at};
+use desk_io::{MemDoor, MemSink, MemSource};
 use desk_serve::LinkEnds;
-use disk_model::MemDisk;
 use link_desk::Left;
-use obs_time::Instant;
 use std::alloc::Global;
 use std::process::Abort;
 use std::sync::Wait;
@@ -57,7 +54,7 @@ const UNREAD: &str = concat!(
 type Link = (&'static str, u64, Left, &'static str);
 
 /// The links of a call, the call of the door that fails, the status and its number, the entries, and what is written.
-const ROWS: [(&[Link], u64, &str, u8, u64, &str); 4] = [
+const ROWS: &[(&[Link], u64, &str, u8, u64, &str)] = &[
     (
         &[(ENROL, 0, Left::Ended, ENROLLED)],
         0,
@@ -117,23 +114,9 @@ fn expect_served<R: Abort + Threads + Wait + Sync>(
     want: Want,
     taken: &str,
 ) {
-    let words = words_of(rt, alloc, &SERVE);
-    let mut source = MemSource::new(alloc, b"", 1, &[]).expect(rt, "memory");
     let mut sink = MemSink::new(alloc, 64, &[]).expect(rt, "memory");
-    let first = Instant::new(1_711_929_600_000_000_000).expect(rt, "in range");
-    let mut clock = TickClock::new(first, 1_000_000_000);
-    let disk = MemDisk::new(alloc, &[], 65_536, &[]).expect(rt, "memory");
     let mut door = door_of(rt, alloc, links, fails);
-    let (ended, ends) = top(
-        rt,
-        alloc,
-        &words,
-        &mut source,
-        &mut sink,
-        disk,
-        &mut clock,
-        &mut door,
-    );
+    let (ended, ends) = serve_at(rt, alloc, &SERVE, &mut sink, &mut door);
     expect_end(rt, alloc, &ended, want);
     assert_eq!(rt; sink.bytes(), taken.as_bytes());
     expect_links(rt, &ends, links);
@@ -141,7 +124,7 @@ fn expect_served<R: Abort + Threads + Wait + Sync>(
 
 #[test]
 fn connections(rt: HostRuntime) {
-    for (links, fails, status, number, added, taken) in ROWS {
+    for &(links, fails, status, number, added, taken) in ROWS {
         let want = Want {
             status,
             number,

@@ -1,13 +1,14 @@
 //! Runs over a disk: an empty one, one that an earlier run left, one whose calls fail, and files that are no journal.
 
 use super::batches::BATCHES;
-use super::calls::{FIRST, FIRST_ANSWER, RUN, Want, done, expect_end, put, words_of};
+use super::calls::{
+    APRIL, FIRST, FIRST_ANSWER, RUN, Want, call_on, done, expect_end, put, words_of,
+};
 use super::exchange::Exchange;
 use super::setup::SETUP;
-use crate::{Ended, single};
-use desk_io::{MemSink, MemSource, TickClock};
+use crate::Ended;
+use desk_io::MemSink;
 use disk_model::{Disk, MemDisk};
-use obs_time::Instant;
 use std::alloc::Global;
 use std::process::Abort;
 
@@ -27,10 +28,7 @@ fn run_on<R: Abort>(
     sink: &mut MemSink,
 ) -> Ended<MemDisk> {
     let words = words_of(rt, alloc, &RUN);
-    let mut source = MemSource::new(alloc, bytes, 4_096, &[]).expect(rt, "memory");
-    let first = Instant::new(1_711_929_600_000_000_000).expect(rt, "in range");
-    let mut clock = TickClock::new(first, 1_000_000_000);
-    single(alloc, &words, &mut source, sink, disk, &mut clock)
+    call_on(rt, alloc, &words, bytes, 4_096, 0, sink, disk, APRIL)
 }
 
 // Runs the program over these bytes and this disk, where the write with this number fails, looks at its end and at
@@ -182,7 +180,7 @@ const SETTLED: &str = "503 27\nrefused 16 DiskFault doubt\n200 10\nreceipt 1\n";
 
 // The source's bytes, the disk's calls that fail, the status and its number, the entries, the sink's bytes. Opening an
 // empty disk takes the first four calls, an act the next four, and the last mending two more.
-const DISKS: [(&str, [u64; 2], &str, u8, u64, &str); 13] = [
+const DISKS: &[(&str, [u64; 2], &str, u8, u64, &str)] = &[
     (FIRST, [1, 0], "DiskFault", 4, 0, ""),
     (FIRST, [2, 0], "DiskFault", 4, 0, ""),
     (FIRST, [3, 0], "DiskFault", 4, 0, ""),
@@ -215,7 +213,7 @@ fn expect_failing<R: Abort>(
 
 #[test]
 fn failing_disks(rt: HostRuntime) {
-    for (bytes, fails, status, number, added, taken) in DISKS {
+    for &(bytes, fails, status, number, added, taken) in DISKS {
         let want = Want {
             status,
             number,
@@ -235,7 +233,7 @@ const ENROLS: &str = concat!(
 );
 
 // How many bytes of the file there are, its last byte, the status and its number, and the sink's bytes.
-const FILES: [(usize, u8, &str, u8, &str); 4] = [
+const FILES: &[(usize, u8, &str, u8, &str)] = &[
     (78, 0, "Done", 0, "200 19\nreceipt 1\ncaller 1\n"),
     (78, 1, "Damaged at 77", 5, ""),
     (77, 0, "Damaged at 0", 5, ""),
@@ -268,7 +266,7 @@ fn expect_opened<R: Abort>(
 
 #[test]
 fn files(rt: HostRuntime) {
-    for (length, last, status, number, taken) in FILES {
+    for &(length, last, status, number, taken) in FILES {
         let want = Want {
             status,
             number,

@@ -34,7 +34,7 @@ fn office_without_rows(rt: HostRuntime) {
 }
 
 /// Heads, the number of bytes of the body, the byte, and the answers to both frames.
-const LARGE: [(&str, usize, u8, &str); 4] = [
+const LARGE: &[(&str, usize, u8, &str)] = &[
     (
         "+founder-1 9 submit80 1048577\n",
         1_048_577,
@@ -73,7 +73,7 @@ fn large<R: Abort>(rt: &R, alloc: Global, head: &str, count: usize, byte: u8) ->
 
 #[test]
 fn large_bodies(rt: HostRuntime) {
-    for (head, count, byte, taken) in LARGE {
+    for &(head, count, byte, taken) in LARGE {
         let bytes = large(&rt, rt.alloc(), head, count, byte);
         expect_run(
             &rt,

@@ -1,8 +1,6 @@
 //! Places of observations, members of objects, and numbers that go on, in one session.
 
-use super::calls::{NONE, done, expect_run};
-use super::rows::{FOUNDER, OBSERVER, Row, begin, put_rows};
-use super::session::answers;
+use super::rows::{FOUNDER, OBSERVER, Row, expect_session};
 
 /// Five tracklets of two observations each, of which each second one is 13 hours after the one before.
 pub(super) const FIVE: &str = concat!(
@@ -58,6 +56,31 @@ const TWO_TEXT: &str = concat!(
     "line 8 obs 14 track 7\n",
 );
 
+/// Three tracklets of two observations each, which are 13 hours apart.
+const THREE: &str = concat!(
+    "# version=2017\n",
+    "# observatory\n",
+    "! mpcCode 703\n",
+    "trkSub|mode|stn|obsTime|ra|dec|astCat\n",
+    "A8|CCD|703|2024-03-06T00:00:00Z|18.0|1.0|Gaia3\n",
+    "A8|CCD|703|2024-03-06T13:00:00Z|18.1|1.0|Gaia3\n",
+    "A9|CCD|703|2024-03-07T00:00:00Z|19.0|1.0|Gaia3\n",
+    "A9|CCD|703|2024-03-07T13:00:00Z|19.1|1.0|Gaia3\n",
+    "B1|CCD|703|2024-03-08T00:00:00Z|20.0|1.0|Gaia3\n",
+    "B1|CCD|703|2024-03-08T13:00:00Z|20.1|1.0|Gaia3\n",
+);
+
+const THREE_TEXT: &str = concat!(
+    "receipt 27\n",
+    "accepted 6 refused 0\n",
+    "line 5 obs 16 track 9\n",
+    "line 6 obs 17 track 9\n",
+    "line 7 obs 18 track 10\n",
+    "line 8 obs 19 track 10\n",
+    "line 9 obs 20 track 11\n",
+    "line 10 obs 21 track 11\n",
+);
+
 /// A line under a number and a designation.
 const BOTH_NAMES: &str = concat!(
     "# version=2017\n",
@@ -72,7 +95,7 @@ pub(super) const EA_EB: &str = "{\"principal\":\"2024 EA\",\"secondary\":\"2024 
 pub(super) const EA_EC: &str = "{\"principal\":\"2024 EA\",\"secondary\":\"2024 EC\"}";
 
 /// The observations of two objects, and of a tracklet that comes into one of them, stand in one place each.
-const PLACES: [Row; 15] = [
+const PLACES: &[Row] = &[
     (OBSERVER, 1, "submitpsv", FIVE, "200 ", FIVE_TEXT),
     (
         FOUNDER,
@@ -175,7 +198,7 @@ const PLACES: [Row; 15] = [
 ];
 
 /// Three objects become one, of which a separated one leaves the others.
-const MEMBERS: [Row; 7] = [
+const MEMBERS: &[Row] = &[
     (
         FOUNDER,
         11,
@@ -229,7 +252,7 @@ const MEMBERS: [Row; 7] = [
 
 /// A verdict that a retraction voids, and the numbers of two objects; then a line under a number and the designation of
 /// another object, before and after the two are one.
-const NUMBERED: [Row; 14] = [
+const NUMBERED: &[Row] = &[
     (
         FOUNDER,
         16,
@@ -337,12 +360,117 @@ const NUMBERED: [Row; 14] = [
     ),
 ];
 
+/// Objects with good verdicts and without a number: of one only the second member has live observations, and of the
+/// other all observations are retracted, so that the first alone gets a number.
+const OBSERVED: &[Row] = &[
+    (OBSERVER, 6, "submitpsv", THREE, "200 ", THREE_TEXT),
+    (
+        FOUNDER,
+        22,
+        "designate",
+        "{\"tracklets\":[9]}",
+        "200 ",
+        "receipt 28\nobject 2024 ED K24E00D\n",
+    ),
+    (
+        FOUNDER,
+        23,
+        "designate",
+        "{\"tracklets\":[10]}",
+        "200 ",
+        "receipt 29\nobject 2024 EE K24E00E\n",
+    ),
+    (
+        FOUNDER,
+        24,
+        "designate",
+        "{\"tracklets\":[11]}",
+        "200 ",
+        "receipt 30\nobject 2024 EF K24E00F\n",
+    ),
+    (
+        FOUNDER,
+        25,
+        "identify",
+        "{\"principal\":\"2024 ED\",\"secondary\":\"2024 EE\"}",
+        "200 ",
+        "receipt 31\n",
+    ),
+    (
+        OBSERVER,
+        7,
+        "retract",
+        "{\"observation\":16}",
+        "200 ",
+        "receipt 32\n",
+    ),
+    (
+        OBSERVER,
+        8,
+        "retract",
+        "{\"observation\":17}",
+        "200 ",
+        "receipt 33\n",
+    ),
+    (
+        OBSERVER,
+        9,
+        "retract",
+        "{\"observation\":20}",
+        "200 ",
+        "receipt 34\n",
+    ),
+    (
+        OBSERVER,
+        10,
+        "retract",
+        "{\"observation\":21}",
+        "200 ",
+        "receipt 35\n",
+    ),
+    (
+        FOUNDER,
+        26,
+        "verdict",
+        "{\"object\":\"2024 ED\",\"u\":2,\"oppositions\":4}",
+        "200 ",
+        "receipt 36\n",
+    ),
+    (
+        FOUNDER,
+        27,
+        "verdict",
+        "{\"object\":\"2024 EF\",\"u\":2,\"oppositions\":4}",
+        "200 ",
+        "receipt 37\n",
+    ),
+    (
+        FOUNDER,
+        28,
+        "number",
+        "{\"first\":620002,\"most\":5}",
+        "200 ",
+        "receipt 38\nnumber 620002 2024 ED\n",
+    ),
+    (
+        FOUNDER,
+        29,
+        "number",
+        "{\"first\":620003,\"most\":5}",
+        "409 ",
+        "refused 12 NoneEligible\n",
+    ),
+    (
+        OBSERVER,
+        0,
+        "tally",
+        "",
+        "200 ",
+        "entries 38\nisolated 0\nobjects 15\nretracted 6\naccepted 21\n",
+    ),
+];
+
 #[test]
 fn places_members_and_numbers(rt: HostRuntime) {
-    let mut bytes = begin(&rt, rt.alloc());
-    let mut taken = answers(&rt, rt.alloc(), 5);
-    put_rows(&rt, rt.alloc(), &mut bytes, &mut taken, &PLACES);
-    put_rows(&rt, rt.alloc(), &mut bytes, &mut taken, &MEMBERS);
-    put_rows(&rt, rt.alloc(), &mut bytes, &mut taken, &NUMBERED);
-    expect_run(&rt, rt.alloc(), &bytes, 4096, NONE, done(26), &taken);
+    expect_session(&rt, rt.alloc(), &[PLACES, MEMBERS, NUMBERED, OBSERVED], 38);
 }

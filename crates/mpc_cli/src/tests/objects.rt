@@ -1,8 +1,6 @@
 //! Designations, objects, verdicts and numbers in one session.
 
-use super::calls::{NONE, done, expect_run};
-use super::rows::{FOUNDER, OBSERVER, Row, begin, put_rows};
-use super::session::answers;
+use super::rows::{FOUNDER, OBSERVER, Row, expect_session};
 
 /// Two tracklets of one object, of which the first observation falls a thousandth of a second before midnight.
 pub(super) const MIDNIGHT: &str = concat!(
@@ -77,7 +75,7 @@ const LATE_TALLY: &str = "entries 25\nisolated 1\nobjects 8\nretracted 3\naccept
 const EA_FA: &str = "{\"principal\":\"2024 EA\",\"secondary\":\"2024 FA\"}";
 
 /// Tracklets become objects, of which the earliest observation gives the half-month.
-const DESIGNATIONS: [Row; 12] = [
+const DESIGNATIONS: &[Row] = &[
     (OBSERVER, 1, "submitpsv", MIDNIGHT, "200 ", MIDNIGHT_TEXT),
     (
         FOUNDER,
@@ -156,7 +154,7 @@ const DESIGNATIONS: [Row; 12] = [
 ];
 
 /// Objects become one, and two again.
-const IDENTIFICATIONS: [Row; 9] = [
+const IDENTIFICATIONS: &[Row] = &[
     (FOUNDER, 10, "identify", EA_FA, "200 ", "receipt 11\n"),
     (
         FOUNDER,
@@ -225,7 +223,7 @@ const IDENTIFICATIONS: [Row; 9] = [
 ];
 
 /// Verdicts, and the numbers that they give.
-const NUMBERS: [Row; 15] = [
+const NUMBERS: &[Row] = &[
     (
         FOUNDER,
         12,
@@ -349,7 +347,7 @@ const NUMBERS: [Row; 15] = [
 ];
 
 /// Lines under the office's names, tracklets that come out of their objects, and a resend.
-const RELEASES: [Row; 13] = [
+const RELEASES: &[Row] = &[
     (OBSERVER, 4, "submitpsv", NAMED, "200 ", NAMED_TEXT),
     (
         FOUNDER,
@@ -444,11 +442,10 @@ const RELEASES: [Row; 13] = [
 
 #[test]
 fn designations_objects_and_numbers(rt: HostRuntime) {
-    let mut bytes = begin(&rt, rt.alloc());
-    let mut taken = answers(&rt, rt.alloc(), 5);
-    put_rows(&rt, rt.alloc(), &mut bytes, &mut taken, &DESIGNATIONS);
-    put_rows(&rt, rt.alloc(), &mut bytes, &mut taken, &IDENTIFICATIONS);
-    put_rows(&rt, rt.alloc(), &mut bytes, &mut taken, &NUMBERS);
-    put_rows(&rt, rt.alloc(), &mut bytes, &mut taken, &RELEASES);
-    expect_run(&rt, rt.alloc(), &bytes, 4096, NONE, done(25), &taken);
+    expect_session(
+        &rt,
+        rt.alloc(),
+        &[DESIGNATIONS, IDENTIFICATIONS, NUMBERS, RELEASES],
+        25,
+    );
 }

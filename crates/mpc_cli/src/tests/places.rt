@@ -83,7 +83,7 @@ const LAST_TALLY: &str = concat!(
 );
 
 /// Rules beside the observations that are there, retractions, and queries.
-pub(super) const PLACES: [Exchange; 21] = [
+pub(super) const PLACES: &[Exchange] = &[
     Exchange {
         head: "observer-1 0 tally 0\n",
         body: "",

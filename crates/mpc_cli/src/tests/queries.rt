@@ -1,17 +1,13 @@
 //! What the office tells of its tracklets, objects, half-months and names, in whole sessions.
 
 use super::batches::BATCH;
-use super::calls::{NONE, done, expect_run};
 use super::members::{EA_EB, EA_EC, FIVE, FIVE_TEXT, TWO};
 use super::objects::{MIDNIGHT, MIDNIGHT_TEXT};
-use super::rows::{FOUNDER, OBSERVER, Row, begin, put_rows};
-use super::session::answers;
-use std::alloc::Global;
-use std::process::Abort;
+use super::rows::{FOUNDER, OBSERVER, Row, expect_session};
 
 /// A tracklet of lines of 80 columns. Its first line has the day 15.12345, which is 2 h 57 m 46.08 s, the right
 /// ascension 06 12 34.56 and the declination +23 45 01.2.
-const OF_COLUMNS: [Row; 3] = [
+const OF_COLUMNS: &[Row] = &[
     (
         OBSERVER,
         1,
@@ -47,7 +43,7 @@ const OF_COLUMNS: [Row; 3] = [
 
 /// An object whose earliest observation falls a thousandth of a second before the half-month's end; and names, of which
 /// the office gave one.
-const OF_MIDNIGHT: [Row; 11] = [
+const OF_MIDNIGHT: &[Row] = &[
     (OBSERVER, 1, "submitpsv", MIDNIGHT, "200 ", MIDNIGHT_TEXT),
     (
         FOUNDER,
@@ -157,7 +153,7 @@ const IDENTIFIED_TEXT: &str = concat!(
 
 /// Two objects of two tracklets each are identified; the fifth tracklet comes to the secondary, which is separated
 /// again.
-const OF_PLACES: [Row; 12] = [
+const OF_PLACES: &[Row] = &[
     (OBSERVER, 1, "submitpsv", FIVE, "200 ", FIVE_TEXT),
     (
         FOUNDER,
@@ -257,7 +253,7 @@ const UNDER_NUMBER: &str = concat!(
 
 /// What makes the office: 2024 EC is identified with 2024 EA and gets a tracklet, 2024 EB is separated, 2024 EA gets a
 /// number, its discovery observation is retracted, a tracklet of it is released, and lines come under its number.
-const ACTS: [Row; 14] = [
+const ACTS: &[Row] = &[
     (OBSERVER, 1, "submitpsv", FIVE, "200 ", FIVE_TEXT),
     (
         FOUNDER,
@@ -381,7 +377,7 @@ const EA_TEXT: &str = concat!(
 );
 
 /// What is told of objects and half-months.
-const OBJECTS: [Row; 7] = [
+const OBJECTS: &[Row] = &[
     (OBSERVER, 0, "object", "2024 EA", "200 ", EA_TEXT),
     (FOUNDER, 0, "object", "2024 EC", "200 ", EA_TEXT),
     (
@@ -435,7 +431,7 @@ const OBJECTS: [Row; 7] = [
 ];
 
 /// What is told of tracklets: in an object, released, attributed to a secondary, and under a number.
-const TRACKLETS: [Row; 8] = [
+const TRACKLETS: &[Row] = &[
     (
         OBSERVER,
         0,
@@ -517,7 +513,7 @@ const TRACKLETS: [Row; 8] = [
 
 /// What is told of names: a number, a packed number, a secondary designation, and a number that wasn't given; and what
 /// a caller's own act was answered.
-const NAMES: [Row; 7] = [
+const NAMES: &[Row] = &[
     (
         OBSERVER,
         0,
@@ -569,32 +565,22 @@ const NAMES: [Row; 7] = [
     (OBSERVER, 0, "receipt", "3", "200 ", "receipt 17\n"),
 ];
 
-/// Runs a session that begins with the founder's five requests, and has `added` entries at its end.
-fn expect_session<R: Abort>(rt: &R, alloc: Global, tables: &[&[Row]], added: u64) {
-    let mut bytes = begin(rt, alloc);
-    let mut taken = answers(rt, alloc, 5);
-    for rows in tables {
-        put_rows(rt, alloc, &mut bytes, &mut taken, rows);
-    }
-    expect_run(rt, alloc, &bytes, 4096, NONE, done(added), &taken);
-}
-
 #[test]
 fn tells_of_a_tracklet_in_columns(rt: HostRuntime) {
-    expect_session(&rt, rt.alloc(), &[&OF_COLUMNS], 6);
+    expect_session(&rt, rt.alloc(), &[OF_COLUMNS], 6);
 }
 
 #[test]
 fn tells_of_half_months_and_names(rt: HostRuntime) {
-    expect_session(&rt, rt.alloc(), &[&OF_MIDNIGHT], 7);
+    expect_session(&rt, rt.alloc(), &[OF_MIDNIGHT], 7);
 }
 
 #[test]
 fn tells_of_identified_objects(rt: HostRuntime) {
-    expect_session(&rt, rt.alloc(), &[&OF_PLACES], 12);
+    expect_session(&rt, rt.alloc(), &[OF_PLACES], 12);
 }
 
 #[test]
 fn tells_of_everything(rt: HostRuntime) {
-    expect_session(&rt, rt.alloc(), &[&ACTS, &OBJECTS, &TRACKLETS, &NAMES], 19);
+    expect_session(&rt, rt.alloc(), &[ACTS, OBJECTS, TRACKLETS, NAMES], 19);
 }

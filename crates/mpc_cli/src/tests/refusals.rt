@@ -8,7 +8,7 @@ pub(super) const ROLE: &str = "403 15\nrefused 4 Role\n";
 const THERE: &str = "409 24\nrefused 13 AlreadyThere\n";
 
 /// Refusals in the order of the office's table.
-pub(super) const REFUSALS: [Exchange; 14] = [
+pub(super) const REFUSALS: &[Exchange] = &[
     Exchange {
         head: "nobody-here 1 submit80 0\n",
         body: "",

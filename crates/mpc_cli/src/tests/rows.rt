@@ -1,6 +1,7 @@
 //! Requests with their replies as rows of a table, and sessions of them.
 
-use super::calls::{put, put_number, put_reply};
+use super::calls::{NONE, done, expect_run, put, put_number, put_reply};
+use super::session::answers;
 use super::setup::SETUP;
 use std::alloc::Global;
 use std::process::Abort;
@@ -49,4 +50,20 @@ pub(super) fn begin<R: Abort>(rt: &R, alloc: Global) -> Vec<u8> {
         put(rt, &mut bytes, next.body);
     }
     bytes
+}
+
+/// A session of the founder's five requests and of these tables, and the replies to it.
+pub(super) fn session_of<R: Abort>(rt: &R, alloc: Global, tables: &[&[Row]]) -> (Vec<u8>, Vec<u8>) {
+    let mut bytes = begin(rt, alloc);
+    let mut taken = answers(rt, alloc, 5);
+    for rows in tables {
+        put_rows(rt, alloc, &mut bytes, &mut taken, rows);
+    }
+    (bytes, taken)
+}
+
+/// Runs such a session, which has `added` entries at its end.
+pub(super) fn expect_session<R: Abort>(rt: &R, alloc: Global, tables: &[&[Row]], added: u64) {
+    let (bytes, taken) = session_of(rt, alloc, tables);
+    expect_run(rt, alloc, &bytes, 4096, NONE, done(added), &taken);
 }

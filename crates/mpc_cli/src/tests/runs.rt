@@ -19,7 +19,7 @@ const SECOND_IS_BAD: &str = concat!(
 const CUT: &str = "+founder-1 1 station 70\n{\"code\"";
 
 /// The source's bytes, the read and the write that fail, the status and its number, the entries, the sink's bytes.
-const ENDS: [(&str, u64, u64, &str, u8, u64, &str); 7] = [
+const ENDS: &[(&str, u64, u64, &str, u8, u64, &str)] = &[
     ("", 0, 0, "Done", 0, 0, ""),
     (FIRST, 0, 0, "Done", 0, 1, FIRST_ANSWER),
     (CUT, 0, 0, "BadFrame at 0", 3, 0, ""),
@@ -31,7 +31,7 @@ const ENDS: [(&str, u64, u64, &str, u8, u64, &str); 7] = [
 
 #[test]
 fn ends_of_a_run(rt: HostRuntime) {
-    for (bytes, read, write, status, number, added, taken) in ENDS {
+    for &(bytes, read, write, status, number, added, taken) in ENDS {
         let want = Want {
             status,
             number,

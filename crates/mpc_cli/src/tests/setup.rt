@@ -15,7 +15,7 @@ const CATALOGUE: &str = "{\"kind\":\"catalogue\",\"letter\":\"W\",\"word\":\"Gai
 pub(super) const OBSERVER: &str = "{\"key\":\"observer-1\",\"name\":\"Ann\",\"role\":\"observer\"}";
 
 /// The founder sets the office up.
-pub(super) const SETUP: [Exchange; 5] = [
+pub(super) const SETUP: &[Exchange] = &[
     Exchange {
         head: "+founder-1 1 station 70\n",
         body: STATION,

@@ -1,10 +1,7 @@
 //! One connection over a real socket of this machine.
 
-use super::calls::{done, expect_end, words_of};
-use crate::top;
-use desk_io::{MemSink, MemSource, TcpDoor, TickClock};
-use disk_model::MemDisk;
-use obs_time::Instant;
+use super::calls::{done, expect_end, serve_at};
+use desk_io::{MemSink, TcpDoor};
 use std::alloc::Global;
 use std::io;
 use std::io::{ErrorKind, Read, Write};
@@ -67,27 +64,10 @@ fn serve_one<
     R: Abort + Threads + Wait + Sync,
     N: Net<Listener = TcpListener, Stream = TcpStream> + Copy,
 >(rt: &R, net: N, alloc: Global) {
-    let words = words_of(
-        rt,
-        alloc,
-        &["serve", "--connections", "1", "--key", "+founder-1"],
-    );
-    let mut source = MemSource::new(alloc, b"", 1, &[]).expect(rt, "memory");
+    let words = ["serve", "--connections", "1", "--key", "+founder-1"];
     let mut sink = MemSink::new(alloc, 64, &[]).expect(rt, "memory");
-    let first = Instant::new(1_711_929_600_000_000_000).expect(rt, "in range");
-    let mut clock = TickClock::new(first, 1_000_000_000);
-    let disk = MemDisk::new(alloc, &[], 65_536, &[]).expect(rt, "memory");
     let mut door = TcpDoor::new(net, alloc);
-    let (ended, ends) = top(
-        rt,
-        alloc,
-        &words,
-        &mut source,
-        &mut sink,
-        disk,
-        &mut clock,
-        &mut door,
-    );
+    let (ended, ends) = serve_at(rt, alloc, &words, &mut sink, &mut door);
     expect_end(rt, alloc, &ended, done(0));
     assert_eq!(rt; sink.bytes(), b"connections 1\nentries 0\n".as_slice());
     assert_eq!(rt; ends.len(), 1);

@@ -1,7 +1,6 @@
 //! The made-up workload: its summary, a sink that fails, and words that are no workload.
 
-use super::calls::{Faults, NONE, Want, call, done, expect_end, words_of};
-use desk_io::MemSink;
+use super::calls::{Faults, NONE, Want, done, expect_call};
 use std::alloc::Global;
 use std::process::Abort;
 
@@ -27,11 +26,7 @@ fn expect_workload<R: Abort>(
     want: Want,
     taken: &str,
 ) {
-    let words = words_of(rt, alloc, texts);
-    let mut sink = MemSink::new(alloc, 256, &[faults.write]).expect(rt, "memory");
-    let ended = call(rt, alloc, &words, b"", 4096, faults, &mut sink);
-    expect_end(rt, alloc, &ended, want);
-    assert_eq!(rt; sink.bytes(), taken.as_bytes());
+    expect_call(rt, alloc, texts, b"", 4096, faults, want, taken.as_bytes());
 }
 
 #[test]

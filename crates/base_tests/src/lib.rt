@@ -1,0 +1,19 @@
+//! Tests of texts, numbers, angles, moments, names and ordered lists against values worked out by hand.
+//!
+//! A crate with tests is proved twice, with and without them, so they stand in a crate above those that they test.
+#![tactic(auto)]
+
+#[cfg(test)]
+mod angles;
+#[cfg(test)]
+mod lines;
+#[cfg(test)]
+mod names;
+#[cfg(test)]
+mod orders;
+#[cfg(test)]
+mod tables;
+#[cfg(test)]
+mod texts;
+#[cfg(test)]
+mod times;

@@ -1,0 +1,55 @@
+use desk_io::{Door, Failed, Next, Sink, Source, TcpDoor, write_all};
+use std::io;
+use std::io::{ErrorKind, Read, Write};
+use std::net::TcpStream;
+use std::test::Fail;
+
+// Reads eight bytes from the source, writes as many to the sink, and gives both up.
+fn answer<S: Source, K: Sink>(mut source: S, mut sink: K) -> Result<[u8; 8], Failed> {
+    let mut question = [0u8; 8];
+    source.read(&mut question)?;
+    write_all(&mut sink, b"answered")?;
+    source.end();
+    sink.end();
+    Ok(question)
+}
+
+// What the next link of the door asks.
+fn asked(door: &mut TcpDoor<HostRuntime>) -> Result<[u8; 8], Failed> {
+    match door.next() {
+        Next::Link(source, sink) => answer(source, sink),
+        _ => Err(Failed),
+    }
+}
+
+// What the peer gets until its stream ends.
+fn heard(peer: &mut TcpStream) -> io::Result<[u8; 8]> {
+    let mut text = [0u8; 8];
+    peer.read_exact(&mut text)?;
+    match peer.read(&mut [0u8; 1])? {
+        0 => Ok(text),
+        _ => Err(io::Error::from(ErrorKind::InvalidData)),
+    }
+}
+
+#[test]
+fn link_over_a_port(rt: HostRuntime) -> Result<(), Fail> {
+    let mut door = TcpDoor::on_port(rt, rt.alloc(), 0);
+    let address = door.bind()?;
+    // The system chose a port, which isn't that of the program.
+    assert!(rt; address.port() != 8_017);
+    let mut peer = TcpStream::connect(&rt, address)?;
+    peer.write_all(b"question")?;
+    assert_eq!(rt; asked(&mut door)?, *b"question");
+    assert_eq!(rt; heard(&mut peer)?, *b"answered");
+    Ok(())
+}
+
+#[test]
+fn port_in_use(rt: HostRuntime) -> Result<(), Fail> {
+    let mut door = TcpDoor::on_port(rt, rt.alloc(), 0);
+    let port = door.bind()?.port();
+    let mut second = TcpDoor::on_port(rt, rt.alloc(), port);
+    assert!(rt; matches!(second.next(), Next::Failed));
+    Ok(())
+}

@@ -1,0 +1,350 @@
+mod plain;
+
+use angle_fixed::{Dec, Ra};
+use item_list::NoMemory;
+use obs_record::{Coded, Shape, Short, Sighting, TrackName};
+use obs_time::Instant;
+use packed_names::{Designation, HalfMonth, Provisional};
+use plain::Plain;
+use std::alloc::{AllocError, Global};
+use tracklet_file::*;
+
+const ENTRY: u64 = 7;
+
+/// 2024 EA.
+const HOME: Designation = Designation::Provisional(Provisional {
+    half: HalfMonth {
+        year: 2024,
+        index: 4,
+    },
+    order: 1,
+});
+
+fn name() -> TrackName {
+    TrackName::Sub(Short::new(b"P10abcd"))
+}
+
+// An observation from station 703 at so many nanoseconds, one unit north of as many units of right ascension.
+fn seen(ns: i64) -> Option<Sighting> {
+    let time = Instant::new(ns)?;
+    let ra = Ra::new(ns)?;
+    let dec = Dec::new(1)?;
+    Some(Sighting {
+        perm: None,
+        prov: None,
+        sub: Some(Short::new(b"P10abcd")),
+        station: Short::new(b"703"),
+        time,
+        ra,
+        dec,
+        mag: None,
+        band: Coded::Nothing,
+        mode: Coded::Nothing,
+        catalogue: Coded::Nothing,
+        note1: b' ',
+        shape: Shape::Psv { mag: 0 },
+    })
+}
+
+fn begin_track(file: &mut TrackletFile, home: Option<Designation>) -> Result<u64, NoMemory> {
+    file.reserve(0, 1)?;
+    Ok(file.add_track(name(), Short::new(b"703"), home))
+}
+
+fn observe(file: &mut TrackletFile, track: u64, ns: i64) -> Result<u64, NoMemory> {
+    file.reserve(1, 0)?;
+    match (file.name(track), seen(ns)) {
+        (Some(_), Some(s)) => Ok(file.add(track, s, ENTRY)),
+        _ => Err(AllocError),
+    }
+}
+
+fn retract(file: &mut TrackletFile, k: u64) {
+    if file.sighting(k).is_some() && file.is_live(k) {
+        file.retract(k);
+    }
+}
+
+fn set_home(file: &mut TrackletFile, t: u64, home: Option<Designation>) {
+    if file.name(t).is_some() {
+        file.set_home(t, home);
+    }
+}
+
+/// The numbers of tracklets, and their homes.
+const HOMES: &[(u64, Option<Designation>)] = &[(1, None), (2, Some(HOME))];
+
+fn begin_all(file: &mut TrackletFile) -> bool {
+    for &(number, home) in HOMES {
+        if begin_track(file, home).ok() != Some(number) {
+            return false;
+        }
+    }
+    true
+}
+
+/// The numbers of observations, their moments, and their tracklets.
+const OBSERVED: &[(u64, i64, u64)] = &[
+    (1, 1, 1),
+    (2, 2, 2),
+    (3, 3, 1),
+    (4, 4, 2),
+    (5, 5, 1),
+    (6, 6, 1),
+];
+
+fn observe_all(file: &mut TrackletFile) -> bool {
+    for &(number, ns, track) in OBSERVED {
+        if observe(file, track, ns).ok() != Some(number) {
+            return false;
+        }
+    }
+    true
+}
+
+// Tracklet 1, isolated, with the observations 1, 3, 5 and 6, and tracklet 2, which has a home, with 2 and 4. Then
+// observation 3 is retracted, tracklet 1 gets the home, and tracklet 2 loses it.
+fn fill(file: &mut TrackletFile) -> bool {
+    if !begin_all(file) || !observe_all(file) {
+        return false;
+    }
+    retract(file, 3);
+    set_home(file, 1, Some(HOME));
+    set_home(file, 2, None);
+    true
+}
+
+fn filled(alloc: Global) -> Option<TrackletFile> {
+    let mut file = TrackletFile::new(alloc).ok()?;
+    let done = fill(&mut file);
+    done.then_some(file)
+}
+
+fn is_live(file: &TrackletFile, k: u64) -> bool {
+    file.sighting(k).is_some() && file.is_live(k)
+}
+
+// What is told of an observation.
+type Told = (Option<u64>, Option<i64>, bool, Option<u64>);
+
+// What an observation is of, when it was made, whether it is live, and which comes next.
+fn observation(file: &TrackletFile, k: u64) -> Told {
+    let time = file.sighting(k).map(|s| s.time.ns());
+    (file.track_of(k), time, is_live(file, k), file.next_of(k))
+}
+
+fn home(file: &TrackletFile, t: u64) -> Option<Designation> {
+    match file.name(t) {
+        Some(_) => file.home(t),
+        None => None,
+    }
+}
+
+fn counts(file: &TrackletFile) -> [u64; 5] {
+    [
+        file.isolated(),
+        file.homed(),
+        file.retracted(),
+        file.observations(),
+        file.tracks(),
+    ]
+}
+
+fn has_live(file: &TrackletFile, station: &[u8], ns: i64) -> bool {
+    seen(ns).is_some_and(|s| file.has_live(Short::new(station), s.time, s.ra, s.dec))
+}
+
+/// Observations, and what is told of them.
+const OBSERVATIONS: &[(u64, Told)] = &[
+    (0, (None, None, false, None)),
+    (1, (Some(1), Some(1), true, Some(3))),
+    (2, (Some(2), Some(2), true, Some(4))),
+    (3, (Some(1), Some(3), false, Some(5))),
+    (4, (Some(2), Some(4), true, None)),
+    (5, (Some(1), Some(5), true, Some(6))),
+    (6, (Some(1), Some(6), true, None)),
+    (7, (None, None, false, None)),
+];
+
+// The first of them of which something else is told, counted from 0; None where there is none. So are those below.
+fn wrong_observation(file: &TrackletFile) -> Option<usize> {
+    for (row, &(k, wanted)) in OBSERVATIONS.iter().enumerate() {
+        if observation(file, k) != wanted {
+            return Some(row);
+        }
+    }
+    None
+}
+
+// The first wrong observation, the entry of the sixth, and the counts; None where memory was refused.
+fn observations(alloc: Global) -> Option<(Option<usize>, Option<u64>, [u64; 5])> {
+    let file = filled(alloc)?;
+    Some((wrong_observation(&file), file.entry_of(6), counts(&file)))
+}
+
+#[test]
+fn observations_in_their_places(rt: HostRuntime) {
+    let found = observations(rt.alloc());
+    assert_eq!(rt; found, Some((None, Some(ENTRY), [2, 3, 1, 6, 2])));
+}
+
+/// Tracklets, their first observations, their homes, and whether they are of station 703.
+const TRACKLETS: &[(u64, Option<u64>, Option<Designation>, bool)] = &[
+    (0, None, None, false),
+    (1, Some(1), Some(HOME), true),
+    (2, Some(2), None, true),
+    (3, None, None, false),
+];
+
+fn is_of_703(file: &TrackletFile, t: u64) -> bool {
+    file.station(t) == Some(Short::new(b"703"))
+}
+
+fn wrong_tracklet(file: &TrackletFile) -> Option<usize> {
+    for (row, &(t, first, at, of_703)) in TRACKLETS.iter().enumerate() {
+        if file.first_of(t) != first || home(file, t) != at || is_of_703(file, t) != of_703 {
+            return Some(row);
+        }
+    }
+    None
+}
+
+/// Stations with moments, and whether a live observation stands there.
+const POSITIONS: &[(&[u8], i64, bool)] = &[
+    (b"703", 1, true),
+    (b"703", 3, false),
+    (b"W84", 1, false),
+    (b"703", 7, false),
+];
+
+fn wrong_position(file: &TrackletFile) -> Option<usize> {
+    for (row, &(code, ns, wanted)) in POSITIONS.iter().enumerate() {
+        if has_live(file, code, ns) != wanted {
+            return Some(row);
+        }
+    }
+    None
+}
+
+// The first wrong tracklet, whether tracklets that aren't there have no station, and the first wrong position.
+fn tracklets(alloc: Global) -> Option<(Option<usize>, [bool; 2], Option<usize>)> {
+    let file = filled(alloc)?;
+    let none = [file.station(0).is_none(), file.station(3).is_none()];
+    Some((wrong_tracklet(&file), none, wrong_position(&file)))
+}
+
+#[test]
+fn tracklets_and_positions(rt: HostRuntime) {
+    let found = tracklets(rt.alloc());
+    assert_eq!(rt; found, Some((None, [true; 2], None)));
+}
+
+/// A call that changes the file.
+#[derive(Clone, Copy)]
+enum Call {
+    Track(Option<Designation>),
+    Add(u64, i64),
+    Retract(u64),
+    Home(u64, Option<Designation>),
+}
+
+fn make(file: &mut TrackletFile, call: Call) -> Result<(), NoMemory> {
+    match call {
+        Call::Track(home) => {
+            let _number = begin_track(file, home)?;
+        }
+        Call::Add(track, ns) => {
+            let _number = observe(file, track, ns)?;
+        }
+        Call::Retract(k) => retract(file, k),
+        Call::Home(t, home) => set_home(file, t, home),
+    }
+    Ok(())
+}
+
+fn make_plain(plain: &mut Plain, call: Call) -> Result<(), NoMemory> {
+    match call {
+        Call::Track(home) => {
+            let station = Short::new(b"703");
+            plain.add_track(Tracklet {
+                name: name(),
+                station,
+                home,
+            })?;
+        }
+        Call::Add(track, ns) => {
+            if let Some(s) = seen(ns) {
+                plain.add(track, s, ENTRY)?;
+            }
+        }
+        Call::Retract(k) => plain.retract(k),
+        Call::Home(t, home) => plain.set_home(t, home),
+    }
+    Ok(())
+}
+
+// Whether the two answer every question alike, over numbers to 9 and times to 40.
+fn agree(file: &TrackletFile, plain: &Plain) -> bool {
+    let numbers = (0..10).all(|k| {
+        file.first_of(k) == plain.first_after(k, 0) && file.next_of(k) == plain.next_of(k)
+    });
+    let positions = (0..5).all(|tens: i64| match seen(tens * 10) {
+        Some(s) => file.has_live(s.station, s.time, s.ra, s.dec) == plain.has_live(&s),
+        None => false,
+    });
+    let homes = (0..5).all(|after| file.next_at(HOME, after) == plain.next_at(HOME, after));
+    numbers
+        && positions
+        && homes
+        && [file.isolated(), file.homed(), file.retracted()] == plain.counts()
+}
+
+/// Calls that are made on both forms, one after the other.
+const CALLS: &[Call] = &[
+    Call::Track(None),
+    Call::Add(1, 10),
+    Call::Track(Some(HOME)),
+    Call::Add(2, 10),
+    Call::Add(1, 10),
+    Call::Add(1, 20),
+    Call::Retract(1),
+    Call::Add(2, 30),
+    Call::Retract(3),
+    Call::Home(1, Some(HOME)),
+    Call::Retract(2),
+    Call::Add(1, 10),
+    Call::Home(2, None),
+    Call::Track(None),
+    Call::Add(3, 20),
+    Call::Retract(4),
+    Call::Retract(7),
+    Call::Add(2, 0),
+];
+
+fn is_made(file: &mut TrackletFile, plain: &mut Plain, call: Call) -> bool {
+    make(file, call).is_ok() && make_plain(plain, call).is_ok()
+}
+
+// The first call after which the two don't agree, counted from 0; None where there is none.
+fn wrong_call(file: &mut TrackletFile, plain: &mut Plain) -> Option<usize> {
+    for (row, &call) in CALLS.iter().enumerate() {
+        if !is_made(file, plain, call) || !agree(file, plain) {
+            return Some(row);
+        }
+    }
+    None
+}
+
+// The same over new ones, and the counts after all calls; None where memory was refused.
+fn called(alloc: Global) -> Option<(Option<usize>, [u64; 5])> {
+    let mut file = TrackletFile::new(alloc).ok()?;
+    let mut plain = Plain::new(alloc);
+    let wrong = wrong_call(&mut file, &mut plain);
+    Some((wrong, counts(&file)))
+}
+
+#[test]
+fn answers_as_the_plain_lists(rt: HostRuntime) {
+    let found = called(rt.alloc());
+    assert_eq!(rt; found, Some((None, [2, 1, 5, 8, 3])));
+}

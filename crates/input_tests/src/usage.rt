@@ -1,0 +1,23 @@
+//! What the usage tells.
+
+use std::test::Fail;
+use usage_text::usage_text;
+
+#[test]
+fn names_each_command(rt: HostRuntime) -> Result<(), Fail> {
+    let text = usage_text(rt.alloc())?;
+    for part in [
+        "Usage: mpc_cli run --key <K>\n",
+        "Usage: mpc_cli serve --key <K> --connections <N>\n",
+        "Usage: mpc_cli export\n",
+        "Usage: mpc_cli workload --seed <S> --count <M>\n",
+        "Example: mpc_cli workload --seed 7 --count 3\n",
+        "1 to 1000\n",
+        "0 to 18446744073709551615\n",
+        "1 to 20000\n",
+        "  9  DoorFault: the port failed\n",
+    ] {
+        assert!(rt; text.as_str().contains(part), "{part} in {text}");
+    }
+    Ok(())
+}

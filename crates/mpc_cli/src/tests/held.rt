@@ -1,0 +1,156 @@
+//! Links in memory of which some are held, inside a message or an answer, until enough was answered on all of them.
+
+ghost use Rattle.std.specs.Prelude.{length, None};
+
+use desk_io::{Door, Failed, MemSink, MemSource, Next, Sink, Source};
+use std::alloc::Global;
+use std::collections::VecDeque;
+use std::process::Abort;
+use std::sync::Arc;
+use std::sync::atomic::{AtomicU64, Ordering};
+use std::thread::yield_now;
+
+/// How often a source or a sink that is held looks whether enough was answered, before it fails.
+const LOOKS: u64 = 1_000_000;
+
+/// How many bytes the sinks of the links took so far, in whichever threads.
+type Answered = Arc<AtomicU64, Global>;
+
+/// What is sent on a link, and how many bytes its source and its sink await.
+pub(super) type Held = (&'static str, u64, u64);
+
+// Whether the sinks took so many bytes, in time.
+fn took_in_time(answered: &AtomicU64, awaited: u64) -> bool {
+    for _ in 0..LOOKS {
+        if answered.load(Ordering::SeqCst) >= awaited {
+            return true;
+        }
+        yield_now();
+    }
+    false
+}
+
+/// A source that gives one piece, and the next one when the sinks took as many bytes as it awaits. It tells nothing of
+/// its bytes.
+#[derive(Drop)]
+pub(super) struct HeldSource {
+    source: MemSource,
+    answered: Answered,
+    awaited: u64,
+    has_begun: bool,
+    faults: u64,
+}
+
+impl Source for HeldSource {
+    ghost left = { λ _. None };
+
+    ghost faults = { λ held. held.faults };
+
+    ghost reads = { λ held. length held.source.left };
+
+    ghost is_open = { λ held. held.source.is_open };
+
+    ghost gives = { λ before bytes after. Unit {0} };
+
+    fn read(&mut self, piece: &mut [u8]) -> Result<usize, Failed> {
+        if !self.has_begun || took_in_time(&self.answered, self.awaited) {
+            self.has_begun = true;
+            if let Ok(count) = self.source.read(piece) {
+                return Ok(count);
+            }
+        }
+        self.faults = self.faults.saturating_add(1);
+        Err(Failed)
+    }
+
+    fn end(&mut self) {
+        self.source.end();
+    }
+}
+
+/// A sink that takes nothing before the sinks took as many bytes as it awaits. It tells nothing of its bytes.
+#[derive(Drop)]
+pub(super) struct HeldSink {
+    sink: MemSink,
+    answered: Answered,
+    awaited: u64,
+    faults: u64,
+}
+
+impl HeldSink {
+    /// The bytes that it took.
+    pub(super) fn bytes(&self) -> &[u8] {
+        self.sink.bytes()
+    }
+}
+
+impl Sink for HeldSink {
+    ghost taken = { λ _. None };
+
+    ghost faults = { λ held. held.faults };
+
+    ghost is_open = { λ held. held.sink.is_open };
+
+    fn write(&mut self, piece: &[u8]) -> Result<usize, Failed> {
+        if took_in_time(&self.answered, self.awaited) {
+            if let Ok(count) = self.sink.write(piece) {
+                self.answered.fetch_add(count as u64, Ordering::SeqCst);
+                return Ok(count);
+            }
+        }
+        self.faults = self.faults.saturating_add(1);
+        Err(Failed)
+    }
+
+    fn end(&mut self) {
+        self.sink.end();
+    }
+}
+
+/// A door that gives such links, and is shut behind the last of them.
+#[derive(Drop)]
+pub(super) struct HeldDoor {
+    links: VecDeque<(HeldSource, HeldSink)>,
+}
+
+impl HeldDoor {
+    /// A door with a link for each of these.
+    pub(super) fn new<R: Abort>(rt: &R, alloc: Global, links: &[Held]) -> HeldDoor {
+        let answered = Arc::new(alloc, AtomicU64::new(0)).expect(rt, "memory");
+        let mut made = VecDeque::new(alloc);
+        for (sent, read_awaits, write_awaits) in links {
+            let source = HeldSource {
+                source: MemSource::new(alloc, sent.as_bytes(), 7, &[]).expect(rt, "memory"),
+                answered: Arc::try_clone(&answered).expect(rt, "memory"),
+                awaited: *read_awaits,
+                has_begun: false,
+                faults: 0,
+            };
+            let sink = HeldSink {
+                sink: MemSink::new(alloc, 4_096, &[]).expect(rt, "memory"),
+                answered: Arc::try_clone(&answered).expect(rt, "memory"),
+                awaited: *write_awaits,
+                faults: 0,
+            };
+            made.push_back((source, sink)).expect(rt, "memory");
+        }
+        HeldDoor { links: made }
+    }
+}
+
+impl Door for HeldDoor {
+    type In = HeldSource;
+
+    type Out = HeldSink;
+
+    ghost links = { λ _. None };
+
+    ghost faults = { λ _. 0 };
+
+    fn next(&mut self) -> Next<HeldSource, HeldSink> {
+        match self.links.pop_front() {
+            Some((source, sink)) => Next::Link(source, sink),
+            None => Next::Shut,
+        }
+    }
+}

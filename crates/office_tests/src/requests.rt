@@ -1,0 +1,482 @@
+//! What becomes of requests, kind by kind, with ample memory.
+
+ghost use Rattle.std.specs.Prelude.{◌≡◌, true};
+ghost use Rattle.act_model.specs.Requests.{is_act};
+ghost use Rattle.act_model.specs.Roster.{IsFounder};
+
+use act_model::{Body, Key, Reply, Request, Text, Verb, line_feeds, reply_text};
+use desk_core::{Core, Prep, ReplayFault};
+use item_list::Bytes;
+use obs_time::Instant;
+use std::alloc::Global;
+
+/// Which answer `prepare` gave; a query's answer counts as refused.
+#[derive(Clone, Copy, PartialEq, Eq)]
+enum Kind {
+    Kept,
+    Refused,
+    Ready,
+}
+
+/// A request, its body or None for one without room, and what it is answered.
+#[derive(Clone, Copy)]
+struct Case {
+    key: &'static [u8],
+    number: u64,
+    verb: Verb,
+    body: Option<&'static str>,
+    kind: Kind,
+    text: &'static str,
+}
+
+/// A moment of 2024.
+const DAY: i64 = 1_711_929_600_000_000_000;
+
+const FOUNDER: &[u8] = b"+founder-1";
+
+const OBSERVER: &[u8] = b"observer-1";
+
+const STATION: &str =
+    "{\"code\":\"703\",\"from\":\"1998-01-01\",\"name\":\"Catalina\",\"to\":\"2199-12-31\"}";
+
+const MODE: &str = "{\"kind\":\"mode\",\"letter\":\"C\",\"word\":\"CCD\"}";
+
+const BAND: &str = "{\"kind\":\"band\",\"letter\":\"V\",\"word\":\"V\"}";
+
+const ENROL: &str = "{\"key\":\"observer-1\",\"name\":\"Ann\",\"role\":\"observer\"}";
+
+/// A name of 100 bytes.
+const LONG_NAME: &str = concat!(
+    "{\"key\":\"observer-2\",\"name\":\"",
+    "abcdefghijklmnopqrstuvwxy",
+    "abcdefghijklmnopqrstuvwxy",
+    "abcdefghijklmnopqrstuvwxy",
+    "abcdefghijklmnopqrstuvwxy",
+    "\",\"role\":\"observer\"}",
+);
+
+/// Two lines of 80 columns that break no rule.
+const LINES: &str = concat!(
+    "     P10abcd  C2024 03 15.12345 06 12 34.56 +23 45 01.2          19.5 V      703\n",
+    "     P10abcd  C2024 03 15.13345 06 12 34.56 +23 45 01.2          19.5 V      703\n",
+);
+
+/// What stands before and behind the decimals of the day in a line of 80 columns.
+const BEFORE: &str = "     P10abce  C2024 03 15.";
+
+const BEHIND: &str = " 06 12 34.56 +23 45 01.2          19.5 V      703\n";
+
+const RETRACT: &str = "{\"observation\":1}";
+
+/// Eleven lines that are too short.
+const SHORT_LINES: &str = concat!(
+    "     P10abc1\n",
+    "     P10abc2\n",
+    "     P10abc3\n",
+    "     P10abc4\n",
+    "     P10abc5\n",
+    "     P10abc6\n",
+    "     P10abc7\n",
+    "     P10abc8\n",
+    "     P10abc9\n",
+    "     P10abca\n",
+    "     P10abcb\n",
+);
+
+const SHORT_ANSWER: &str = concat!(
+    "refused 7 NoLine\n",
+    "line 1 refused S1\n",
+    "line 2 refused S1\n",
+    "line 3 refused S1\n",
+    "line 4 refused S1\n",
+    "line 5 refused S1\n",
+    "line 6 refused S1\n",
+    "line 7 refused S1\n",
+    "line 8 refused S1\n",
+    "line 9 refused S1\n",
+    "line 10 refused S1\n",
+    "line 11 refused S1\n",
+);
+
+/// A batch of ADES in which a column stands twice.
+const TWICE: &str = concat!(
+    "# version=2017\n",
+    "trkSub|mode|stn|obsTime|ra|dec|astCat|ra\n",
+    "AAA1|CCD|703|2024-03-15T23:59:59Z|150.0|-5.5|Gaia3|150.0\n",
+);
+
+const OUT_OF_MEMORY: &str = "refused 17 NoMemory\n";
+
+/// The office is set up; a batch comes, is sent again, and its number is used for others; then refusals.
+const CASES: [Case; 21] = [
+    Case {
+        key: FOUNDER,
+        number: 1,
+        verb: Verb::Station,
+        body: Some(STATION),
+        kind: Kind::Ready,
+        text: "receipt 1\n",
+    },
+    Case {
+        key: FOUNDER,
+        number: 2,
+        verb: Verb::Code,
+        body: Some(MODE),
+        kind: Kind::Ready,
+        text: "receipt 2\n",
+    },
+    Case {
+        key: FOUNDER,
+        number: 3,
+        verb: Verb::Code,
+        body: Some(BAND),
+        kind: Kind::Ready,
+        text: "receipt 3\n",
+    },
+    Case {
+        key: FOUNDER,
+        number: 4,
+        verb: Verb::Enrol,
+        body: Some(ENROL),
+        kind: Kind::Ready,
+        text: "receipt 4\ncaller 1\n",
+    },
+    Case {
+        key: FOUNDER,
+        number: 5,
+        verb: Verb::Enrol,
+        body: Some(LONG_NAME),
+        kind: Kind::Ready,
+        text: "receipt 5\ncaller 2\n",
+    },
+    Case {
+        key: OBSERVER,
+        number: 1,
+        verb: Verb::Submit80,
+        body: Some(LINES),
+        kind: Kind::Ready,
+        text: "receipt 6\naccepted 2 refused 0\nline 1 obs 1 track 1\nline 2 obs 2 track 1\n",
+    },
+    Case {
+        key: OBSERVER,
+        number: 1,
+        verb: Verb::Submit80,
+        body: Some(LINES),
+        kind: Kind::Kept,
+        text: "receipt 6\naccepted 2 refused 0\nline 1 obs 1 track 1\nline 2 obs 2 track 1\n",
+    },
+    Case {
+        key: OBSERVER,
+        number: 1,
+        verb: Verb::Submit80,
+        body: Some(SHORT_LINES),
+        kind: Kind::Kept,
+        text: "refused 3 OtherRequest receipt 6\n",
+    },
+    Case {
+        key: OBSERVER,
+        number: 1,
+        verb: Verb::SubmitPsv,
+        body: Some(TWICE),
+        kind: Kind::Kept,
+        text: "refused 3 OtherRequest receipt 6\n",
+    },
+    Case {
+        key: OBSERVER,
+        number: 1,
+        verb: Verb::Submit80,
+        body: None,
+        kind: Kind::Refused,
+        text: OUT_OF_MEMORY,
+    },
+    Case {
+        key: OBSERVER,
+        number: 2,
+        verb: Verb::Submit80,
+        body: None,
+        kind: Kind::Refused,
+        text: OUT_OF_MEMORY,
+    },
+    Case {
+        key: OBSERVER,
+        number: 0,
+        verb: Verb::Unknown,
+        body: None,
+        kind: Kind::Refused,
+        text: OUT_OF_MEMORY,
+    },
+    Case {
+        key: OBSERVER,
+        number: 2,
+        verb: Verb::Submit80,
+        body: Some(SHORT_LINES),
+        kind: Kind::Refused,
+        text: SHORT_ANSWER,
+    },
+    Case {
+        key: OBSERVER,
+        number: 2,
+        verb: Verb::SubmitPsv,
+        body: Some(TWICE),
+        kind: Kind::Refused,
+        text: "refused 6 Header H5 line 2\n",
+    },
+    Case {
+        key: OBSERVER,
+        number: 2,
+        verb: Verb::Enrol,
+        body: Some(ENROL),
+        kind: Kind::Refused,
+        text: "refused 4 Role\n",
+    },
+    Case {
+        key: FOUNDER,
+        number: 6,
+        verb: Verb::Enrol,
+        body: Some(ENROL),
+        kind: Kind::Refused,
+        text: "refused 13 AlreadyThere\n",
+    },
+    Case {
+        key: OBSERVER,
+        number: 0,
+        verb: Verb::Unknown,
+        body: Some(LINES),
+        kind: Kind::Refused,
+        text: "refused 1 Unread verb\n",
+    },
+    Case {
+        key: b"observer-2",
+        number: 1,
+        verb: Verb::Retract,
+        body: Some(RETRACT),
+        kind: Kind::Refused,
+        text: "refused 4 Role\n",
+    },
+    Case {
+        key: OBSERVER,
+        number: 3,
+        verb: Verb::Retract,
+        body: Some(RETRACT),
+        kind: Kind::Ready,
+        text: "receipt 7\n",
+    },
+    Case {
+        key: OBSERVER,
+        number: 4,
+        verb: Verb::Retract,
+        body: Some(RETRACT),
+        kind: Kind::Refused,
+        text: "refused 11 AlreadyRetracted 1\n",
+    },
+    Case {
+        key: OBSERVER,
+        number: 0,
+        verb: Verb::Tally,
+        body: Some(""),
+        kind: Kind::Refused,
+        text: "entries 7\nisolated 1\nobjects 0\nretracted 1\naccepted 2\n",
+    },
+];
+
+fn founder() -> Key
+    ensures { IsFounder result }
+{
+    Key::new(FOUNDER)
+}
+
+/// An office without entries; None where memory was refused, here and below.
+fn office(alloc: Global) -> Option<Core> {
+    Core::new(alloc, founder()).ok()
+}
+
+fn body(alloc: Global, text: Option<&str>) -> Option<Body> {
+    match text {
+        Some(text) => Some(Body::Whole(Bytes::from_slice(alloc, text.as_bytes()).ok()?)),
+        None => Some(Body::NoRoom),
+    }
+}
+
+/// The answer to an act, with its kind; one that is ready is added.
+fn act(core: &mut Core, request: &Request, reading: Instant) -> (Kind, Reply)
+    requires { is_act request.now.verb ≡ true }
+{
+    match core.prepare(request, reading, None) {
+        Prep::Kept(reply) => (Kind::Kept, reply),
+        Prep::Refused(refusal) => (Kind::Refused, Reply::Refused(refusal)),
+        Prep::Ready(prepared) => (Kind::Ready, core.commit(prepared)),
+    }
+}
+
+/// The answer to a request, with its kind.
+fn asked(core: &mut Core, request: &Request) -> Option<(Kind, Reply)> {
+    let reading = Instant::new(DAY)?;
+    if request.verb.is_act() {
+        return Some(act(core, request, reading));
+    }
+    Some((Kind::Refused, core.answer(request)))
+}
+
+/// The text of the answer, with its kind.
+fn told(alloc: Global, core: &mut Core, request: &Request) -> Option<(Kind, Text)> {
+    let (kind, reply) = asked(core, request)?;
+    Some((kind, reply_text(alloc, reply).ok()?))
+}
+
+/// Whether a request is answered as it must be.
+fn holds(alloc: Global, core: &mut Core, case: &Case) -> Option<bool> {
+    let request = Request {
+        key: Key::new(case.key),
+        number: Some(case.number),
+        verb: case.verb,
+        body: body(alloc, case.body)?,
+    };
+    let (kind, text) = told(alloc, core, &request)?;
+    Some(kind == case.kind && text.as_slice() == case.text.as_bytes())
+}
+
+/// The first case that is answered otherwise, counted from 0; None where there is none.
+fn wrong_case(alloc: Global, core: &mut Core) -> Option<usize> {
+    for (place, case) in CASES.iter().enumerate() {
+        if holds(alloc, core, case) != Some(true) {
+            return Some(place);
+        }
+    }
+    None
+}
+
+/// The first case that a new office answers otherwise.
+fn wrong_answer(alloc: Global) -> Option<Option<usize>> {
+    let mut core = office(alloc)?;
+    Some(wrong_case(alloc, &mut core))
+}
+
+#[test]
+fn answers_each_kind(rt: HostRuntime) {
+    let wrong = wrong_answer(rt.alloc());
+    assert_eq!(rt; wrong, Some(None));
+}
+
+/// A digit of a number.
+fn digit(number: u32) -> u8 {
+    (number % 10) as u8 + b'0'
+}
+
+/// Adds a line to a batch, a little later than the one before.
+fn add_line(batch: &mut Bytes, line: u32) -> bool {
+    let decimals = [
+        b'2',
+        digit(line / 1_000),
+        digit(line / 100),
+        digit(line / 10),
+        digit(line),
+    ];
+    batch.extend_from_slice(BEFORE.as_bytes()).is_ok()
+        && batch.extend_from_slice(&decimals).is_ok()
+        && batch.extend_from_slice(BEHIND.as_bytes()).is_ok()
+}
+
+/// A batch of so many lines.
+fn batch(alloc: Global, count: u32) -> Option<Bytes> {
+    let mut bytes = Bytes::new(alloc);
+    for line in 0..count {
+        if !add_line(&mut bytes, line) {
+            return None;
+        }
+    }
+    Some(bytes)
+}
+
+/// The answer to a batch of 1,001 lines.
+fn long_answer(alloc: Global, core: &mut Core) -> Option<Text> {
+    let request = Request {
+        key: Key::new(OBSERVER),
+        number: Some(9),
+        verb: Verb::Submit80,
+        body: Body::Whole(batch(alloc, 1_001)?),
+    };
+    let (_, text) = told(alloc, core, &request)?;
+    Some(text)
+}
+
+/// Whether all 1,001 lines were accepted, behind the two that stand.
+fn is_long(text: &[u8]) -> bool {
+    line_feeds(text) == 1_003
+        && text.starts_with(b"receipt 8\naccepted 1001 refused 0\nline 1 obs 3 track 2\n")
+        && text.ends_with(b"line 1000 obs 1002 track 2\nline 1001 obs 1003 track 2\n")
+}
+
+/// Whether a batch of 1,001 lines is accepted.
+fn accepts_long(alloc: Global, core: &mut Core) -> bool {
+    match long_answer(alloc, core) {
+        Some(text) => is_long(text.as_slice()),
+        None => false,
+    }
+}
+
+/// Whether it is accepted after all cases.
+fn accepts_long_after(alloc: Global, core: &mut Core) -> bool {
+    wrong_case(alloc, core).is_none() && accepts_long(alloc, core)
+}
+
+/// The same in a new office.
+fn takes_long(alloc: Global) -> Option<bool> {
+    let mut core = office(alloc)?;
+    Some(accepts_long_after(alloc, &mut core))
+}
+
+#[test]
+fn takes_a_long_batch(rt: HostRuntime) {
+    let taken = takes_long(rt.alloc());
+    assert_eq!(rt; taken, Some(true));
+}
+
+/// The caller, the number, the moment, the number of the verb and the body of an entry, and what becomes of it.
+type Again = (u32, u64, i64, u8, &'static str, Result<(), ReplayFault>);
+
+/// Entries one after the other. The ones that are not legal leave the office as it was.
+const AGAIN: [Again; 11] = [
+    (1, 1, DAY, 4, LINES, Err(ReplayFault::NotLegal)),
+    (0, 1, DAY, 1, ENROL, Ok(())),
+    // The number was used, the moment is before the last entry's or no moment of the clock, nobody has the number of
+    // the caller, the verb is no act's, and the body has no such members.
+    (0, 1, DAY, 1, ENROL, Err(ReplayFault::NotLegal)),
+    (0, 2, DAY - 1, 2, STATION, Err(ReplayFault::NotLegal)),
+    (0, 2, i64::MAX, 2, STATION, Err(ReplayFault::NotLegal)),
+    (2, 2, DAY, 2, STATION, Err(ReplayFault::NotLegal)),
+    (0, 2, DAY, 0, STATION, Err(ReplayFault::NotLegal)),
+    (0, 2, DAY, 2, MODE, Err(ReplayFault::NotLegal)),
+    (0, 2, DAY, 2, STATION, Ok(())),
+    // The lines have a band that is in no row, and a batch without a line that is accepted is no entry.
+    (1, 1, DAY, 4, LINES, Err(ReplayFault::NotLegal)),
+    (0, 3, DAY + 1, 3, BAND, Ok(())),
+];
+
+/// Whether an entry becomes what it must.
+fn becomes(core: &mut Core, again: &Again) -> bool {
+    let &(caller, number, moment, verb, body, want) = again;
+    core.replay(caller, number, moment, verb, body.as_bytes()) == want
+}
+
+/// The first entry that becomes something else, counted from 0; None where there is none.
+fn wrong_entry(core: &mut Core) -> Option<usize> {
+    for (place, again) in AGAIN.iter().enumerate() {
+        if !becomes(core, again) {
+            return Some(place);
+        }
+    }
+    None
+}
+
+/// The same in a new office, and how many entries it has then.
+fn come_again(alloc: Global) -> Option<(Option<usize>, u64)> {
+    let mut core = office(alloc)?;
+    let wrong = wrong_entry(&mut core);
+    Some((wrong, core.entries()))
+}
+
+#[test]
+fn takes_entries_in_again(rt: HostRuntime) {
+    let came = come_again(rt.alloc());
+    assert_eq!(rt; came, Some((None, 3)));
+}

@@ -1,0 +1,103 @@
+//! Requests of the founder, and what a keeper answers to them.
+
+ghost use Rattle.std.specs.Prelude.{◌≡◌};
+ghost use Rattle.act_model.specs.Roster.{IsFounder};
+
+use act_model::{Body, Keeper, Key, Reply, Request, Verb};
+use desk_io::TickClock;
+use intake_lock::{Pass, TurnLock};
+use item_list::Bytes;
+use link_desk::answer_one;
+use obs_time::Instant;
+use std::alloc::Global;
+use std::process::Abort;
+use std::sync::Wait;
+
+pub(super) fn founder() -> Key
+    ensures { IsFounder result }
+{
+    Key::new(b"+founder-1")
+}
+
+pub(super) fn request<R: Abort>(
+    rt: &R,
+    alloc: Global,
+    number: u64,
+    verb: Verb,
+    body: &[u8],
+) -> Request {
+    Request {
+        key: founder(),
+        number: Some(number),
+        verb,
+        body: Body::Whole(Bytes::from_slice(alloc, body).expect(rt, "memory")),
+    }
+}
+
+/// The founder enrols an observer, another one under each number.
+pub(super) fn enrolment<R: Abort>(rt: &R, alloc: Global, number: u64) -> Request {
+    let body = format!(in alloc;
+        "{{\"key\":\"observer-{number}\",\"name\":\"Ann\",\"role\":\"observer\"}}"
+    ).expect(rt, "memory");
+    request(rt, alloc, number, Verb::Enrol, body.as_bytes())
+}
+
+pub(super) fn new_clock<R: Abort>(rt: &R) -> TickClock {
+    let first = Instant::new(1_711_929_600_000_000_000).expect(rt, "in range");
+    TickClock::new(first, 1_000_000_000)
+}
+
+/// One turn at the lock.
+pub(super) fn take_turn<V: Keeper, R: Wait>(
+    rt: &R,
+    alloc: Global,
+    lock: &TurnLock<V>,
+    pass: Pass,
+    request: &Request,
+    clock: &mut TickClock,
+) -> (Pass, Reply)
+    requires { pass.lock ≡ lock.now.id }
+    ensures { (result.0.lock ≡ pass.lock) × (result.0.view.role ≡ pass.view.role) }
+{
+    answer_one(rt, alloc, lock, pass, request, clock)
+}
+
+/// The number behind the first word of a text's first line.
+pub(super) fn number_in(text: &[u8]) -> u64 {
+    let mut number = 0u64;
+    for byte in text {
+        if *byte == b'\n' {
+            return number;
+        }
+        if byte.is_ascii_digit() {
+            number = number
+                .wrapping_mul(10)
+                .wrapping_add(u64::from(byte.wrapping_sub(b'0')));
+        }
+    }
+    0
+}
+
+/// What a keeper answers to a query.
+pub(super) fn answer<V: Keeper>(keeper: &V, request: &Request) -> Option<Reply> {
+    if request.verb.is_act() {
+        return None;
+    }
+    Some(keeper.ask(request))
+}
+
+/// The number in the first line of what is done; 0 where it is refused.
+pub(super) fn number_of_reply(reply: &Reply) -> u64 {
+    match reply {
+        Reply::Done(text) => number_in(text.as_slice()),
+        Reply::Refused(_) => 0,
+    }
+}
+
+/// How many entries the tally of a keeper has.
+pub(super) fn tally_of<R: Abort, V: Keeper>(rt: &R, alloc: Global, keeper: &V) -> u64 {
+    match answer(keeper, &request(rt, alloc, 0, Verb::Tally, b"")) {
+        Some(reply) => number_of_reply(&reply),
+        None => 0,
+    }
+}

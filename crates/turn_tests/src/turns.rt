@@ -1,0 +1,262 @@
+//! Threads that take turns at one desk, over a disk whose syncs fail now and then.
+//!
+//! All but the test is over any disk or any keeper: the type of a disk in memory makes each proof that it stands in
+//! dear.
+
+ghost use Rattle.std.specs.Prelude.{◌≡◌, ◌-◌, ◌<◌, None, IfSome};
+ghost use denote.Param.Send.{IsSend, IsSync};
+ghost use Rattle.intake_lock.specs.Views.{stem, branch};
+ghost use Rattle.turn_tests.specs.Roots.{IsRootFor};
+
+use super::asking::{answer, enrolment, founder, new_clock, number_of_reply, request, take_turn};
+use act_model::{Keeper, Reply, Request, Verb};
+use disk_model::{Disk, MemDisk};
+use intake_lock::{Pass, TurnLock};
+use mpc_desk::Desk;
+use std::alloc::Global;
+use std::process::Abort;
+use std::sync::Wait;
+use std::thread::{Threads, join};
+
+const THREADS: u64 = 8;
+
+// How often each thread enters, each fourth time for the tally and else with an act.
+const TURNS: u64 = 200;
+
+// Room for the journal, and for what the disk notes of its calls.
+const CAPACITY: usize = 1_048_576;
+
+// The calls of the disk that fail. Opening takes the first four and an act four more, of which each second one is a
+// sync. After the last of them every act is done.
+const FAILS: [u64; 16] = [
+    6, 8, 20, 54, 56, 58, 100, 246, 248, 252, 400, 500, 750, 1_002, 1_500, 2_000,
+];
+
+// The number of a thread's act, both counted from 1.
+fn number_of(thread: u64, act: u64) -> u64 {
+    thread.wrapping_mul(1_000).wrapping_add(act)
+}
+
+// What a thread asks in a turn, after so many of its acts were done: its next act, or the tally.
+fn asked<R: Abort>(rt: &R, alloc: Global, thread: u64, turn: u64, done: u64) -> Request {
+    if turn % 4 == 3 {
+        return request(rt, alloc, 0, Verb::Tally, b"");
+    }
+    enrolment(rt, alloc, number_of(thread, done.saturating_add(1)))
+}
+
+// Whether an act was done.
+fn is_done(request: &Request, reply: &Reply) -> bool {
+    request.verb.is_act() && matches!(reply, Reply::Done(_))
+}
+
+// All turns of a thread. How many of its acts were done.
+fn take_turns<V: Keeper, R: Abort + Wait>(
+    rt: &R,
+    alloc: Global,
+    lock: &TurnLock<V>,
+    pass: Pass,
+    thread: u64,
+) -> (Pass, u64)
+    requires { pass.lock ≡ lock.now.id }
+    ensures { (result.0.lock ≡ pass.lock) × (result.0.view.role ≡ pass.view.role) }
+{
+    let mut clock = new_clock(rt);
+    let mut mine = pass;
+    let mut done = 0u64;
+    'turns: for turn in 0..TURNS {
+        let request = asked(rt, alloc, thread, turn, done);
+        let (next, reply) = take_turn(rt, alloc, lock, mine, &request, &mut clock);
+        mine = next;
+        done = done.saturating_add(u64::from(is_done(&request, &reply)));
+    }
+    (mine, done)
+}
+
+// Splits a branch off the root, where as many more may be split as threads are left.
+fn split_root<V: Keeper, R: Abort>(
+    rt: &R,
+    lock: &TurnLock<V>,
+    root: Pass,
+    left: u64,
+) -> (Pass, Pass)
+    requires lock { root.lock ≡ lock.now.id }
+    requires some { 0 < left }
+    requires root { IsRootFor left root.view.role }
+    ensures stem { (result.0.lock ≡ root.lock) × (result.0.view ≡ stem root.view) }
+    ensures room { IsRootFor (left - 1) result.0.view.role }
+    ensures branch { (result.1.lock ≡ root.lock) × (result.1.view ≡ branch root.view) }
+{
+    match lock.split(root) {
+        Ok(both) => both,
+        Err(_) => panic!(rt; "no branch"),
+    }
+}
+
+// Runs so many threads, each with a branch of its own. How many acts of each were done, in the order of their numbers.
+fn run_threads<V: Keeper + Send, R: Abort + Threads + Wait + Sync>(
+    rt: &R,
+    alloc: Global,
+    lock: &TurnLock<V>,
+    root: Pass,
+    left: u64,
+) -> (Pass, Vec<u64>)
+    requires lock { root.lock ≡ lock.now.id }
+    requires root { IsRootFor left root.view.role }
+    ensures { (result.0.lock ≡ root.lock) × (result.0.view.role ≡ root.view.role) }
+{
+    if left == 0 {
+        return (root, Vec::new(alloc));
+    }
+    let (root, branch) = split_root(rt, lock, root, left);
+    let ((branch, done), (root, mut others)) = join(
+        rt,
+        move || -> (Pass, u64)
+            requires { branch.lock ≡ lock.now.id }
+            ensures { (result.0.lock ≡ branch.lock) × (result.0.view.role ≡ branch.view.role) }
+        { take_turns(rt, alloc, lock, branch, left) },
+        move || -> (Pass, Vec<u64>)
+            requires { IsSync R.row × IsSend V.row × (0 < left) × (root.lock ≡ lock.now.id)
+                × IsRootFor (left - 1) root.view.role }
+            ensures { (result.0.lock ≡ root.lock) × (result.0.view.role ≡ root.view.role) }
+        { run_threads(rt, alloc, lock, root, left - 1) },
+    );
+    others.push(done).expect(rt, "memory");
+    (lock.join(root, branch), others)
+}
+
+// The keeper after all threads were joined, and how many acts of each were done; None where memory was refused.
+fn conducted<V: Keeper + Send, R: Abort + Threads + Wait + Sync>(
+    rt: &R,
+    alloc: Global,
+    keeper: V,
+) -> Option<(V, Vec<u64>)>
+    requires { (V.office keeper).state.doubt ≡ None }
+{
+    let Ok((lock, root)) = TurnLock::new(alloc, keeper) else {
+        return None;
+    };
+    let (root, counts) = run_threads(rt, alloc, &lock, root, THREADS);
+    Some((lock.close(root), counts))
+}
+
+// The receipt of an act in the history; 0 where none has its number.
+fn receipt_of<V: Keeper, R: Abort>(rt: &R, alloc: Global, desk: &V, number: u64) -> u64 {
+    let digits = format!(in alloc; "{number}").expect(rt, "memory");
+    let query = request(rt, alloc, 0, Verb::Receipt, digits.as_bytes());
+    match answer(desk, &query) {
+        Some(reply) => number_of_reply(&reply),
+        None => 0,
+    }
+}
+
+// Marks the entry of a receipt, which no other act may have.
+fn mark<R: Abort>(rt: &R, marks: &mut [bool], receipt: u64) {
+    match marks.get_mut((receipt as usize).wrapping_sub(1)) {
+        Some(mark) => {
+            assert!(rt; !*mark, "receipt {receipt} twice");
+            *mark = true;
+        }
+        None => panic!(rt; "receipt {receipt}"),
+    }
+}
+
+// Marks the entries of a thread's acts: those that were done, and the next one where its fault left it in the history.
+fn mark_thread<V: Keeper, R: Abort>(
+    rt: &R,
+    alloc: Global,
+    desk: &V,
+    thread: u64,
+    done: u64,
+    marks: &mut [bool],
+) {
+    assert!(rt; done > 100);
+    for act in 1..=done {
+        mark(
+            rt,
+            marks,
+            receipt_of(rt, alloc, desk, number_of(thread, act)),
+        );
+    }
+    let next = receipt_of(rt, alloc, desk, number_of(thread, done.saturating_add(1)));
+    if next > 0 {
+        mark(rt, marks, next);
+    }
+}
+
+// A mark for each entry, of the acts that these threads have done.
+fn marked<V: Keeper, R: Abort>(rt: &R, alloc: Global, desk: &V, counts: &[u64]) -> Vec<bool> {
+    let mut marks = Vec::new(alloc);
+    marks
+        .resize(desk.entries() as usize, false)
+        .expect(rt, "memory");
+    for (place, done) in counts.iter().enumerate() {
+        let thread = (place as u64).wrapping_add(1);
+        mark_thread(rt, alloc, desk, thread, *done, marks.as_mut_slice());
+    }
+    marks
+}
+
+fn expect_tally<V: Keeper, R: Abort>(rt: &R, alloc: Global, desk: &V) {
+    let entries = desk.entries();
+    let want = format!(in alloc;
+        "entries {entries}\nisolated 0\nobjects 0\nretracted 0\naccepted 0\n"
+    ).expect(rt, "memory");
+    match answer(desk, &request(rt, alloc, 0, Verb::Tally, b"")) {
+        Some(Reply::Done(text)) => assert!(rt; text.as_slice() == want.as_bytes()),
+        _ => panic!(rt; "no tally"),
+    }
+}
+
+// Each act that was done stands in the history once, and nothing else does but acts that were in doubt.
+fn expect_history<V: Keeper, R: Abort>(rt: &R, alloc: Global, desk: &V, counts: &[u64]) {
+    assert_eq!(rt; counts.len() as u64, THREADS);
+    let marks = marked(rt, alloc, desk, counts);
+    assert!(rt; marks.iter().all(|mark| *mark));
+    expect_tally(rt, alloc, desk);
+}
+
+fn opened<D: Disk>(alloc: Global, disk: D) -> Option<Desk<D>>
+    ensures { IfSome result (λ desk. desk.state.doubt ≡ None) }
+{
+    match Desk::open(alloc, founder(), CAPACITY as u64, disk) {
+        Ok(desk) => Some(desk),
+        Err(_) => None,
+    }
+}
+
+fn mended<D: Disk>(desk: Desk<D>) -> Option<Desk<D>> {
+    let mut desk = desk;
+    match desk.mend() {
+        Ok(_) => Some(desk),
+        Err(_) => None,
+    }
+}
+
+// The desk over a disk after all threads were joined, without an act in doubt, and how many acts of each were done.
+fn conducted_over<D: Disk + Send, R: Abort + Threads + Wait + Sync>(
+    rt: &R,
+    alloc: Global,
+    disk: D,
+) -> Option<(Desk<D>, Vec<u64>)> {
+    let desk = opened(alloc, disk)?;
+    let (desk, counts) = conducted(rt, alloc, desk)?;
+    Some((mended(desk)?, counts))
+}
+
+fn expect_turns_over<D: Disk + Send, R: Abort + Threads + Wait + Sync>(
+    rt: &R,
+    alloc: Global,
+    disk: D,
+) {
+    match conducted_over(rt, alloc, disk) {
+        Some((desk, counts)) => expect_history(rt, alloc, &desk, &counts),
+        None => panic!(rt; "the desk opens, has memory and is mended"),
+    }
+}
+
+#[test]
+fn turns_of_many_threads(rt: HostRuntime) {
+    let disk = MemDisk::new(rt.alloc(), &[], CAPACITY, &FAILS).expect(&rt, "memory");
+    expect_turns_over(&rt, rt.alloc(), disk);
+}
