@@ -2,5 +2,5 @@ mod RowLemmas
 mod SeenLemmas
 mod NumberLemmas
 mod HomeLemmas
-mod ObjectLemmas
 pub mod TimeLemmas
+mod LiveLemmas

@@ -1,25 +1,25 @@
 -- Which objects are numbered, part by part.
-use Rattle.std.specs.Prelude.{ℕ, Bool, false, nat_lt, List, [], ◌∷◌, filter, Result, Ok}
-use Rattle.std.specs.Option.{option_map_or}
+use Rattle.std.specs.Prelude.{ℕ, Bool, nat_lt, List, [], ◌∷◌, filter, Result, Ok}
+use Rattle.std.specs.List.{list_any}
 use Rattle.packed_names.specs.declared.name.Designation.{Designation}
 use Rattle.identify_core.specs.declared.link.Link.{Link}
-use Rattle.identify_core.specs.Acts.{LinkAct}
 use Rattle.identify_core.specs.Principals.{own_members}
-use Rattle.tracklet_file.specs.Numbering.{numbered}
+use Rattle.tracklet_file.specs.declared.observation.Observation.{Observation}
+use Rattle.tracklet_file.specs.Observations.{is_live}
 use Rattle.act_model.specs.declared.deed.Deed.{Deed}
 use Rattle.act_model.specs.declared.deed.Deed.TheVariants.{Numbered}
 use Rattle.act_model.specs.declared.reply.Refusal.{Refusal}
 use Rattle.act_model.specs.declared.reply.Refusal.TheVariants.{NumbersFull}
 use Rattle.act_model.specs.Rows.{first_row, unless}
-use Rattle.act_model.specs.Holdings.{Holdings, holdings}
+use Rattle.act_model.specs.Holdings.{holdings}
 use Rattle.act_model.specs.Designations.{links_of}
 use Rattle.act_model.specs.Verdicts.{verdicts_of}
-use Rattle.act_model.specs.Numbers.{numbers_of, is_in_object, is_eligible, numbered_from, last_number}
+use Rattle.act_model.specs.Numbers.{numbers_of, is_eligible, numbered_from, last_number}
 use Rattle.act_model.specs.Doing.{greatest_number}
 
--- the observation with this number is live, and of the object with this principal
-abbrev pub is_in_object_at : Holdings → List LinkAct → Designation → ℕ → Bool
-is_in_object_at held acts p k = option_map_or (is_in_object held acts p) (numbered held.observations k) false
+-- one of the observations with these numbers is live
+abbrev pub is_any_live : List Observation → List ℕ → Bool
+is_any_live observations numbers = list_any (is_live observations) numbers
 
 -- the object with this principal can be numbered after these deeds
 abbrev pub is_eligible_after : List Deed → Designation → Bool

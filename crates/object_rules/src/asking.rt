@@ -1,7 +1,6 @@
 //! What is asked of tracklets, designations and numbers.
 
-ghost use Rattle.std.specs.Prelude.{◌≡◌, is_some, is_none};
-ghost use Rattle.std.specs.Option.{option_and_then};
+ghost use Rattle.std.specs.Prelude.{◌≡◌, is_some};
 ghost use Rattle.std.specs.Ordering.{eq_by_cmp};
 ghost use Rattle.packed_names.specs.Order.{designation_cmp};
 ghost use Rattle.identify_core.specs.Acts.{principal, is_principal_of};
@@ -14,7 +13,6 @@ ghost use Rattle.act_model.specs.Doing.{is_numbered};
 ghost use Rattle.act_model.specs.Knowing.{stands_for};
 ghost use Rattle.act_model.specs.Numbers.{numbers_of};
 ghost use Rattle.act_model.specs.Shelves.{place_at_home, place_of, track_head};
-ghost use Rattle.act_model.specs.Verdicts.{object_of_track};
 
 use crate::ledger::Ledger;
 use act_model::{Place, TrackHead};
@@ -60,7 +58,7 @@ pub(crate) fn is_given<L: Ledger>(office: &L, d: Designation) -> bool
 }
 
 /// Whether the principal is the designation.
-pub(crate) fn is_principal_of(d: Designation, principal: Option<Designation>) -> bool
+fn is_principal_of(d: Designation, principal: Option<Designation>) -> bool
     ensures { result ≡ is_principal_of d principal }
 {
     match principal {
@@ -74,16 +72,6 @@ pub(crate) fn is_principal<L: Ledger>(office: &L, d: Designation) -> bool
     ensures { result ≡ is_principal (links_of (L.deeds office.now)) d }
 {
     is_principal_of(d, principal_of(office, d))
-}
-
-/// The principal of the object that a tracklet is in.
-pub(crate) fn object_of_track<L: Ledger>(office: &L, t: u64) -> Option<Designation>
-    ensures { result ≡ object_of_track (holdings (L.deeds office.now)) (links_of (L.deeds office.now)) t }
-{
-    match home(office, t) {
-        Some(home) => principal_of(office, home),
-        None => None,
-    }
 }
 
 /// Whether the designation has a number.

@@ -51,7 +51,11 @@ pub(crate) fn latest<'s>(first: &'s Seen, more: &'s [Seen]) -> &'s Seen
 }
 
 /// The half-month in which a moment of the years 1925 to 2099 lies, by its exact time.
-#[tactic(auto, unfolding(act_model::specs::Discoveries::half_of, obs_time::specs::Calendar::half_month_of, obs_time::specs::Calendar::half_of, obs_time::specs::Calendar::date_of_day))]
+#[tactic(auto,
+// the half-month of the exact time
+unfolding(act_model::specs::Discoveries::half_of, obs_time::specs::Calendar::half_month_of,
+// by its date
+obs_time::specs::Calendar::half_of, obs_time::specs::Calendar::date_of_day))]
 pub(crate) fn half_of(time: Instant) -> HalfMonth
     requires { IsTrue (is_of_years time) }
     ensures half { result ≡ half_of time }

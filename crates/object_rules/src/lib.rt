@@ -12,6 +12,7 @@ mod listing;
 mod living;
 mod noting;
 mod numbering;
+mod observed;
 mod seeing;
 mod timed;
 

@@ -7,13 +7,14 @@ ghost use Rattle.act_model.specs.Rows.{first_row, IsDue};
 ghost use Rattle.act_model.specs.Holdings.{holdings};
 ghost use Rattle.act_model.specs.Designations.{links_of};
 ghost use Rattle.act_model.specs.Verdicts.{verdicts_of};
-ghost use Rattle.act_model.specs.Numbers.{numbers_of, is_observed, is_eligible, numbered_from, last_number};
+ghost use Rattle.act_model.specs.Numbers.{numbers_of, is_eligible, numbered_from, last_number};
 ghost use Rattle.act_model.specs.Doing.{numbers, eligible_after, next_rows};
 ghost use Rattle.object_rules.specs.Noting.{is_of_objects};
-ghost use Rattle.object_rules.specs.Numbering.{is_in_object_at, eligible_in, numbers_all};
+ghost use Rattle.object_rules.specs.Numbering.{eligible_in, numbers_all};
 
-use crate::asking::{is_numbered, is_principal_of, object_of_track};
+use crate::asking::is_numbered;
 use crate::ledger::Ledger;
+use crate::observed::is_observed;
 use act_model::{Deed, Refusal};
 use identify_core::Link;
 use item_list::{ItemList, NoMemory};
@@ -23,28 +24,6 @@ use std::alloc::Global;
 
 /// The greatest number that a minor planet can have.
 const GREATEST_NUMBER: u64 = 15_396_335;
-
-/// Whether the observation with this number is live, and of the object with this principal.
-pub(crate) fn is_in_object_at<L: Ledger>(office: &L, p: Designation, k: u64) -> bool
-    ensures { result ≡ is_in_object_at (holdings (L.deeds office.now)) (links_of (L.deeds office.now)) p k }
-{
-    match office.file().track_of(k) {
-        Some(t) => office.file().is_live(k) && is_principal_of(p, object_of_track(office, t)),
-        None => false,
-    }
-}
-
-/// Whether the object with this principal has a live observation.
-fn is_observed<L: Ledger>(office: &L, p: Designation) -> bool
-    ensures { result ≡ is_observed (holdings (L.deeds office.now)) (links_of (L.deeds office.now)) p }
-{
-    for older in (0..office.file().observations()).rev() {
-        if is_in_object_at(office, p, older + 1) {
-            return true;
-        }
-    }
-    false
-}
 
 /// Whether the object has no number, a live observation, and a good verdict that is in force.
 fn is_eligible<L: Ledger>(office: &L, p: Designation) -> bool
