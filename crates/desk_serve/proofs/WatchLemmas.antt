@@ -1,5 +1,5 @@
 -- An act on a desk that is watched.
-use Rattle.std.proofs.Common.{◌≡◌, ◌⊎◌, ℕ, ◌≤◌, ℤ, List, [], ◌∷◌, ◌++◌, Bool, true, false, if◌then◌else◌, Option, Some, None, refl, sym, ap, subst, ◌∙◌, inl, inr, ⊎_elim, le_trans, arith}
+use Rattle.std.proofs.Common.{◌≡◌, ◌⊎◌, ℕ, ◌≤◌, ℤ, List, [], ◌∷◌, Bool, Option, Some, None, refl, sym, ap, subst, ◌∙◌, inl, inr, ⊎_elim, le_trans, arith}
 use Rattle.std.specs.Prelude.{IfSome, IsSomeAnd}
 use Rattle.obs_time.specs.Instants.{IsInstantNs}
 use Rattle.disk_model.specs.Crashes.{During}
@@ -15,13 +15,13 @@ use Rattle.act_model.specs.Keepers.{TakesTurn}
 use Rattle.act_model.specs.Legal.{IsLegal}
 use Rattle.act_model.specs.Replies.{entry_answer}
 use Rattle.act_model.specs.Step.{Adds, outcome, after, step}
-use Rattle.act_model.specs.Turns.{Turn, Conduct, IsTurn, Mends, Settles, FailsToKeep, unless_untouched, Answers}
+use Rattle.act_model.specs.Turns.{Turn, Conduct, Mends, Settles, FailsToKeep, unless_untouched, Answers}
 use Rattle.mpc_desk.specs.Desks.{DeskState, RestsAt, MayLeave, FailsOn, ActsOn, ActsInTurn, turn_of, office_of}
 use Rattle.mpc_desk.specs.Files.{Stands}
 use Rattle.mpc_desk.specs.Opening.{StandsAlike}
 use Rattle.command_ends.specs.Disks.{DiskWords}
 use Rattle.desk_serve.specs.Images.{StandsWithin, IsWatched, LeavesInService}
-use Rattle.desk_serve.proofs.Gathering.{extends_on, extends_same}
+use Rattle.desk_serve.proofs.Gathering.{extends_on}
 
 -- what the office's laws say of histories
 pub record GrowthLaws : Type 0 where

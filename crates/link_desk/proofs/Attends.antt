@@ -16,8 +16,9 @@ use Rattle.desk_http.specs.Heads.{Message}
 use Rattle.act_model.specs.Clocks.{ClockState, Gives}
 use Rattle.link_desk.specs.Calls.{TakesCall, HasCause, AreInOrder}
 use Rattle.link_desk.specs.Attending.{Exchange, AsksFor, IsExchange, messages_of, items_of, readings_in, Attends, answer_to, answers}
+use Rattle.link_desk.specs.Laws.{CallLaws}
 use Rattle.link_desk.proofs.Readings.{gives_none}
-use Rattle.link_desk.proofs.Calls.{CallLaws, are_true_later, order_more}
+use Rattle.link_desk.proofs.Calls.{are_true_later, order_more}
 
 -- the request that was read asks for its message
 pub asks_for : (front : List ℕ) (request : Request) (last : Bool) (rest : List ℕ) (r : IsRequestRead front request last rest) (asked : Request) → asked ≡ request → AsksFor asked r.message

@@ -1,10 +1,9 @@
 -- Calls that are true of a history, and where they stand in it.
-use Rattle.std.proofs.Common.{◌≡◌, ℕ, ℤ, Bool, ◌≤◌, ◌<◌, List, [], ◌∷◌, ◌++◌, length, Option, sym, ap, subst, ◌∙◌, inl, inr, arith}
+use Rattle.std.proofs.Common.{◌≡◌, ℕ, ℤ, Bool, ◌≤◌, ◌<◌, List, [], ◌∷◌, length, Option, sym, ap, subst, ◌∙◌, inl, inr, arith}
 use Rattle.std.specs.Prelude.{◌⊎◌}
 use Rattle.std.specs.List.{AllByRecursion}
 use Rattle.act_bodies.specs.declared.key.Key.{Key}
 use Rattle.act_model.specs.declared.entry.Entry.{Entry}
-use Rattle.act_model.specs.declared.keeper.Office.{Office}
 use Rattle.act_model.specs.declared.reply.Reply.{Reply}
 use Rattle.act_model.specs.declared.reply.Reply.TheVariants.{Refused}
 use Rattle.act_model.specs.declared.reply.Refusal.TheVariants.{DiskFault}
@@ -12,21 +11,10 @@ use Rattle.act_model.specs.declared.request.Request.{Request}
 use Rattle.act_model.specs.Conducts.{Extends}
 use Rattle.act_model.specs.Step.{Outcome, Adds, outcome, after, step}
 use Rattle.act_model.specs.Turns.{Answers}
-use Rattle.act_model.specs.Clocks.{ClockState, Gives}
 use Rattle.intake_lock.specs.declared.view.Item.{Item}
-use Rattle.intake_lock.specs.Items.{reading_of, IsTrue, AreTrue, Failed, Calls}
+use Rattle.intake_lock.specs.Items.{reading_of, IsTrue, AreTrue, Failed}
 use Rattle.link_desk.specs.Calls.{HasCause, IsAdded, StandsBehind, AreInOrder, HadNoRise, IsStepped}
-
--- what the lock's laws say of histories and calls, and the office's of readings
-pub record CallLaws : Type 0 where
-  pub readings : (before between after : ClockState) (xs ys : List ℤ) → Gives before between xs → Gives between after ys → Gives before after (xs ++ ys)
-  pub follow : (a b c : List Entry) → Extends a b → Extends b c → Extends a c
-  pub longer : (a b : List Entry) → Extends a b → length a ≤ length b
-  pub one : (a b c : List Entry) → Extends a c → Extends b c → length a ≡ length b → a ≡ b
-  pub here : (before after : Office) (item : Item) → Calls before item after → IsTrue before.founder before.limit after.state.settled item
-  pub grows : (before after : Office) (item : Item) → Calls before item after → Extends before.state.settled after.state.settled
-  pub place : (before after : Office) (item : Item) → Calls before item after → length before.state.settled ≤ item.position
-  pub later : (founder : Key) (limit : Option ℕ) (history later : List Entry) (item : Item) → Extends history later → IsTrue founder limit history item → IsTrue founder limit later item
+use Rattle.link_desk.specs.Laws.{CallLaws}
 
 -- where the step adds an entry, the history has it
 step_adds : (founder : Key) (limit : Option ℕ) (past : List Entry) (q : Request) (t : ℤ) (e : Entry) (reply : Reply) (next : List Entry) → outcome founder limit past q t ≡ Adds e

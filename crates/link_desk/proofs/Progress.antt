@@ -16,7 +16,7 @@ use Rattle.intake_lock.specs.declared.view.View.{View}
 use Rattle.desk_http.specs.declared.heard.Heard.{Heard}
 use Rattle.desk_http.specs.declared.heard.Heard.TheVariants as heard
 use Rattle.desk_http.specs.Answers.{IsRequestRead, IsOver, NoMessageComes, ReadsMessage, Counts}
-use Rattle.desk_http.specs.Heads.{Message, IsMessage, NoMessage, NeverMessage, IsStream}
+use Rattle.desk_http.specs.Heads.{Message, NoMessage, IsStream}
 use Rattle.desk_http.specs.Reading.{AwaitsMessage}
 use Rattle.desk_http.specs.ReplyTexts.{answer_of, unread_answer}
 use Rattle.link_desk.specs.declared.left.Left.{Left}
@@ -26,18 +26,11 @@ use Rattle.act_model.specs.Clocks.{ClockState}
 use Rattle.link_desk.specs.Calls.{TakesCall}
 use Rattle.link_desk.specs.Streams.{IsOpen, HasNoHeadFault, AwaitsNext}
 use Rattle.link_desk.specs.Attending.{Exchange, messages_of, items_of, Attends, is_last, answer_to, answers, Link, Remains, Supplies, IsUnread, IsPartly, Ends, IsAttended, ReadCounts, WriteCounts, IsEndedOrWanting}
+use Rattle.link_desk.specs.Laws.{CallLaws, StreamLaws}
 use Rattle.link_desk.specs.Steps.{IsAnswered, IsRefused, IsUntouched, Becomes, GoesOn}
 use Rattle.link_desk.proofs.Streams.{open_grows, open_more, open_stream, closed_stream, open_whole}
-use Rattle.link_desk.proofs.Calls.{CallLaws, all_stepped}
+use Rattle.link_desk.proofs.Calls.{all_stepped}
 use Rattle.link_desk.proofs.Attends.{asks_for, messages_more, answers_more, attends_none, attends_more}
-
--- what the laws say of messages
-pub record StreamLaws : Type 0 where
-  pub goes_on : (bytes : List ℕ) (m : Message) (rest more : List ℕ) → IsMessage bytes m rest → IsMessage (bytes ++ more) m (rest ++ more)
-  pub now : (bytes : List ℕ) → NeverMessage bytes → NoMessage bytes
-  pub later : (bytes more : List ℕ) → NeverMessage bytes → NeverMessage (bytes ++ more)
-  pub some : (bytes : List ℕ) → NeverMessage bytes → 0 < length bytes
-  pub nothing : NoMessage []
 
 -- ---- what is left in a source
 

@@ -12,8 +12,9 @@ use Rattle.intake_lock.specs.Items.{IsTrue, Noted}
 use Rattle.intake_lock.specs.Views.{seen, holding, published, idle}
 use Rattle.act_model.specs.Clocks.{ClockState, Gives}
 use Rattle.link_desk.specs.Calls.{Asks, TakesCall}
+use Rattle.link_desk.specs.Laws.{CallLaws}
 use Rattle.link_desk.proofs.Readings.{gives_none, gives_one}
-use Rattle.link_desk.proofs.Calls.{CallLaws, StepKnowsNoDisk, caused}
+use Rattle.link_desk.proofs.Calls.{StepKnowsNoDisk, caused}
 
 module _ (before : Office) (request : Request) (reply : Reply) (after : Office) (items noted : List Item) where
   -- an act, with the clock's next reading

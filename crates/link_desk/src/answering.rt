@@ -5,9 +5,10 @@ ghost use Rattle.intake_lock.specs.declared.view.Item.{Item};
 ghost use Rattle.act_model.specs.Clocks.{clock_of};
 ghost use Rattle.link_desk.specs.Calls.{Asks, TakesCall};
 
+use crate::laws::call_laws;
 use act_model::{Keeper, Reply, Request, laws as office_laws};
 use desk_io::Clock;
-use intake_lock::{Pass, Turn, TurnLock, laws as lock_laws};
+use intake_lock::{Pass, Turn, TurnLock};
 use std::alloc::Global;
 use std::sync::Wait;
 
@@ -47,10 +48,8 @@ pub fn answer_one<V: Keeper, C: Clock, R: Wait>(
         × TakesCall pass.view result.0.view (clock_of C.reading C.last clock.old)
         (clock_of C.reading C.last clock.new) item }
 {
-    office_laws::readings_go_on();
+    call_laws();
     office_laws::disk_faults_have_a_cause();
-    lock_laws::calls_are_true();
-    lock_laws::beginnings();
     let mut turn = lock.enter(rt, pass);
     let reply = take_turn(&mut turn, request, clock);
     (lock.leave(turn), reply)

@@ -9,11 +9,12 @@ ghost use Rattle.link_desk.specs.Steps.{IsRefused, Becomes, GoesOn};
 
 use crate::ANSWERS;
 use crate::answering::answer_one;
+use crate::laws::{call_laws, stream_laws};
 use crate::left::Left;
-use act_model::{Keeper, laws as office_laws};
+use act_model::Keeper;
 use desk_http::{Heard, SendFault, Wire, laws as http_laws, write_reply, write_unread};
 use desk_io::{Clock, Failed, Sink, Source};
-use intake_lock::{Pass, TurnLock, laws as lock_laws};
+use intake_lock::{Pass, TurnLock};
 use std::alloc::Global;
 use std::sync::Wait;
 
@@ -112,12 +113,8 @@ pub fn attend<V: Keeper, S: Source, K: Sink, C: Clock, R: Wait>(
     // What was open is open.
     ensures stays { (S.is_open source.new ≡ S.is_open source.old) × (K.is_open sink.new ≡ K.is_open sink.old) }
 {
-    office_laws::readings_go_on();
-    lock_laws::calls_are_true();
-    lock_laws::beginnings();
-    http_laws::goes_on();
-    http_laws::never_a_message();
-    http_laws::no_message_yet();
+    call_laws();
+    stream_laws();
     http_laws::one_stream();
     let Ok(mut wire) = Wire::new(alloc) else {
         return (pass, Left::NoMemory);

@@ -7,8 +7,10 @@ ghost use Rattle.act_model.specs.Conducts.{Extends};
 ghost use Rattle.intake_lock.specs.declared.view.Item.{Item};
 ghost use Rattle.intake_lock.specs.Items.{AreTrue};
 ghost use Rattle.link_desk.specs.Calls.{AreInOrder};
+ghost use Rattle.link_desk.specs.Laws.{CallLaws, StreamLaws};
 
 use act_model::laws as office_laws;
+use desk_http::laws as http_laws;
 use intake_lock::laws as lock_laws;
 
 /// Calls that are true of a history, and whose places rise in it from one place on, have rising places in every later
@@ -18,7 +20,23 @@ pub fn places_stay_in_order()
         Extends history later → least ≤ from → AreTrue founder limit history items →
         AreInOrder founder limit history from items → AreInOrder founder limit later least items }
 {
+    call_laws();
+}
+
+// What lower crates know of calls in one history, together.
+pub(crate) fn call_laws()
+    ensures { CallLaws }
+{
     office_laws::readings_go_on();
     lock_laws::calls_are_true();
     lock_laws::beginnings();
+}
+
+// What lower crates know of messages, together.
+pub(crate) fn stream_laws()
+    ensures { StreamLaws }
+{
+    http_laws::goes_on();
+    http_laws::never_a_message();
+    http_laws::no_message_yet();
 }

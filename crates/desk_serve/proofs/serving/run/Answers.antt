@@ -1,6 +1,5 @@
-use Rattle.std.proofs.Common.{◌≡◌, ◌+◌, ◌-◌, ◌≤◌, length, refl, inl, inr, sym, subst, arith}
+use Rattle.std.proofs.Common.{◌+◌, ◌-◌, ◌≤◌, length, refl, inl, inr, sym, subst, arith}
 use Rattle.command_ends.specs.Disks.{disk_words}
-use Rattle.act_model.specs.Legal.{IsLegal}
 use Rattle.intake_lock.specs.Items.{RisesBy, rises}
 use Rattle.desk_serve.specs.Links.{calls_in}
 use Rattle.mpc_desk.specs.Desks.{count_of}

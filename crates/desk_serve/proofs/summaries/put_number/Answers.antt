@@ -1,4 +1,4 @@
-use Rattle.std.proofs.Common.{ℕ, ◌≤◌, length, decimal, arith, lit<}
+use Rattle.std.proofs.Common.{◌≤◌, length, decimal, arith, lit<}
 use Rattle.std.proofs.lemmas.Fmt.{length-decimal-le}
 use Rattle.desk_serve.proofs.summaries.put_number.Goals as goal
 

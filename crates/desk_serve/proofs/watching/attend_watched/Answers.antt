@@ -1,5 +1,4 @@
 use Rattle.std.proofs.Common.{ap, ◌∙◌}
-use Rattle.mpc_desk.specs.Desks.{DeskState, office_of}
 use Rattle.desk_serve.proofs.WatchLemmas.{watched_during}
 use Rattle.desk_serve.proofs.watching.attend_watched.Goals as goal
 

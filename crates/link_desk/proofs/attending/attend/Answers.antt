@@ -1,8 +1,7 @@
 use Rattle.std.proofs.Common.{◌≡◌, ℕ, ◌<◌, arith, refl, subst, ◌∙◌}
 use Rattle.link_desk.specs.declared.TheConstants.{ANSWERS}
 use Rattle.link_desk.specs.Attending.{ReadCounts, WriteCounts}
-use Rattle.link_desk.proofs.Calls.{CallLaws}
-use Rattle.link_desk.proofs.Progress.{StreamLaws, progress_none, ends_unbegun, ends_enough, goes_with, ends_with, goes_counted, ends_counted, goes_written, ends_written, none_of, complete}
+use Rattle.link_desk.proofs.Progress.{progress_none, ends_unbegun, ends_enough, goes_with, ends_with, goes_counted, ends_counted, goes_written, ends_written, none_of, complete}
 use Rattle.link_desk.proofs.attending.attend.Goals as goal
 
 pub returns-in_default-clause-attended : goal.returns-in_default-clause-attended
@@ -23,47 +22,13 @@ messages-init g c =
 
 pub returns-in-Some-clause-attended : goal.returns-in-Some-clause-attended
 returns-in-Some-clause-attended g c =
-    let calls : CallLaws = record {
-      readings = c.readings_go_on.ensures;
-      follow = c.beginnings.ensures.follow;
-      longer = c.beginnings.ensures.longer;
-      one = c.beginnings.ensures.one;
-      here = c.calls_are_true.ensures.here;
-      grows = c.calls_are_true.ensures.grows;
-      place = c.calls_are_true.ensures.place;
-      later = c.calls_are_true.ensures.later;
-    } in
-    let streams : StreamLaws = record {
-      goes_on = c.goes_on.ensures.messages;
-      now = c.never_a_message.ensures.now;
-      later = c.never_a_message.ensures.later;
-      some = c.never_a_message.ensures.some;
-      nothing = c.no_message_yet.ensures.nothing;
-    } in
     let few : c.messages.answered < ANSWERS = omega arith in
-    ends_with _ _ c.args.pass.view _ _ c.args.source.now streams calls c.messages.mine.view _ _ c.messages.source c.messages.wire c.messages.answered c.messages.invariant.progress
+    ends_with _ _ c.args.pass.view _ _ c.args.source.now c.stream_laws.ensures c.call_laws.ensures c.messages.mine.view _ _ c.messages.source c.messages.wire c.messages.answered c.messages.invariant.progress
     few c.read_request-heard.new.source c.read_request-heard.ensures.came.0 c.read_request-heard.ensures.came.1 c.read_request-heard.new.self c.answer_heard-next.result.0.view _ _
     c.read_request-heard.result c.answer_heard-next.result.1 c.in-Some.left c.in-Some.is c.read_request-heard.ensures.came.2 c.answer_heard-next.ensures.becomes
 
 pub returns-in-Some-clause-complete : goal.returns-in-Some-clause-complete
 returns-in-Some-clause-complete g c =
-    let calls : CallLaws = record {
-      readings = c.readings_go_on.ensures;
-      follow = c.beginnings.ensures.follow;
-      longer = c.beginnings.ensures.longer;
-      one = c.beginnings.ensures.one;
-      here = c.calls_are_true.ensures.here;
-      grows = c.calls_are_true.ensures.grows;
-      place = c.calls_are_true.ensures.place;
-      later = c.calls_are_true.ensures.later;
-    } in
-    let streams : StreamLaws = record {
-      goes_on = c.goes_on.ensures.messages;
-      now = c.never_a_message.ensures.now;
-      later = c.never_a_message.ensures.later;
-      some = c.never_a_message.ensures.some;
-      nothing = c.no_message_yet.ensures.nothing;
-    } in
     let few : c.messages.answered < ANSWERS = omega arith in
     let now = g.S.Source.faults c.read_request-heard.new.source in
     let written = g.K.Sink.faults c.answer_heard-next.new.sink in
@@ -74,34 +39,17 @@ returns-in-Some-clause-complete g c =
     subst (λ (n : ℕ). WriteCounts c.in-Some.left n written) c.messages.invariant.sink_faultless
     (ends_written c.answer_heard-next.result.1 c.in-Some.left (g.K.Sink.faults c.messages.sink) written c.in-Some.is c.answer_heard-next.ensures.faults) in
     λ bytes. complete _ _ _ _ _ _ _ _ _ _ c.one_stream.ensures bytes c.in-Some.left _ _ _ _
-    (ends_with _ _ c.args.pass.view _ _ c.args.source.now streams calls c.messages.mine.view _ _ c.messages.source c.messages.wire c.messages.answered c.messages.invariant.progress
+    (ends_with _ _ c.args.pass.view _ _ c.args.source.now c.stream_laws.ensures c.call_laws.ensures c.messages.mine.view _ _ c.messages.source c.messages.wire c.messages.answered c.messages.invariant.progress
     few c.read_request-heard.new.source c.read_request-heard.ensures.came.0 c.read_request-heard.ensures.came.1 c.read_request-heard.new.self c.answer_heard-next.result.0.view _ _
     c.read_request-heard.result c.answer_heard-next.result.1 c.in-Some.left c.in-Some.is c.read_request-heard.ensures.came.2 c.answer_heard-next.ensures.becomes)
     read wrote
 
 pub messages-preserved : goal.messages-preserved
 messages-preserved g c =
-    let calls : CallLaws = record {
-      readings = c.readings_go_on.ensures;
-      follow = c.beginnings.ensures.follow;
-      longer = c.beginnings.ensures.longer;
-      one = c.beginnings.ensures.one;
-      here = c.calls_are_true.ensures.here;
-      grows = c.calls_are_true.ensures.grows;
-      place = c.calls_are_true.ensures.place;
-      later = c.calls_are_true.ensures.later;
-    } in
-    let streams : StreamLaws = record {
-      goes_on = c.goes_on.ensures.messages;
-      now = c.never_a_message.ensures.now;
-      later = c.never_a_message.ensures.later;
-      some = c.never_a_message.ensures.some;
-      nothing = c.no_message_yet.ensures.nothing;
-    } in
     let few : c.messages.answered < ANSWERS = omega arith in
     let none = none_of c.answer_heard-next.result.1 c.in_default-ended.not-Some in
     record {
-      progress = goes_with _ _ c.args.pass.view _ _ c.args.source.now streams calls c.messages.mine.view _ _ c.messages.source c.messages.wire c.messages.answered c.messages.invariant.progress
+      progress = goes_with _ _ c.args.pass.view _ _ c.args.source.now c.stream_laws.ensures c.call_laws.ensures c.messages.mine.view _ _ c.messages.source c.messages.wire c.messages.answered c.messages.invariant.progress
           few c.read_request-heard.new.source c.read_request-heard.ensures.came.0 c.read_request-heard.ensures.came.1 c.read_request-heard.new.self c.answer_heard-next.result.0.view _ _
           c.read_request-heard.result c.answer_heard-next.result.1 none c.read_request-heard.ensures.came.2 c.answer_heard-next.ensures.becomes;
       lock = c.answer_heard-next.ensures.pass.0 ∙ c.messages.invariant.lock;
@@ -115,22 +63,5 @@ messages-preserved g c =
 
 pub returns-clause-attended : goal.returns-clause-attended
 returns-clause-attended g c =
-    let calls : CallLaws = record {
-      readings = c.readings_go_on.ensures;
-      follow = c.beginnings.ensures.follow;
-      longer = c.beginnings.ensures.longer;
-      one = c.beginnings.ensures.one;
-      here = c.calls_are_true.ensures.here;
-      grows = c.calls_are_true.ensures.grows;
-      place = c.calls_are_true.ensures.place;
-      later = c.calls_are_true.ensures.later;
-    } in
-    let streams : StreamLaws = record {
-      goes_on = c.goes_on.ensures.messages;
-      now = c.never_a_message.ensures.now;
-      later = c.never_a_message.ensures.later;
-      some = c.never_a_message.ensures.some;
-      nothing = c.no_message_yet.ensures.nothing;
-    } in
     let many : c.messages.answered ≡ ANSWERS = omega arith in
-    ends_enough _ _ c.args.pass.view _ _ c.args.source.now streams calls c.messages.mine.view _ _ c.messages.source c.messages.wire c.messages.answered c.messages.invariant.progress many
+    ends_enough _ _ c.args.pass.view _ _ c.args.source.now c.stream_laws.ensures c.call_laws.ensures c.messages.mine.view _ _ c.messages.source c.messages.wire c.messages.answered c.messages.invariant.progress many

@@ -1,0 +1,14 @@
+use Rattle.link_desk.proofs.laws.call_laws.Goals as goal
+
+pub returns : goal.returns
+returns c =
+    record {
+      readings = c.readings_go_on.ensures;
+      follow = c.beginnings.ensures.follow;
+      longer = c.beginnings.ensures.longer;
+      one = c.beginnings.ensures.one;
+      here = c.calls_are_true.ensures.here;
+      grows = c.calls_are_true.ensures.grows;
+      place = c.calls_are_true.ensures.place;
+      later = c.calls_are_true.ensures.later;
+    }
