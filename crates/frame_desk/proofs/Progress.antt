@@ -2,7 +2,7 @@
 use Rattle.std.proofs.Common.{◌≡◌, ℕ, ◌+◌, ◌-◌, ◌^◌, ◌<◌, ◌≤◌, min, List, [], ◌∷◌, ◌++◌, length, take, Option, Some, None, Ok, Err, refl, sym, ap, subst, ◌∙◌, arith, inl, inr}
 use Rattle.std.specs.Prelude.{IfSome, ℤ, option_to_list}
 use Rattle.std.specs.Io.KnownBytes.{Consumes, Appends, IsAtEnd}
-use Rattle.std.proofs.KnownBytes.{Consumes-nil, Appends-nil, Appends-trans, Appends-kept, Keeps-refl}
+use Rattle.std.proofs.KnownBytes.{Consumes-nil, Appends-nil, Appends-trans, Appends-kept}
 use Rattle.std.proofs.lemmas.List.{append-nil, length-append}
 use Rattle.desk_io.specs.Reads.{Passes, Comes, Comes-nil, Comes-trans, Comes-weaker}
 use Rattle.desk_io.specs.declared.outside.Failed.{Failed}
@@ -21,9 +21,10 @@ use Rattle.frame_desk.specs.Serving.{Serves}
 use Rattle.command_ends.specs.Disks.{DiskWords}
 use Rattle.frame_desk.specs.Conducted.{TakesTurn, TakesTurns}
 use Rattle.frame_desk.specs.Runs.{Run, Remains, AwaitsNext, Supplies, offset_at, AnswersFrames, Stops}
-use Rattle.frame_desk.specs.Steps.{IsUntouched, AnswersFrame, TakesStep, Progress}
+use Rattle.frame_desk.specs.Steps.{Standing, IsUntouched, AnswersFrame, TakesStep, Progress}
 use Rattle.frame_desk.proofs.Laws.{FrameLaws}
-use Rattle.frame_desk.proofs.Served.{serves_none, serves_bytes, serves_more, written_more}
+use Rattle.frame_desk.proofs.Readings.{gives_none}
+use Rattle.frame_desk.proofs.Served.{serves_bytes, serves_more, written_more}
 use Rattle.frame_desk.proofs.Conducting.{takes_none, takes_more}
 
 -- where no frame comes any more, a byte has come
@@ -73,157 +74,152 @@ untaken left gives source =
 frame_length : (laws : FrameLaws) (frame : Frame) (rest : List ℕ) → length (framed frame rest) ≡ length (framed frame []) + length rest
 frame_length laws frame rest = ap length (sym (laws.frame_goes_on frame [] rest)) ∙ length-append (framed frame []) rest
 
-module _ {S : Type 0} (left : S → Option (List ℕ)) (gives : Passes S) {D : Type 0} (on : DiskWords D) (start : DeskState D) (first : ClockState) where
+module _ {S : Type 0} (left : S → Option (List ℕ)) (gives : Passes S) {D : Type 0} (on : DiskWords D) (start : Standing S D) where
   -- nothing has come
-  pub progress_start : (taken : Option (List ℕ)) (source : S) (ahead : List ℕ) → ahead ≡ [] → Progress left gives on start start first first taken taken source source ahead 0
-  progress_start taken source ahead unread =
-      let serves = serves_none first [] in
-      subst (λ (a : List ℕ). Progress left gives on start start first first taken taken source source a 0) (sym unread)
-      (record {
+  pub progress_start : start.ahead ≡ [] → Progress left gives on start start 0
+  progress_start unread =
+      let serves : Serves start.clock start.clock [] start.ahead [] = record { frames = []; stream = sym unread; whole = tt; requests = refl; clock = gives_none start.clock } in
+      record {
         came = [];
         turns = [];
-        appended = Appends-nil taken;
+        appended = Appends-nil start.taken;
         serves = serves;
-        takes = takes_none on start;
-        comes = Comes-nil left gives (AwaitsNext (length serves.frames)) source;
-        place = refl;
-        within = omega arith;
-      })
+        takes = takes_none on start.desk;
+        comes = Comes-nil left gives (AwaitsNext (length serves.frames)) start.source;
+        place = ap (λ (a : List ℕ). offset_at (0 - length a)) (sym unread);
+        within = omega (arith, ap length unread);
+      }
 
-  module _ (laws : FrameLaws) (now : ClockState) (old new : Option (List ℕ)) (source here : S) (ahead : List ℕ) (past : DeskState D) (offset : ℕ)
-      (p : Progress left gives on start past first now old new source here ahead offset) where
+  module _ (laws : FrameLaws) (here : Standing S D) (offset : ℕ) (p : Progress left gives on start here offset) where
     -- while a frame is awaited behind those that were answered, the next one is
-    next_awaited : (came : List ℕ) → AwaitsFrame ahead came → AwaitsNext (length p.serves.frames) (p.came ++ came)
+    next_awaited : (came : List ℕ) → AwaitsFrame here.ahead came → AwaitsNext (length p.serves.frames) (p.came ++ came)
     next_awaited came awaited =
-        let stream = ap (λ (b : List ℕ). b ++ came) p.serves.stream ∙ laws.stream_goes_on p.serves.frames ahead came in
-        let session : IsSession (p.came ++ came) p.serves.frames (ahead ++ came) = record { whole = stream; each = p.serves.whole; ended = awaited.0 } in
-        (p.serves.frames, ahead ++ came, session, omega arith, awaited.1)
+        let stream = ap (λ (b : List ℕ). b ++ came) p.serves.stream ∙ laws.stream_goes_on p.serves.frames here.ahead came in
+        let session : IsSession (p.came ++ came) p.serves.frames (here.ahead ++ came) = record { whole = stream; each = p.serves.whole; ended = awaited.0 } in
+        (p.serves.frames, here.ahead ++ came, session, omega arith, awaited.1)
 
     -- the pieces that came for one frame more
-    all_come : (then : S) (piece : List ℕ) → Comes left gives (AwaitsFrame ahead) here then piece → Comes left gives (AwaitsNext (length p.serves.frames)) source then (p.came ++ piece)
+    all_come : (then : S) (piece : List ℕ) → Comes left gives (AwaitsFrame here.ahead) here.source then piece → Comes left gives (AwaitsNext (length p.serves.frames)) start.source then (p.came ++ piece)
     all_come then piece came =
-        Comes-trans left gives (AwaitsNext (length p.serves.frames)) source here then p.came piece p.comes
-        (Comes-weaker left gives (AwaitsFrame ahead) (λ more. AwaitsNext (length p.serves.frames) (p.came ++ more)) next_awaited here then piece came)
+        Comes-trans left gives (AwaitsNext (length p.serves.frames)) start.source here.source then p.came piece p.comes
+        (Comes-weaker left gives (AwaitsFrame here.ahead) (λ more. AwaitsNext (length p.serves.frames) (p.came ++ more)) next_awaited here.source then piece came)
 
-    -- the turn of one frame more was taken
-    record ServesMore (after : ClockState) (piece rest : List ℕ) (next : DeskState D) (frame : Frame) (reply : Reply) : Type 0 where
-      turn : Turn
-      reply_is : turn.reply ≡ reply
-      takes : TakesTurns on start (p.turns ++ turn ∷ []) next
-      serves : (s : Serves first after (p.came ++ piece) rest (p.turns ++ turn ∷ [])) × (s.frames ≡ p.serves.frames ++ frame ∷ [])
+    module _ (then : Standing S D) where
+      -- the turn of one frame more was taken
+      record ServesMore (piece : List ℕ) (frame : Frame) (reply : Reply) : Type 0 where
+        turn : Turn
+        reply_is : turn.reply ≡ reply
+        takes : TakesTurns on start.desk (p.turns ++ turn ∷ []) then.desk
+        serves : (s : Serves start.clock then.clock (p.came ++ piece) then.ahead (p.turns ++ turn ∷ [])) × (s.frames ≡ p.serves.frames ++ frame ∷ [])
 
-    one_more : (after : ClockState) (piece rest : List ℕ) (next : DeskState D) (frame : Frame) (reply : Reply) → ahead ++ piece ≡ framed frame rest → IsFrame frame → TakesTurn on past (request_of frame) reply next now after
-        → ServesMore after piece rest next frame reply
-    one_more after piece rest next frame reply stands good t =
-        let m = takes_more on start past next p.turns p.takes t.stays (request_of frame) reply now after t in
-        let came : List ℕ = p.came ++ piece in
-        let behind : (s : Serves first now came (framed frame rest) p.turns) × (s.frames ≡ p.serves.frames) =
-        subst (λ (b : List ℕ). (s : Serves first now came b p.turns) × (s.frames ≡ p.serves.frames)) stands (serves_bytes first laws now p.came ahead p.turns piece p.serves) in
-        let more = serves_more first laws now after came rest p.turns frame m.turn behind.0 good m.request_is (subst (λ (o : Option ℤ). Gives now after (option_to_list o)) (sym m.reading_is) t.clock) in
-        record {
-          turn = m.turn;
-          reply_is = m.reply_is;
-          takes = m.takes;
-          serves = (more.0, more.1 ∙ ap (λ (fs : List Frame). fs ++ frame ∷ []) behind.1);
-        }
+      one_more : (piece : List ℕ) (frame : Frame) (reply : Reply) → here.ahead ++ piece ≡ framed frame then.ahead → IsFrame frame → TakesTurn on here.desk (request_of frame) reply then.desk here.clock then.clock
+          → ServesMore piece frame reply
+      one_more piece frame reply stands good t =
+          let m = takes_more on start.desk here.desk then.desk p.turns p.takes t.stays (request_of frame) reply here.clock then.clock t in
+          let came : List ℕ = p.came ++ piece in
+          let behind : (s : Serves start.clock here.clock came (framed frame then.ahead) p.turns) × (s.frames ≡ p.serves.frames) =
+          subst (λ (b : List ℕ). (s : Serves start.clock here.clock came b p.turns) × (s.frames ≡ p.serves.frames)) stands (serves_bytes start.clock laws here.clock p.came here.ahead p.turns piece p.serves) in
+          let more = serves_more start.clock laws here.clock then.clock came then.ahead p.turns frame m.turn behind.0 good m.request_is (subst (λ (o : Option ℤ). Gives here.clock then.clock (option_to_list o)) (sym m.reading_is) t.clock) in
+          record {
+            turn = m.turn;
+            reply_is = m.reply_is;
+            takes = m.takes;
+            serves = (more.0, more.1 ∙ ap (λ (fs : List Frame). fs ++ frame ∷ []) behind.1);
+          }
 
-    -- a frame more was answered
-    pub progress_more : (after : ClockState) (newer : Option (List ℕ)) (then : S) (rest : List ℕ) (next : DeskState D) (size : ℕ)
-        → TakesStep left gives on past next now after new newer here then ahead rest (Answered size)
-        → Progress left gives on start next first after old newer source then rest (min (offset + size) (2 ^ 64 - 1))
-    progress_more after newer then rest next size step =
-        let t = step.turns in
-        let came : List ℕ = p.came ++ step.piece in
-        let m = one_more after step.piece rest next t.frame t.answers.reply t.stands t.good t.answers.turn in
-        let served = m.serves in
-        let grown : length p.serves.frames ≤ length served.0.frames = omega (arith, ap length served.1, length-append p.serves.frames (t.frame ∷ [])) in
-        let came_length : length came ≡ length p.came + length step.piece = length-append p.came step.piece in
-        let front_length : length ahead + length step.piece ≡ size + length rest =
-        sym (length-append ahead step.piece) ∙ ap length t.stands ∙ frame_length laws t.frame rest ∙ ap (λ (n : ℕ). n + length rest) (sym t.size_is) in
-        let place = p.place in
-        let within = p.within in
-        record {
-          came = came;
-          turns = p.turns ++ m.turn ∷ [];
-          appended = subst (λ (texts : List ℕ). Appends old newer texts) (sym (written_more p.turns m.turn t.answers.reply m.reply_is)) (Appends-trans old new newer (written p.turns) (written_reply t.answers.reply) p.appended t.answers.writes);
-          serves = served.0;
-          takes = m.takes;
-          comes = Comes-weaker left gives (AwaitsNext (length p.serves.frames)) (AwaitsNext (length served.0.frames)) (awaits_more (length p.serves.frames) (length served.0.frames) grown)
-              source then came (all_come then step.piece step.came);
-          place = place_more (length p.came) (length step.piece) (length ahead) (length came) (length rest) offset size place within came_length front_length;
-          within = omega arith;
-        }
+      -- a frame more was answered
+      pub progress_more : (size : ℕ) → TakesStep left gives on here then (Answered size) → Progress left gives on start then (min (offset + size) (2 ^ 64 - 1))
+      progress_more size step =
+          let t = step.turns in
+          let came : List ℕ = p.came ++ step.piece in
+          let m = one_more step.piece t.frame t.answers.reply t.stands t.good t.answers.turn in
+          let served = m.serves in
+          let grown : length p.serves.frames ≤ length served.0.frames = omega (arith, ap length served.1, length-append p.serves.frames (t.frame ∷ [])) in
+          let came_length : length came ≡ length p.came + length step.piece = length-append p.came step.piece in
+          let front_length : length here.ahead + length step.piece ≡ size + length then.ahead =
+          sym (length-append here.ahead step.piece) ∙ ap length t.stands ∙ frame_length laws t.frame then.ahead ∙ ap (λ (n : ℕ). n + length then.ahead) (sym t.size_is) in
+          let place = p.place in
+          let within = p.within in
+          record {
+            came = came;
+            turns = p.turns ++ m.turn ∷ [];
+            appended = subst (λ (texts : List ℕ). Appends start.taken then.taken texts) (sym (written_more p.turns m.turn t.answers.reply m.reply_is)) (Appends-trans start.taken here.taken then.taken (written p.turns) (written_reply t.answers.reply) p.appended t.answers.writes);
+            serves = served.0;
+            takes = m.takes;
+            comes = Comes-weaker left gives (AwaitsNext (length p.serves.frames)) (AwaitsNext (length served.0.frames)) (awaits_more (length p.serves.frames) (length served.0.frames) grown)
+                start.source then.source came (all_come then.source step.piece step.came);
+            place = place_more (length p.came) (length step.piece) (length here.ahead) (length came) (length then.ahead) offset size place within came_length front_length;
+            within = omega arith;
+          }
 
-    -- what a run took, where these pieces came last
-    run_with : (then : S) (piece texts : List ℕ) → Run
-    run_with then piece texts = record { came = p.came ++ piece; more = (remaining (left then)).0; answered = length p.serves.frames; texts = texts }
+      -- what a run took, where these pieces came last
+      run_with : (piece texts : List ℕ) → Run
+      run_with piece texts = record { came = p.came ++ piece; more = (remaining (left then.source)).0; answered = length p.serves.frames; texts = texts }
 
-    supplied_with : (then : S) (piece texts : List ℕ) → Comes left gives (AwaitsFrame ahead) here then piece → Supplies left gives source then (run_with then piece texts)
-    unfolding run_with
-    supplied_with then piece texts came =
-        let all = all_come then piece came in
-        let r = remaining (left then) in
-        record { whole = all_of (left source) (left then) (p.came ++ piece) r.0 all.consumed r.1; rest = r.1; comes = all }
+      supplied_with : (piece texts : List ℕ) → Comes left gives (AwaitsFrame here.ahead) here.source then.source piece → Supplies left gives start.source then.source (run_with piece texts)
+      unfolding run_with
+      supplied_with piece texts came =
+          let all = all_come then.source piece came in
+          let r = remaining (left then.source) in
+          record { whole = all_of (left start.source) (left then.source) (p.came ++ piece) r.0 all.consumed r.1; rest = r.1; comes = all }
 
-    -- no frame more was answered: where the run stands, with all bytes that came
-    record Settles (after : ClockState) (newer : Option (List ℕ)) (then : S) (front : List ℕ) (next : DeskState D) : Type 0 where
-      run : Run
-      supplied : Supplies left gives source then run
-      appended : Appends old newer run.texts
-      texts : run.texts ≡ written p.turns
-      serves : (s : Serves first after run.came front p.turns) × (run.answered ≡ length s.frames)
-      takes : TakesTurns on start p.turns next
-      place : offset ≡ offset_at (length run.came - length front)
-      within : length front ≤ length run.came
+      -- no frame more was answered: where the run stands, with all bytes that came
+      record Settles (front : List ℕ) : Type 0 where
+        run : Run
+        supplied : Supplies left gives start.source then.source run
+        appended : Appends start.taken then.taken run.texts
+        texts : run.texts ≡ written p.turns
+        serves : (s : Serves start.clock then.clock run.came front p.turns) × (run.answered ≡ length s.frames)
+        takes : TakesTurns on start.desk p.turns then.desk
+        place : offset ≡ offset_at (length run.came - length front)
+        within : length front ≤ length run.came
 
-    settles : (after : ClockState) (newer : Option (List ℕ)) (then : S) (piece : List ℕ) (next : DeskState D)
-        → Comes left gives (AwaitsFrame ahead) here then piece → IsUntouched past next now after new newer → Settles after newer then (ahead ++ piece) next
-    unfolding run_with
-    settles after newer then piece next came same =
-        let front : List ℕ = ahead ++ piece in
-        let came_all : List ℕ = p.came ++ piece in
-        let later = serves_bytes first laws now p.came ahead p.turns piece p.serves in
-        let counted : (s : Serves first now came_all front p.turns) × (length p.serves.frames ≡ length s.frames) = (later.0, sym (ap length later.1)) in
-        let lengths = length-append p.came piece in
-        let fronts = length-append ahead piece in
-        let place = p.place in
-        let within = p.within in
-        let difference : length came_all - length front ≡ length p.came - length ahead = omega arith in
-        record {
-          run = run_with then piece (written p.turns);
-          supplied = supplied_with then piece (written p.turns) came;
-          appended = Appends-kept old new newer (written p.turns) p.appended same.sink;
-          texts = refl;
-          serves = subst (λ (c : ClockState). (s : Serves first c came_all front p.turns) × (length p.serves.frames ≡ length s.frames)) (sym same.clock) counted;
-          takes = subst (λ (d : DeskState D). TakesTurns on start p.turns d) (sym same.desk) p.takes;
-          place = place ∙ ap offset_at (sym difference);
-          within = omega arith;
-        }
+      settles : (piece : List ℕ) → Comes left gives (AwaitsFrame here.ahead) here.source then.source piece → IsUntouched here then → Settles (here.ahead ++ piece)
+      unfolding run_with
+      settles piece came same =
+          let front : List ℕ = here.ahead ++ piece in
+          let came_all : List ℕ = p.came ++ piece in
+          let later = serves_bytes start.clock laws here.clock p.came here.ahead p.turns piece p.serves in
+          let counted : (s : Serves start.clock here.clock came_all front p.turns) × (length p.serves.frames ≡ length s.frames) = (later.0, sym (ap length later.1)) in
+          let lengths = length-append p.came piece in
+          let fronts = length-append here.ahead piece in
+          let place = p.place in
+          let within = p.within in
+          let difference : length came_all - length front ≡ length p.came - length here.ahead = omega arith in
+          record {
+            run = run_with piece (written p.turns);
+            supplied = supplied_with piece (written p.turns) came;
+            appended = Appends-kept start.taken here.taken then.taken (written p.turns) p.appended same.sink;
+            texts = refl;
+            serves = subst (λ (c : ClockState). (s : Serves start.clock c came_all front p.turns) × (length p.serves.frames ≡ length s.frames)) (sym same.clock) counted;
+            takes = subst (λ (d : DeskState D). TakesTurns on start.desk p.turns d) (sym same.desk) p.takes;
+            place = place ∙ ap offset_at (sym difference);
+            within = omega arith;
+          }
 
-    answers_frames : (after : ClockState) (bytes rest : List ℕ) (run : Run) → (s : Serves first after bytes rest p.turns) × (run.answered ≡ length s.frames) → NoFrame rest → run.texts ≡ written p.turns
-        → AnswersFrames first after bytes rest run p.turns
-    answers_frames after bytes rest run (s, answered) ended texts = record { serves = s; answered = answered; ended = ended; texts = texts }
+      answers_frames : (bytes rest : List ℕ) (run : Run) → (s : Serves start.clock then.clock bytes rest p.turns) × (run.answered ≡ length s.frames) → NoFrame rest → run.texts ≡ written p.turns
+          → AnswersFrames start.clock then.clock bytes rest run p.turns
+      answers_frames bytes rest run (s, answered) ended texts = record { serves = s; answered = answered; ended = ended; texts = texts }
 
-    -- what is said where serving stops
-    abbrev pub StopsSo : ClockState → Option (List ℕ) → S → DeskState D → Stop → Type 0
-    StopsSo after newer then next stopped =
-        (run : Run) × (turns : List Turn) × Supplies left gives source then run × Appends old newer run.texts × Stops first after run turns stopped × TakesTurns on start turns next
+      -- what is said where serving stops
+      abbrev pub StopsSo : Stop → Type 0
+      StopsSo stopped =
+          (run : Run) × (turns : List Turn) × Supplies left gives start.source then.source run × Appends start.taken then.taken run.texts × Stops start.clock then.clock run turns stopped × TakesTurns on start.desk turns then.desk
 
-    module _ (after : ClockState) (newer : Option (List ℕ)) (then : S) (rest : List ℕ) (next : DeskState D) where
-      pub stops_over : TakesStep left gives on past next now after new newer here then ahead rest Over → StopsSo after newer then next stop.Over
+      pub stops_over : TakesStep left gives on here then Over → StopsSo stop.Over
       stops_over step =
           let over = step.turns.0 in
-          let s = settles after newer then step.piece next step.came step.turns.1 in
-          let served = subst (λ (f : List ℕ). (x : Serves first after s.run.came f p.turns) × (s.run.answered ≡ length x.frames)) over.0 s.serves in
-          (s.run, p.turns, s.supplied, s.appended, (none_left (left then) s.run.more over.2 s.supplied.rest, answers_frames after s.run.came [] s.run served laws.nothing s.texts), s.takes)
+          let s = settles step.piece step.came step.turns.1 in
+          let served = subst (λ (f : List ℕ). (x : Serves start.clock then.clock s.run.came f p.turns) × (s.run.answered ≡ length x.frames)) over.0 s.serves in
+          (s.run, p.turns, s.supplied, s.appended, (none_left (left then.source) s.run.more over.2 s.supplied.rest, answers_frames s.run.came [] s.run served laws.nothing s.texts), s.takes)
 
-      pub stops_no_more : TakesStep left gives on past next now after new newer here then ahead rest NoMore → StopsSo after newer then next (stop.NoFrameAt offset)
+      pub stops_no_more : TakesStep left gives on here then NoMore → StopsSo (stop.NoFrameAt offset)
       stops_no_more step =
-          let front : List ℕ = ahead ++ step.piece in
-          let s = settles after newer then step.piece next step.came step.turns.2 in
+          let front : List ℕ = here.ahead ++ step.piece in
+          let s = settles step.piece step.came step.turns.2 in
           let more = s.run.more in
-          let whole = serves_bytes first laws after s.run.came front p.turns more s.serves.0 in
-          let none = no_frame_before front more (left then) step.turns.0 s.supplied.rest in
+          let whole = serves_bytes start.clock laws then.clock s.run.came front p.turns more s.serves.0 in
+          let none = no_frame_before front more (left then.source) step.turns.0 s.supplied.rest in
           let bytes_length = length-append s.run.came more in
           let rest_length = length-append front more in
           let some = step.turns.1 in
@@ -235,36 +231,36 @@ module _ {S : Type 0} (left : S → Option (List ℕ)) (gives : Passes S) {D : T
             s.appended,
             record {
               rest = front ++ more;
-              over = answers_frames after (s.run.came ++ more) (front ++ more) s.run (whole.0, s.serves.1 ∙ sym (ap length whole.1)) none s.texts;
+              over = answers_frames (s.run.came ++ more) (front ++ more) s.run (whole.0, s.serves.1 ∙ sym (ap length whole.1)) none s.texts;
               some = omega arith;
               place = s.place ∙ ap offset_at place;
             },
             s.takes,
           )
 
-      pub stops_reading : TakesStep left gives on past next now after new newer here then ahead rest ReadFailed → StopsSo after newer then next stop.ReadFailed
+      pub stops_reading : TakesStep left gives on here then ReadFailed → StopsSo stop.ReadFailed
       stops_reading step =
-          let front : List ℕ = ahead ++ step.piece in
-          let s = settles after newer then step.piece next step.came step.turns.1 in
-          (s.run, p.turns, s.supplied, s.appended, (front, answers_frames after s.run.came front s.run s.serves step.turns.0 s.texts), s.takes)
+          let front : List ℕ = here.ahead ++ step.piece in
+          let s = settles step.piece step.came step.turns.1 in
+          (s.run, p.turns, s.supplied, s.appended, (front, answers_frames s.run.came front s.run s.serves step.turns.0 s.texts), s.takes)
 
-      pub stops_writing : TakesStep left gives on past next now after new newer here then ahead rest WriteFailed → StopsSo after newer then next stop.WriteFailed
+      pub stops_writing : TakesStep left gives on here then WriteFailed → StopsSo stop.WriteFailed
       unfolding run_with
       stops_writing step =
           let t = step.turns.2 in
           let part = t.answers.writes in
-          let m = one_more after step.piece rest next t.frame t.answers.reply t.stands t.good t.answers.turn in
+          let m = one_more step.piece t.frame t.answers.reply t.stands t.good t.answers.turn in
           let served = m.serves in
           let cut : List ℕ = take part.0 (written_reply t.answers.reply) in
           let same : take part.0 (written_reply m.turn.reply) ≡ cut = ap (λ (r : Reply). take part.0 (written_reply r)) m.reply_is in (
-            run_with then step.piece (written p.turns ++ cut),
+            run_with step.piece (written p.turns ++ cut),
             p.turns ++ m.turn ∷ [],
-            supplied_with then step.piece (written p.turns ++ cut) step.came,
-            Appends-trans old new newer (written p.turns) cut p.appended part.2,
+            supplied_with step.piece (written p.turns ++ cut) step.came,
+            Appends-trans start.taken here.taken then.taken (written p.turns) cut p.appended part.2,
             record {
               whole = p.turns;
               last = m.turn;
-              rest = rest;
+              rest = then.ahead;
               taken = part.0;
               turns_are = refl;
               serves = served.0;
@@ -275,36 +271,31 @@ module _ {S : Type 0} (left : S → Option (List ℕ)) (gives : Passes S) {D : T
             m.takes,
           )
 
-module _ {S : Type 0} (left : S → Option (List ℕ)) (gives : Passes S) {D : Type 0} (on : DiskWords D) (past next : DeskState D) (before after : ClockState) (old new : Option (List ℕ)) (source now : S) (ahead rest : List ℕ) where
+module _ {S : Type 0} (left : S → Option (List ℕ)) (gives : Passes S) {D : Type 0} (on : DiskWords D) (old new : Standing S D) where
   -- the frame that was read was answered
-  pub step_answered : (read : ReadFrame) (size : ℕ) → (piece : List ℕ) × Comes left gives (AwaitsFrame ahead) source now piece × IsFrameRead (ahead ++ piece) read rest
-      → ((front behind : List ℕ) (r : IsFrameRead front read behind) → AnswersFrame on past next before after old new r.frame (Ok size)) → size ≡ read.size
-      → TakesStep left gives on past next before after old new source now ahead rest (Answered size)
+  pub step_answered : (read : ReadFrame) (size : ℕ) → (piece : List ℕ) × Comes left gives (AwaitsFrame old.ahead) old.source new.source piece × IsFrameRead (old.ahead ++ piece) read new.ahead
+      → ((front behind : List ℕ) (r : IsFrameRead front read behind) → AnswersFrame on old.desk new.desk old.clock new.clock old.taken new.taken r.frame (Ok size)) → size ≡ read.size
+      → TakesStep left gives on old new (Answered size)
   step_answered read size (piece, came, r) answers size_is =
       record {
         piece = piece;
         came = came;
-        turns = record { frame = r.frame; good = r.good; stands = r.stands; size_is = size_is ∙ r.size; answers = answers (ahead ++ piece) rest r };
+        turns = record { frame = r.frame; good = r.good; stands = r.stands; size_is = size_is ∙ r.size; answers = answers (old.ahead ++ piece) new.ahead r };
       }
 
   -- the sink failed inside its reply
-  pub step_cut : (read : ReadFrame) (failed : Failed) → (piece : List ℕ) × Comes left gives (AwaitsFrame ahead) source now piece × IsFrameRead (ahead ++ piece) read rest
-      → ((front behind : List ℕ) (r : IsFrameRead front read behind) → AnswersFrame on past next before after old new r.frame (Err failed))
-      → TakesStep left gives on past next before after old new source now ahead rest WriteFailed
+  pub step_cut : (read : ReadFrame) (failed : Failed) → (piece : List ℕ) × Comes left gives (AwaitsFrame old.ahead) old.source new.source piece × IsFrameRead (old.ahead ++ piece) read new.ahead
+      → ((front behind : List ℕ) (r : IsFrameRead front read behind) → AnswersFrame on old.desk new.desk old.clock new.clock old.taken new.taken r.frame (Err failed))
+      → TakesStep left gives on old new WriteFailed
   step_cut read failed (piece, came, r) answers =
       record {
         piece = piece;
         came = came;
-        turns = (read.size, failed, record { frame = r.frame; good = r.good; stands = r.stands; size_is = r.size; answers = answers (ahead ++ piece) rest r });
+        turns = (read.size, failed, record { frame = r.frame; good = r.good; stands = r.stands; size_is = r.size; answers = answers (old.ahead ++ piece) new.ahead r });
       }
 
-module _ {S : Type 0} (left : S → Option (List ℕ)) (gives : Passes S) {D : Type 0} (on : DiskWords D) (past : DeskState D) (clock : ClockState) (sink : Option (List ℕ)) (source now : S) (ahead rest : List ℕ) where
   -- no frame comes any more
-  pub step_no_more : (some : (bytes : List ℕ) → NeverFrame bytes → 0 < length bytes) → (piece : List ℕ) × Comes left gives (AwaitsFrame ahead) source now piece × NoFrameComes (ahead ++ piece) (left now)
-      → TakesStep left gives on past past clock clock sink sink source now ahead rest NoMore
-  step_no_more some (piece, came, none) =
-      record {
-        piece = piece;
-        came = came;
-        turns = (none, front_some some (ahead ++ piece) (left now) none, record { desk = refl; clock = refl; sink = Keeps-refl sink });
-      }
+  pub step_no_more : IsUntouched old new → (some : (bytes : List ℕ) → NeverFrame bytes → 0 < length bytes)
+      → (piece : List ℕ) × Comes left gives (AwaitsFrame old.ahead) old.source new.source piece × NoFrameComes (old.ahead ++ piece) (left new.source) → TakesStep left gives on old new NoMore
+  step_no_more untouched some (piece, came, none) =
+      record { piece = piece; came = came; turns = (none, front_some some (old.ahead ++ piece) (left new.source) none, untouched) }

@@ -11,7 +11,6 @@ use Rattle.act_model.specs.declared.reply.Reply.{Reply}
 use Rattle.act_model.specs.Turns.{Turn, request_of, readings_of, written_reply, written}
 use Rattle.act_model.specs.Clocks.{ClockState, Gives}
 use Rattle.frame_desk.specs.Serving.{Serves}
-use Rattle.frame_desk.proofs.Readings.{gives_none}
 use Rattle.frame_desk.proofs.Laws.{FrameLaws}
 
 AllByRecursion-push : {X : Type 0} (P : X → Type 0) (xs : List X) (x : X) → AllByRecursion P xs → P x → AllByRecursion P (xs ++ x ∷ [])
@@ -28,10 +27,6 @@ written_more turns turn reply is =
     flat_map-append (λ (x : Turn). written_reply x.reply) turns (turn ∷ []) ∙ ap (λ (x : List ℕ). written turns ++ x) (append-nil (written_reply turn.reply) ∙ ap written_reply is)
 
 module _ (before : ClockState) where
-  -- nothing was served yet
-  pub serves_none : (bytes : List ℕ) → Serves before before bytes bytes []
-  serves_none bytes = record { frames = []; stream = refl; whole = tt; requests = refl; clock = gives_none before }
-
   module _ (laws : FrameLaws) where
     -- bytes that come later stand behind the rest
     pub serves_bytes : (after : ClockState) (bytes rest : List ℕ) (turns : List Turn) (piece : List ℕ) (s : Serves before after bytes rest turns)

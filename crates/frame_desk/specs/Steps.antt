@@ -26,6 +26,15 @@ use Rattle.command_ends.specs.Disks.{DiskWords}
 use Rattle.frame_desk.specs.Conducted.{TakesTurn, TakesTurns}
 use Rattle.frame_desk.specs.Runs.{offset_at, AwaitsNext}
 
+-- where serving stands between two frames: the desk, the clock, what the sink took, the source, and the bytes that were
+-- read ahead of it
+pub record Standing (S D : Type 0) : Type 0 where
+  pub desk : DeskState D
+  pub clock : ClockState
+  pub taken : Option (List ℕ)
+  pub source : S
+  pub ahead : List ℕ
+
 -- the body of a request, as it was read
 abbrev pub body_read : FrameBody → Body
 body_read (kept.Whole bytes) = Whole bytes
@@ -55,35 +64,28 @@ pub record AnswersFrame {D : Type 0} (on : DiskWords D) (past next : DeskState D
   pub writes : Writes old new reply result
 
 -- the frame at the front was read, and answered so
-pub record TurnsFrame {D : Type 0} (on : DiskWords D) (past next : DeskState D) (before after : ClockState)
-    (old new : Option (List ℕ)) (front rest : List ℕ) (size : ℕ) (result : Result ℕ Failed) : Type 0 where
+pub record TurnsFrame {S D : Type 0} (on : DiskWords D) (old new : Standing S D) (front : List ℕ) (size : ℕ)
+    (result : Result ℕ Failed) : Type 0 where
   pub frame : Frame
   pub good : IsFrame frame
-  pub stands : front ≡ framed frame rest
+  pub stands : front ≡ framed frame new.ahead
   pub size_is : size ≡ length (framed frame [])
-  pub answers : AnswersFrame on past next before after old new frame result
+  pub answers : AnswersFrame on old.desk new.desk old.clock new.clock old.taken new.taken frame result
 
 -- the desk, the clock and the sink are as they were
-pub record IsUntouched {D : Type 0} (past next : DeskState D) (before after : ClockState) (old new : Option (List ℕ))
-    : Type 0 where
-  pub desk : next ≡ past
-  pub clock : after ≡ before
-  pub sink : Keeps old new
+pub record IsUntouched {S D : Type 0} (old new : Standing S D) : Type 0 where
+  pub desk : new.desk ≡ old.desk
+  pub clock : new.clock ≡ old.clock
+  pub sink : Keeps old.taken new.taken
 
--- what became of the bytes at the front, those that were read ahead and those that came, of which the rest is still
--- read ahead and the source has `left`
-abbrev pub Turns : {D : Type 0} → DiskWords D → DeskState D → DeskState D → ClockState → ClockState → Option (List ℕ)
-    → Option (List ℕ) → List ℕ → List ℕ → Option (List ℕ) → Turned → Type 0
-Turns on past next before after old new front rest left (Answered size) =
-    TurnsFrame on past next before after old new front rest size (Ok size)
-Turns on past next before after old new front rest left WriteFailed =
-    (size : ℕ) × (failed : Failed) × TurnsFrame on past next before after old new front rest size (Err failed)
-Turns on past next before after old new front rest left Over =
-    IsOver front rest left × IsUntouched past next before after old new
-Turns on past next before after old new front rest left NoMore =
-    NoFrameComes front left × (0 < length front) × IsUntouched past next before after old new
-Turns on past next before after old new front rest left ReadFailed =
-    NoFrame front × IsUntouched past next before after old new
+-- what became of the bytes at the front, those that were read ahead and those that came, where the source has `left`
+abbrev pub Turns : {S D : Type 0} → DiskWords D → Standing S D → Standing S D → List ℕ → Option (List ℕ) → Turned
+    → Type 0
+Turns on old new front left (Answered size) = TurnsFrame on old new front size (Ok size)
+Turns on old new front left WriteFailed = (size : ℕ) × (failed : Failed) × TurnsFrame on old new front size (Err failed)
+Turns on old new front left Over = IsOver front new.ahead left × IsUntouched old new
+Turns on old new front left NoMore = NoFrameComes front left × (0 < length front) × IsUntouched old new
+Turns on old new front left ReadFailed = NoFrame front × IsUntouched old new
 
 -- a fact where a frame was answered
 abbrev pub OnAnswered : Turned → Type 0 → Type 0
@@ -112,22 +114,20 @@ SinkFaults ReadFailed before now = now ≡ before
 -- a piece of the source's bytes came behind those that were read ahead, while a frame was awaited, and this became of
 -- them
 pub record TakesStep {S : Type 0} (left : S → Option (List ℕ)) (gives : Passes S) {D : Type 0} (on : DiskWords D)
-    (past next : DeskState D) (before after : ClockState) (old new : Option (List ℕ)) (source now : S)
-    (ahead rest : List ℕ) (turned : Turned) : Type 0 where
+    (old new : Standing S D) (turned : Turned) : Type 0 where
   pub piece : List ℕ
-  pub came : Comes left gives (AwaitsFrame ahead) source now piece
-  pub turns : Turns on past next before after old new (ahead ++ piece) rest (left now) turned
+  pub came : Comes left gives (AwaitsFrame old.ahead) old.source new.source piece
+  pub turns : Turns on old new (old.ahead ++ piece) (left new.source) turned
 
 -- How far a run has come: over the bytes that came so far, of which those at the end are still read ahead, and with an
 -- offset up to which they are answered.
 pub record Progress {S : Type 0} (left : S → Option (List ℕ)) (gives : Passes S) {D : Type 0} (on : DiskWords D)
-    (start desk : DeskState D) (first now : ClockState) (old new : Option (List ℕ)) (source source_now : S)
-    (ahead : List ℕ) (offset : ℕ) : Type 0 where
+    (start now : Standing S D) (offset : ℕ) : Type 0 where
   pub came : List ℕ
   pub turns : List Turn
-  pub appended : Appends old new (written turns)
-  pub serves : Serves first now came ahead turns
-  pub takes : TakesTurns on start turns desk
-  pub comes : Comes left gives (AwaitsNext (length serves.frames)) source source_now came
-  pub place : offset ≡ offset_at (length came - length ahead)
-  pub within : length ahead ≤ length came
+  pub appended : Appends start.taken now.taken (written turns)
+  pub serves : Serves start.clock now.clock came now.ahead turns
+  pub takes : TakesTurns on start.desk turns now.desk
+  pub comes : Comes left gives (AwaitsNext (length serves.frames)) start.source now.source came
+  pub place : offset ≡ offset_at (length came - length now.ahead)
+  pub within : length now.ahead ≤ length came

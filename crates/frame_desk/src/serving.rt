@@ -104,9 +104,21 @@ fn serve_next<S: Source, K: Sink, D: Disk, C: Clock>(
     sink: &mut K,
     clock: &mut C,
 ) -> Turned
-    ensures step { TakesStep S.left S.gives (disk_words D.reads D.leaves D.moment D.since D.faults) desk.old desk.new
-        (clock_of C.reading C.last clock.old) (clock_of C.reading C.last clock.new)
-        (K.taken sink.old) (K.taken sink.new) source.old source.new reader.old reader.new result }
+    ensures step { TakesStep S.left S.gives (disk_words D.reads D.leaves D.moment D.since D.faults)
+        (record {
+          desk = desk.old;
+          clock = clock_of C.reading C.last clock.old;
+          taken = K.taken sink.old;
+          source = source.old;
+          ahead = reader.old;
+        })
+        (record {
+          desk = desk.new;
+          clock = clock_of C.reading C.last clock.new;
+          taken = K.taken sink.new;
+          source = source.new;
+          ahead = reader.new;
+        }) result }
     ensures source_counts { S.faults source.old ≤ S.faults source.new }
     ensures sink_counts { K.faults sink.old ≤ K.faults sink.new }
     ensures source_faults { SourceFaults result (S.faults source.old) (S.faults source.new) }
