@@ -77,7 +77,11 @@ fn seventeen(columns: &[u8]) -> &[u8; 17]
 }
 
 /// Columns 16 to 56: when and where, or the first broken rule of S5 to S7.
-#[tactic(auto, unfolding(crate::specs::Reading::position_of, crate::specs::Reading::right_ascension_of, crate::specs::Reading::declination_of))]
+#[tactic(auto,
+// the position by its two angles
+unfolding(crate::specs::Reading::position_of, crate::specs::Reading::right_ascension_of,
+// right ascension above
+crate::specs::Reading::declination_of))]
 fn position_of(line: &[u8]) -> Result<Position, RuleCode>
     requires { length line.now ≡ 80 }
     ensures { result ≡ position_of line.now }

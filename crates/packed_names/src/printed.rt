@@ -45,7 +45,11 @@ fn survey_judged(survey: Survey, number: u64) -> Result<Name, NameFault>
     }
 }
 
-#[tactic(auto, unfolding(crate::specs::PrintedReading::printed_in, crate::specs::PrintedReading::designation_in, ascii_text::specs::Judged::answer_of))]
+#[tactic(auto,
+// the name that is printed, and what a reader answers
+unfolding(crate::specs::PrintedReading::printed_in, crate::specs::PrintedReading::designation_in,
+// of ascii_text
+ascii_text::specs::Judged::answer_of))]
 fn printed(text: &[u8]) -> Result<Name, NameFault>
     ensures exact { result ≡ answered is_in_range (printed_in text.now) }
     ensures in_range { IfOk result IsName }

@@ -79,7 +79,9 @@ fn suffix(survey: Survey) -> [u8; 3]
 }
 
 /// The printed form of a survey designation.
-#[tactic(auto, using(crate::proofs::DecimalLengths::length_decimal_four), unfolding(crate::specs::Printed::survey_text))]
+#[tactic(auto,
+// a number below 10,000 has at most four digits
+using(crate::proofs::DecimalLengths::length_decimal_four), unfolding(crate::specs::Printed::survey_text))]
 pub(crate) fn survey_text(survey: Survey, number: u16) -> ArrayVec<u8, 13>
     requires { number ≤ 9999 }
     ensures { result.items ≡ survey_text survey number }
