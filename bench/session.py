@@ -34,20 +34,31 @@ SETUP = [
 HEADER = "# version=2017\ntrkSub|mode|stn|obsTime|ra|dec|astCat|mag|band\n"
 
 
-def columns(frame, number):
-    pair = number // 2
-    day = 1 + pair % 28
-    fraction = (number * 7919 + frame) % 100000
-    seconds = number % 60
-    minutes = (number // 60) % 60
-    arc = (number * 31 + frame) % 100
+FIRST_LETTERS = "WXYZABCDEFGHIJKLMNOPQRSTUV"  # of names, one for each hundred frames
+
+
+def name_of(frame, pair):
+    """Seven characters for a pair of lines, which are no packed designation: a letter and six digits."""
+    return f"{FIRST_LETTERS[frame // 100]}{frame % 100:02}{pair:04}"
+
+
+def line_of(name, day, fraction, minutes, seconds, arc):
+    """A line of 80 columns, from a day of March 2024 and a fraction of it in units of 0.00001."""
     text = (
-        f"     W{frame:02}{pair:04}  C2024 03 {day:02}.{fraction:05} "
+        f"     {name}  C2024 03 {day:02}.{fraction:05} "
         f"06 {minutes:02} {seconds:02}.{arc:02} +23 {minutes:02} {seconds:02}.{arc % 10} "
         f"         19.{arc % 10} V      703"
     )
     assert len(text) == 80, (len(text), text)
     return text + "\n"
+
+
+def columns(frame, number):
+    """A line whose time is somewhere in 28 days."""
+    pair = number // 2
+    fraction = (number * 7919 + frame) % 100000
+    arc = (number * 31 + frame) % 100
+    return line_of(name_of(frame, pair), 1 + pair % 28, fraction, (number // 60) % 60, number % 60, arc)
 
 
 def fields(frame, number):

@@ -68,6 +68,10 @@ def readme():
     shown = block("README.md", "200 10\nreceipt 1\n", "")
     status, out, err = bash("examples/office | " + RUN)
     check("README.md: the session", (status, out) == (0, shown), out)
+    # the batch of one's own is shown with `rt try`, and run here with the program
+    own = block("README.md", "mine.psv").replace("(cd crates/mpc_cli && rt try -- run --key +founder-1)", RUN)
+    status, out, err = bash(own)
+    check("README.md: a batch of one's own", status == 0 and out == shown + block("README.md", "receipt 9", ""), out + err)
     status, out, err = bash("examples/office | cmp - examples/office.frames")
     check("examples/office.frames: what examples/office writes", status == 0, out + err)
     status, out, err = bash(block("README.md", "serve --key"))
@@ -77,7 +81,8 @@ def readme():
 
 
 def observers():
-    found = [text for kind, text in blocks("docs/OBSERVERS.md") if kind == "sh"]
+    curls = block("docs/OBSERVERS.md", "curl")
+    found = [text for kind, text in blocks("docs/OBSERVERS.md") if kind == "sh" and text != curls]
     frames = "".join(line + "\n" for text in found for line in text.splitlines() if line.startswith("examples/frame"))
     status, out, err = bash("".join(found))
     check("docs/OBSERVERS.md: each command ends well", status == 0 and not err, err)
@@ -89,6 +94,10 @@ def observers():
           status == 0 and replies(out) and all(it == 200 for it, _ in replies(out)), out)
     for line in ("line 7 obs 1 track 1", "line 7 refused T3"):
         check(f"docs/OBSERVERS.md: a line as `{line}`", line in lines, out)
+    serve = "mpc_cli serve --key +founder-1 --connections 2"
+    status, out, err = bash("{\n" + first + "} | " + RUN + f" >answers\n{serve} &\nsleep 1\n{curls}wait")
+    wanted = ("receipt 6", "line 10 obs 4 track 1", "receipt 7", "accepted 2 refused 2", "connections 2", "entries 7")
+    check("docs/OBSERVERS.md: two batches by HTTP", status == 0 and all(it in out for it in wanted), out + err)
 
 
 def officers():
@@ -124,7 +133,7 @@ def formats():
     shown = block("docs/FORMATS.md", "track 1 station 703", "")
     status, out, err = bash("{ examples/office; examples/frame observer-1 0 tracklet examples/receipt; } | " + RUN)
     check("docs/FORMATS.md: the answer to `tracklet`", status == 0 and out.endswith(shown), out)
-    curls = block("docs/FORMATS.md", "curl").replace("batch.obs", "examples/batch.80")
+    curls = block("docs/FORMATS.md", "curl")
     status, out, err = bash(f"mpc_cli serve --key +founder-1 --connections 3 &\nsleep 1\n{curls}wait")
     # the batch is of a station that nobody entered, and the number 1 is then free
     wanted = ("refused 7 NoLine", "entries 0", "refused 5 UnknownThing", "connections 3")
