@@ -50,6 +50,9 @@ fn port_in_use(rt: HostRuntime) -> Result<(), Fail> {
     let mut door = TcpDoor::on_port(rt, rt.alloc(), 0);
     let port = door.bind()?.port();
     let mut second = TcpDoor::on_port(rt, rt.alloc(), port);
+    // It tries the same port again.
+    assert!(rt; second.bind().is_err());
+    assert!(rt; second.bind().is_err());
     assert!(rt; matches!(second.next(), Next::Failed));
     Ok(())
 }
