@@ -42,7 +42,7 @@ wait "$running"
 expect "the first one goes on to its end" "$?" 0
 
 # A process that is killed leaves a journal that opens.
-office <frames >killed &
+"$program" run --key +founder-1 <frames >killed & # not by the function, whose own process would be killed
 running=$!
 exec 3>frames
 "$top/examples/frame" +founder-1 1 station "$top/examples/station.json" >&3

@@ -25,8 +25,17 @@ const NAME: &str = "desk.journal";
 #[derive(Debug, Drop)]
 pub struct FileDisk<R: Files<File = File> + Copy> {
     system: R,
-    file: Option<File>,
+    file: Option<Opened>,
     faults: u64,
+}
+
+// The journal, and the folder three times, which is opened before it and stays open as long. A file that is opened gets
+// the lowest free descriptor: where a standard stream was closed when the program started, the folder has its
+// descriptor, and not the journal, over which answers would else be written.
+#[derive(Debug, Drop)]
+struct Opened {
+    journal: File,
+    folders: [File; 3],
 }
 
 impl<R: Files<File = File> + Copy> Model for FileDisk<R> {
@@ -39,16 +48,20 @@ impl<R: Files<File = File> + Copy> Model for FileDisk<R> {
 }
 
 // Opens the file, takes its lock, and syncs the folder, so that a file that was made outlives a crash.
-fn open_file<R: Files<File = File>>(system: &R) -> io::Result<File> {
-    let file = File::options()
+fn open_file<R: Files<File = File>>(system: &R) -> io::Result<Opened> {
+    let folders = [
+        File::open(system, ".")?,
+        File::open(system, ".")?,
+        File::open(system, ".")?,
+    ];
+    let journal = File::options()
         .read(true)
         .write(true)
         .create(true)
         .open(system, NAME)?;
-    file.try_lock()?;
-    let folder = File::open(system, ".")?;
-    folder.sync_all()?;
-    Ok(file)
+    journal.try_lock()?;
+    folders[0].sync_all()?;
+    Ok(Opened { journal, folders })
 }
 
 // Reads once, and again after an interrupt.
@@ -101,7 +114,7 @@ impl<R: Files<File = File> + Copy> FileDisk<R> {
         ensures stays { self.old.is_open ≡ true → self.new.is_open ≡ true }
     {
         self.open()?;
-        let Some(file) = &self.file else {
+        let Some(Opened { journal: file, .. }) = &self.file else {
             unreachable!();
         };
         Ok(file.metadata()?.len())
@@ -114,7 +127,7 @@ impl<R: Files<File = File> + Copy> FileDisk<R> {
         ensures stays { self.old.is_open ≡ true → self.new.is_open ≡ true }
     {
         self.open()?;
-        let Some(file) = &self.file else {
+        let Some(Opened { journal: file, .. }) = &self.file else {
             unreachable!();
         };
         read_some(file, at, piece)
@@ -126,7 +139,7 @@ impl<R: Files<File = File> + Copy> FileDisk<R> {
         ensures stays { self.old.is_open ≡ true → self.new.is_open ≡ true }
     {
         self.open()?;
-        let Some(file) = &self.file else {
+        let Some(Opened { journal: file, .. }) = &self.file else {
             unreachable!();
         };
         file.write_all_at(bytes, at)
@@ -138,7 +151,7 @@ impl<R: Files<File = File> + Copy> FileDisk<R> {
         ensures stays { self.old.is_open ≡ true → self.new.is_open ≡ true }
     {
         self.open()?;
-        let Some(file) = &self.file else {
+        let Some(Opened { journal: file, .. }) = &self.file else {
             unreachable!();
         };
         cut_file(file, len)
@@ -150,7 +163,7 @@ impl<R: Files<File = File> + Copy> FileDisk<R> {
         ensures stays { self.old.is_open ≡ true → self.new.is_open ≡ true }
     {
         self.open()?;
-        let Some(file) = &self.file else {
+        let Some(Opened { journal: file, .. }) = &self.file else {
             unreachable!();
         };
         file.sync_all()

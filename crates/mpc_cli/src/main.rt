@@ -20,8 +20,9 @@ use desk_io::{NoMemory, StreamSink, StreamSource, SystemClock, TcpDoor};
 use disk_model::FileDisk;
 use item_list::Bytes;
 pub use link_desk::{Left, answer_one, attend};
-use std::alloc::{AllocError, Global};
+use std::alloc::Global;
 use std::env;
+use std::io::ErrorKind;
 use std::net::{Net, TcpListener, TcpStream};
 use std::process::ExitCode;
 use std::sync::Wait;
@@ -43,10 +44,14 @@ fn words_in<A: Iterator<Item = String> + Drop>(alloc: Global, args: A) -> Result
     Ok(words)
 }
 
-/// The words of the command line, after the program's name.
-fn words_of(rt: HostRuntime) -> Result<Words, NoMemory> {
-    let args = env::args(&rt).map_err(|_| AllocError)?;
-    words_in(rt.alloc(), args.skip(1))
+/// The words of the command line, after the program's name. Where they can't be had, the status says why: a word that
+/// isn't UTF-8 is none of the grammar's, and any other error is want of memory.
+fn words_of(rt: HostRuntime) -> Result<Words, Status> {
+    let args = env::args(&rt).map_err(|error| match error.kind() {
+        ErrorKind::InvalidData => Status::Usage,
+        _ => Status::NoMemory,
+    })?;
+    words_in(rt.alloc(), args.skip(1)).map_err(|_| Status::NoMemory)
 }
 
 /// The status with which the process ends.
@@ -93,7 +98,7 @@ fn tell_usage(rt: HostRuntime) {
 fn main(rt: HostRuntime) -> ExitCode {
     let status = match words_of(rt) {
         Ok(words) => run(rt, rt, &rt, &words),
-        Err(_) => Status::NoMemory,
+        Err(status) => status,
     };
     if status.number() != 0 {
         let _ = eprintln!(rt; "mpc_cli: {status}");
