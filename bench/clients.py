@@ -1,10 +1,10 @@
 #!/usr/bin/env python3
-"""Real clients at a running office: curl, Python's http.client, pipelined requests, and peers that are slow or rude, or never
-read what they are answered.
+"""Real clients at a running office: curl, Python's http.client, pipelined requests, and peers that are slow or rude,
+never read what they are answered, or are answered before all that they send was read.
 
-Build the program first (examples/office | (cd crates/mpc_cli && rt run -- run --key +founder-1)). The office is served in
-a folder of its own, at port 8017 of this machine, which must be free. Says what passed, and ends with 1 where something
-didn't.
+Build the program first (examples/office | (cd crates/mpc_cli && rt run -- run --key +founder-1)), or name another one
+as the argument. The office is served in a folder of its own, at port 8017 of this machine, which must be free. Says
+what passed, and ends with 1 where something didn't.
 """
 import http.client
 import os
@@ -17,9 +17,12 @@ import time
 from session import SETUP, columns
 
 HERE = os.path.dirname(os.path.abspath(__file__))
-PROGRAM = os.path.join(HERE, "..", "crates", "mpc_cli", "out", "mpc_cli")
+PROGRAM = os.path.abspath(sys.argv[1] if len(sys.argv) > 1 else os.path.join(HERE, "../crates/mpc_cli/out/mpc_cli"))
 KEY = "+founder-1"
 ENROL = b'{"key":"observer-1","name":"Ann","role":"observer"}'
+UNREAD = "refused 1 Unread head\n"
+BIG = 6_000_000
+TIMES = 20
 TALLY = "entries %d\nisolated 0\nobjects 0\nretracted 0\naccepted 0\n"
 failed = False
 
@@ -104,7 +107,7 @@ def cut_off():
     peer.sendall(head("POST", "/v1/act/2/enrol", 51) + ENROL[:20])
     peer.shutdown(socket.SHUT_WR)
     found = answers(peer, 1)
-    check("a body that ends early is no request", found == [(400, "refused 1 Unread head\n")], found)
+    check("a body that ends early is no request", found == [(400, UNREAD)], found)
     peer.close()
 
 
@@ -113,7 +116,7 @@ def rude():
     peer.sendall(b"\x16\x03\x01\x02\x00\x01\x00\x01\xfc\x03\x03" + bytes(200))
     peer.shutdown(socket.SHUT_WR)  # without an empty line the office waits for more, up to 8,192 bytes
     found = answers(peer, 1)
-    check("bytes of another protocol", found == [(400, "refused 1 Unread head\n")], found)
+    check("bytes of another protocol", found == [(400, UNREAD)], found)
     peer.close()
 
 
@@ -150,12 +153,62 @@ def deaf():
     peer.close()
 
 
+def posted(body, more):
+    """The answer to one request of http.client, which reads nothing until it has sent all of it."""
+    link = http.client.HTTPConnection("127.0.0.1", 8017, timeout=20)
+    try:
+        link.request("POST", "/v1/act/7/submit80", body, {"Desk-Key": KEY, **more}, encode_chunked=True)
+        answer = link.getresponse()
+        return answer.status, answer.read().decode()
+    except OSError as error:
+        return repr(error)
+    finally:
+        link.close()
+
+
+def not_read():
+    """Requests of 6 MB: one that is answered at its head, and one that is read to its end."""
+    pieces = [b"x" * 8_000] * (BIG // 8_000)
+    found = [posted(iter(pieces), {"Transfer-Encoding": "chunked"}) for _ in range(TIMES)]
+    check("a chunked body", found == [(400, UNREAD)] * TIMES, found)
+    found = [posted(b"x" * BIG, {}) for _ in range(TIMES)]
+    check("a body above the limit", found == [(413, f"refused 14 TooLarge bytes {BIG}\n")] * TIMES, found)
+    peer = connect()
+    peer.sendall(head("GET", "/v1/ask/tally", more="Connection: close\r\n") + bytes(BIG))
+    [(status, text)] = answers(peer, 1)
+    check("bytes behind the last request",
+          status == 200 and text.startswith("entries 6\n") and peer.recv(1) == b"", text)
+    peer.close()
+
+
+def serve(connections, folder):
+    return subprocess.Popen([PROGRAM, "serve", "--connections", str(connections), "--key", KEY], cwd=folder,
+                            stdout=subprocess.PIPE, stderr=subprocess.PIPE, text=True)
+
+
+def silent_at_the_end():
+    """Peers that stay when they were answered for the last time: the office waits for none of them for long."""
+    with tempfile.TemporaryDirectory() as folder:
+        office = serve(3, folder)
+        peers = [connect() for _ in range(3)]
+        for peer in peers:
+            peer.sendall(head("GET", "/v1/ask/tally", more="Connection: close\r\n"))
+        found = [answers(peer, 1) for peer in peers]
+        start = time.monotonic()
+        written, said = office.communicate(timeout=60)
+        took = time.monotonic() - start
+        check("three peers stay, and the office ends", found == [[(200, TALLY % 0)]] * 3 and took < 5
+              and (office.returncode, written) == (0, "connections 3\nentries 0\n"), (found, took, written, said))
+        for peer in peers:
+            peer.close()
+
+
 def main():
     if not os.access(PROGRAM, os.X_OK):
         raise SystemExit("build the program first")
     with tempfile.TemporaryDirectory() as folder:
-        office = subprocess.Popen([PROGRAM, "serve", "--connections", "10", "--key", KEY], cwd=folder,
-                                  stdout=subprocess.PIPE, stderr=subprocess.PIPE, text=True)
+        count = 11 + 2 * TIMES
+        office = serve(count, folder)
         silent = connect()
         keep_alive()
         pipelined()
@@ -164,10 +217,13 @@ def main():
         cut_off()
         rude()
         deaf()
+        not_read()
         silent.close()
         written, said = office.communicate(timeout=60)
-        check("the office ends when all were left", (office.returncode, written) == (0, "connections 10\nentries 6\n"),
+        check("the office ends when all were left",
+              (office.returncode, written) == (0, f"connections {count}\nentries 6\n"),
               (office.returncode, written, said))
+    silent_at_the_end()
     return 1 if failed else 0
 
 

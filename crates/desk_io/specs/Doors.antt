@@ -1,6 +1,9 @@
 -- What one call of a door says of the links to come, where these are told, and of the door's count of faults.
-use Rattle.std.specs.Prelude.{◌≡◌, ⊤, ℕ, ◌-◌, ◌^◌, Bool, true, List, [], ◌∷◌, ◌++◌, None, Some, refl}
+use Rattle.std.specs.Prelude.{◌≡◌, ◌⊎◌, ⊤, ℕ, ◌-◌, ◌^◌, Bool, true, List, [], ◌∷◌, ◌++◌, None, Some, refl}
 use Rattle.std.specs.declared.option.Option.{Option}
+use Rattle.std.specs.declared.net.socket_addr.SocketAddr.{SocketAddr}
+use Rattle.std.specs.Net.Addr.{ipv4_octets, IsV4And}
+use Rattle.std.specs.Net.Socket.{socket_ip, socket_port}
 use Rattle.std.proofs.Common.{sym, ap, ◌∙◌, append_assoc}
 use Rattle.desk_io.specs.Outside.{Rises, one_more}
 use Rattle.desk_io.specs.Calls.{Calls, passed, failed}
@@ -70,10 +73,17 @@ AnswersOnce before after answers.NoMemory = ⊥
 
 -- ---- a door on a port
 
--- whether it is bound to its port, and how often it failed
+-- its port, whether it is bound to it, and how often it failed
 pub record TcpDoorState : Type 0 where
+  pub port : ℕ
   pub is_bound : Bool
   pub faults : ℕ
+
+-- where a door on this port is called: at 127.0.0.1, and at that port, or at any one where it is 0
+abbrev pub IsPlaceOf : ℕ → SocketAddr → Type 0
+IsPlaceOf port place =
+    IsV4And (socket_ip place) (λ ip. ipv4_octets ip ≡ 127 ∷ 0 ∷ 0 ∷ 1 ∷ [])
+    × ((port ≡ 0) ⊎ (socket_port place ≡ port))
 
 -- a source and a sink that nobody has called yet
 abbrev pub IsUncalled : StreamSourceState → StreamSinkState → Type 0
@@ -86,5 +96,5 @@ abbrev pub AcceptsOnce : TcpDoorState → TcpDoorState → Next StreamSourceStat
 AcceptsOnce before after (answers.Link source sink) =
     (after ≡ record before { is_bound = true }) × IsUncalled source sink
 AcceptsOnce before after answers.Shut = ⊥
-AcceptsOnce before after answers.Failed = after.faults ≡ one_more before.faults
+AcceptsOnce before after answers.Failed = (after.port ≡ before.port) × (after.faults ≡ one_more before.faults)
 AcceptsOnce before after answers.NoMemory = after ≡ record before { is_bound = true }

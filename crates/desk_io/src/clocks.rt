@@ -108,7 +108,7 @@ impl Clock for TickClock {
 }
 
 /// The system's clock, held to the years that an `Instant` has. Its readings aren't told.
-#[derive(Drop)]
+#[derive(Debug, Drop)]
 pub struct SystemClock<R: rt::Clock + Copy> {
     system: R,
     last: Instant,

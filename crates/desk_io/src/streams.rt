@@ -11,7 +11,7 @@ use std::io::{Read, Write};
 use std::marker::Model;
 
 /// A source over a reader. It tells nothing of its bytes, and counts each error as a fault.
-#[derive(Drop)]
+#[derive(Debug, Drop)]
 pub struct StreamSource<R: Read + Drop> {
     stream: Option<R>,
     faults: u64,
@@ -98,7 +98,7 @@ impl<R: Read + Drop> Source for StreamSource<R> {
 
 /// A sink over a writer. It tells nothing of its bytes, and counts each error as a fault; so it does
 /// where the writer takes nothing of a piece that isn't empty.
-#[derive(Drop)]
+#[derive(Debug, Drop)]
 pub struct StreamSink<W: Write + Drop> {
     stream: Option<W>,
     faults: u64,
