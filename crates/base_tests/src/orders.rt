@@ -89,10 +89,10 @@ fn the_last_item_with_a_key_stands(rt: HostRuntime) -> Result<(), Fail> {
     Ok(())
 }
 
-/// Inserts the keys from 0 to 3,000 but one, 1,009 after the one before.
-fn insert_three_thousand(list: &mut OrderedList<Entry>) -> Result<(), NoMemory> {
-    for number in 0..3_000 {
-        insert(list, number * 1_009 % 3_001, number)?;
+/// Inserts the keys from 0 to 10,006 but one, 1,009 after the one before, so that each vector of the list has some.
+fn insert_ten_thousand(list: &mut OrderedList<Entry>) -> Result<(), NoMemory> {
+    for number in 0..10_006 {
+        insert(list, number * 1_009 % 10_007, number)?;
     }
     Ok(())
 }
@@ -101,24 +101,36 @@ const NUMBERS_OF_MANY: &[(u32, Option<u32>)] = &[
     (0, Some(0)),
     (1_009, Some(1)),
     (2_018, Some(2)),
-    (26, Some(3)),
-    (1_992, None),
+    (83, Some(10)),
+    (9_980, Some(4_096)),
+    (4_651, Some(9_000)),
+    (2_861, Some(9_990)),
+    (7_989, Some(10_005)),
+    (8_998, None),
 ];
 
 const PLACES: &[(u64, Option<u32>)] = &[
     (0, Some(0)),
-    (1_991, Some(1_991)),
-    (1_992, Some(1_993)),
-    (2_999, Some(3_000)),
-    (3_000, None),
+    (8_997, Some(8_997)),
+    (8_998, Some(8_999)),
+    (10_005, Some(10_006)),
+    (10_006, None),
+];
+
+const NEXT_OF_MANY: &[(u32, Option<u32>)] = &[
+    (0, Some(1)),
+    (8_997, Some(8_999)),
+    (4_651, Some(4_652)),
+    (10_006, None),
 ];
 
 #[test]
-fn three_thousand_items(rt: HostRuntime) -> Result<(), Fail> {
+fn ten_thousand_items(rt: HostRuntime) -> Result<(), Fail> {
     let mut list = OrderedList::new(rt.alloc())?;
-    insert_three_thousand(&mut list)?;
-    assert_eq!(rt; list.len(), 3_000);
+    insert_ten_thousand(&mut list)?;
+    assert_eq!(rt; list.len(), 10_006);
     expect_none_wrong(&rt, wrong_number(&list, NUMBERS_OF_MANY));
     expect_none_wrong(&rt, wrong_place(&list, PLACES));
+    expect_none_wrong(&rt, wrong_next(&list, NEXT_OF_MANY));
     Ok(())
 }

@@ -117,7 +117,7 @@ module _ {T : Type 0} {cmp : T → T → Ordering} (total : IsTotalOrder cmp) wh
         by None none = found_settled total x xs ys none ∙ is
         by (Some y) some = absurd (false≢true (sym (ap is_some (apart_found total x xs ys apart (ap is_some some))) ∙ ap is_some is))
 
-    pub next_merged : (one other : Option T) → IsNextAbove cmp key xs one → IsNextAbove cmp key ys other → IsNextAbove cmp key (merged cmp xs ys) (lower_of cmp one other)
+    next_merged : (one other : Option T) → IsNextAbove cmp key xs one → IsNextAbove cmp key ys other → IsNextAbove cmp key (merged cmp xs ys) (lower_of cmp one other)
     next_merged None None none nothing = λ some there past. either some there (λ here. none some here past) (λ here. nothing some here past)
     next_merged None (Some y) none next = record {
       there = found_newest total y y xs ys next.there;
@@ -150,3 +150,7 @@ module _ {T : Type 0} {cmp : T → T → Ordering} (total : IsTotalOrder cmp) wh
         by Less is = subst (IsNextAbove cmp key (merged cmp xs ys)) (sym (ap (λ (o : Ordering). cond (is_lt o) (Some x) (Some y)) is)) (low is)
         by Equal is = subst (IsNextAbove cmp key (merged cmp xs ys)) (sym (ap (λ (o : Ordering). cond (is_lt o) (Some x) (Some y)) is)) (high (λ less. let both = sym is ∙ less in cc))
         by Greater is = subst (IsNextAbove cmp key (merged cmp xs ys)) (sym (ap (λ (o : Ordering). cond (is_lt o) (Some x) (Some y)) is)) (high (λ less. let both = sym is ∙ less in cc))
+
+    -- the lower of the next items of both lists, where these are known
+    pub next_both : (one other lower : Option T) → lower ≡ lower_of cmp one other → IsNextAbove cmp key xs one → IsNextAbove cmp key ys other → IsNextAbove cmp key (merged cmp xs ys) lower
+    next_both one other lower is first second = subst (IsNextAbove cmp key (merged cmp xs ys)) (sym is) (next_merged one other first second)

@@ -10,10 +10,11 @@ use Rattle.std.proofs.lemmas.Bool.{cases_lt, cases_eq, false≢true}
 use Rattle.std.proofs.lemmas.List.{length-take-le, take-append-drop, drop_more, get_or-take, get_or-drop, get_or_default, length-take, length-drop}
 use Rattle.std.proofs.lemmas.List.Elements.{All-from_recursion, recursion_from_All}
 use Rattle.ordered_list.specs.Orders.{ties, IsStrictlySorted, found, inserted, merged, AreApart, BelongsAt}
+use Rattle.ordered_list.specs.Contents.{IsPair}
 use Rattle.ordered_list.specs.Places.{below, IsPassed}
 use Rattle.ordered_list.proofs.PlaceLemmas.{sorted_before, above_from_below}
 use Rattle.ordered_list.proofs.InsertLemmas.{inserted_by, below_from_above}
-use Rattle.ordered_list.proofs.MergeLemmas.{all-inserted, all_weaker, none_ties, ties_none, length-merged}
+use Rattle.ordered_list.proofs.MergeLemmas.{all-merged, all_weaker, none_ties, ties_none, sorted-merged, length-merged}
 use Rattle.ordered_list.proofs.RemoveLemmas.{inserted_first}
 use Rattle.ordered_list.proofs.MergeSteps.{all-take, sorted-take, found-take}
 
@@ -23,11 +24,7 @@ module _ {T : Type 0} (cmp : T → T → Ordering) where
   inserted_right item [] ys less = refl
   inserted_right item (x ∷ xs) ys less = inserted_by cmp item x (xs ++ ys) Less less.0 ∙ ap (λ (zs : List T). x ∷ zs) (inserted_right item xs ys less.1)
 
-  all-merged : (P : T → Type 0) (xs ys : List T) → AllByRecursion P xs → AllByRecursion P ys → AllByRecursion P (merged cmp xs ys)
-  all-merged P xs [] left right = left
-  all-merged P xs (y ∷ ys) left right = all-inserted cmp P y (merged cmp xs ys) right.0 (all-merged P xs ys left right.1)
-
-  -- where a key belongs is ps far ps the items are below it
+  -- where a key belongs is as far as the items are below it
   pub belongs_below : (key : T) (xs : List T) (place : ℕ) → BelongsAt cmp key xs place → below cmp key xs ≡ place
   belongs_below key [] place gap = omega (arith, gap.within)
   belongs_below key (x ∷ xs) zero gap = ap (λ (o : Ordering). match_ordering o (below cmp key xs + 1) 0 0) (gap.above 0 x (omega arith) (omega arith))
@@ -129,6 +126,49 @@ module _ {T : Type 0} {cmp : T → T → Ordering} (total : IsTotalOrder cmp) wh
         (all_weaker (λ c. cmp c x ≡ Less) (λ c. AllByRecursion (λ b. cmp c b ≡ Less) qs) (λ c low. all_weaker _ (λ b. cmp c b ≡ Less) (λ b from. from c low) qs qs_from) cs cs_below)
         (all_weaker (λ c. cmp c x ≡ Less) (λ c. AllByRecursion (λ d. cmp c d ≡ Less) ds) (λ c low. all_weaker _ (λ d. cmp c d ≡ Less) (λ d from. from c low) ds ds_from) cs cs_below)
 
+  -- ---- where a key belongs in merged lists
+
+  pub front_of : (key : T) (xs : List T) (place : ℕ) → BelongsAt cmp key xs place → AllByRecursion (λ a. cmp a key ≡ Less) (take place xs)
+  front_of key xs place gap = recursion_from_All (λ a. cmp a key ≡ Less) (take place xs) (λ k d less.
+      subst (λ a. cmp a key ≡ Less) (sym (get_or-take place xs k d (omega (arith, length-take place xs)))) (gap.below k d (omega (arith, length-take place xs))))
+
+  pub back_of : (key : T) (xs : List T) (place : ℕ) → BelongsAt cmp key xs place → AllByRecursion (λ b. cmp key b ≡ Less) (drop place xs)
+  back_of key xs place gap = recursion_from_All (λ b. cmp key b ≡ Less) (drop place xs) (λ k d less.
+      subst (λ b. cmp key b ≡ Less) (sym (get_or-drop place xs k d)) (below_from_above total _ key (gap.above (place + k) d (omega arith) (omega (arith, length-drop place xs)))))
+
+  below_parted : (key : T) (xs ys : List T) → AllByRecursion (λ a. cmp a key ≡ Less) xs → AllByRecursion (λ b. cmp key b ≡ Less) ys → below cmp key (xs ++ ys) ≡ length xs
+  below_parted key [] [] low high = refl
+  below_parted key [] (y ∷ ys) low high = ap (λ (o : Ordering). match_ordering o (below cmp key ys + 1) 0 0) (above_from_below total key y high.0)
+  below_parted key (x ∷ xs) ys low high =
+      ap (λ (o : Ordering). match_ordering o (below cmp key (xs ++ ys) + 1) 0 0) low.0 ∙ omega (arith, below_parted key xs ys low.1 high)
+
+  pub belongs_merged : (key : T) (xs ys : List T) (place other : ℕ) → IsPair cmp xs ys → found cmp key (merged cmp xs ys) ≡ None → BelongsAt cmp key xs place → BelongsAt cmp key ys other
+      → BelongsAt cmp key (merged cmp xs ys) (place + other)
+  belongs_merged key xs ys place other pair none gap gap_ys =
+      subst (BelongsAt cmp key (merged cmp xs ys)) stands (belongs key (merged cmp xs ys) (sorted-merged total xs ys pair.settled_sorted) none)
+    where
+      from_key : (zs : List T) → AllByRecursion (λ b. cmp key b ≡ Less) zs → AllByRecursion (λ b. (a : T) → cmp a key ≡ Less → cmp a b ≡ Less) zs
+      from_key zs above = all_weaker (λ b. cmp key b ≡ Less) (λ b. (a : T) → cmp a key ≡ Less → cmp a b ≡ Less) (λ b high a low. total.trans a key b low high) zs above
+
+      parted : merged cmp xs ys ≡ merged cmp (take place xs) (take other ys) ++ merged cmp (drop place xs) (drop other ys)
+      parted =
+          ap (λ (zs : List T). merged cmp zs ys) (sym (take-append-drop place xs)) ∙ ap (merged cmp (take place xs ++ drop place xs)) (sym (take-append-drop other ys))
+          ∙ cut_at key (take place xs) (drop place xs) (take other ys) (drop other ys) (front_of key xs place gap) (front_of key ys other gap_ys)
+          (from_key (drop place xs) (back_of key xs place gap)) (from_key (drop other ys) (back_of key ys other gap_ys))
+
+      apart : AreApart cmp (take place xs) (take other ys)
+      apart = all-take (λ y. found cmp y (take place xs) ≡ None) other ys
+          (all_weaker (λ y. found cmp y xs ≡ None) (λ y. found cmp y (take place xs) ≡ None) (λ y none. found-take cmp y place xs none) ys pair.apart)
+
+      stands : below cmp key (merged cmp xs ys) ≡ place + other
+      stands =
+          ap (below cmp key) parted
+          ∙ below_parted key (merged cmp (take place xs) (take other ys)) (merged cmp (drop place xs) (drop other ys))
+          (all-merged cmp (λ a. cmp a key ≡ Less) (take place xs) (take other ys) (front_of key xs place gap) (front_of key ys other gap_ys))
+          (all-merged cmp (λ b. cmp key b ≡ Less) (drop place xs) (drop other ys) (back_of key xs place gap) (back_of key ys other gap_ys))
+          ∙ length-merged total (take place xs) (take other ys) (sorted-take cmp other ys pair.newest_sorted) apart
+          ∙ omega (arith, length-take-le place xs gap.within, length-take-le other ys gap_ys.within)
+
 slice_get_at : {T : Type 0} (xs : List T) (y : T) (ys : List T) (n : ℕ) → length xs ≡ n → slice_get (xs ++ y ∷ ys) n ≡ Some y
 slice_get_at [] y ys zero same = refl
 slice_get_at [] y ys (suc n) same = absurd (omega arith)
@@ -150,11 +190,10 @@ some_item : {T : Type 0} (xs : List T) → 0 < length xs → T
 some_item [] some = absurd (omega arith)
 some_item (x ∷ xs) some = x
 
-module _ {T : Type 0} {cmp : T → T → Ordering} (total : IsTotalOrder cmp) (settled newest : List T) (sorted : IsStrictlySorted cmp settled) (newest_sorted : IsStrictlySorted cmp newest)
-    (apart : AreApart cmp settled newest) where
+module _ {T : Type 0} {cmp : T → T → Ordering} (total : IsTotalOrder cmp) (settled newest : List T) (pair : IsPair cmp settled newest) where
   -- where one of the newest belongs among the others
   gap_of : (j : ℕ) (d : T) → j < length newest → BelongsAt cmp (get_or newest j d) settled (below cmp (get_or newest j d) settled)
-  gap_of j d within = belongs total (get_or newest j d) settled sorted (All-from_recursion (λ other. found cmp other settled ≡ None) newest apart j d within)
+  gap_of j d within = belongs total (get_or newest j d) settled pair.settled_sorted (All-from_recursion (λ other. found cmp other settled ≡ None) newest pair.apart j d within)
 
   front_below : (xs : List T) → IsStrictlySorted cmp xs → (i : ℕ) (d : T) → i < length xs → AllByRecursion (λ x. cmp x (get_or xs i d) ≡ Less) (take i xs)
   front_below xs up i d within = recursion_from_All (λ x. cmp x (get_or xs i d) ≡ Less) (take i xs) (λ k e less.
@@ -179,7 +218,7 @@ module _ {T : Type 0} {cmp : T → T → Ordering} (total : IsTotalOrder cmp) (s
   -- ---- a search for a place
 
   stands_higher : (j k : ℕ) (d : T) → j < k → k < length newest → j + below cmp (get_or newest j d) settled ≤ k + below cmp (get_or newest k d) settled
-  stands_higher j k d less within = omega (arith, less, below_more total (get_or newest j d) (get_or newest k d) settled (sorted_before total newest newest_sorted j k d less within))
+  stands_higher j k d less within = omega (arith, less, below_more total (get_or newest j d) (get_or newest k d) settled (sorted_before total newest pair.newest_sorted j k d less within))
 
   module _ (place middle gap : ℕ) (item : T) (within : middle < length newest) (is : item ≡ get_or newest middle item) (at : BelongsAt cmp item settled gap) where
     stands : (d : T) → below cmp (get_or newest middle d) settled ≡ gap
@@ -213,10 +252,10 @@ module _ {T : Type 0} {cmp : T → T → Ordering} (total : IsTotalOrder cmp) (s
     cut_length i within =
         let front = length-take-le i settled within in
         let first = length-take-le count newest passed.within in
-        length-merged total (take i settled) (take count newest) (sorted-take cmp count newest newest_sorted) (apart-take i count) ∙ omega (arith, front, first)
+        length-merged total (take i settled) (take count newest) (sorted-take cmp count newest pair.newest_sorted) (apart-take i count) ∙ omega (arith, front, first)
       where
         apart-take : (i n : ℕ) → AreApart cmp (take i settled) (take n newest)
-        apart-take i n = all-take (λ other. found cmp other (take i settled) ≡ None) n newest (all_weaker (λ other. found cmp other settled ≡ None) (λ other. found cmp other (take i settled) ≡ None) (λ other none. found-take cmp other i settled none) newest apart)
+        apart-take i n = all-take (λ other. found cmp other (take i settled) ≡ None) n newest (all_weaker (λ other. found cmp other settled ≡ None) (λ other. found cmp other (take i settled) ≡ None) (λ other none. found-take cmp other i settled none) newest pair.apart)
 
     pub item_of_newest : (item : T) → count < length newest → item ≡ get_or newest count item → count + below cmp item settled ≡ place → slice_get (merged cmp settled newest) place ≡ Some item
     item_of_newest item within is at =
@@ -233,25 +272,22 @@ module _ {T : Type 0} {cmp : T → T → Ordering} (total : IsTotalOrder cmp) (s
         low = gap.within
 
         settled_below : AllByRecursion (λ a. cmp a item ≡ Less) (take (below cmp item settled) settled)
-        settled_below = recursion_from_All (λ a. cmp a item ≡ Less) (take (below cmp item settled) settled) (λ k d less.
-            subst (λ a. cmp a item ≡ Less) (sym (get_or-take (below cmp item settled) settled k d (omega (arith, length-take (below cmp item settled) settled)))) (gap.below k d (omega (arith, length-take (below cmp item settled) settled))))
+        settled_below = front_of total item settled _ gap
 
         settled_above : AllByRecursion (λ b. cmp item b ≡ Less) (drop (below cmp item settled) settled)
-        settled_above = recursion_from_All (λ b. cmp item b ≡ Less) (drop (below cmp item settled) settled) (λ k d less.
-            subst (λ b. cmp item b ≡ Less) (sym (get_or-drop (below cmp item settled) settled k d))
-            (below_from_above total _ item (gap.above (below cmp item settled + k) d (omega arith) (omega (arith, length-drop (below cmp item settled) settled)))))
+        settled_above = back_of total item settled _ gap
 
         newest_below : AllByRecursion (λ c. cmp c item ≡ Less) (take count newest)
-        newest_below = subst (λ (x : T). AllByRecursion (λ c. cmp c x ≡ Less) (take count newest)) (sym is) (front_below newest newest_sorted count item within)
+        newest_below = subst (λ (x : T). AllByRecursion (λ c. cmp c x ≡ Less) (take count newest)) (sym is) (front_below newest pair.newest_sorted count item within)
 
         newest_from : AllByRecursion (λ d. (a : T) → cmp a item ≡ Less → cmp a d ≡ Less) (drop count newest)
-        newest_from = subst (λ (x : T). AllByRecursion (λ d. (a : T) → cmp a x ≡ Less → cmp a d ≡ Less) (drop count newest)) (sym is) (rest_from newest newest_sorted count item within)
+        newest_from = subst (λ (x : T). AllByRecursion (λ d. (a : T) → cmp a x ≡ Less → cmp a d ≡ Less) (drop count newest)) (sym is) (rest_from newest pair.newest_sorted count item within)
 
         newest_rest : drop count newest ≡ item ∷ drop (count + 1) newest
         newest_rest = drop_more newest count item within ∙ ap (λ (x : T). x ∷ drop (count + 1) newest) (sym is)
 
         after : AllByRecursion (λ d. cmp item d ≡ Less) (drop (count + 1) newest)
-        after = later_all newest newest_sorted count item within is
+        after = later_all newest pair.newest_sorted count item within is
 
         cut : merged cmp settled newest ≡ merged cmp (take (below cmp item settled) settled) (take count newest) ++ merged cmp (drop (below cmp item settled) settled) (drop count newest)
         cut =
@@ -277,7 +313,7 @@ module _ {T : Type 0} {cmp : T → T → Ordering} (total : IsTotalOrder cmp) (s
       where
         outside : length settled ≤ i → slice_get (merged cmp settled newest) place ≡ slice_get settled i
         outside past =
-            slice_get_past (merged cmp settled newest) place (omega (arith, all_passed, length-merged total settled newest newest_sorted apart))
+            slice_get_past (merged cmp settled newest) place (omega (arith, all_passed, length-merged total settled newest pair.newest_sorted pair.apart))
             ∙ sym (slice_get_past settled i past)
           where
             all_passed : length newest ≤ count
@@ -320,7 +356,7 @@ module _ {T : Type 0} {cmp : T → T → Ordering} (total : IsTotalOrder cmp) (s
                     one : (k : ℕ) (d : T) → k < count → k < length newest → cmp (get_or newest k d) (get_or settled i e) ≡ Less
                     one k d low inner = elim (cases_eq k (count - 1)) [
                       | inl same ↦ ap (λ (n : ℕ). cmp (get_or newest n d) (get_or settled i e)) same ∙ last d (omega arith)
-                      | inr differs ↦ total.trans (get_or newest k d) (get_or newest (count - 1) d) (get_or settled i e) (sorted_before total newest newest_sorted k (count - 1) d (omega arith) (omega (arith, passed.within))) (last d (omega arith))
+                      | inr differs ↦ total.trans (get_or newest k d) (get_or newest (count - 1) d) (get_or settled i e) (sorted_before total newest pair.newest_sorted k (count - 1) d (omega arith) (omega (arith, passed.within))) (last d (omega arith))
                     ]
 
                 -- the others are above it
@@ -339,12 +375,12 @@ module _ {T : Type 0} {cmp : T → T → Ordering} (total : IsTotalOrder cmp) (s
 
                     one : (k : ℕ) (d : T) → count + k < length newest → cmp (get_or settled i e) (get_or newest (count + k) d) ≡ Less
                     one zero d inner = ap (λ (n : ℕ). cmp (get_or settled i e) (get_or newest n d)) (omega arith) ∙ first d (omega arith)
-                    one (suc k) d inner = total.trans (get_or settled i e) (get_or newest count d) (get_or newest (count + suc k) d) (first d (omega arith)) (sorted_before total newest newest_sorted count (count + suc k) d (omega arith) inner)
+                    one (suc k) d inner = total.trans (get_or settled i e) (get_or newest count d) (get_or newest (count + suc k) d) (first d (omega arith)) (sorted_before total newest pair.newest_sorted count (count + suc k) d (omega arith) inner)
 
                 cut : (e : T) → merged cmp settled newest ≡ merged cmp (take i settled) (take count newest) ++ merged cmp (drop i settled) (drop count newest)
                 cut e =
                     ap (λ (xs : List T). merged cmp xs newest) (sym (take-append-drop i settled)) ∙ ap (merged cmp (take i settled ++ drop i settled)) (sym (take-append-drop count newest))
-                    ∙ cut_at total (get_or settled i e) (take i settled) (drop i settled) (take count newest) (drop count newest) (front_below settled sorted i e within) (passed_below e) (rest_from settled sorted i e within)
+                    ∙ cut_at total (get_or settled i e) (take i settled) (drop i settled) (take count newest) (drop count newest) (front_below settled pair.settled_sorted i e within) (passed_below e) (rest_from settled pair.settled_sorted i e within)
                     (all_weaker (λ d. cmp (get_or settled i e) d ≡ Less) (λ d. (a : T) → cmp a (get_or settled i e) ≡ Less → cmp a d ≡ Less) (λ d less a low. total.trans a (get_or settled i e) d low less) (drop count newest) (others_above e))
 
                 head : (e : T) → merged cmp (drop i settled) (drop count newest) ≡ get_or settled i e ∷ merged cmp (drop (i + 1) settled) (drop count newest)

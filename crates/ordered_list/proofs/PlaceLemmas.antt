@@ -1,13 +1,16 @@
 -- The place of a key in a list that is in order, and what stands there.
-use Rattle.std.proofs.Common.{◌≡◌, ℕ, ◌+◌, ◌<◌, zero, suc, cond, List, [], ◌∷◌, length, get_or, set, Some, None, Result, Ok, Err, refl, ap, sym, ◌∙◌, arith}
+use Rattle.std.proofs.Common.{◌≡◌, ℕ, ◌+◌, ◌-◌, ◌<◌, zero, suc, cond, List, [], ◌∷◌, length, get_or, set, Some, None, Result, Ok, Err, refl, ap, sym, ◌∙◌, inl, inr, true, false, Bool, true≢false, arith}
 use Rattle.std.specs.Prelude.{IfOk, IfErr}
+use Rattle.std.specs.Bool.{OnTrue}
 use Rattle.std.specs.Cmp.{IsTotalOrder}
 use Rattle.std.specs.List.{insert, remove}
 use Rattle.std.specs.List.Sorted.{IsSortedBy, IsSearchInRange, IsBinarySearchResult}
 use Rattle.std.specs.declared.cmp.Ordering.{Ordering}
-use Rattle.std.specs.declared.cmp.Ordering.TheVariants.{Less, Greater}
+use Rattle.std.specs.declared.cmp.Ordering.TheVariants.{Less, Equal, Greater}
 use Rattle.std.specs.Ordering.{is_lt, is_eq, ordering_reverse, match_ordering}
+use Rattle.std.proofs.lemmas.Bool.{cases_eq}
 use Rattle.std.proofs.lemmas.Cmp.{alike_right}
+use Rattle.std.proofs.lemmas.List.{get_or_default}
 use Rattle.std.proofs.lemmas.List.Elements.{All-from_recursion}
 use Rattle.std.proofs.lemmas.List.Sorted.{searchable_from_sorted}
 use Rattle.ordered_list.specs.Orders.{IsStrictlySorted, found, inserted, removed, FoundAt, BelongsAt}
@@ -43,6 +46,26 @@ module _ {T : Type 0} {cmp : T → T → Ordering} (total : IsTotalOrder cmp) wh
         at = tt;
         gap = record { within = within; below = λ k d less. parts.0 k d (omega arith) less; above = λ k d low high. parts.1 k d low high };
       }
+
+  -- a key above the last item belongs at the end
+  pub past_last : (xs : List T) (key : T) → IsStrictlySorted cmp xs → ((d : T) → cmp (get_or xs (length xs - 1) d) key ≡ Less) → BelongsAt cmp key xs (length xs)
+  past_last xs key sorted last = record {
+    within = omega arith;
+    below = λ k d less. elim (cases_eq k (length xs - 1)) [
+      | inl is ↦ ap (λ (n : ℕ). cmp (get_or xs n d) key) is ∙ last d
+      | inr differs ↦ total.trans (get_or xs k d) (get_or xs (length xs - 1) d) key (sorted_before xs sorted k (length xs - 1) d (omega (arith, less, differs)) (omega (arith, less))) (last d)
+    ];
+    above = λ k d low high. absurd (omega (arith, low, high));
+  }
+
+  -- the last item was looked at, where there is one
+  pub past_told : (xs : List T) (key last : T) (o : Ordering) (past : Bool) → IsStrictlySorted cmp xs → (length xs ≡ 0 → ⊥) → last ≡ get_or xs (length xs - 1) last → o ≡ cmp last key → past ≡ is_lt o
+      → OnTrue past (BelongsAt cmp key xs (length xs))
+  past_told xs key last o false sorted some is told tested = tt
+  past_told xs key last Less true sorted some is told tested =
+      past_last xs key sorted (λ d. ap (λ (x : T). cmp x key) (get_or_default xs (length xs - 1) d last (omega (arith, some)) ∙ sym is) ∙ sym told)
+  past_told xs key last Equal true sorted some is told tested = absurd (true≢false tested)
+  past_told xs key last Greater true sorted some is told tested = absurd (true≢false tested)
 
 -- ---- what stands at the place
 

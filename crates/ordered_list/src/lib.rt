@@ -5,7 +5,8 @@
 //! memory, and no other call does.
 //!
 //! One vector in order would move half of its items at each insertion. So the newest items stand in a short vector of
-//! their own, which is in order too; when it is full it is merged into the long one, in the room that is there.
+//! their own, which is in order too; when it is full it is merged into a longer one of recent items, and when that is
+//! full, into the long one of the settled items, in the room that is there.
 #![tactic(auto)]
 
 mod changes;

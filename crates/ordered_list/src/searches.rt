@@ -1,7 +1,19 @@
 //! Searches by halving in one vector that is in order.
 
-ghost use Rattle.std.specs.Prelude.{◌≡◌, None, IfOk, IfErr, slice_get};
-ghost use Rattle.ordered_list.specs.Orders.{IsStrictlySorted, FoundAt, BelongsAt, found, next_above, lower_of};
+ghost use Rattle.std.specs.Prelude.{◌≡◌, ◌+◌, ◌<◌, ◌≤◌, ◌^◌, None, IfOk, IfErr, length, slice_get};
+ghost use Rattle.std.specs.Bool.{OnTrue};
+ghost use Rattle.ordered_list.specs.Orders.{IsStrictlySorted, FoundAt, BelongsAt, found, merged, next_above};
+ghost use Rattle.ordered_list.specs.Orders.{lower_of};
+ghost use Rattle.ordered_list.specs.Contents.{IsPair};
+
+/// Whether the key is above all items.
+fn is_past<T: Ord>(items: &[T], key: &T) -> bool
+    requires { IsStrictlySorted T.cmp items.now }
+    ensures { OnTrue result (BelongsAt T.cmp key.now items.now (length items.now)) }
+{
+    let len = items.len();
+    len == 0 || items[len - 1].cmp(key).is_lt()
+}
 
 /// The place of the item that ties with the key, or else the place where the key belongs.
 pub(crate) fn place_of<T: Ord>(items: &[T], key: &T) -> Result<usize, usize>
@@ -9,6 +21,10 @@ pub(crate) fn place_of<T: Ord>(items: &[T], key: &T) -> Result<usize, usize>
     ensures found { IfOk result (FoundAt T.cmp key.now items.now) }
     ensures gap { IfErr result (BelongsAt T.cmp key.now items.now) }
 {
+    // Items often come in their order, so the end is looked at first.
+    if is_past(items, key) {
+        return Err(items.len());
+    }
     items.binary_search(key)
 }
 
@@ -23,6 +39,17 @@ pub(crate) fn find_in<T: Ord + Copy>(items: &[T], key: &T) -> Option<T>
     }
 }
 
+/// The item of either list that ties with the key.
+pub(crate) fn find_older<T: Ord + Copy>(settled: &[T], recent: &[T], key: &T) -> Option<T>
+    requires { IsPair T.cmp settled.now recent.now }
+    ensures { result ≡ found T.cmp key.now (merged T.cmp settled.now recent.now) }
+{
+    match find_in(recent, key) {
+        Some(item) => Some(item),
+        None => find_in(settled, key),
+    }
+}
+
 /// The place where a key belongs that isn't found.
 pub(crate) fn gap_for<T: Ord>(items: &[T], key: &T) -> usize
     requires sorted { IsStrictlySorted T.cmp items.now }
@@ -32,6 +59,17 @@ pub(crate) fn gap_for<T: Ord>(items: &[T], key: &T) -> usize
     match place_of(items, key) {
         Ok(place) | Err(place) => place,
     }
+}
+
+/// The place where a key belongs in a merged list, in which it isn't found.
+pub(crate) fn gap_below<T: Ord>(settled: &[T], recent: &[T], key: &T) -> usize
+    requires pair { IsPair T.cmp settled.now recent.now }
+    requires missing { found T.cmp key.now (merged T.cmp settled.now recent.now) ≡ None }
+    requires fits { length settled.now + length recent.now < 2 ^ 64 }
+    ensures belongs { BelongsAt T.cmp key.now (merged T.cmp settled.now recent.now) result }
+    ensures within { result ≤ length settled.now + length recent.now }
+{
+    gap_for(settled, key) + gap_for(recent, key)
 }
 
 /// The place of the first item above the key.

@@ -10,7 +10,7 @@ returns-in-Ok-clause-replaced g c =
 
 pub returns-in-Err-clause-missing : goal.returns-in-Err-clause-missing
 returns-in-Err-clause-missing g c =
-    found_nowhere c.args.item c.args.items.now.items c.in-Err.field-0 (subst (λ ys. BelongsAt g.T.Ord.cmp c.args.item ys c.in-Err.field-0) c.as_slice.ensures.value c.in-Err.ensures.gap)
+    found_nowhere c.args.item c.args.items.now.items c.in-Err.place (subst (λ ys. BelongsAt g.T.Ord.cmp c.args.item ys c.in-Err.place) c.as_slice.ensures.value c.in-Err.ensures.gap)
 
 pub returns-in-Ok-clause-there : goal.returns-in-Ok-clause-there
 returns-in-Ok-clause-there g c =
