@@ -9,3 +9,4 @@ mod Apart
 mod Firsts
 mod Rows
 mod Beside
+mod TextWords

@@ -24,11 +24,11 @@ abbrev pub name_key : TrackName → NameKey
 name_key (tracks.Number number) = keys.Number number.0
 name_key (tracks.Designation (designations.Provisional p)) = keys.Provisional p.half.year p.half.index p.order
 name_key (tracks.Designation (designations.Survey survey number)) = keys.Survey (survey_place survey) number
-name_key (tracks.Sub short) = keys.Sub short.len short.bytes
+name_key (tracks.Sub short) = keys.Sub short.len (record { bytes = short.bytes })
 
 -- the key of an observation's group
 abbrev pub group_key : Sighting → GroupKey
-group_key s = record { name = name_key (name_of s); len = s.station.len; bytes = s.station.bytes }
+group_key s = record { name = name_key (name_of s); len = s.station.len; bytes = record { bytes = s.station.bytes } }
 
 -- from one time and declination to another the declination changes by more than 30 degrees a day
 abbrev pub is_fast_change : ℤ → ℤ → ℤ → ℤ → Bool

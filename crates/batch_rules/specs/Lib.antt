@@ -5,3 +5,4 @@ pub mod PlaceTests
 pub mod Numbers
 pub mod Rulings
 pub mod Memory
+pub mod Marks

@@ -1,15 +1,21 @@
 //! Keys of groups: what tells the names and the stations of observations apart.
 
 ghost use Rattle.std.specs.Prelude.{◌≡◌};
+ghost use Rattle.std.proofs.Common.{rules};
+ghost use Rattle.std.specs.Hash as fed;
+ghost use Rattle.std.specs.Cmp.Rules.{hashing};
 ghost use Rattle.packed_names.specs.Order.{survey_place};
 ghost use Rattle.batch_rules.specs.Groups.{name_key, group_key};
+ghost use Rattle.batch_rules.specs.Marks.{name_mark, group_mark};
 
 use crate::names::track_name;
+use crate::words::{Text, mixed, text_mark};
 use obs_record::{Sighting, TrackName};
 use packed_names::{Designation, Survey};
+use std::hash::{Hash, Hasher};
 
 /// What tells the names of observations apart.
-#[derive(Clone, Copy, PartialEq, Eq, Hash)]
+#[derive(Clone, Copy, PartialEq, Eq)]
 pub(crate) enum NameKey {
     Number(u32),
     /// The year and the index of the half-month, and the order.
@@ -17,15 +23,46 @@ pub(crate) enum NameKey {
     /// The survey's place among the surveys, and the number.
     Survey(u8, u16),
     /// The length of a text, and its bytes.
-    Sub(u8, [u8; 12]),
+    Sub(u8, Text),
 }
 
 /// What tells groups apart: the name, and the station's code with its length.
-#[derive(Clone, Copy, PartialEq, Eq, Hash)]
+#[derive(Clone, Copy, PartialEq, Eq)]
 pub(crate) struct GroupKey {
     pub(crate) name: NameKey,
     pub(crate) len: u8,
-    pub(crate) bytes: [u8; 12],
+    pub(crate) bytes: Text,
+}
+
+/// A number that a name makes. What kind of name it is tells it less: few names of two kinds have the same numbers.
+fn name_mark(name: &NameKey) -> u64
+    ensures { result ≡ name_mark name.now }
+{
+    match name {
+        NameKey::Number(number) => *number as u64,
+        NameKey::Provisional(year, index, order) => {
+            mixed(*order as u64, mixed(*year as u64, *index as u64))
+        }
+        NameKey::Survey(place, number) => mixed(*place as u64, *number as u64),
+        NameKey::Sub(_, text) => text_mark(text),
+    }
+}
+
+/// A number that a group makes, by which it is hashed.
+pub(crate) fn group_mark(key: &GroupKey) -> u64
+    ensures { result ≡ group_mark key.now }
+{
+    mixed(text_mark(&key.bytes), name_mark(&key.name))
+}
+
+impl Hash for GroupKey {
+    ghost hash_input = { λ key. fed.u64 (group_mark key) };
+
+    ghost respects_eq = { Prim.search (hashing, rules) };
+
+    fn hash<H: Hasher>(&self, state: &mut H) {
+        state.write_u64(group_mark(self));
+    }
 }
 
 fn survey_place(survey: Survey) -> u8
@@ -50,7 +87,10 @@ fn name_key(name: TrackName) -> NameKey
         TrackName::Designation(Designation::Survey(survey, number)) => {
             NameKey::Survey(survey_place(survey), number)
         }
-        TrackName::Sub(sub) => NameKey::Sub(sub.len, sub.bytes),
+        TrackName::Sub(sub) => {
+            let bytes = sub.bytes;
+            NameKey::Sub(sub.len, Text { bytes })
+        }
     }
 }
 
@@ -58,9 +98,10 @@ fn name_key(name: TrackName) -> NameKey
 pub(crate) fn group_key(s: &Sighting) -> GroupKey
     ensures { result ≡ group_key s.now }
 {
+    let bytes = s.station.bytes;
     GroupKey {
         name: name_key(track_name(s)),
         len: s.station.len,
-        bytes: s.station.bytes,
+        bytes: Text { bytes },
     }
 }

@@ -12,6 +12,7 @@ mod numbers;
 mod places;
 mod rules;
 mod rulings;
+mod words;
 
 pub use act_model::Ruling;
 pub use judging::judge;
