@@ -1,3 +1,5 @@
 mod VerdictLemmas
 mod PlaceLemmas
 mod NumberLemmas
+mod OpenLemmas
+mod IndexLemmas

@@ -3,3 +3,4 @@ pub mod Numbers
 pub mod Unbroken
 pub mod RegisterValue
 pub mod Indexes
+pub mod Open

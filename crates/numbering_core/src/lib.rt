@@ -17,6 +17,7 @@ mod entry;
 pub mod laws;
 mod lists;
 mod numbering;
+mod open;
 mod register;
 mod verdict;
 

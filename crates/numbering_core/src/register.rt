@@ -6,10 +6,13 @@ ghost use Rattle.packed_names.specs.Ranges.{IsNumber};
 ghost use Rattle.numbering_core.specs.Verdicts.{VerdictAct, verdict_of, verdict_in_force, is_good, ChangedBy, StandFor};
 ghost use Rattle.numbering_core.specs.Verdicts.VerdictAct.{Set, Voided};
 ghost use Rattle.numbering_core.specs.Numbers.{number_of, named, next_number, IsUnbroken};
+ghost use Rattle.numbering_core.specs.Open.{AreOpen};
+ghost use Rattle.ordered_list.specs.Orders.{IsStrictlySorted};
 
 use crate::entry::{NumberEntry, VerdictEntry};
-use crate::lists;
 use crate::numbering::Numbering;
+use crate::verdict::Verdict;
+use crate::{lists, open};
 use item_list::NoMemory;
 use ordered_list::OrderedList;
 use packed_names::{Designation, Number};
@@ -25,6 +28,8 @@ pub struct Register {
     verdicts: OrderedList<VerdictEntry>,
     numbered: Vec<Numbering>,
     entries: OrderedList<NumberEntry>,
+    // the designations with a good verdict and without a number
+    open: OrderedList<Designation>,
 }
 
 impl Model for Register {
@@ -34,14 +39,20 @@ impl Model for Register {
     ghost Value = { RegisterValue };
 
     ghost use Rattle.numbering_core.specs.Indexes.{IsKept, verdicts_in};
+    ghost use Rattle.numbering_core.specs.Verdicts.{verdict_of};
+    ghost use Rattle.numbering_core.specs.Open.{AreOpen};
 
     ghost view = { λ r. record {
       verdicts = verdicts_in r.verdicts.items;
       numbered = reverse r.numbered.items;
-      spare = min r.verdicts.room (min (vec_capacity r.numbered - vec_len r.numbered) r.entries.room);
+      spare = min r.verdicts.room
+          (min (vec_capacity r.numbered - vec_len r.numbered) (min r.entries.room r.open.room));
     } };
 
-    ghost invariant = { λ r. IsKept ⟦<NumberEntry as Ord>⟧.cmp (reverse r.numbered.items) r.entries.items };
+    ghost invariant = { λ r.
+        IsKept ⟦<NumberEntry as Ord>⟧.cmp (reverse r.numbered.items) r.entries.items
+        × AreOpen ⟦<Designation as Ord>⟧.cmp (verdict_of (verdicts_in r.verdicts.items))
+        (reverse r.numbered.items) r.open.items };
 }
 
 impl Register {
@@ -58,6 +69,7 @@ impl Register {
             verdicts: OrderedList::new(alloc)?,
             numbered: Vec::new(alloc),
             entries: OrderedList::new(alloc)?,
+            open: OrderedList::new(alloc)?,
         })
     }
 
@@ -75,7 +87,8 @@ impl Register {
     {
         self.verdicts.reserve(more)?;
         self.numbered.reserve(more as usize)?;
-        self.entries.reserve(more)
+        self.entries.reserve(more)?;
+        self.open.reserve(more)
     }
 
     /// Sets the verdict on a principal designation: its uncertainty parameter and its oppositions. An earlier one is no
@@ -89,6 +102,13 @@ impl Register {
         ensures spare { self.old.spare ≤ self.new.spare + 1 }
     {
         packed_names::laws::orders();
+        let verdict = Verdict {
+            principal: p,
+            u,
+            oppositions,
+        };
+        let is_open = open::is_open(&self.entries, verdict);
+        open::keep(&mut self.open, p, is_open);
         self.verdicts.insert(VerdictEntry {
             principal: p,
             u,
@@ -105,6 +125,7 @@ impl Register {
         ensures spare { self.old.spare ≤ self.new.spare }
     {
         packed_names::laws::orders();
+        open::close(&mut self.open, p);
         let _ = self.verdicts.remove(&VerdictEntry {
             principal: p,
             u: 0,
@@ -121,6 +142,18 @@ impl Register {
     {
         packed_names::laws::orders();
         lists::is_good(lists::verdict_of(&self.verdicts, p))
+    }
+
+    /// The designations that have a good verdict in force and no number, in their order.
+    pub fn open(&self) -> &OrderedList<Designation>
+        ensures order { IsStrictlySorted ⟦<Designation as Ord>⟧.cmp result.now.items }
+        ensures open { AreOpen ⟦<Designation as Ord>⟧.cmp (verdict_of self.now.verdicts) self.now.numbered
+            result.now.items }
+        ensures acts { (acts : List VerdictAct) → StandFor self.now.verdicts acts
+            → AreOpen ⟦<Designation as Ord>⟧.cmp (verdict_in_force acts) self.now.numbered result.now.items }
+    {
+        open::in_order(&self.open);
+        &self.open
     }
 
     /// The number that is given next: one more than the last. None exactly where no number was given.
@@ -143,6 +176,7 @@ impl Register {
         ensures spare { self.old.spare ≤ self.new.spare + 1 }
     {
         packed_names::laws::orders();
+        open::close(&mut self.open, d);
         self.entries.insert(NumberEntry {
             designation: d,
             number: n,

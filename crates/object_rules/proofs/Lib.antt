@@ -1,6 +1,8 @@
 mod RowLemmas
 mod SeenLemmas
 mod NumberLemmas
+mod EligibleLemmas
+mod NumberingLemmas
 mod HomeLemmas
 pub mod TimeLemmas
 mod LiveLemmas

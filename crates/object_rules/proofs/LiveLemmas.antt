@@ -1,5 +1,5 @@
 -- Whether one of an object's observations is live.
-use Rattle.std.proofs.Common.{◌≡◌, ◌↔◌, ℕ, Bool, true, false, cond, List, [], ◌∷◌, ◌++◌, flat_map, Option, Some, None, refl, sym, ap, subst, ◌∙◌}
+use Rattle.std.proofs.Common.{◌≡◌, ◌↔◌, ℕ, Bool, true, false, cond, List, [], ◌∷◌, flat_map, Option, Some, None, refl, sym, ap, subst, ◌∙◌}
 use Rattle.std.specs.Prelude.{IsSome, ◌&&◌, ◌||◌, ◌==◌}
 use Rattle.std.specs.List.{Contains, list_any}
 use Rattle.std.specs.Option.{option_map_or}
@@ -18,24 +18,6 @@ use Rattle.act_model.specs.Verdicts.{object_of_track}
 use Rattle.object_rules.specs.Numbering.{is_any_live}
 use Rattle.object_rules.specs.Timing.{is_among, numbers_at}
 use Rattle.object_rules.proofs.TimeLemmas.{those, among_those, all_numbers, among_object}
-
--- ---- the next one of those that are walked
-
--- where the first of them is live, one of them is
-pub first_live : (observations : List Observation) (k : ℕ) (rest : List ℕ) → is_live observations k ≡ true → is_any_live observations (k ∷ rest) ≡ true
-first_live observations k rest is = or_left (is_live observations k) (is_any_live observations rest) is
-
--- and else one of the others, or none
-pub rest_live : (observations : List Observation) (k : ℕ) (rest : List ℕ) → is_live observations k ≡ false → is_any_live observations (k ∷ rest) ≡ is_any_live observations rest
-rest_live observations k rest is = ap (λ (b : Bool). b || is_any_live observations rest) is
-
-pub run_live : (observations : List Observation) (first more : List ℕ) → is_any_live observations first ≡ true → is_any_live observations (first ++ more) ≡ true
-run_live observations first more is =
-    list_any-append (is_live observations) first more ∙ or_left (is_any_live observations first) (is_any_live observations more) is
-
-pub more_live : (observations : List Observation) (first more : List ℕ) → is_any_live observations first ≡ false
-    → is_any_live observations (first ++ more) ≡ is_any_live observations more
-more_live observations first more is = list_any-append (is_live observations) first more ∙ ap (λ (b : Bool). b || is_any_live observations more) is
 
 -- ---- in whatever order they are walked
 

@@ -1,8 +1,7 @@
 -- Observations that were seen.
-use Rattle.std.proofs.Common.{◌≡◌, ℕ, List, [], ◌∷◌, ◌++◌, Option, Some, None, refl, sym, ap, ◌∙◌, append_assoc}
-use Rattle.std.specs.Prelude.{IsTrue, IfSome, filter_map, slice_get}
-use Rattle.std.specs.List.{cons_option}
-use Rattle.std.specs.Option.{option_and_then, option_to_list}
+use Rattle.std.proofs.Common.{◌≡◌, ℕ, List, [], ◌∷◌, ◌++◌, Option, Some, None, refl, sym, ap, ◌∙◌}
+use Rattle.std.specs.Prelude.{IsTrue, IfSome, slice_get}
+use Rattle.std.specs.Option.{option_and_then}
 use Rattle.tracklet_file.specs.declared.observation.Observation.{Observation}
 use Rattle.tracklet_file.specs.Observations.{track_of, later_of_track, observations_of, first_of, next_of, IsFollowedBy}
 use Rattle.act_model.specs.declared.seen.Seen.{Seen}
@@ -30,26 +29,6 @@ pub chain_next : (observations : List Observation) (t k : ℕ) (next : Option �
 chain_next observations t k None own is rest =
     sym (none_first (later_of_track observations t k) (sym (is ∙ ap (option_and_then (λ (u : ℕ). slice_get (later_of_track observations u k) 0)) own)))
 chain_next observations t k (Some n) own is rest = sym (rest t own)
-
--- with one number more
-pub number_more : (numbers all : List ℕ) (k : ℕ) (rest chain : List ℕ) → chain ≡ rest → numbers ++ (k ∷ rest) ≡ all → (numbers ++ k ∷ []) ++ chain ≡ all
-number_more numbers all k rest chain same is =
-    ap (λ (c : List ℕ). (numbers ++ k ∷ []) ++ c) same ∙ append_assoc numbers (k ∷ []) rest ∙ is
-
-seen_first : (see : ℕ → Option Seen) (k : ℕ) (rest : List ℕ) → filter_map see (k ∷ rest) ≡ option_to_list (see k) ++ filter_map see rest
-seen_first see k rest = by (see k)
-  where
-    by : (one : Option Seen) → cons_option one (filter_map see rest) ≡ option_to_list one ++ filter_map see rest
-    by None = refl
-    by (Some one) = refl
-
--- what is seen with one more of them
-pub seen_more : (see : ℕ → Option Seen) (seen all : List Seen) (k : ℕ) (rest chain : List ℕ) → chain ≡ rest → seen ++ filter_map see (k ∷ rest) ≡ all
-    → (seen ++ option_to_list (see k)) ++ filter_map see chain ≡ all
-seen_more see seen all k rest chain same is =
-    ap (λ (c : List ℕ). (seen ++ option_to_list (see k)) ++ filter_map see c) same
-    ∙ append_assoc seen (option_to_list (see k)) (filter_map see rest)
-    ∙ ap (λ (s : List Seen). seen ++ s) (sym (seen_first see k rest)) ∙ is
 
 pub own_next : (observations : List Observation) (t k : ℕ) (next : Option ℕ) → track_of observations k ≡ Some t
     → IfSome next (λ n. track_of observations n ≡ track_of observations k) → IfSome next (λ n. track_of observations n ≡ Some t)

@@ -1,18 +1,16 @@
 -- Which objects are numbered, part by part.
-use Rattle.std.specs.Prelude.{ℕ, Bool, nat_lt, List, [], ◌∷◌, filter, Result, Ok}
+use Rattle.std.specs.Prelude.{ℕ, Bool, nat_lt, ◌&&◌, ◌==◌, List, [], ◌∷◌, filter, length, Result, Ok}
 use Rattle.std.specs.List.{list_any}
 use Rattle.packed_names.specs.declared.name.Designation.{Designation}
-use Rattle.identify_core.specs.declared.link.Link.{Link}
-use Rattle.identify_core.specs.Principals.{own_members}
 use Rattle.tracklet_file.specs.declared.observation.Observation.{Observation}
 use Rattle.tracklet_file.specs.Observations.{is_live}
 use Rattle.act_model.specs.declared.deed.Deed.{Deed}
 use Rattle.act_model.specs.declared.deed.Deed.TheVariants.{Numbered}
 use Rattle.act_model.specs.declared.reply.Refusal.{Refusal}
-use Rattle.act_model.specs.declared.reply.Refusal.TheVariants.{NumbersFull}
+use Rattle.act_model.specs.declared.reply.Refusal.TheVariants.{NoneEligible, NumbersFull}
 use Rattle.act_model.specs.Rows.{first_row, unless}
 use Rattle.act_model.specs.Holdings.{holdings}
-use Rattle.act_model.specs.Designations.{links_of}
+use Rattle.act_model.specs.Designations.{links_of, is_principal}
 use Rattle.act_model.specs.Verdicts.{verdicts_of}
 use Rattle.act_model.specs.Numbers.{numbers_of, is_eligible, numbered_from, last_number}
 use Rattle.act_model.specs.Doing.{greatest_number}
@@ -25,12 +23,23 @@ is_any_live observations numbers = list_any (is_live observations) numbers
 abbrev pub is_eligible_after : List Deed → Designation → Bool
 is_eligible_after past = is_eligible (holdings past) (links_of past) (verdicts_of past) (numbers_of past)
 
--- the principals among the members of links, of those objects that can be numbered
-abbrev pub eligible_in : List Deed → List Link → List Designation
-eligible_in past links = filter (is_eligible_after past) (own_members links)
+-- those of the designations that are principals of objects that can be numbered
+abbrev pub eligible_among : List Deed → List Designation → List Designation
+eligible_among past designations =
+    filter (λ d. is_principal (links_of past) d && is_eligible_after past d) designations
 
 -- numbers from the first on for all of these objects
 abbrev pub numbers_all : ℕ → List Designation → Result Deed Refusal
 numbers_all first chosen =
     unless (first_row ((nat_lt greatest_number (last_number first chosen), NumbersFull) ∷ []))
+    (Ok (Numbered (numbered_from first chosen)))
+
+-- numbers from the first on for these objects, where there are some
+abbrev pub numbers_for : ℕ → List Designation → Result Deed Refusal
+numbers_for first chosen =
+    unless
+    (first_row ((length chosen == 0, NoneEligible) ∷ (
+      nat_lt greatest_number (last_number first chosen),
+      NumbersFull,
+    ) ∷ []))
     (Ok (Numbered (numbered_from first chosen)))

@@ -6,6 +6,7 @@
 
 mod acting;
 mod asking;
+mod chains;
 mod discovering;
 mod ledger;
 mod listing;

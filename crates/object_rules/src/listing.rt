@@ -8,6 +8,7 @@ ghost use Rattle.tracklet_file.specs.Observations.{observations_of};
 ghost use Rattle.act_model.specs.Holdings.{holdings};
 ghost use Rattle.act_model.specs.Designations.{links_of, principals};
 
+use crate::chains::{first_in, next_in};
 use crate::ledger::Ledger;
 use act_model::Ids;
 use identify_core::Link;
@@ -21,10 +22,10 @@ fn observations_of(alloc: Global, file: &TrackletFile, t: u64) -> Result<Ids, No
     ensures { IfOk result (λ ids. ids ≡ observations_of file.now.observations t) }
 {
     let mut ids = Ids::new(alloc);
-    let mut next = file.first_of(t);
+    let mut next = first_in(file, t);
     while let Some(k) = next {
         ids.push(k)?;
-        next = file.next_of(k);
+        next = next_in(file, t, k);
     }
     Ok(ids)
 }

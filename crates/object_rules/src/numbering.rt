@@ -1,6 +1,6 @@
 //! Numbers for the objects that can be numbered.
 
-ghost use Rattle.std.specs.Prelude.{◌≡◌, ◌≤◌, ◌+◌, ◌++◌, ◌∷◌, [], IfOk, OnOk, length, true};
+ghost use Rattle.std.specs.Prelude.{◌≡◌, ◌≤◌, ◌+◌, ◌++◌, ◌∷◌, [], IfOk, OnOk, length, take, true};
 ghost use Rattle.packed_names.specs.Ranges.{IsNumber};
 ghost use Rattle.numbering_core.specs.Numbers.{next_number};
 ghost use Rattle.act_model.specs.Rows.{first_row, IsDue};
@@ -10,15 +10,18 @@ ghost use Rattle.act_model.specs.Verdicts.{verdicts_of};
 ghost use Rattle.act_model.specs.Numbers.{numbers_of, is_eligible, numbered_from, last_number};
 ghost use Rattle.act_model.specs.Doing.{numbers, eligible_after, next_rows};
 ghost use Rattle.object_rules.specs.Noting.{is_of_objects};
-ghost use Rattle.object_rules.specs.Numbering.{eligible_in, numbers_all};
+ghost use Rattle.object_rules.specs.Numbering.{eligible_among, numbers_all, numbers_for};
 
-use crate::asking::is_numbered;
+use crate::asking::{is_numbered, is_principal};
 use crate::ledger::Ledger;
 use crate::observed::is_observed;
 use act_model::{Deed, Refusal};
-use identify_core::Link;
+use identify_core::laws::given_in_order;
 use item_list::{ItemList, NoMemory};
 use numbering_core::Numbering;
+use ordered_list::OrderedList;
+use ordered_list::laws::same_items;
+use packed_names::laws::orders;
 use packed_names::{Designation, Number};
 use std::alloc::Global;
 
@@ -33,30 +36,55 @@ fn is_eligible<L: Ledger>(office: &L, p: Designation) -> bool
     office.register().good(p) && !is_numbered(office, p) && is_observed(office, p)
 }
 
-/// Adds the link's member, where it is a principal whose object can be numbered.
+/// Adds a designation, where it is a principal whose object can be numbered.
 fn push_eligible<L: Ledger>(
     office: &L,
     found: &mut ItemList<Designation>,
-    link: Link,
+    d: Designation,
 ) -> Result<(), NoMemory>
-    ensures { OnOk result (found.new ≡ found.old ++ eligible_in (L.deeds office.now) (link ∷ [])) }
+    ensures { OnOk result (found.new ≡ found.old ++ eligible_among (L.deeds office.now) (d ∷ [])) }
 {
-    if link.is_own() && is_eligible(office, link.member) {
-        found.push(link.member)?;
+    if is_principal(office, d) && is_eligible(office, d) {
+        found.push(d)?;
     }
     Ok(())
 }
 
-/// The principals of the objects that can be numbered, in the order of designations.
-fn eligible<L: Ledger>(office: &L, alloc: Global) -> Result<ItemList<Designation>, NoMemory>
-    ensures { IfOk result (λ found. found ≡ eligible_after (L.deeds office.now)) }
+/// The first of the principals among designations whose objects can be numbered, at most so many.
+fn first_eligible<L: Ledger>(
+    office: &L,
+    alloc: Global,
+    open: &OrderedList<Designation>,
+    most: u32,
+) -> Result<ItemList<Designation>, NoMemory>
+    ensures { IfOk result (λ found. found ≡ take most (eligible_among (L.deeds office.now) open.now.items)) }
 {
-    let links = office.links().as_slice();
     let mut found = ItemList::new(alloc);
-    for link in links {
-        push_eligible(office, &mut found, *link)?;
+    for place in 0..open.len() {
+        let Some(d) = open.get(place) else {
+            return Ok(found);
+        };
+        if found.len() == u64::from(most) {
+            return Ok(found);
+        }
+        push_eligible(office, &mut found, d)?;
     }
     Ok(found)
+}
+
+/// The first principals of the objects that can be numbered, in the order of designations, at most so many. It walks
+/// the designations that have a good verdict and no number.
+fn eligible<L: Ledger>(
+    office: &L,
+    alloc: Global,
+    most: u32,
+) -> Result<ItemList<Designation>, NoMemory>
+    ensures { IfOk result (λ found. found ≡ take most (eligible_after (L.deeds office.now))) }
+{
+    given_in_order();
+    orders();
+    same_items::<Designation>();
+    first_eligible(office, alloc, office.register().open(), most)
 }
 
 /// The refusal of a first number that isn't the next one. Where no number was given, any may be the first.
@@ -117,23 +145,16 @@ fn numbers_all(alloc: Global, first: u32, chosen: &[Designation]) -> Result<Deed
     }
 }
 
-/// Numbers for at most so many of these objects, where none was given before.
-fn first_numbers(
-    alloc: Global,
-    first: u32,
-    most: u32,
-    objects: ItemList<Designation>,
-) -> Result<Deed, Refusal>
+/// Numbers for these objects, where there are some.
+fn numbers_for(alloc: Global, first: u32, chosen: &[Designation]) -> Result<Deed, Refusal>
     requires { IsNumber first }
-    ensures due { IsDue (numbers [] first most objects) result }
+    ensures due { IsDue (numbers_for first chosen.now) result }
     ensures kind { IfOk result (λ deed. is_of_objects deed ≡ true) }
 {
-    let mut chosen = objects;
     if chosen.is_empty() {
         return Err(Refusal::NoneEligible);
     }
-    chosen.truncate(u64::from(most));
-    numbers_all(alloc, first, chosen.as_slice())
+    numbers_all(alloc, first, chosen)
 }
 
 /// Objects that can be numbered get numbers, from the first number upwards, in the order of their principal
@@ -154,8 +175,8 @@ pub fn numbers<L: Ledger>(office: &L, alloc: Global, first: u32, most: u32) -> R
     if let Some(refusal) = not_next(office, first) {
         return Err(refusal);
     }
-    match eligible(office, alloc) {
-        Ok(objects) => first_numbers(alloc, first, most, objects),
+    match eligible(office, alloc, most) {
+        Ok(chosen) => numbers_for(alloc, first, chosen.as_slice()),
         Err(_) => Err(Refusal::NoMemory),
     }
 }

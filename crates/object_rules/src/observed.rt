@@ -8,6 +8,7 @@ ghost use Rattle.tracklet_file.specs.Observations.{observations_of};
 ghost use Rattle.object_rules.specs.Numbering.{is_any_live};
 ghost use Rattle.object_rules.specs.Timing.{numbers_at};
 
+use crate::chains::{first_in, next_in, next_track};
 use crate::ledger::Ledger;
 use identify_core::Link;
 use identify_core::laws::given_in_order;
@@ -19,12 +20,12 @@ use tracklet_file::TrackletFile;
 fn is_track_live(file: &TrackletFile, t: u64) -> bool
     ensures { result ≡ is_any_live file.now.observations (observations_of file.now.observations t) }
 {
-    let mut next = file.first_of(t);
+    let mut next = first_in(file, t);
     while let Some(k) = next {
         if file.is_live(k) {
             return true;
         }
-        next = file.next_of(k);
+        next = next_in(file, t, k);
     }
     false
 }
@@ -34,12 +35,12 @@ fn is_home_live(file: &TrackletFile, d: Designation) -> bool
     ensures { result ≡ is_any_live file.now.observations
         (numbers_at file.now.observations file.now.tracklets d) }
 {
-    let mut next = file.next_at(d, 0);
+    let mut next = next_track(file, d, 0);
     while let Some(t) = next {
         if is_track_live(file, t) {
             return true;
         }
-        next = file.next_at(d, t);
+        next = next_track(file, d, t);
     }
     false
 }

@@ -1,6 +1,6 @@
 //! The live observations of tracklets.
 
-ghost use Rattle.std.specs.Prelude.{◌≡◌, ◌++◌, ◌∷◌, [], Ok, OnOk, IfOk, IfSome, IsTrue, flat_map};
+ghost use Rattle.std.specs.Prelude.{◌≡◌, ◌++◌, Ok, OnOk, IfOk, IfSome, IsTrue, flat_map};
 ghost use Rattle.std.specs.Option.{option_to_list};
 ghost use Rattle.act_model.specs.Rows.{first_row, unless, IsDue};
 ghost use Rattle.act_model.specs.Holdings.{holdings};
@@ -9,6 +9,7 @@ ghost use Rattle.act_model.specs.Doing.{free_rows};
 ghost use Rattle.object_rules.specs.Seeing.{is_of_years, AreOfYears, FileIsOfYears, IsFree};
 
 use crate::asking::home;
+use crate::chains::{first_in, next_in};
 use crate::ledger::Ledger;
 use act_model::{Refusal, Seen};
 use item_list::{ItemList, NoMemory};
@@ -59,10 +60,10 @@ pub(crate) fn push_seen(
     ensures seen { OnOk result (seen.new ≡ seen.old ++ seen_of file.now.observations t) }
     ensures years { OnOk result (AreOfYears seen.new) }
 {
-    let mut next = file.first_of(t);
+    let mut next = first_in(file, t);
     while let Some(k) = next {
         push_one(seen, seen_at(file, k))?;
-        next = file.next_of(k);
+        next = next_in(file, t, k);
     }
     Ok(())
 }

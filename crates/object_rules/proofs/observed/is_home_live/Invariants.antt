@@ -1,8 +1,7 @@
 use Rattle.std.proofs.Common.{◌≡◌, length, flat_map}
 use Rattle.tracklet_file.specs.Observations.{observations_of}
 use Rattle.object_rules.specs.Numbering.{is_any_live}
-use Rattle.object_rules.specs.Timing.{numbers_at}
-use Rattle.object_rules.proofs.TimeLemmas.{chain_at}
+use Rattle.object_rules.specs.Timing.{numbers_at, chain_at}
 use Rattle.object_rules.proofs.observed.is_home_live.Given as goal
 
 -- no observation of the tracklets up to the next one is live

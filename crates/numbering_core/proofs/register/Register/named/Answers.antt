@@ -16,4 +16,4 @@ pub returns-clause-numbered : goal.returns-clause-numbered
 returns-clause-numbered c =
     let numbered = reverse c.self.inside.numbered.items in
     let answer : c.named.result ≡ named numbered c.args.n.0 = c.named.ensures ∙ ap (λ (ns : List Numbering). named (reverse ns) c.args.n.0) c.as_slice.ensures.value in
-    subst (λ (v : RegisterValue). IfSome c.named.result (λ d. number_of v.numbered d ≡ Some c.args.n)) c.self.view_is (numbers c.orders.ensures numbered c.args.n c.named.result answer c.self.invariant.row)
+    subst (λ (v : RegisterValue). IfSome c.named.result (λ d. number_of v.numbered d ≡ Some c.args.n)) c.self.view_is (numbers c.orders.ensures numbered c.args.n c.named.result answer c.self.invariant.0.row)

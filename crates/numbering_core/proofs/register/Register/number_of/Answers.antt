@@ -20,11 +20,11 @@ ranges orders numbered d (Some n) is row = in_range orders numbered row n d (sym
 pub returns-clause-named : goal.returns-clause-named
 returns-clause-named c =
     let numbered = reverse c.self.inside.numbered.items in
-    let answer : c.number_of.result ≡ number_of numbered c.args.d = c.number_of.ensures ∙ c.self.invariant.indexed c.args.d in
-    subst (λ (v : RegisterValue). IfSome c.number_of.result (λ n. named v.numbered n.0 ≡ Some c.args.d)) c.self.view_is (names c.orders.ensures numbered c.args.d c.number_of.result answer c.self.invariant.row)
+    let answer : c.number_of.result ≡ number_of numbered c.args.d = c.number_of.ensures ∙ c.self.invariant.0.indexed c.args.d in
+    subst (λ (v : RegisterValue). IfSome c.number_of.result (λ n. named v.numbered n.0 ≡ Some c.args.d)) c.self.view_is (names c.orders.ensures numbered c.args.d c.number_of.result answer c.self.invariant.0.row)
 
 pub returns-clause-range : goal.returns-clause-range
 returns-clause-range c =
     let numbered = reverse c.self.inside.numbered.items in
-    let answer : c.number_of.result ≡ number_of numbered c.args.d = c.number_of.ensures ∙ c.self.invariant.indexed c.args.d in
-    ranges c.orders.ensures numbered c.args.d c.number_of.result answer c.self.invariant.row
+    let answer : c.number_of.result ≡ number_of numbered c.args.d = c.number_of.ensures ∙ c.self.invariant.0.indexed c.args.d in
+    ranges c.orders.ensures numbered c.args.d c.number_of.result answer c.self.invariant.0.row
