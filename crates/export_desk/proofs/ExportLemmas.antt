@@ -19,7 +19,7 @@ use Rattle.command_ends.specs.declared.status.Status.TheVariants.{Done, Usage, B
 use Rattle.command_ends.specs.Disks.{DiskWords}
 use Rattle.command_ends.specs.Opening.{Opens}
 use Rattle.command_ends.specs.Statuses.{IsDoneOrNoMemory}
-use Rattle.export_desk.specs.Exports.{exporter, KeepsOffice, Exports, IsOwn}
+use Rattle.export_desk.specs.Exports.{exporter, KeepsOffice, Course, Exports, IsOwn}
 
 -- with nothing in doubt an image stands for the settled history
 stands_settled : (state : OfficeState) (image : List ℕ) → state.doubt ≡ None → RestsAt state image → Stands image state.settled
@@ -50,15 +50,15 @@ module _ (once : (founder : Key) (history : List Entry) → IsLegal founder hist
 rises_by : (a b rise : ℕ) → 0 < rise → RoseBy rise (count_of a) (count_of b) → Rises a b
 rises_by a b rise some rose = omega arith
 
-module _ {D : Type 0} (on : DiskWords D) (disk now : D) (old new : Option (List ℕ)) (Uncalled : Type 0) (added : ℕ) where
-  fault_rises : Exports on disk now old new Uncalled added DiskFault → Rises (on.faults disk) (on.faults now)
-  fault_rises (inl (uncalled, (rise, some, shut))) = rises_by (on.faults disk) (on.faults now) rise some shut.counts
+module _ {D : Type 0} (on : DiskWords D) (course : Course D) (Uncalled : Type 0) where
+  fault_rises : Exports on course Uncalled DiskFault → Rises (on.faults course.disk) (on.faults course.disk_after)
+  fault_rises (inl (uncalled, (rise, some, shut))) = rises_by (on.faults course.disk) (on.faults course.disk_after) rise some shut.counts
   fault_rises (inr writes) = absurd writes.written
 
-  pub disk_rises : (status : Status) → Exports on disk now old new Uncalled added status → status ≡ DiskFault → Rises (on.faults disk) (on.faults now)
-  disk_rises status ends is = fault_rises (subst (λ (s : Status). Exports on disk now old new Uncalled added s) is ends)
+  pub disk_rises : (status : Status) → Exports on course Uncalled status → status ≡ DiskFault → Rises (on.faults course.disk) (on.faults course.disk_after)
+  disk_rises status ends is = fault_rises (subst (λ (s : Status). Exports on course Uncalled s) is ends)
 
-  pub own : (status : Status) → Exports on disk now old new Uncalled added status → IsOwn status
+  pub own : (status : Status) → Exports on course Uncalled status → IsOwn status
   own Done ends = tt
   own DiskFault ends = tt
   own (Damaged offset) ends = tt
@@ -76,16 +76,16 @@ module _ {D : Type 0} (on : DiskWords D) (disk now : D) (old new : Option (List 
   module _ (damage : (founder : Key) (file : List ℕ) (offset : ℕ) (history : List Entry) → IsDamagedDesk founder file offset → IsLegal founder history → Stands file history → ⊥)
       (any_founder : (founder other : Key) (history : List Entry) → begins_with_plus (key_text other) ≡ true → IsLegal founder history → IsLegal other history)
       (plus : begins_with_plus (key_text exporter) ≡ true)
-      (key : Key) (file : List ℕ) (history : List Entry) (reads : on.reads disk ≡ Some file) (stands : Stands file history) (legal : IsLegal key history) where
-    undamaged : (offset : ℕ) → Exports on disk now old new Uncalled added (Damaged offset) → ⊥
+      (key : Key) (file : List ℕ) (history : List Entry) (reads : on.reads course.disk ≡ Some file) (stands : Stands file history) (legal : IsLegal key history) where
+    undamaged : (offset : ℕ) → Exports on course Uncalled (Damaged offset) → ⊥
     undamaged offset (inl (uncalled, (damaged, was))) =
         damage exporter file offset history (subst (λ (o : Option (List ℕ)). IfSome o (λ known. IsDamagedDesk exporter known offset)) reads damaged) (any_founder key exporter history plus legal) stands
     undamaged offset (inr writes) = writes.written
 
-    pub sound : (status : Status) (offset : ℕ) → Exports on disk now old new Uncalled added status → status ≡ Damaged offset → ⊥
-    sound status offset ends is = undamaged offset (subst (λ (s : Status). Exports on disk now old new Uncalled added s) is ends)
+    pub sound : (status : Status) (offset : ℕ) → Exports on course Uncalled status → status ≡ Damaged offset → ⊥
+    sound status offset ends is = undamaged offset (subst (λ (s : Status). Exports on course Uncalled s) is ends)
 
-    pub complete : (status : Status) → Exports on disk now old new Uncalled added status → (status ≡ DiskFault → ⊥) → (status ≡ WriteFault → ⊥) → IsDoneOrNoMemory status
+    pub complete : (status : Status) → Exports on course Uncalled status → (status ≡ DiskFault → ⊥) → (status ≡ WriteFault → ⊥) → IsDoneOrNoMemory status
     complete Done ends disks writes = tt
     complete NoMemory ends disks writes = tt
     complete DiskFault ends disks writes = disks refl

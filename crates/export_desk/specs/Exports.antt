@@ -46,20 +46,26 @@ IsWritten old new text (Damaged offset) = ⊥
 IsWritten old new text ReadFault = ⊥
 IsWritten old new text DoorFault = ⊥
 
--- the catalogue of the history that the disk stood for was written, so far as the status says
-pub record Writes {D : Type 0} (on : DiskWords D) (disk now : D) (old new : Option (List ℕ)) (added : ℕ)
-    (status : Status)
-    : Type 0 where
-  pub history : List Entry
-  pub keeps : KeepsOffice on disk now added history
-  pub written : IsWritten old new (catalogue history) status
+-- the course of an export: the disk and what the sink took, before it and after it, and by how many entries the history
+-- grew
+pub record Course (D : Type 0) : Type 0 where
+  pub disk : D
+  pub disk_after : D
+  pub taken : Option (List ℕ)
+  pub taken_after : Option (List ℕ)
+  pub added : ℕ
 
--- What stands at the end, where the sink took `old` before and `new` now: the office couldn't be opened, for the reason
--- that the status says, and the sink was not called; or its catalogue was written.
-abbrev pub Exports : {D : Type 0} → DiskWords D → D → D → Option (List ℕ) → Option (List ℕ) → Type 0 → ℕ → Status
-    → Type 0
-Exports on disk now old new Uncalled added status =
-    (Uncalled × EndsUnopened on exporter disk now added status) ⊎ Writes on disk now old new added status
+-- the catalogue of the history that the disk stood for was written, so far as the status says
+pub record Writes {D : Type 0} (on : DiskWords D) (course : Course D) (status : Status) : Type 0 where
+  pub history : List Entry
+  pub keeps : KeepsOffice on course.disk course.disk_after course.added history
+  pub written : IsWritten course.taken course.taken_after (catalogue history) status
+
+-- What stands at the end: the office couldn't be opened, for the reason that the status says, and the sink was not
+-- called, which `Uncalled` says; or its catalogue was written.
+abbrev pub Exports : {D : Type 0} → DiskWords D → Course D → Type 0 → Status → Type 0
+Exports on course Uncalled status =
+    (Uncalled × EndsUnopened on exporter course.disk course.disk_after course.added status) ⊎ Writes on course status
 
 -- the ends that writing out the catalogue can have
 abbrev pub IsOwn : Status → Type 0

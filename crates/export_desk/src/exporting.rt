@@ -47,8 +47,15 @@ fn write_out<K: Sink, D: Disk>(alloc: Global, desk: &Desk<D>, sink: &mut K) -> S
 
 /// Opens the office, writes its catalogue, and closes it.
 fn export_all<K: Sink, D: Disk>(alloc: Global, sink: &mut K, disk: D) -> Ended<D>
-    ensures ends { Exports (disk_words D.reads D.leaves D.moment D.since D.faults) disk result.disk
-        (K.taken sink.old) (K.taken sink.new) (sink.new ≡ sink.old) result.added result.status }
+    ensures ends { Exports (disk_words D.reads D.leaves D.moment D.since D.faults)
+        (record {
+          disk = disk;
+          disk_after = result.disk;
+          taken = K.taken sink.old;
+          taken_after = K.taken sink.new;
+          added = result.added;
+        })
+        (sink.new ≡ sink.old) result.status }
     ensures write_cause { result.status ≡ Status.WriteFault → Rises (K.faults sink.old) (K.faults sink.new) }
     ensures write_faultless { (result.status ≡ Status.WriteFault → ⊥) → K.faults sink.new ≡ K.faults sink.old }
     ensures counts { K.faults sink.old ≤ K.faults sink.new }
@@ -77,8 +84,15 @@ fn export_all<K: Sink, D: Disk>(alloc: Global, sink: &mut K, disk: D) -> Ended<D
 /// office is opened, before anything is written.
 pub fn export<K: Sink, D: Disk>(alloc: Global, sink: &mut K, disk: D) -> Ended<D>
     // What was written and kept at each end.
-    ensures ends { Exports (disk_words D.reads D.leaves D.moment D.since D.faults) disk result.disk
-        (K.taken sink.old) (K.taken sink.new) (sink.new ≡ sink.old) result.added result.status }
+    ensures ends { Exports (disk_words D.reads D.leaves D.moment D.since D.faults)
+        (record {
+          disk = disk;
+          disk_after = result.disk;
+          taken = K.taken sink.old;
+          taken_after = K.taken sink.new;
+          added = result.added;
+        })
+        (sink.new ≡ sink.old) result.status }
 
     // A file that stands for a legal history, under whatever founding officer, and no fault give `Done`, or `NoMemory`.
     // A fresh file stands for the history without entries.

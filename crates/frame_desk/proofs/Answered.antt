@@ -21,13 +21,11 @@ use Rattle.act_model.specs.declared.reply.Reply.TheVariants.{Refused}
 use Rattle.act_model.specs.Requests.{body_of, verb_of}
 use Rattle.act_model.specs.Replies.{status_of, text_bytes}
 use Rattle.act_model.specs.Turns.{request_of, written_reply}
-use Rattle.mpc_desk.specs.Desks.{DeskState}
 use Rattle.frame_desk.specs.declared.spoken.Spoken.{Spoken}
-use Rattle.act_model.specs.Clocks.{ClockState}
 use Rattle.command_ends.specs.Disks.{DiskWords}
 use Rattle.frame_desk.specs.Conducted.{TakesTurn}
 use Rattle.frame_desk.specs.Spoken.{IsSpoken, Speaks}
-use Rattle.frame_desk.specs.Steps.{body_read, request_read, Writes, AnswersFrame}
+use Rattle.frame_desk.specs.Steps.{Answering, body_read, request_read, Writes, AnswersFrame}
 use Rattle.frame_desk.proofs.Laws.{WantLaws}
 use Rattle.frame_desk.proofs.DeskTurns.{turn_wanting, turn_standing}
 
@@ -42,19 +40,19 @@ body_kept (kept.TooLong size) text (is, long) =
 body_kept kept.NoRoom text small = inr refl
 
 -- the turn of the request that was read is that of the frame's request
-module _ (wants : WantLaws) {D : Type 0} (on : DiskWords D) (past next : DeskState D) (before after : ClockState) (read : ReadFrame) (reply : Reply) (turn : TakesTurn on past (request_read read) reply next before after) where
-  turn_of_frame : (front rest : List ℕ) (r : IsFrameRead front read rest) → TakesTurn on past (request_of r.frame) reply next before after
+module _ (wants : WantLaws) {D : Type 0} (on : DiskWords D) (old new : Answering D) (read : ReadFrame) (reply : Reply) (turn : TakesTurn on old.desk (request_read read) reply new.desk old.clock new.clock) where
+  turn_of_frame : (front rest : List ℕ) (r : IsFrameRead front read rest) → TakesTurn on old.desk (request_of r.frame) reply new.desk old.clock new.clock
   turn_of_frame front rest r = by (body_kept read.body r.frame.body r.body)
     where
-      by : (body_read read.body ≡ body_of r.frame.body) ⊎ (read.body ≡ kept.NoRoom) → TakesTurn on past (request_of r.frame) reply next before after
+      by : (body_read read.body ≡ body_of r.frame.body) ⊎ (read.body ≡ kept.NoRoom) → TakesTurn on old.desk (request_of r.frame) reply new.desk old.clock new.clock
       by (inl same) =
           let request : request_read read ≡ request_of r.frame =
           ap (λ (k : List ℕ). record { key = key_of k; number = Some read.number; verb = verb_of read.verb.items; body = body_read read.body }) r.key
           ∙ ap (λ (n : ℕ). record { key = key_of r.frame.key; number = Some n; verb = verb_of read.verb.items; body = body_read read.body }) r.number
           ∙ ap (λ (v : List ℕ). record { key = key_of r.frame.key; number = Some r.frame.number; verb = verb_of v; body = body_read read.body }) r.verb
           ∙ ap (λ (b : Body). record { key = key_of r.frame.key; number = Some r.frame.number; verb = verb_of r.frame.verb; body = b }) same in
-          subst (λ (q : Request). TakesTurn on past q reply next before after) request turn
-      by (inr none) = turn_standing on past next wants (request_read read) (request_of r.frame) reply (ap body_read none) (ap verb_of r.verb) before after turn
+          subst (λ (q : Request). TakesTurn on old.desk q reply new.desk old.clock new.clock) request turn
+      by (inr none) = turn_standing on old.desk new.desk wants (request_read read) (request_of r.frame) reply (ap body_read none) (ap verb_of r.verb) old.clock new.clock turn
 
 -- the frame of what was spoken was written, or a front of it
 abbrev pub Wrote : Option (List ℕ) → Option (List ℕ) → Spoken → Result ℕ Failed → Type 0
@@ -70,19 +68,19 @@ writes_of old new reply spoken (Ok size) is wrote = subst (λ (b : List ℕ). Ap
 writes_of old new reply spoken (Err failed) is wrote = subst (λ (b : List ℕ). AppendsPart old new b) (frame_is reply spoken is) wrote
 
 -- a frame that was read is answered by the turn of its request, or by out of memory in the place of the lines of a refusal
-module _ (wants : WantLaws) {D : Type 0} (on : DiskWords D) (past next : DeskState D) (before after : ClockState) (old new : Option (List ℕ)) (read : ReadFrame) (spoken : Spoken) (result : Result ℕ Failed) where
-  answered : (reply : Reply) → TakesTurn on past (request_read read) reply next before after → Speaks reply spoken → Wrote old new spoken result
-      → (front rest : List ℕ) (r : IsFrameRead front read rest) → AnswersFrame on past next before after old new r.frame result
+module _ (wants : WantLaws) {D : Type 0} (on : DiskWords D) (old new : Answering D) (read : ReadFrame) (spoken : Spoken) (result : Result ℕ Failed) where
+  answered : (reply : Reply) → TakesTurn on old.desk (request_read read) reply new.desk old.clock new.clock → Speaks reply spoken → Wrote old.taken new.taken spoken result
+      → (front rest : List ℕ) (r : IsFrameRead front read rest) → AnswersFrame on old new r.frame result
   answered reply turn (inl is) wrote front rest r =
-      record { reply = reply; turn = turn_of_frame wants on past next before after read reply turn front rest r; writes = writes_of old new reply spoken result is wrote }
+      record { reply = reply; turn = turn_of_frame wants on old new read reply turn front rest r; writes = writes_of old.taken new.taken reply spoken result is wrote }
   answered reply turn (inr (lines, refused, is)) wrote front rest r =
-      let same = subst (λ (x : Reply). TakesTurn on past (request_read read) x next before after) refused turn in
+      let same = subst (λ (x : Reply). TakesTurn on old.desk (request_read read) x new.desk old.clock new.clock) refused turn in
       record {
         reply = Refused NoMemory;
-        turn = turn_wanting on past next wants (request_of r.frame) lines before after (turn_of_frame wants on past next before after read (Refused (NoLine lines)) same front rest r);
-        writes = writes_of old new (Refused NoMemory) spoken result is wrote;
+        turn = turn_wanting on old.desk new.desk wants (request_of r.frame) lines old.clock new.clock (turn_of_frame wants on old new read (Refused (NoLine lines)) same front rest r);
+        writes = writes_of old.taken new.taken (Refused NoMemory) spoken result is wrote;
       }
 
-  pub answered_by : (q : Request) (reply : Reply) → q ≡ request_read read → TakesTurn on past q reply next before after → Speaks reply spoken → Wrote old new spoken result
-      → (front rest : List ℕ) (r : IsFrameRead front read rest) → AnswersFrame on past next before after old new r.frame result
-  answered_by q reply is turn = answered reply (subst (λ (x : Request). TakesTurn on past x reply next before after) is turn)
+  pub answered_by : (q : Request) (reply : Reply) → q ≡ request_read read → TakesTurn on old.desk q reply new.desk old.clock new.clock → Speaks reply spoken → Wrote old.taken new.taken spoken result
+      → (front rest : List ℕ) (r : IsFrameRead front read rest) → AnswersFrame on old new r.frame result
+  answered_by q reply is turn = answered reply (subst (λ (x : Request). TakesTurn on old.desk x reply new.desk old.clock new.clock) is turn)

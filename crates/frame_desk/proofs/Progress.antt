@@ -21,7 +21,7 @@ use Rattle.frame_desk.specs.Serving.{Serves}
 use Rattle.command_ends.specs.Disks.{DiskWords}
 use Rattle.frame_desk.specs.Conducted.{TakesTurn, TakesTurns}
 use Rattle.frame_desk.specs.Runs.{Run, Remains, AwaitsNext, Supplies, offset_at, AnswersFrames, Stops}
-use Rattle.frame_desk.specs.Steps.{Standing, IsUntouched, AnswersFrame, TakesStep, Progress}
+use Rattle.frame_desk.specs.Steps.{Standing, answering, IsUntouched, AnswersFrame, TakesStep, Progress}
 use Rattle.frame_desk.proofs.Laws.{FrameLaws}
 use Rattle.frame_desk.proofs.Readings.{gives_none}
 use Rattle.frame_desk.proofs.Served.{serves_bytes, serves_more, written_more}
@@ -274,7 +274,7 @@ module _ {S : Type 0} (left : S → Option (List ℕ)) (gives : Passes S) {D : T
 module _ {S : Type 0} (left : S → Option (List ℕ)) (gives : Passes S) {D : Type 0} (on : DiskWords D) (old new : Standing S D) where
   -- the frame that was read was answered
   pub step_answered : (read : ReadFrame) (size : ℕ) → (piece : List ℕ) × Comes left gives (AwaitsFrame old.ahead) old.source new.source piece × IsFrameRead (old.ahead ++ piece) read new.ahead
-      → ((front behind : List ℕ) (r : IsFrameRead front read behind) → AnswersFrame on old.desk new.desk old.clock new.clock old.taken new.taken r.frame (Ok size)) → size ≡ read.size
+      → ((front behind : List ℕ) (r : IsFrameRead front read behind) → AnswersFrame on (answering old) (answering new) r.frame (Ok size)) → size ≡ read.size
       → TakesStep left gives on old new (Answered size)
   step_answered read size (piece, came, r) answers size_is =
       record {
@@ -285,7 +285,7 @@ module _ {S : Type 0} (left : S → Option (List ℕ)) (gives : Passes S) {D : T
 
   -- the sink failed inside its reply
   pub step_cut : (read : ReadFrame) (failed : Failed) → (piece : List ℕ) × Comes left gives (AwaitsFrame old.ahead) old.source new.source piece × IsFrameRead (old.ahead ++ piece) read new.ahead
-      → ((front behind : List ℕ) (r : IsFrameRead front read behind) → AnswersFrame on old.desk new.desk old.clock new.clock old.taken new.taken r.frame (Err failed))
+      → ((front behind : List ℕ) (r : IsFrameRead front read behind) → AnswersFrame on (answering old) (answering new) r.frame (Err failed))
       → TakesStep left gives on old new WriteFailed
   step_cut read failed (piece, came, r) answers =
       record {

@@ -22,7 +22,7 @@ use Rattle.command_ends.specs.declared.status.Status.TheVariants.{Done, Usage, B
 use Rattle.act_model.specs.Clocks.{ClockState}
 use Rattle.command_ends.specs.Disks.{DiskWords, DiskRose}
 use Rattle.frame_desk.specs.Conducted.{LeavesIn, TakesTurns}
-use Rattle.frame_desk.specs.Runs.{Run, Supplies, Stops, RunsOn, ServesNothing, Ends}
+use Rattle.frame_desk.specs.Runs.{Run, Supplies, Stops, RunsOn, ServesNothing, Course, Ends}
 use Rattle.command_ends.specs.Opening.{journal_bytes, Opens, EndsUnopened}
 use Rattle.command_ends.specs.Closing.{IsNotMended, IsMended, IsStillInDoubt, IsClosed}
 use Rattle.frame_desk.specs.Closing.{Finishes}
@@ -145,7 +145,10 @@ module _ (laws : OfficeLaws) {D : Type 0} (on : DiskWords D) (founder : Key) (di
         (subst (λ (d : DeskState D). IsClosed on 0 served d) (sym same) (closed_as_is on served (takes.stays.at_rest opens.at_rest)))
         disk_is counted
 
-    pub served_ends : (stopped : Stop) (status : Status) → Stops before after run turns stopped → Finishes on served stopped status last → Ends on founder disk now before after run Uncalled added status
+    abbrev course : Course D
+    course = record { founder = founder; disk = disk; disk_after = now; clock = before; clock_after = after; run = run; added = added }
+
+    pub served_ends : (stopped : Stop) (status : Status) → Stops before after run turns stopped → Finishes on served stopped status last → Ends on course Uncalled status
     served_ends stop.Over Done stops (rise, mended, closed) =
         (turns, stops, runs_on IsMended rise last now added mended mended.mends closed disk_is counted)
     served_ends stop.Over DiskFault stops (rise, doubted, closed) =
@@ -164,11 +167,11 @@ module _ (laws : OfficeLaws) {D : Type 0} (on : DiskWords D) (founder : Key) (di
     served_ends stop.Over NoMemory stops ends = absurd ends
     served_ends stop.Over DoorFault stops ends = absurd ends
     served_ends (stop.NoFrameAt offset) status stops (is, same) =
-        subst (λ (s : Status). Ends on founder disk now before after run Uncalled added s) (sym is) (turns, stops, not_mended same)
+        subst (λ (s : Status). Ends on course Uncalled s) (sym is) (turns, stops, not_mended same)
     served_ends stop.ReadFailed status stops (is, same) =
-        subst (λ (s : Status). Ends on founder disk now before after run Uncalled added s) (sym is) (turns, stops, not_mended same)
+        subst (λ (s : Status). Ends on course Uncalled s) (sym is) (turns, stops, not_mended same)
     served_ends stop.WriteFailed status stops (is, same) =
-        subst (λ (s : Status). Ends on founder disk now before after run Uncalled added s) (sym is) (turns, stops, not_mended same)
+        subst (λ (s : Status). Ends on course Uncalled s) (sym is) (turns, stops, not_mended same)
 
 -- ---- the ends of a run whose office wasn't opened
 
@@ -176,8 +179,11 @@ module _ {D : Type 0} (on : DiskWords D) (founder : Key) (disk now : D) (clock :
   idle : ServesNothing (record { came = []; more = more; answered = 0; texts = [] }) Uncalled
   idle = record { uncalled = uncalled; came = refl; texts = refl }
 
+  abbrev not_run : Run → Course D
+  not_run run = record { founder = founder; disk = disk; disk_after = now; clock = clock; clock_after = clock; run = run; added = added }
+
   pub unopened_ends : (status : Status) → EndsUnopened on founder disk now added status
-      → Ends on founder disk now clock clock (record { came = []; more = more; answered = 0; texts = [] }) Uncalled added status
+      → Ends on (not_run (record { came = []; more = more; answered = 0; texts = [] })) Uncalled status
   unopened_ends DiskFault ends = inl (idle, ends)
   unopened_ends (Damaged offset) ends = (idle, ends)
   unopened_ends NoMemory ends = (idle, ends)
@@ -191,7 +197,7 @@ module _ {D : Type 0} (on : DiskWords D) (founder : Key) (disk now : D) (clock :
 -- nothing was served
 pub nothing_served : {S : Type 0} (left : S → Option (List ℕ)) (gives : Passes S) (source : S) (taken : Option (List ℕ)) {D : Type 0} (on : DiskWords D) (founder : Key) (disk now : D) (clock : ClockState)
     (Uncalled : Type 0) (uncalled : Uncalled) (added : ℕ) (status : Status) → EndsUnopened on founder disk now added status
-    → (run : Run) × Supplies left gives source source run × Appends taken taken run.texts × Ends on founder disk now clock clock run Uncalled added status
+    → (run : Run) × Supplies left gives source source run × Appends taken taken run.texts × Ends on (record { founder = founder; disk = disk; disk_after = now; clock = clock; clock_after = clock; run = run; added = added }) Uncalled status
 nothing_served left gives source taken on founder disk now clock Uncalled uncalled added status ends =
     let u = untaken left gives source in
     let run : Run = record { came = []; more = u.0; answered = 0; texts = [] } in

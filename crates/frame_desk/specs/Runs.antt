@@ -143,24 +143,46 @@ pub record ServesNothing (run : Run) (Uncalled : Type 0) : Type 0 where
 
 -- ---- what stands at each end
 
--- What stands at each end of a run, with the number of entries by which the history grew. `Uncalled` says that the
--- source, the sink and the clock were not called.
-abbrev pub Ends : {D : Type 0} → DiskWords D → Key → D → D → ClockState → ClockState → Run → Type 0 → ℕ → Status
+-- the course of a run: the founding officer's key, the disk and the clock before it and after it, what came, was
+-- answered and written, and by how many entries the history grew
+pub record Course (D : Type 0) : Type 0 where
+  pub founder : Key
+  pub disk : D
+  pub disk_after : D
+  pub clock : ClockState
+  pub clock_after : ClockState
+  pub run : Run
+  pub added : ℕ
+
+-- the office was opened, these turns were taken there, and what was in doubt was closed so
+abbrev pub RunsSo : {D : Type 0} → DiskWords D → Course D → List Turn → (OfficeState → ℕ → OfficeState → Type 0)
     → Type 0
-Ends on founder disk now before after run Uncalled added Done =
-    (turns : List Turn) × AnswersAll before after run turns × RunsOn on founder disk now turns IsMended added
-Ends on founder disk now before after run Uncalled added (BadFrame offset) =
-    (turns : List Turn) × StopsAt before after run turns offset × RunsOn on founder disk now turns IsNotMended added
-Ends on founder disk now before after run Uncalled added ReadFault =
-    (turns : List Turn) × StopsReading before after run turns × RunsOn on founder disk now turns IsNotMended added
-Ends on founder disk now before after run Uncalled added WriteFault =
-    (turns : List Turn) × StopsWriting before after run turns × RunsOn on founder disk now turns IsNotMended added
-Ends on founder disk now before after run Uncalled added DiskFault =
-    (ServesNothing run Uncalled × EndsUnopened on founder disk now added DiskFault)
-    ⊎ ((turns : List Turn) × AnswersAll before after run turns × RunsOn on founder disk now turns IsStillInDoubt added)
-Ends on founder disk now before after run Uncalled added (Damaged offset) =
-    ServesNothing run Uncalled × EndsUnopened on founder disk now added (Damaged offset)
-Ends on founder disk now before after run Uncalled added NoMemory =
-    ServesNothing run Uncalled × EndsUnopened on founder disk now added NoMemory
-Ends on founder disk now before after run Uncalled added Usage = ⊥
-Ends on founder disk now before after run Uncalled added DoorFault = ⊥
+RunsSo on course turns Closes = RunsOn on course.founder course.disk course.disk_after turns Closes course.added
+
+-- it was not opened, and nothing was served
+abbrev pub IsNotRun : {D : Type 0} → DiskWords D → Course D → Type 0 → Status → Type 0
+IsNotRun on course Uncalled status =
+    ServesNothing course.run Uncalled
+    × EndsUnopened on course.founder course.disk course.disk_after course.added status
+
+-- What stands at each end of a run. `Uncalled` says that the source, the sink and the clock were not called.
+abbrev pub Ends : {D : Type 0} → DiskWords D → Course D → Type 0 → Status → Type 0
+Ends on course Uncalled Done =
+    (turns : List Turn) × AnswersAll course.clock course.clock_after course.run turns × RunsSo on course turns IsMended
+Ends on course Uncalled (BadFrame offset) =
+    (turns : List Turn) × StopsAt course.clock course.clock_after course.run turns offset
+    × RunsSo on course turns IsNotMended
+Ends on course Uncalled ReadFault =
+    (turns : List Turn) × StopsReading course.clock course.clock_after course.run turns
+    × RunsSo on course turns IsNotMended
+Ends on course Uncalled WriteFault =
+    (turns : List Turn) × StopsWriting course.clock course.clock_after course.run turns
+    × RunsSo on course turns IsNotMended
+Ends on course Uncalled DiskFault =
+    IsNotRun on course Uncalled DiskFault
+    ⊎ ((turns : List Turn) × AnswersAll course.clock course.clock_after course.run turns
+    × RunsSo on course turns IsStillInDoubt)
+Ends on course Uncalled (Damaged offset) = IsNotRun on course Uncalled (Damaged offset)
+Ends on course Uncalled NoMemory = IsNotRun on course Uncalled NoMemory
+Ends on course Uncalled Usage = ⊥
+Ends on course Uncalled DoorFault = ⊥

@@ -35,6 +35,16 @@ pub record Standing (S D : Type 0) : Type 0 where
   pub source : S
   pub ahead : List ℕ
 
+-- where answering a frame begins and ends: the desk, the clock, and what the sink took
+pub record Answering (D : Type 0) : Type 0 where
+  pub desk : DeskState D
+  pub clock : ClockState
+  pub taken : Option (List ℕ)
+
+-- serving as it stands, without the source
+abbrev pub answering : {S D : Type 0} → Standing S D → Answering D
+answering at = record { desk = at.desk; clock = at.clock; taken = at.taken }
+
 -- the body of a request, as it was read
 abbrev pub body_read : FrameBody → Body
 body_read (kept.Whole bytes) = Whole bytes
@@ -57,11 +67,11 @@ Writes old new reply (Ok size) = Appends old new (written_reply reply)
 Writes old new reply (Err failed) = AppendsPart old new (written_reply reply)
 
 -- a frame's request was answered by one turn, and of its reply this was written
-pub record AnswersFrame {D : Type 0} (on : DiskWords D) (past next : DeskState D) (before after : ClockState)
-    (old new : Option (List ℕ)) (frame : Frame) (result : Result ℕ Failed) : Type 0 where
+pub record AnswersFrame {D : Type 0} (on : DiskWords D) (old new : Answering D) (frame : Frame)
+    (result : Result ℕ Failed) : Type 0 where
   pub reply : Reply
-  pub turn : TakesTurn on past (request_of frame) reply next before after
-  pub writes : Writes old new reply result
+  pub turn : TakesTurn on old.desk (request_of frame) reply new.desk old.clock new.clock
+  pub writes : Writes old.taken new.taken reply result
 
 -- the frame at the front was read, and answered so
 pub record TurnsFrame {S D : Type 0} (on : DiskWords D) (old new : Standing S D) (front : List ℕ) (size : ℕ)
@@ -70,7 +80,7 @@ pub record TurnsFrame {S D : Type 0} (on : DiskWords D) (old new : Standing S D)
   pub good : IsFrame frame
   pub stands : front ≡ framed frame new.ahead
   pub size_is : size ≡ length (framed frame [])
-  pub answers : AnswersFrame on old.desk new.desk old.clock new.clock old.taken new.taken frame result
+  pub answers : AnswersFrame on (answering old) (answering new) frame result
 
 -- the desk, the clock and the sink are as they were
 pub record IsUntouched {S D : Type 0} (old new : Standing S D) : Type 0 where

@@ -50,9 +50,17 @@ fn run_all<S: Source, K: Sink, D: Disk, C: Clock>(
     // or not, and of each image that a crash may leave.
     ensures ends { (run : Run) × Supplies S.left S.gives source.old source.new run
         × Appends (K.taken sink.old) (K.taken sink.new) run.texts
-        × Ends (disk_words D.reads D.leaves D.moment D.since D.faults) founder disk result.disk
-        (clock_of C.reading C.last clock.old) (clock_of C.reading C.last clock.new) run
-        ((source.new ≡ source.old) × (sink.new ≡ sink.old) × (clock.new ≡ clock.old)) result.added result.status }
+        × Ends (disk_words D.reads D.leaves D.moment D.since D.faults)
+        (record {
+          founder = founder;
+          disk = disk;
+          disk_after = result.disk;
+          clock = clock_of C.reading C.last clock.old;
+          clock_after = clock_of C.reading C.last clock.new;
+          run = run;
+          added = result.added;
+        })
+        ((source.new ≡ source.old) × (sink.new ≡ sink.old) × (clock.new ≡ clock.old)) result.status }
 
     // The source failed where the end is `ReadFault`, and nowhere else; the sink where it is `WriteFault`.
     ensures read_cause { result.status ≡ Status.ReadFault → Rises (S.faults source.old) (S.faults source.new) }
@@ -109,9 +117,17 @@ pub fn run<S: Source, K: Sink, D: Disk, C: Clock>(
     // or not, and of each image that a crash may leave.
     ensures ends { (run : Run) × Supplies S.left S.gives source.old source.new run
         × Appends (K.taken sink.old) (K.taken sink.new) run.texts
-        × Ends (disk_words D.reads D.leaves D.moment D.since D.faults) founder disk result.disk
-        (clock_of C.reading C.last clock.old) (clock_of C.reading C.last clock.new) run
-        ((source.new ≡ source.old) × (sink.new ≡ sink.old) × (clock.new ≡ clock.old)) result.added result.status }
+        × Ends (disk_words D.reads D.leaves D.moment D.since D.faults)
+        (record {
+          founder = founder;
+          disk = disk;
+          disk_after = result.disk;
+          clock = clock_of C.reading C.last clock.old;
+          clock_after = clock_of C.reading C.last clock.new;
+          run = run;
+          added = result.added;
+        })
+        ((source.new ≡ source.old) × (sink.new ≡ sink.old) × (clock.new ≡ clock.old)) result.status }
 
     // A whole session, a file that stands for a legal history, and no fault give `Done`, or `NoMemory`. A fresh file
     // stands for the history without entries.

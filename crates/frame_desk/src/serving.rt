@@ -74,9 +74,10 @@ fn answer_frame<K: Sink, D: Disk, C: Clock>(
     clock: &mut C,
 ) -> Result<u64, Failed>
     ensures answers { (front rest : List ℕ) (r : IsFrameRead front read rest) →
-        AnswersFrame (disk_words D.reads D.leaves D.moment D.since D.faults) desk.old desk.new
-        (clock_of C.reading C.last clock.old) (clock_of C.reading C.last clock.new)
-        (K.taken sink.old) (K.taken sink.new) r.frame result }
+        AnswersFrame (disk_words D.reads D.leaves D.moment D.since D.faults)
+        (record { desk = desk.old; clock = clock_of C.reading C.last clock.old; taken = K.taken sink.old })
+        (record { desk = desk.new; clock = clock_of C.reading C.last clock.new; taken = K.taken sink.new })
+        r.frame result }
     ensures size { IfOk result (λ size. size ≡ read.size) }
     ensures counts { K.faults sink.old ≤ K.faults sink.new }
     ensures faultless { OnOk result (K.faults sink.new ≡ K.faults sink.old) }
