@@ -1,9 +1,9 @@
 -- What a status of a whole call says of the counts of faults.
-use Rattle.std.proofs.Common.{◌≡◌, ℕ, ◌<◌, ◌≤◌, List, length, map, Option, Some, IfSome, refl, sym, subst, ◌∙◌, inl, inr, arith}
+use Rattle.std.proofs.Common.{◌≡◌, ℕ, ◌<◌, ◌≤◌, List, length, map, Option, Some, IfSome, refl, sym, subst, ◌∙◌, inl, inr, ⊎_elim, arith}
+use Rattle.std.specs.Prelude.{◌⊎◌}
 use Rattle.desk_io.specs.Outside.{Rises}
 use Rattle.act_bodies.specs.declared.key.Key.{Key}
 use Rattle.act_model.specs.declared.entry.Entry.{Entry}
-use Rattle.act_model.specs.Clocks.{ClockState}
 use Rattle.act_model.specs.Keepers.{RoseBy}
 use Rattle.act_model.specs.Legal.{IsLegal}
 use Rattle.mpc_desk.specs.Desks.{DeskState, count_of}
@@ -18,10 +18,9 @@ use Rattle.command_ends.specs.Closing.{MendsLast}
 use Rattle.command_ends.specs.Statuses.{IsDoneOrNoMemory}
 use Rattle.desk_serve.specs.declared.accepting.Stop.{Stop}
 use Rattle.desk_serve.specs.declared.accepting.Stop.TheVariants as stops
-use Rattle.desk_serve.specs.declared.ends.LinkEnd.{LinkEnd}
 use Rattle.desk_serve.specs.Links.{LinkWords, link_of}
 use Rattle.desk_serve.specs.Gathering.{DoorState, Stops}
-use Rattle.desk_serve.specs.Runs.{first_fault, WritesLines, Writes, Runs, Ends}
+use Rattle.desk_serve.specs.Runs.{first_fault, WritesLines, Writes, RunStart, RunEnd, Runs, Ends}
 use Rattle.desk_serve.specs.Summaries.{summary}
 use Rattle.desk_serve.proofs.Mending.{IsFromMending, first_so}
 
@@ -37,46 +36,22 @@ rises_by a b rise some rose = omega arith
 rises_last : (a b c d calls rise : ℕ) → a ≤ b → RisesBy calls (count_of b) (count_of c) → 0 < rise → RoseBy rise (count_of c) (count_of d) → Rises a d
 rises_last a b c d calls rise later grew some rose = omega arith
 
--- a status with which the call may end once the office was opened
+-- a status with which the call may end once the office was opened: one that the links and the last mending may leave, or
+-- that of a fault in writing the lines
 abbrev pub IsOwn : Status → Type 0
-IsOwn Done = Unit {0}
-IsOwn DiskFault = Unit {0}
-IsOwn DoorFault = Unit {0}
-IsOwn NoMemory = Unit {0}
-IsOwn WriteFault = Unit {0}
-IsOwn Usage = ⊥
-IsOwn (BadFrame offset) = ⊥
-IsOwn (Damaged offset) = ⊥
-IsOwn ReadFault = ⊥
+IsOwn status = IsFromMending status ⊎ (status ≡ WriteFault)
 
-from_mending_own : (status : Status) → IsFromMending status → IsOwn status
-from_mending_own Done from = tt
-from_mending_own DiskFault from = tt
-from_mending_own DoorFault from = tt
-from_mending_own NoMemory from = tt
-from_mending_own WriteFault from = tt
-from_mending_own Usage from = from
-from_mending_own (BadFrame offset) from = from
-from_mending_own (Damaged offset) from = from
-from_mending_own ReadFault from = from
-
-lines_own : (old new : Option (List ℕ)) (lines : List ℕ) (status : Status) → WritesLines old new lines status → IsOwn status
-lines_own old new lines Done writes = tt
-lines_own old new lines WriteFault writes = tt
-lines_own old new lines Usage writes = writes
-lines_own old new lines (BadFrame offset) writes = writes
-lines_own old new lines DiskFault writes = tt
-lines_own old new lines (Damaged offset) writes = writes
-lines_own old new lines ReadFault writes = writes
-lines_own old new lines NoMemory writes = tt
-lines_own old new lines DoorFault writes = tt
-
--- the lines aren't written where the status is of the disk or the door
-lines_door : (old new : Option (List ℕ)) (lines : List ℕ) (status : Status) → WritesLines old new lines status → status ≡ DoorFault → ⊥
-lines_door old new lines status writes is = subst (WritesLines old new lines) is writes
-
-lines_disk : (old new : Option (List ℕ)) (lines : List ℕ) (status : Status) → WritesLines old new lines status → status ≡ DiskFault → ⊥
-lines_disk old new lines status writes is = subst (WritesLines old new lines) is writes
+-- where the lines were written, wholly or not, the status is one of two
+lines_end : (old new : Option (List ℕ)) (lines : List ℕ) (status : Status) → WritesLines old new lines status → (status ≡ Done) ⊎ (status ≡ WriteFault)
+lines_end old new lines Done writes = inl refl
+lines_end old new lines WriteFault writes = inr refl
+lines_end old new lines Usage writes = absurd writes
+lines_end old new lines (BadFrame offset) writes = absurd writes
+lines_end old new lines DiskFault writes = absurd writes
+lines_end old new lines (Damaged offset) writes = absurd writes
+lines_end old new lines ReadFault writes = absurd writes
+lines_end old new lines NoMemory writes = absurd writes
+lines_end old new lines DoorFault writes = absurd writes
 
 -- ---- by why no further link was taken
 
@@ -102,89 +77,92 @@ module _ {D I O : Type 0} (on : DiskWords D) (left last : DeskState D) (most : �
 
 -- ---- the whole call
 
-module _ {D I O : Type 0} (on : DiskWords D) (links : LinkWords I O) (founder : Key) (disk now : D) (clock : ClockState)
-    (door after : DoorState I O) (most : ℕ) (ends : List (LinkEnd I O)) (Uncalled Unwritten : Type 0) (old new : Option (List ℕ))
-    (added : ℕ) (status : Status) (ran : Ends on links founder disk now clock door after most ends Uncalled Unwritten old new added status) where
-  pub door_caused : status ≡ DoorFault → Rises door.faults after.faults
+module _ {D I O : Type 0} (on : DiskWords D) (links : LinkWords I O) (start : RunStart D I O) (end : RunEnd D I O)
+    (Uncalled Unwritten : Type 0) (ran : Ends on links start end Uncalled Unwritten) where
+  -- the lines that are written where nothing failed
+  abbrev lines_of : Runs on links start end Unwritten → List ℕ
+  lines_of r = summary (length end.ends) (length r.last.state.settled)
+
+  pub door_caused : end.status ≡ DoorFault → Rises start.door.faults end.door.faults
   door_caused is = by ran
     where
-      of_run : (r : Runs on links founder disk now clock door after most ends Unwritten old new added status) → Writes (first_fault r.stop r.mended) Unwritten old new (summary (length ends) (length r.last.state.settled)) status → Rises door.faults after.faults
-      of_run r (inl (good, lines)) = absurd (lines_door old new (summary (length ends) (length r.last.state.settled)) status lines is)
+      of_run : (r : Runs on links start end Unwritten) → Writes (first_fault r.stop r.mended) Unwritten start.taken end.taken (lines_of r) end.status → Rises start.door.faults end.door.faults
+      of_run r (inl (good, lines)) = absurd (subst (WritesLines start.taken end.taken (lines_of r)) is lines)
       of_run r (inr (bad, same, unwritten)) =
-          door_failed on r.left r.last most (map link_of r.serves.attendances) door after r.stop r.mended r.serves.stops r.mends (sym same ∙ is)
+          door_failed on r.left r.last start.most (map link_of r.serves.attendances) start.door end.door r.stop r.mended r.serves.stops r.mends (sym same ∙ is)
 
-      by : Ends on links founder disk now clock door after most ends Uncalled Unwritten old new added status → Rises door.faults after.faults
-      by (inl (uncalled, unopened)) = absurd (subst (λ (s : Status). EndsUnopened on founder disk now added s) is unopened)
+      by : Ends on links start end Uncalled Unwritten → Rises start.door.faults end.door.faults
+      by (inl (uncalled, unopened)) = absurd (subst (λ (s : Status). EndsUnopened on start.founder start.disk end.disk end.added s) is unopened)
       by (inr r) = of_run r r.writes
 
-  pub door_faultless : (Uncalled → after.faults ≡ door.faults) → (status ≡ DoorFault → ⊥) → after.faults ≡ door.faults
+  pub door_faultless : (Uncalled → end.door.faults ≡ start.door.faults) → (end.status ≡ DoorFault → ⊥) → end.door.faults ≡ start.door.faults
   door_faultless untouched never = by ran
     where
-      of_run : (r : Runs on links founder disk now clock door after most ends Unwritten old new added status) → Writes (first_fault r.stop r.mended) Unwritten old new (summary (length ends) (length r.last.state.settled)) status → after.faults ≡ door.faults
+      of_run : (r : Runs on links start end Unwritten) → Writes (first_fault r.stop r.mended) Unwritten start.taken end.taken (lines_of r) end.status → end.door.faults ≡ start.door.faults
       of_run r (inl (good, lines)) =
-          door_held on r.left r.last most (map link_of r.serves.attendances) door after r.stop r.mended r.serves.stops (λ is. let no : Done ≡ DoorFault = sym good ∙ is in absurd cc)
+          door_held on r.left r.last start.most (map link_of r.serves.attendances) start.door end.door r.stop r.mended r.serves.stops (λ is. let no : Done ≡ DoorFault = sym good ∙ is in absurd cc)
       of_run r (inr (bad, same, unwritten)) =
-          door_held on r.left r.last most (map link_of r.serves.attendances) door after r.stop r.mended r.serves.stops (λ is. never (same ∙ is))
+          door_held on r.left r.last start.most (map link_of r.serves.attendances) start.door end.door r.stop r.mended r.serves.stops (λ is. never (same ∙ is))
 
-      by : Ends on links founder disk now clock door after most ends Uncalled Unwritten old new added status → after.faults ≡ door.faults
+      by : Ends on links start end Uncalled Unwritten → end.door.faults ≡ start.door.faults
       by (inl (uncalled, unopened)) = untouched uncalled
       by (inr r) = of_run r r.writes
 
-  pub disk_caused : status ≡ DiskFault → Rises (on.faults disk) (on.faults now)
+  pub disk_caused : end.status ≡ DiskFault → Rises (on.faults start.disk) (on.faults end.disk)
   disk_caused is = by ran
     where
-      of_run : (r : Runs on links founder disk now clock door after most ends Unwritten old new added status) → Writes (first_fault r.stop r.mended) Unwritten old new (summary (length ends) (length r.last.state.settled)) status → Rises (on.faults disk) (on.faults now)
-      of_run r (inl (good, lines)) = absurd (lines_disk old new (summary (length ends) (length r.last.state.settled)) status lines is)
+      of_run : (r : Runs on links start end Unwritten) → Writes (first_fault r.stop r.mended) Unwritten start.taken end.taken (lines_of r) end.status → Rises (on.faults start.disk) (on.faults end.disk)
+      of_run r (inl (good, lines)) = absurd (subst (WritesLines start.taken end.taken (lines_of r)) is lines)
       of_run r (inr (bad, same, unwritten)) =
-          let m = disk_failed on r.left r.last most (map link_of r.serves.attendances) door after r.stop r.mended r.mends (sym same ∙ is) in
-          subst (λ (d : D). Rises (on.faults disk) (on.faults d)) (sym r.disk_is)
-          (rises_last (on.faults disk) (on.faults r.opened.disk) (on.faults r.left.disk) (on.faults r.last.disk) _ m.0 r.opens.later r.serves.grows.counts m.1.rose m.2.counts)
+          let m = disk_failed on r.left r.last start.most (map link_of r.serves.attendances) start.door end.door r.stop r.mended r.mends (sym same ∙ is) in
+          subst (λ (d : D). Rises (on.faults start.disk) (on.faults d)) (sym r.disk_is)
+          (rises_last (on.faults start.disk) (on.faults r.opened.disk) (on.faults r.left.disk) (on.faults r.last.disk) _ m.0 r.opens.later r.serves.grows.counts m.1.rose m.2.counts)
 
-      by : Ends on links founder disk now clock door after most ends Uncalled Unwritten old new added status → Rises (on.faults disk) (on.faults now)
+      by : Ends on links start end Uncalled Unwritten → Rises (on.faults start.disk) (on.faults end.disk)
       by (inl (uncalled, unopened)) =
-          let u = subst (λ (s : Status). EndsUnopened on founder disk now added s) is unopened in
-          rises_by (on.faults disk) (on.faults now) u.0 u.1 u.2.counts
+          let u = subst (λ (s : Status). EndsUnopened on start.founder start.disk end.disk end.added s) is unopened in
+          rises_by (on.faults start.disk) (on.faults end.disk) u.0 u.1 u.2.counts
       by (inr r) = of_run r r.writes
 
   -- once the office was opened
-  own_run : Runs on links founder disk now clock door after most ends Unwritten old new added status → IsOwn status
+  own_run : Runs on links start end Unwritten → IsOwn end.status
   own_run r = by r.writes
     where
-      by : Writes (first_fault r.stop r.mended) Unwritten old new (summary (length ends) (length r.last.state.settled)) status → IsOwn status
-      by (inl (good, lines)) = lines_own old new (summary (length ends) (length r.last.state.settled)) status lines
-      by (inr (bad, same, unwritten)) =
-          subst IsOwn (sym same) (from_mending_own (first_fault r.stop r.mended) (first_so on r.left r.last r.stop r.mended r.mends))
+      by : Writes (first_fault r.stop r.mended) Unwritten start.taken end.taken (lines_of r) end.status → IsOwn end.status
+      by (inl (good, lines)) =
+          ⊎_elim (λ done. inl (subst IsFromMending (sym done) tt)) (λ failed. inr failed) (lines_end start.taken end.taken (lines_of r) end.status lines)
+      by (inr (bad, same, unwritten)) = inl (subst IsFromMending (sym same) (first_so on r.left r.last r.stop r.mended r.mends))
 
   -- a status that is of no end
-  none_such : (s : Status) → (EndsUnopened on founder disk now added s → ⊥) → (IsOwn s → ⊥) → status ≡ s → ⊥
-  none_such s unopened own is = by ran
+  none_such : (s : Status) → (EndsUnopened on start.founder start.disk end.disk end.added s → ⊥) → (IsFromMending s → ⊥) → (s ≡ WriteFault → ⊥) → end.status ≡ s → ⊥
+  none_such s unopened mended written is = by ran
     where
-      by : Ends on links founder disk now clock door after most ends Uncalled Unwritten old new added status → ⊥
-      by (inl (uncalled, u)) = unopened (subst (λ (s : Status). EndsUnopened on founder disk now added s) is u)
-      by (inr r) = own (subst IsOwn is (own_run r))
+      by : Ends on links start end Uncalled Unwritten → ⊥
+      by (inl (uncalled, u)) = unopened (subst (λ (s : Status). EndsUnopened on start.founder start.disk end.disk end.added s) is u)
+      by (inr r) = ⊎_elim mended written (subst IsOwn is (own_run r))
 
-  pub no_usage : status ≡ Usage → ⊥
-  no_usage = none_such Usage (λ e. e) (λ e. e)
+  pub no_usage : end.status ≡ Usage → ⊥
+  no_usage = none_such Usage (λ e. e) (λ e. e) (λ e. absurd cc)
 
-  pub no_read : status ≡ ReadFault → ⊥
-  no_read = none_such ReadFault (λ e. e) (λ e. e)
+  pub no_read : end.status ≡ ReadFault → ⊥
+  no_read = none_such ReadFault (λ e. e) (λ e. e) (λ e. absurd cc)
 
-  pub no_frame : (offset : ℕ) → status ≡ BadFrame offset → ⊥
-  no_frame offset = none_such (BadFrame offset) (λ e. e) (λ e. e)
+  pub no_frame : (offset : ℕ) → end.status ≡ BadFrame offset → ⊥
+  no_frame offset = none_such (BadFrame offset) (λ e. e) (λ e. e) (λ e. absurd cc)
 
-  pub undamaged : Undamaged → (file : List ℕ) (history : List Entry) (offset : ℕ) → on.reads disk ≡ Some file → Stands file history → IsLegal founder history
-      → status ≡ Damaged offset → ⊥
+  pub undamaged : Undamaged → (file : List ℕ) (history : List Entry) (offset : ℕ) → on.reads start.disk ≡ Some file → Stands file history → IsLegal start.founder history
+      → end.status ≡ Damaged offset → ⊥
   undamaged law file history offset reads stands legal =
       none_such (Damaged offset)
-      (λ e. law founder file offset history (subst (λ (o : Option (List ℕ)). IfSome o (λ f. IsDamagedDesk founder f offset)) reads e.0) legal stands)
-      (λ e. e)
+      (λ e. law start.founder file offset history (subst (λ (o : Option (List ℕ)). IfSome o (λ f. IsDamagedDesk start.founder f offset)) reads e.0) legal stands)
+      (λ e. e) (λ e. absurd cc)
 
-  pub completes : Undamaged → (write_rose : Type 0) → (status ≡ WriteFault → write_rose) → (file : List ℕ) (history : List Entry)
-      → on.reads disk ≡ Some file → Stands file history → IsLegal founder history → ¬ Rises (on.faults disk) (on.faults now)
-      → ¬ Rises door.faults after.faults → ¬ write_rose → IsDoneOrNoMemory status
-  completes law write_rose wrote file history reads stands legal no_disk no_door no_write = by status refl
+  pub completes : Undamaged → (write_rose : Type 0) → (end.status ≡ WriteFault → write_rose) → (file : List ℕ) (history : List Entry)
+      → on.reads start.disk ≡ Some file → Stands file history → IsLegal start.founder history → ¬ Rises (on.faults start.disk) (on.faults end.disk)
+      → ¬ Rises start.door.faults end.door.faults → ¬ write_rose → IsDoneOrNoMemory end.status
+  completes law write_rose wrote file history reads stands legal no_disk no_door no_write = by end.status refl
     where
-      by : (s : Status) → status ≡ s → IsDoneOrNoMemory s
+      by : (s : Status) → end.status ≡ s → IsDoneOrNoMemory s
       by Done is = tt
       by NoMemory is = tt
       by DiskFault is = no_disk (disk_caused is)

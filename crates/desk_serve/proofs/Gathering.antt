@@ -4,10 +4,10 @@ use Rattle.std.proofs.lemmas.List.{length-append, reverse-append}
 use Rattle.std.proofs.lemmas.List.Sorted.{IsPermutation-refl, IsPermutation-trans, IsPermutation-append_left, IsPermutation-append_right, IsPermutation-append_comm}
 use Rattle.std.specs.List.{AllByRecursion}
 use Rattle.desk_io.specs.Outside.{Rises}
-use Rattle.desk_io.specs.Doors.{Gives, Gives-trans, NoLinkLeft}
+use Rattle.desk_io.specs.Doors.{Gives, Gives-trans}
 use Rattle.act_bodies.specs.declared.key.Key.{Key}
 use Rattle.act_model.specs.declared.entry.Entry.{Entry}
-use Rattle.act_model.specs.declared.keeper.Office.{Office}
+use Rattle.intake_lock.specs.declared.clerk.Office.{Office}
 use Rattle.act_model.specs.Conducts.{Extends}
 use Rattle.intake_lock.specs.declared.view.Item.{Item}
 use Rattle.intake_lock.specs.declared.view.View.{View}
@@ -16,8 +16,8 @@ use Rattle.act_model.specs.Clocks.{ClockState}
 use Rattle.desk_serve.specs.declared.ends.LinkEnd.{LinkEnd}
 use Rattle.desk_serve.specs.declared.accepting.Stop.{Stop}
 use Rattle.desk_serve.specs.declared.accepting.Stop.TheVariants.{Full, Shut, Failed, NoMemory}
-use Rattle.desk_serve.specs.Links.{LinkWords, IsLinkAttended, Attendance, link_of, end_of, calls_of, calls_in}
-use Rattle.desk_serve.specs.Gathering.{DoorState, Stops, IsAnother, IsBetween, Gathers}
+use Rattle.desk_serve.specs.Links.{LinkWords, LinkStart, IsLinkAttended, Attendance, link_of, end_of, calls_of, calls_in}
+use Rattle.desk_serve.specs.Gathering.{DoorState, Stops, IsAnother, IsBetween, GatherStart, GatherEnd, Gathers}
 
 -- ---- histories and clocks
 
@@ -51,11 +51,6 @@ longer_limit a b limit first second = by (nat_lt (length a.state.settled) (lengt
     by true = second
     by false = first
 
--- all links that were told are these, where none is left
-pub none_told : {L : Type 0} (links : Option (List L)) → NoLinkLeft links → IfSome links (λ told. told ≡ [])
-none_told None none = tt
-none_told (Some told) none = none
-
 -- ---- links among others
 
 module _ {I O : Type 0} (on : LinkWords I O) where
@@ -69,8 +64,8 @@ module _ {I O : Type 0} (on : LinkWords I O) where
     record {
       founder = each.0.founder ∙ founder;
       limit = each.0.limit ∙ limit;
-      another = another_on other clock a.clock same each.0.another;
-      first = extends_on earlier.state.settled opening.state.settled (seen a.before) begins each.0.first;
+      another = another_on other clock a.start.clock same each.0.another;
+      first = extends_on earlier.state.settled opening.state.settled (seen a.start.view) begins each.0.first;
       last = extends_on (seen a.after) later last each.0.last ends;
     },
     between_on clock other opening earlier later last same founder limit begins ends rest each.1,
@@ -78,20 +73,31 @@ module _ {I O : Type 0} (on : LinkWords I O) where
 
   -- ---- no link
 
-  pub no_link : (clock : ClockState) (v : View) (door after : DoorState I O) (most : ℕ) (ends : List (LinkEnd I O)) (stop : Stop)
-      → Gives door.links after.links [] → Stops most [] door after stop → Gathers on clock v v door after most ends ends stop
-  no_link clock v door after most ends stop gave stops =
+  pub no_link : (start : GatherStart I O) (after : DoorState I O) (stop : Stop) → Gives start.door.links after.links []
+      → Stops start.most [] start.door after stop
+      → Gathers on start (record { view = start.view; door = after; ends = start.ends; stop = stop })
+  no_link start after stop gave stops =
       record {
         attendances = [];
         gave = gave;
-        ended = sym (append-nil ends);
+        ended = sym (append-nil start.ends);
         each = tt;
-        calls = IsPermutation-refl v.mine;
-        grows = extends_same (seen v);
+        calls = IsPermutation-refl start.view.mine;
+        grows = extends_same (seen start.view);
         founder = refl;
         limit = refl;
         stops = stops;
       }
+
+  -- the same, of another view, door and stop that are these
+  pub same_end : (start : GatherStart I O) (view now : View) (door after : DoorState I O) (ends : List (LinkEnd I O)) (stop last : Stop)
+      → now ≡ view → after ≡ door → last ≡ stop
+      → Gathers on start (record { view = view; door = door; ends = ends; stop = stop })
+      → Gathers on start (record { view = now; door = after; ends = ends; stop = last })
+  same_end start view now door after ends stop last view_is door_is stop_is gathers =
+      subst (λ (v : View). Gathers on start (record { view = v; door = after; ends = ends; stop = last })) (sym view_is)
+      (subst (λ (d : DoorState I O). Gathers on start (record { view = view; door = d; ends = ends; stop = last })) (sym door_is)
+      (subst (λ (s : Stop). Gathers on start (record { view = view; door = door; ends = ends; stop = s })) (sym stop_is) gathers))
 
   -- ---- one link before the others
 
@@ -113,32 +119,44 @@ module _ {I O : Type 0} (on : LinkWords I O) where
       (let e = stops.0 in omega arith, subst (λ (n : ℕ). Rises n after.faults) same stops.1)
   stops_on most link came before mid after NoMemory some gave same stops = stops ∙ same
 
-  module _ (clock : ClockState) (v : View) (door mid after : DoorState I O) (most : ℕ) (ends ends_after : List (LinkEnd I O))
-      (stop : Stop) (source : I) (sink : O) (end : LinkEnd I O) (some : 0 < most)
-      (gave : Gives door.links mid.links ((source, sink) ∷ [])) (same : mid.faults ≡ door.faults) (mine_clock other : ClockState)
-      (kept : IsAnother clock mine_clock) (another : IsAnother clock other) where
+  module _ (start : GatherStart I O) (mid : DoorState I O) (source : I) (sink : O) (end : LinkEnd I O) (some : 0 < start.most)
+      (gave : Gives start.door.links mid.links ((source, sink) ∷ [])) (same : mid.faults ≡ start.door.faults)
+      (mine_clock other : ClockState) (kept : IsAnother start.clock mine_clock) (another : IsAnother start.clock other)
+      (others : GatherEnd I O) where
+    -- the link as it came to be attended, where the pass knew this
+    abbrev link_start : View → LinkStart I O
+    link_start view = record { source = source; sink = sink; view = view; clock = other }
+
+    -- the other links begin with this view of the root
+    abbrev others_start : View → GatherStart I O
+    others_start view = record { view = view; clock = mine_clock; door = mid; most = start.most - 1; ends = start.ends }
+
+    -- all links end with this view of the root
+    abbrev all_end : View → GatherEnd I O
+    all_end view = record { view = view; door = others.door; ends = others.ends ++ end ∷ []; stop = others.stop }
+
+    -- the end of this link stands behind those of the others
+    ended_behind : (ends : List (LinkEnd I O)) → others.ends ≡ start.ends ++ reverse ends
+        → others.ends ++ end ∷ [] ≡ start.ends ++ reverse (end ∷ ends)
+    ended_behind ends ended =
+        ap (λ (l : List (LinkEnd I O)). l ++ end ∷ []) ended
+        ∙ append_assoc start.ends (reverse ends) (end ∷ [])
+        ∙ ap (λ (l : List (LinkEnd I O)). start.ends ++ l) (sym (reverse-append (end ∷ []) ends))
+
     -- the link was attended by a branch, while the root took in the others
-    pub branch_joins : (w r : View) → IsLinkAttended on source sink end (branch v) w other
-        → Gathers on mine_clock (stem v) r mid after (most - 1) ends ends_after stop
-        → Extends (seen r) (seen (joined r w)) → Extends (seen w) (seen (joined r w))
-        → Gathers on clock v (joined r w) door after most ends (ends_after ++ end ∷ []) stop
-    branch_joins w r attended rest root_grows branch_grows =
-        let a : Attendance on = record {
-          source = source;
-          sink = sink;
-          end = end;
-          before = branch v;
-          after = w;
-          clock = other;
-          attended = attended;
-        } in
+    pub branch_joins : (w : View) → IsLinkAttended on (link_start (branch start.view)) end w
+        → Gathers on (others_start (stem start.view)) others
+        → Extends (seen others.view) (seen (joined others.view w)) → Extends (seen w) (seen (joined others.view w))
+        → Gathers on start (all_end (joined others.view w))
+    branch_joins w attended rest root_grows branch_grows =
+        let v = start.view in
+        let r = others.view in
+        let a : Attendance on = record { start = link_start (branch start.view); end = end; after = w; attended = attended } in
         let made : w.mine ≡ calls_of a = attended.attended.attends.mine ∙ append-nil (calls_of a) in
         record {
           attendances = a ∷ rest.attendances;
-          gave = Gives-trans door.links mid.links after.links ((source, sink) ∷ []) (map link_of rest.attendances) gave rest.gave;
-          ended = ap (λ (l : List (LinkEnd I O)). l ++ end ∷ []) rest.ended
-              ∙ append_assoc ends (reverse (map end_of rest.attendances)) (end ∷ [])
-              ∙ ap (λ (l : List (LinkEnd I O)). ends ++ l) (sym (reverse-append (end ∷ []) (map end_of rest.attendances)));
+          gave = Gives-trans start.door.links mid.links others.door.links ((source, sink) ∷ []) (map link_of rest.attendances) gave rest.gave;
+          ended = ended_behind (map end_of rest.attendances) rest.ended;
           each = (
             record {
               founder = refl;
@@ -147,7 +165,7 @@ module _ {I O : Type 0} (on : LinkWords I O) where
               first = extends_same (seen v);
               last = branch_grows;
             },
-            between_on mine_clock clock v.office v.office (seen r) (seen (joined r w)) kept refl refl (extends_same (seen v)) root_grows
+            between_on mine_clock start.clock v.office v.office (seen r) (seen (joined r w)) kept refl refl (extends_same (seen v)) root_grows
                 rest.attendances rest.each,
           );
           calls = subst (λ (l : List Item). IsPermutation ((calls_of a ++ calls_in rest.attendances) ++ v.mine) (l ++ r.mine)) (sym made)
@@ -157,30 +175,21 @@ module _ {I O : Type 0} (on : LinkWords I O) where
           grows = extends_on (seen v) (seen r) (seen (joined r w)) rest.grows root_grows;
           founder = longer_founder r.office w.office v.office.founder rest.founder attended.attended.attends.founder;
           limit = longer_limit r.office w.office v.office.limit rest.limit attended.attended.attends.limit;
-          stops = stops_on most (source, sink) (map link_of rest.attendances) door mid after stop some gave same rest.stops;
+          stops = stops_on start.most (source, sink) (map link_of rest.attendances) start.door mid others.door others.stop some gave same rest.stops;
         }
 
     -- the link was attended by the root, and then the root took in the others
-    pub root_goes_on : (w r : View) → IsLinkAttended on source sink end v w other
-        → Gathers on mine_clock w r mid after (most - 1) ends ends_after stop
-        → Gathers on clock v r door after most ends (ends_after ++ end ∷ []) stop
-    root_goes_on w r attended rest =
-        let a : Attendance on = record {
-          source = source;
-          sink = sink;
-          end = end;
-          before = v;
-          after = w;
-          clock = other;
-          attended = attended;
-        } in
+    pub root_goes_on : (w : View) → IsLinkAttended on (link_start start.view) end w → Gathers on (others_start w) others
+        → Gathers on start (all_end others.view)
+    root_goes_on w attended rest =
+        let v = start.view in
+        let r = others.view in
+        let a : Attendance on = record { start = link_start start.view; end = end; after = w; attended = attended } in
         let was = attended.attended.attends in
         record {
           attendances = a ∷ rest.attendances;
-          gave = Gives-trans door.links mid.links after.links ((source, sink) ∷ []) (map link_of rest.attendances) gave rest.gave;
-          ended = ap (λ (l : List (LinkEnd I O)). l ++ end ∷ []) rest.ended
-              ∙ append_assoc ends (reverse (map end_of rest.attendances)) (end ∷ [])
-              ∙ ap (λ (l : List (LinkEnd I O)). ends ++ l) (sym (reverse-append (end ∷ []) (map end_of rest.attendances)));
+          gave = Gives-trans start.door.links mid.links others.door.links ((source, sink) ∷ []) (map link_of rest.attendances) gave rest.gave;
+          ended = ended_behind (map end_of rest.attendances) rest.ended;
           each = (
             record {
               founder = refl;
@@ -189,7 +198,7 @@ module _ {I O : Type 0} (on : LinkWords I O) where
               first = extends_same (seen v);
               last = rest.grows;
             },
-            between_on mine_clock clock w.office v.office (seen r) (seen r) kept was.founder was.limit was.grows (extends_same (seen r))
+            between_on mine_clock start.clock w.office v.office (seen r) (seen r) kept was.founder was.limit was.grows (extends_same (seen r))
                 rest.attendances rest.each,
           );
           calls = IsPermutation-trans ((calls_of a ++ calls_in rest.attendances) ++ v.mine)
@@ -203,29 +212,27 @@ module _ {I O : Type 0} (on : LinkWords I O) where
           grows = extends_on (seen v) (seen w) (seen r) was.grows rest.grows;
           founder = rest.founder ∙ was.founder;
           limit = rest.limit ∙ was.limit;
-          stops = stops_on most (source, sink) (map link_of rest.attendances) door mid after stop some gave same rest.stops;
+          stops = stops_on start.most (source, sink) (map link_of rest.attendances) start.door mid others.door others.stop some gave same rest.stops;
         }
 
     -- the same, of what the calls ensure
-    pub branch_joined : (stem_view branch_view w r last : View) (items : List (LinkEnd I O)) → stem_view ≡ stem v
-        → branch_view ≡ branch v → last ≡ joined r w → items ≡ ends_after ++ end ∷ []
-        → IsLinkAttended on source sink end branch_view w other
-        → Gathers on mine_clock stem_view r mid after (most - 1) ends ends_after stop
-        → Extends (seen r) (seen last) → Extends (seen w) (seen last)
-        → Gathers on clock v last door after most ends items stop
-    branch_joined stem_view branch_view w r last items stem_is branch_is last_is items_is attended rest root_grows branch_grows =
-        subst (λ (l : View). Gathers on clock v l door after most ends items stop) (sym last_is)
-        (subst (λ (l : List (LinkEnd I O)). Gathers on clock v (joined r w) door after most ends l stop) (sym items_is)
-        (branch_joins w r
-        (subst (λ (l : View). IsLinkAttended on source sink end l w other) branch_is attended)
-        (subst (λ (l : View). Gathers on mine_clock l r mid after (most - 1) ends ends_after stop) stem_is rest)
-        (subst (λ (l : View). Extends (seen r) (seen l)) last_is root_grows)
+    pub branch_joined : (stem_view branch_view w last : View) (items : List (LinkEnd I O)) → stem_view ≡ stem start.view
+        → branch_view ≡ branch start.view → last ≡ joined others.view w → items ≡ others.ends ++ end ∷ []
+        → IsLinkAttended on (link_start branch_view) end w → Gathers on (others_start stem_view) others
+        → Extends (seen others.view) (seen last) → Extends (seen w) (seen last)
+        → Gathers on start (record { view = last; door = others.door; ends = items; stop = others.stop })
+    branch_joined stem_view branch_view w last items stem_is branch_is last_is items_is attended rest root_grows branch_grows =
+        subst (λ (l : View). Gathers on start (record { view = l; door = others.door; ends = items; stop = others.stop })) (sym last_is)
+        (subst (λ (l : List (LinkEnd I O)). Gathers on start (record { view = joined others.view w; door = others.door; ends = l; stop = others.stop })) (sym items_is)
+        (branch_joins w
+        (subst (λ (l : View). IsLinkAttended on (link_start l) end w) branch_is attended)
+        (subst (λ (l : View). Gathers on (others_start l) others) stem_is rest)
+        (subst (λ (l : View). Extends (seen others.view) (seen l)) last_is root_grows)
         (subst (λ (l : View). Extends (seen w) (seen l)) last_is branch_grows)))
 
-    pub root_went_on : (root_view w r : View) (items : List (LinkEnd I O)) → root_view ≡ v → items ≡ ends_after ++ end ∷ []
-        → IsLinkAttended on source sink end root_view w other
-        → Gathers on mine_clock w r mid after (most - 1) ends ends_after stop
-        → Gathers on clock v r door after most ends items stop
-    root_went_on root_view w r items root_is items_is attended rest =
-        subst (λ (l : List (LinkEnd I O)). Gathers on clock v r door after most ends l stop) (sym items_is)
-        (root_goes_on w r (subst (λ (l : View). IsLinkAttended on source sink end l w other) root_is attended) rest)
+    pub root_went_on : (root_view w : View) (items : List (LinkEnd I O)) → root_view ≡ start.view → items ≡ others.ends ++ end ∷ []
+        → IsLinkAttended on (link_start root_view) end w → Gathers on (others_start w) others
+        → Gathers on start (record { view = others.view; door = others.door; ends = items; stop = others.stop })
+    root_went_on root_view w items root_is items_is attended rest =
+        subst (λ (l : List (LinkEnd I O)). Gathers on start (record { view = others.view; door = others.door; ends = l; stop = others.stop })) (sym items_is)
+        (root_goes_on w (subst (λ (l : View). IsLinkAttended on (link_start l) end w) root_is attended) rest)

@@ -4,3 +4,4 @@ mod Lines
 mod Mending
 mod Causes
 mod WatchLemmas
+mod KeptLemmas

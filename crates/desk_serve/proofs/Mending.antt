@@ -46,28 +46,29 @@ closed_so on left last WriteFault mends = absurd mends
 closed_so on left last NoMemory mends = absurd mends
 closed_so on left last DoorFault mends = absurd mends
 
+-- mending settles no less than there was, and stays legal
+pub mends_extends : (past : List Entry) (doubt : Option Entry) (mended : List Entry) → Mends past doubt mended → Extends past mended
+mends_extends past None mended same = ([], same)
+mends_extends past (Some entry) mended (inl added) = (entry ∷ [], added)
+mends_extends past (Some entry) mended (inr same) = ([], same)
+
+pub mends_legal : (founder : Key) (past : List Entry) (doubt : Option Entry) (mended : List Entry) → Mends past doubt mended → IsLegal founder past
+    → IfSome doubt (λ entry. IsLegal founder (entry ∷ past)) → IsLegal founder mended
+mends_legal founder past None mended same legal either_way = subst (IsLegal founder) (sym same) legal
+mends_legal founder past (Some entry) mended (inl added) legal either_way = subst (IsLegal founder) (sym added) either_way
+mends_legal founder past (Some entry) mended (inr same) legal either_way = subst (IsLegal founder) (sym same) legal
+
 module _ (left last : OfficeState) (rise : ℕ) where
   pub mending_extends : IsMended left rise last ⊎ IsStillInDoubt left rise last → Extends left.settled last.settled
-  mending_extends (inl is) = by left.doubt is.mends
-    where
-      by : (doubt : Option Entry) → Mends left.settled doubt last.settled → Extends left.settled last.settled
-      by None same = ([], same)
-      by (Some entry) (inl added) = (entry ∷ [], added)
-      by (Some entry) (inr same) = ([], same)
+  mending_extends (inl is) = mends_extends left.settled left.doubt last.settled is.mends
   mending_extends (inr is) = ([], ap (λ (s : OfficeState). s.settled) is.stays)
 
   stays_legal : (founder : Key) → EitherWay (IsLegal founder) left → IsMended left rise last ⊎ IsStillInDoubt left rise last
       → EitherWay (IsLegal founder) last
   stays_legal founder legal (inl is) = (
-    by left.doubt is.mends legal.1,
+    mends_legal founder left.settled left.doubt last.settled is.mends legal.0 legal.1,
     subst (λ (d : Option Entry). IfSome d (λ entry. IsLegal founder (entry ∷ last.settled))) (sym is.settled) tt,
   )
-    where
-      by : (doubt : Option Entry) → Mends left.settled doubt last.settled
-          → IfSome doubt (λ entry. IsLegal founder (entry ∷ left.settled)) → IsLegal founder last.settled
-      by None same either_way = subst (IsLegal founder) (sym same) legal.0
-      by (Some entry) (inl added) either_way = subst (IsLegal founder) (sym added) either_way
-      by (Some entry) (inr same) either_way = subst (IsLegal founder) (sym same) legal.0
   stays_legal founder legal (inr is) = subst (EitherWay (IsLegal founder)) (sym is.stays) legal
 
 module _ {D : Type 0} (on : DiskWords D) (left last : DeskState D) (closed : Closed on left last) where

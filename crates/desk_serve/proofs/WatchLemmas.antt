@@ -22,6 +22,7 @@ use Rattle.mpc_desk.specs.Opening.{StandsAlike}
 use Rattle.command_ends.specs.Disks.{DiskWords}
 use Rattle.desk_serve.specs.Images.{StandsWithin, IsWatched, LeavesInService}
 use Rattle.desk_serve.proofs.Gathering.{extends_on}
+use Rattle.desk_serve.proofs.Mending.{mends_extends, mends_legal}
 
 -- what the office's laws say of histories
 pub record GrowthLaws : Type 0 where
@@ -51,18 +52,6 @@ step_adds : (founder : Key) (limit : Option ℕ) (past : List Entry) (q : Reques
 unfolding step
 step_adds founder limit past q t entry adds = ap (after past) adds
 
--- mending settles no less than there was, and stays legal
-mends_extends : (past : List Entry) (doubt : Option Entry) (mended : List Entry) → Mends past doubt mended → Extends past mended
-mends_extends past None mended same = ([], same)
-mends_extends past (Some entry) mended (inl added) = (entry ∷ [], added)
-mends_extends past (Some entry) mended (inr same) = ([], same)
-
-mends_legal : (founder : Key) (past : List Entry) (doubt : Option Entry) (mended : List Entry) → Mends past doubt mended → IsLegal founder past
-    → IfSome doubt (λ entry. IsLegal founder (entry ∷ past)) → IsLegal founder mended
-mends_legal founder past None mended same legal either_way = subst (IsLegal founder) (sym same) legal
-mends_legal founder past (Some entry) mended (inl added) legal either_way = subst (IsLegal founder) (sym added) either_way
-mends_legal founder past (Some entry) mended (inr same) legal either_way = subst (IsLegal founder) (sym same) legal
-
 untouched_settled : (doubt : Bool) (past : List Entry) (entry : Entry) → (unless_untouched doubt past entry).settled ≡ past
 untouched_settled doubt past entry = refl
 
@@ -84,7 +73,7 @@ module _ (laws : GrowthLaws) (founder : Key) (limit : Option ℕ) where
 module _ {D : Type 0} (laws : GrowthLaws) (moment : D → ℕ) (since : D → ℕ → List ℕ → Type 0) (faults : D → ℕ) (first : List Entry) (old new : DeskState D)
     (begins : Extends first old.state.settled) (legal : EitherWay (IsLegal old.founder) old.state) where
   -- an image of the office at rest
-  rests_within : (last : List Entry) (image : List ℕ) → Extends old.state.settled last → RestsAt old.state image → StandsWithin old.founder first last image
+  pub rests_within : (last : List Entry) (image : List ℕ) → Extends old.state.settled last → RestsAt old.state image → StandsWithin old.founder first last image
   rests_within last image ends (inl stands) =
       record { past = old.state.settled; begins = begins; ends = ends; history = old.state.settled; within = inl refl; legal = legal.0; stands = stands }
   rests_within last image ends (inr doubted) = by old.state.doubt doubted legal.1

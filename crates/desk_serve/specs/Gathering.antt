@@ -5,11 +5,12 @@ use Rattle.std.specs.List.Sorted.{IsPermutation}
 use Rattle.desk_io.specs.Outside.{Rises}
 use Rattle.desk_io.specs.Doors.{Gives}
 use Rattle.act_model.specs.declared.entry.Entry.{Entry}
-use Rattle.act_model.specs.declared.keeper.Office.{Office}
+use Rattle.intake_lock.specs.declared.clerk.Office.{Office}
 use Rattle.act_model.specs.Conducts.{Extends}
 use Rattle.intake_lock.specs.declared.view.Role.{Role}
 use Rattle.intake_lock.specs.declared.view.Role.TheVariants.{Root}
 use Rattle.intake_lock.specs.declared.view.View.{View}
+use Rattle.intake_lock.specs.Passes.{PassState}
 use Rattle.intake_lock.specs.Rule.{MOST}
 use Rattle.intake_lock.specs.Views.{seen}
 use Rattle.act_model.specs.Clocks.{ClockState}
@@ -41,6 +42,10 @@ Stops most came before after NoMemory = after.faults ≡ before.faults
 abbrev pub IsRootFor : ℕ → Role → Type 0
 IsRootFor more role = (out : ℕ) × (role ≡ Root out) × (out + more ≤ MOST)
 
+-- a pass of the same lock, which is the same root or branch
+abbrev pub IsSamePass : PassState → PassState → Type 0
+IsSamePass before after = (after.lock ≡ before.lock) × (after.view.role ≡ before.view.role)
+
 -- ---- links
 
 -- another clock with the same readings to come, and the same last one
@@ -52,23 +57,44 @@ pub record IsAnother (clock other : ClockState) : Type 0 where
 -- before begins no earlier, and what it has seen after is a beginning of the later history.
 pub record IsBetween {I O : Type 0} {on : LinkWords I O} (clock : ClockState) (opening : Office) (later : List Entry)
     (attendance : Attendance on) : Type 0 where
-  pub founder : attendance.before.office.founder ≡ opening.founder
-  pub limit : attendance.before.office.limit ≡ opening.limit
-  pub another : IsAnother clock attendance.clock
-  pub first : Extends opening.state.settled (seen attendance.before)
+  pub founder : attendance.start.view.office.founder ≡ opening.founder
+  pub limit : attendance.start.view.office.limit ≡ opening.limit
+  pub another : IsAnother clock attendance.start.clock
+  pub first : Extends opening.state.settled (seen attendance.start.view)
   pub last : Extends (seen attendance.after) later
+
+-- what there is before links are taken in: what the root knows, the clock, the door, how many links may come, and the
+-- ends of earlier ones
+pub record GatherStart (I O : Type 0) : Type 0 where
+  pub view : View
+  pub clock : ClockState
+  pub door : DoorState I O
+  pub most : ℕ
+  pub ends : List (LinkEnd I O)
+
+-- what there is when links were taken in: what the root knows, the door, the ends of all links, and why no further one
+-- was taken
+pub record GatherEnd (I O : Type 0) : Type 0 where
+  pub view : View
+  pub door : DoorState I O
+  pub ends : List (LinkEnd I O)
+  pub stop : Stop
+
+abbrev pub gather_start : {I O : Type 0} → View → ClockState → DoorState I O → ℕ → List (LinkEnd I O) → GatherStart I O
+gather_start view clock door most ends = record { view = view; clock = clock; door = door; most = most; ends = ends }
+
+abbrev pub gather_end : {I O : Type 0} → View → DoorState I O → List (LinkEnd I O) → Stop → GatherEnd I O
+gather_end view door ends stop = record { view = view; door = door; ends = ends; stop = stop }
 
 -- The root took in these links: the door gave them in this order, their ends stand newest first behind the earlier
 -- ones, and the root's calls are its earlier ones and those that were made for the links.
-pub record Gathers {I O : Type 0} (on : LinkWords I O) (clock : ClockState) (before after : View)
-    (door door_after : DoorState I O)
-    (most : ℕ) (ends ends_after : List (LinkEnd I O)) (stop : Stop) : Type 0 where
+pub record Gathers {I O : Type 0} (on : LinkWords I O) (start : GatherStart I O) (end : GatherEnd I O) : Type 0 where
   pub attendances : List (Attendance on)
-  pub gave : Gives door.links door_after.links (map link_of attendances)
-  pub ended : ends_after ≡ ends ++ reverse (map end_of attendances)
-  pub each : AllByRecursion (IsBetween clock before.office (seen after)) attendances
-  pub calls : IsPermutation (calls_in attendances ++ before.mine) after.mine
-  pub grows : Extends (seen before) (seen after)
-  pub founder : after.office.founder ≡ before.office.founder
-  pub limit : after.office.limit ≡ before.office.limit
-  pub stops : Stops most (map link_of attendances) door door_after stop
+  pub gave : Gives start.door.links end.door.links (map link_of attendances)
+  pub ended : end.ends ≡ start.ends ++ reverse (map end_of attendances)
+  pub each : AllByRecursion (IsBetween start.clock start.view.office (seen end.view)) attendances
+  pub calls : IsPermutation (calls_in attendances ++ start.view.mine) end.view.mine
+  pub grows : Extends (seen start.view) (seen end.view)
+  pub founder : end.view.office.founder ≡ start.view.office.founder
+  pub limit : end.view.office.limit ≡ start.view.office.limit
+  pub stops : Stops start.most (map link_of attendances) start.door end.door end.stop

@@ -32,39 +32,46 @@ link_words left gives read_faults has_source taken write_faults has_sink = recor
   has_sink = has_sink;
 }
 
--- The link was attended by a pass that knew this before and this after, with this clock, and left so. Then its source
--- and its sink were given up: what they tell is what they told when the link was left.
-pub record IsLinkAttended {I O : Type 0} (on : LinkWords I O) (source : I) (sink : O) (end : LinkEnd I O)
-    (before after : View) (clock : ClockState) : Type 0 where
+-- what there is when a link comes to be attended: its source and its sink, what the pass knows, and the clock
+pub record LinkStart (I O : Type 0) : Type 0 where
+  pub source : I
+  pub sink : O
+  pub view : View
+  pub clock : ClockState
+
+abbrev pub link_start : {I O : Type 0} → I → O → View → ClockState → LinkStart I O
+link_start source sink view clock = record { source = source; sink = sink; view = view; clock = clock }
+
+-- The link was attended by a pass that knows this after, and left so. Then its source and its sink were given up: what
+-- they tell is what they told when the link was left.
+pub record IsLinkAttended {I O : Type 0} (on : LinkWords I O) (start : LinkStart I O) (end : LinkEnd I O)
+    (after : View) : Type 0 where
   pub read : I
   pub written : O
   pub clock_after : ClockState
-  pub attended : IsAttended on.left on.gives before after clock clock_after (on.taken sink)
-      (on.taken written) source read
-      end.left
+  pub attended : IsAttended on.left on.gives
+      (record { view = start.view; clock = start.clock; taken = on.taken start.sink; source = start.source })
+      (record { view = after; clock = clock_after; taken = on.taken written; source = read }) end.left
   pub source_stays : Keeps (on.left read) (on.left end.source)
   pub sink_stays : Keeps (on.taken written) (on.taken end.sink)
   pub source_ended : on.has_source end.source ≡ false
   pub sink_ended : on.has_sink end.sink ≡ false
-  pub read_counts : ReadCounts end.left (on.read_faults source) (on.read_faults end.source)
-  pub write_counts : WriteCounts end.left (on.write_faults sink) (on.write_faults end.sink)
-  pub complete : (bytes : List ℕ) → on.left source ≡ Some bytes → HasNoHeadFault bytes
-      → ¬ Rises (on.read_faults source) (on.read_faults end.source)
-      → ¬ Rises (on.write_faults sink) (on.write_faults end.sink) → IsEndedOrWanting end.left
+  pub read_counts : ReadCounts end.left (on.read_faults start.source) (on.read_faults end.source)
+  pub write_counts : WriteCounts end.left (on.write_faults start.sink) (on.write_faults end.sink)
+  pub complete : (bytes : List ℕ) → on.left start.source ≡ Some bytes → HasNoHeadFault bytes
+      → ¬ Rises (on.read_faults start.source) (on.read_faults end.source)
+      → ¬ Rises (on.write_faults start.sink) (on.write_faults end.sink) → IsEndedOrWanting end.left
 
 -- a link that the door gave, and how it was attended
 pub record Attendance {I O : Type 0} (on : LinkWords I O) : Type 0 where
-  pub source : I
-  pub sink : O
+  pub start : LinkStart I O
   pub end : LinkEnd I O
-  pub before : View
   pub after : View
-  pub clock : ClockState
-  pub attended : IsLinkAttended on source sink end before after clock
+  pub attended : IsLinkAttended on start end after
 
 -- the link as the door gave it
 abbrev pub link_of : {I O : Type 0} {on : LinkWords I O} → Attendance on → I × O
-link_of attendance = (attendance.source, attendance.sink)
+link_of attendance = (attendance.start.source, attendance.start.sink)
 
 abbrev pub end_of : {I O : Type 0} {on : LinkWords I O} → Attendance on → LinkEnd I O
 end_of attendance = attendance.end

@@ -1,5 +1,5 @@
 -- What a call that serves a door leaves, by the status with which it ended.
-use Rattle.std.specs.Prelude.{◌≡◌, ◌≢◌, ◌⊎◌, ℕ, ◌+◌, List, length, Option}
+use Rattle.std.specs.Prelude.{◌≡◌, ◌≢◌, ◌⊎◌, ℕ, ◌+◌, List, [], length, Option}
 use Rattle.std.specs.List.{AllByRecursion}
 use Rattle.std.specs.Io.KnownBytes.{Appends}
 use Rattle.desk_io.specs.Outside.{AppendsPart}
@@ -10,7 +10,7 @@ use Rattle.act_model.specs.Clocks.{ClockState}
 use Rattle.act_model.specs.Conducts.{EitherWay, Extends}
 use Rattle.act_model.specs.Legal.{IsLegal}
 use Rattle.intake_lock.specs.Items.{RisesBy, rises}
-use Rattle.mpc_desk.specs.Desks.{DeskState, IsAtRest, count_of, office_of}
+use Rattle.mpc_desk.specs.Desks.{DeskState, IsAtRest, count_of}
 use Rattle.command_ends.specs.declared.status.Status.{Status}
 use Rattle.command_ends.specs.declared.status.Status.TheVariants.{Done, Usage, BadFrame, DiskFault, Damaged, ReadFault}
 use Rattle.command_ends.specs.declared.status.Status.TheVariants.{WriteFault, NoMemory, DoorFault}
@@ -21,7 +21,7 @@ use Rattle.command_ends.specs.Left.{IsLeft}
 use Rattle.desk_serve.specs.declared.accepting.Stop.{Stop}
 use Rattle.desk_serve.specs.declared.accepting.Stop.TheVariants as stops
 use Rattle.desk_serve.specs.declared.ends.LinkEnd.{LinkEnd}
-use Rattle.desk_serve.specs.Images.{LeavesInService}
+use Rattle.desk_serve.specs.Images.{Answered, stamping, KeepsAdded, LeavesInService}
 use Rattle.desk_serve.specs.Links.{LinkWords, calls_in}
 use Rattle.desk_serve.specs.Gathering.{DoorState}
 use Rattle.desk_serve.specs.Serving.{IsNoDiskFault, Serves}
@@ -58,48 +58,81 @@ Writes so_far Unwritten old new lines status =
 
 -- ---- the whole call
 
+-- what the call was given: the founder's key, the disk, the clock, the door, how many links may come, and what the sink
+-- took so far
+pub record RunStart (D I O : Type 0) : Type 0 where
+  pub founder : Key
+  pub disk : D
+  pub clock : ClockState
+  pub door : DoorState I O
+  pub most : ℕ
+  pub taken : Option (List ℕ)
+
+-- what the call left: the disk, the door, how the links ended, what the sink took, by how many entries the history
+-- grew, and the status
+pub record RunEnd (D I O : Type 0) : Type 0 where
+  pub disk : D
+  pub door : DoorState I O
+  pub ends : List (LinkEnd I O)
+  pub taken : Option (List ℕ)
+  pub added : ℕ
+  pub status : Status
+
 -- The desk was opened, the links of the door were attended, an act in doubt was mended once, and the two lines were
 -- written where nothing had failed. `Unwritten` says that the sink is as it was.
 --
 -- Each image at some moment of the call was one at its start, or stands for a legal history to which the office came,
 -- or for one entry more. At the end each stands for the settled history, or for that with the act in doubt. That
--- history is legal, extends the one at the opening, and has all that every legal history has. The disk's count of
+-- history is legal, extends the one at the opening, and has all that every legal history has. The entry of each call
+-- that was done is in each image since the moment at which it was answered, its stamp's. The disk's count of
 -- faults rose by at least what it rose in opening, in the calls for the links and in the last mending; where it didn't
 -- rise no call is answered that the disk failed.
-pub record Runs {D I O : Type 0} (on : DiskWords D) (links : LinkWords I O) (founder : Key) (disk now : D)
-    (clock : ClockState) (door door_after : DoorState I O) (most : ℕ) (ends : List (LinkEnd I O)) (Unwritten : Type 0)
-    (old new : Option (List ℕ)) (added : ℕ) (status : Status) : Type 0 where
+pub record Runs {D I O : Type 0} (on : DiskWords D) (links : LinkWords I O) (start : RunStart D I O)
+    (end : RunEnd D I O) (Unwritten : Type 0) : Type 0 where
   pub opened : DeskState D
-  pub opens : Opens on founder disk opened
+  pub opens : Opens on start.founder start.disk opened
   pub left : DeskState D
   pub stop : Stop
-  pub serves : Serves links clock (office_of on.faults opened) (office_of on.faults left) door door_after most ends stop
+  pub answered : Answered D
+  pub serves : Serves links
+      (record {
+        clock = start.clock;
+        office = stamping on.moment on.faults opened [];
+        door = start.door;
+        most = start.most;
+      })
+      (record {
+        office = stamping on.moment on.faults left answered;
+        door = end.door;
+        ends = end.ends;
+        stop = stop;
+      })
   pub last : DeskState D
   pub mended : Status
   pub mends : MendsLast on left mended last
-  pub writes : Writes (first_fault stop mended) Unwritten old new (summary (length ends) (length last.state.settled))
-      status
-  pub disk_is : now ≡ last.disk
-  pub images : During on.moment on.since disk now
-      (LeavesInService (on.reads disk) founder opened.state.settled last.state.settled)
+  pub writes : Writes (first_fault stop mended) Unwritten start.taken end.taken
+      (summary (length end.ends) (length last.state.settled)) end.status
+  pub disk_is : end.disk ≡ last.disk
+  pub images : During on.moment on.since start.disk end.disk
+      (LeavesInService (on.reads start.disk) start.founder opened.state.settled last.state.settled)
+  pub kept : AllByRecursion (KeepsAdded on.moment on.since opened last) (calls_in serves.attendances)
   pub at_rest : IsAtRest on.leaves last
-  pub legal : EitherWay (IsLegal founder) last.state
+  pub legal : EitherWay (IsLegal start.founder) last.state
   pub grows : Extends opened.state.settled last.state.settled
-  pub is_left : IsLeft opened.state.settled last.state.settled added
+  pub is_left : IsLeft opened.state.settled last.state.settled end.added
   pub opening : ℕ
-  pub rose_opening : DiskRose on opening disk opened.disk
+  pub rose_opening : DiskRose on opening start.disk opened.disk
   pub mending : ℕ
   pub rose_mending : DiskRose on mending left.disk last.disk
-  pub counts : RisesBy (opening + rises (calls_in serves.attendances) + mending) (count_of (on.faults disk))
-      (count_of (on.faults now))
-  pub quiet : ¬ Rises (on.faults disk) (on.faults now)
+  pub counts : RisesBy (opening + rises (calls_in serves.attendances) + mending) (count_of (on.faults start.disk))
+      (count_of (on.faults end.disk))
+  pub quiet : ¬ Rises (on.faults start.disk) (on.faults end.disk)
       → AllByRecursion IsNoDiskFault (calls_in serves.attendances)
 
 -- What stands at the end of the call. Either the office couldn't be opened, and `Uncalled` says that the sink, the
 -- clock and the door were not called and that there are no links; or it was opened, and the links were attended.
-abbrev pub Ends : {D I O : Type 0} → DiskWords D → LinkWords I O → Key → D → D → ClockState → DoorState I O
-    → DoorState I O → ℕ → List (LinkEnd I O) → Type 0 → Type 0 → Option (List ℕ) → Option (List ℕ) → ℕ → Status
+abbrev pub Ends : {D I O : Type 0} → DiskWords D → LinkWords I O → RunStart D I O → RunEnd D I O → Type 0 → Type 0
     → Type 0
-Ends on links founder disk now clock door door_after most ends Uncalled Unwritten old new added status =
-    (Uncalled × EndsUnopened on founder disk now added status)
-    ⊎ Runs on links founder disk now clock door door_after most ends Unwritten old new added status
+Ends on links start end Uncalled Unwritten =
+    (Uncalled × EndsUnopened on start.founder start.disk end.disk end.added end.status)
+    ⊎ Runs on links start end Unwritten

@@ -3,11 +3,11 @@ use Rattle.std.specs.Prelude.{◌≡◌, ◌≢◌, ℕ, Bool, List, [], ◌∷�
 use Rattle.std.specs.List.{AllByRecursion}
 use Rattle.desk_io.specs.Doors.{Gives}
 use Rattle.act_model.specs.declared.entry.Entry.{Entry}
-use Rattle.act_model.specs.declared.keeper.Office.{Office}
+use Rattle.intake_lock.specs.declared.clerk.Office.{Office}
 use Rattle.act_model.specs.declared.reply.Refusal.TheVariants.{DiskFault}
 use Rattle.act_model.specs.declared.reply.Reply.TheVariants.{Refused}
 use Rattle.intake_lock.specs.declared.view.Item.{Item}
-use Rattle.intake_lock.specs.Items.{AddsAt, AreTrue, RisesBy, rises}
+use Rattle.intake_lock.specs.Items.{AddsAt, AreTrue, AreStamped, RisesBy, rises}
 use Rattle.intake_lock.specs.Rule.{StaysLegal}
 use Rattle.act_model.specs.Clocks.{ClockState}
 use Rattle.link_desk.specs.Calls.{HasCause, AreInOrder}
@@ -29,7 +29,8 @@ AreAddedBy opening calls (entry ∷ newer) =
     IsAddedBy opening calls (newer ++ opening.state.settled) entry × AreAddedBy opening calls newer
 
 -- The history is that at the opening with newer entries, each of which a call for one of the links added, and so is the
--- act in doubt. Each call is true of the history, and the count of faults rose by at least what the calls say.
+-- act in doubt. Each call is true of the history, and the count of faults rose by at least what the calls say. Where
+-- acts are stamped, the stamps of the calls are the office's.
 pub record Grows (opening office : Office) (calls : List Item) : Type 0 where
   pub newer : List Entry
   pub grown : office.state.settled ≡ newer ++ opening.state.settled
@@ -37,6 +38,7 @@ pub record Grows (opening office : Office) (calls : List Item) : Type 0 where
   pub doubt : IfSome office.state.doubt (λ entry. IsAddedBy opening calls office.state.settled entry)
   pub true_of : AreTrue opening.founder opening.limit office.state.settled calls
   pub counts : RisesBy (rises calls) opening.faults office.faults
+  pub stamped : AreStamped office.stamps calls
   pub legal : StaysLegal opening office
   pub founder : office.founder ≡ opening.founder
   pub limit : office.limit ≡ opening.limit
@@ -50,17 +52,29 @@ StandInOrder opening later attendance =
 abbrev pub IsNoDiskFault : Item → Type 0
 IsNoDiskFault item = (doubt : Bool) → item.reply ≢ Refused (DiskFault doubt)
 
+-- what there is before a door is served: the clock, the office, the door, and how many links may come
+pub record ServiceStart (I O : Type 0) : Type 0 where
+  pub clock : ClockState
+  pub office : Office
+  pub door : DoorState I O
+  pub most : ℕ
+
+-- what there is when a door was served: the office, the door, how the links ended, and why no further one was taken
+pub record ServiceEnd (I O : Type 0) : Type 0 where
+  pub office : Office
+  pub door : DoorState I O
+  pub ends : List (LinkEnd I O)
+  pub stop : Stop
+
 -- The links that a door gave were attended, each once, and their ends stand in the door's order. The calls for each
 -- have places in the one history to which all came, that rise; a call is answered that the disk failed only where the
 -- disk's count of faults rose in it.
-pub record Serves {I O : Type 0} (on : LinkWords I O) (clock : ClockState) (opening office : Office)
-    (door door_after : DoorState I O)
-    (most : ℕ) (ends : List (LinkEnd I O)) (stop : Stop) : Type 0 where
+pub record Serves {I O : Type 0} (on : LinkWords I O) (start : ServiceStart I O) (end : ServiceEnd I O) : Type 0 where
   pub attendances : List (Attendance on)
-  pub gave : Gives door.links door_after.links (map link_of attendances)
-  pub ended : ends ≡ map end_of attendances
-  pub each : AllByRecursion (IsBetween clock opening office.state.settled) attendances
-  pub grows : Grows opening office (calls_in attendances)
-  pub orders : AllByRecursion (StandInOrder opening office.state.settled) attendances
+  pub gave : Gives start.door.links end.door.links (map link_of attendances)
+  pub ended : end.ends ≡ map end_of attendances
+  pub each : AllByRecursion (IsBetween start.clock start.office end.office.state.settled) attendances
+  pub grows : Grows start.office end.office (calls_in attendances)
+  pub orders : AllByRecursion (StandInOrder start.office end.office.state.settled) attendances
   pub causes : AllByRecursion HasCause (calls_in attendances)
-  pub stops : Stops most (map link_of attendances) door door_after stop
+  pub stops : Stops start.most (map link_of attendances) start.door end.door end.stop

@@ -10,16 +10,15 @@ ghost use Rattle.desk_serve.specs.Serving.{Serves};
 use crate::accepting::{Gathered, Stop, attend_links};
 use crate::ends::LinkEnds;
 use crate::gates::{Lent, take_back};
-use act_model::Keeper;
 use desk_io::{Clock, Door};
-use intake_lock::{TurnLock, laws as lock_laws};
+use intake_lock::{Clerk, TurnLock, laws as lock_laws};
 use link_desk::laws as link_laws;
 use std::alloc::Global;
 use std::sync::Wait;
 use std::thread::Threads;
 
 /// A keeper when the links of a door were attended, the ends of the links, and why no further link was taken.
-#[derive(Drop)]
+#[derive(Debug, Drop)]
 pub struct Attended<V, I, O> {
     /// The keeper.
     pub keeper: V,
@@ -34,7 +33,7 @@ pub struct Attended<V, I, O> {
 /// its own.
 ///
 /// Where memory is refused before the first link, the door isn't called. It returns when all links were left.
-pub fn attend_door<V: Keeper + Send, C: Clock + Send, G: Door, R: Threads + Wait + Sync>(
+pub fn attend_door<V: Clerk + Send, C: Clock + Send, G: Door, R: Threads + Wait + Sync>(
     rt: &R,
     alloc: Global,
     keeper: V,
@@ -49,8 +48,18 @@ pub fn attend_door<V: Keeper + Send, C: Clock + Send, G: Door, R: Threads + Wait
     // request of one of the links.
     ensures serves { Serves (link_words G.In.left G.In.gives G.In.faults G.In.is_open G.Out.taken G.Out.faults
         G.Out.is_open)
-        (clock_of C.reading C.last clock.old) (V.office keeper) (V.office result.keeper)
-        (door_of G.links G.faults door.old) (door_of G.links G.faults door.new) connections result.ends result.stop }
+        (record {
+          clock = clock_of C.reading C.last clock.old;
+          office = V.office keeper;
+          door = door_of G.links G.faults door.old;
+          most = connections;
+        })
+        (record {
+          office = V.office result.keeper;
+          door = door_of G.links G.faults door.new;
+          ends = result.ends;
+          stop = result.stop;
+        }) }
 {
     lock_laws::calls_are_true();
     link_laws::places_stay_in_order();

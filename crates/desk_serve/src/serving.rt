@@ -24,6 +24,8 @@ use act_model::{Keeper, Key, laws as office_laws};
 use command_ends::{Ended, Status, mend_last, open_desk};
 use desk_io::{Clock, Door, Sink};
 use disk_model::Disk;
+use intake_lock::laws as lock_laws;
+use link_desk::laws as link_laws;
 use mpc_desk::laws as desk_laws;
 use std::alloc::Global;
 use std::marker::Brand;
@@ -76,10 +78,24 @@ fn run<D: Disk + Send, K: Sink, C: Clock + Send, G: Door, R: Threads + Wait + Sy
     // What was attended, added, kept, mended and written at each end, and what a crash at any moment leaves.
     ensures ends { Ends (disk_words D.reads D.leaves D.moment D.since D.faults)
         (link_words G.In.left G.In.gives G.In.faults G.In.is_open G.Out.taken G.Out.faults G.Out.is_open)
-        founder disk result.0.disk (clock_of C.reading C.last clock.old)
-        (door_of G.links G.faults door.old) (door_of G.links G.faults door.new) connections result.1
+        (record {
+          founder = founder;
+          disk = disk;
+          clock = clock_of C.reading C.last clock.old;
+          door = door_of G.links G.faults door.old;
+          most = connections;
+          taken = K.taken sink.old;
+        })
+        (record {
+          disk = result.0.disk;
+          door = door_of G.links G.faults door.new;
+          ends = result.1;
+          taken = K.taken sink.new;
+          added = result.0.added;
+          status = result.0.status;
+        })
         ((sink.new ≡ sink.old) × (clock.new ≡ clock.old) × (door.new ≡ door.old) × (result.1 ≡ []))
-        (sink.new ≡ sink.old) (K.taken sink.old) (K.taken sink.new) result.0.added result.0.status }
+        (sink.new ≡ sink.old) }
 
     // The sink failed where the end is `WriteFault`, and nowhere else.
     ensures write_cause { result.0.status ≡ Status.WriteFault → Rises (K.faults sink.old) (K.faults sink.new) }
@@ -89,6 +105,8 @@ fn run<D: Disk + Send, K: Sink, C: Clock + Send, G: Door, R: Threads + Wait + Sy
     // What was open is open.
     ensures stays { K.is_open sink.new ≡ K.is_open sink.old }
 {
+    lock_laws::beginnings();
+    link_laws::added_calls();
     office_laws::legal_numbers_once();
     office_laws::one_place();
     office_laws::unbroken_rows();
@@ -141,10 +159,24 @@ pub fn serve<D: Disk + Send, K: Sink, C: Clock + Send, G: Door, R: Threads + Wai
     // What was attended, added, kept, mended and written at each end, and what a crash at any moment leaves.
     ensures ends { Ends (disk_words D.reads D.leaves D.moment D.since D.faults)
         (link_words G.In.left G.In.gives G.In.faults G.In.is_open G.Out.taken G.Out.faults G.Out.is_open)
-        founder disk result.0.disk (clock_of C.reading C.last clock.old)
-        (door_of G.links G.faults door.old) (door_of G.links G.faults door.new) connections result.1
+        (record {
+          founder = founder;
+          disk = disk;
+          clock = clock_of C.reading C.last clock.old;
+          door = door_of G.links G.faults door.old;
+          most = connections;
+          taken = K.taken sink.old;
+        })
+        (record {
+          disk = result.0.disk;
+          door = door_of G.links G.faults door.new;
+          ends = result.1;
+          taken = K.taken sink.new;
+          added = result.0.added;
+          status = result.0.status;
+        })
         ((sink.new ≡ sink.old) × (clock.new ≡ clock.old) × (door.new ≡ door.old) × (result.1 ≡ []))
-        (sink.new ≡ sink.old) (K.taken sink.old) (K.taken sink.new) result.0.added result.0.status }
+        (sink.new ≡ sink.old) }
 
     // A file that stands for a legal history, and no fault of the disk, the door or the sink, give `Done`, or
     // `NoMemory`. A fresh file stands for the history without entries; faults of links play no part.

@@ -1,14 +1,15 @@
-//! A desk with what a crash may have left since it was opened.
+//! A desk that stamps its acts, with what a crash may have left since it was opened and since each act.
 
 ghost use Rattle.std.specs.Prelude.{◌≡◌, ◌⊎◌, ◌↔◌, ◌≤◌, ℕ, List, [], None};
+ghost use Rattle.std.specs.List.{AllByRecursion};
 ghost use Rattle.disk_model.specs.Crashes.{During};
 ghost use Rattle.act_model.specs.declared.entry.Entry.{Entry};
 ghost use Rattle.act_model.specs.Clocks.{clock_of};
 ghost use Rattle.act_model.specs.Legal.{IsLegal};
 ghost use Rattle.intake_lock.specs.Rule.{MOST};
-ghost use Rattle.mpc_desk.specs.Desks.{office_of};
+ghost use Rattle.mpc_desk.specs.Desks.{DeskState};
 ghost use Rattle.desk_serve.specs.Gathering.{door_of};
-ghost use Rattle.desk_serve.specs.Images.{StandsWithin};
+ghost use Rattle.desk_serve.specs.Images.{StandsWithin, Answered, stamping, HasPassed, WasBetween};
 ghost use Rattle.desk_serve.specs.Links.{link_words};
 ghost use Rattle.desk_serve.specs.Serving.{Serves};
 
@@ -16,6 +17,8 @@ use crate::keeping::{Attended, attend_door};
 use act_model::{Keeper, Reply, Request, laws as office_laws};
 use desk_io::{Clock, Door};
 use disk_model::Disk;
+use http_server::Log;
+use intake_lock::Clerk;
 use mpc_desk::Desk;
 use obs_time::Instant;
 use std::alloc::Global;
@@ -43,22 +46,26 @@ impl Opening for Brand {
     ghost images = { λ t image. ⊥ };
 }
 
-/// A desk that was opened so. Contracts see the desk.
+/// A desk that was opened so. Contracts see the desk, and how it was when it had answered each of its acts: the latter
+/// is a list that only proofs read, and takes no memory.
 #[derive(Drop)]
 pub struct Watched<D: Disk, W: Opening> {
     desk: Desk<D>,
+    answered: Log<Desk<D>, Request>,
     opening: PhantomData<W>,
 }
 
 impl<D: Disk, W: Opening> Model for Watched<D, W> {
-    ghost use Rattle.mpc_desk.specs.Desks.{DeskState};
-    ghost use Rattle.desk_serve.specs.Images.{IsWatched};
+    ghost use Rattle.std.specs.List.{AllByRecursion};
+    ghost use Rattle.desk_serve.specs.Images.{IsWatched, HasPassed, WatchedState};
 
-    ghost Value = { DeskState D };
+    ghost Value = { WatchedState D };
 
-    ghost view = { λ w. w.desk };
+    ghost view = { λ w. record { desk = w.desk; answered = w.answered.items } };
 
-    ghost invariant = { λ w. IsWatched D.moment D.since W.history W.moment W.images w.desk };
+    ghost invariant = { λ w. IsWatched D.moment D.since W.history W.moment W.images w.desk
+        × AllByRecursion (λ then. HasPassed D.moment D.since W.history W.moment W.images w.desk then.0)
+        w.answered.items };
 }
 
 impl<D: Disk, W: Opening> Watched<D, W> {
@@ -69,33 +76,39 @@ impl<D: Disk, W: Opening> Watched<D, W> {
         requires history { W.history ≡ desk.state.settled }
         requires moment { W.moment ≡ D.moment desk.disk }
         requires images { (t : ℕ) (image : List ℕ) → D.since desk.disk t image → W.images t image }
-        ensures { result ≡ desk }
+        ensures { result ≡ record { desk = desk; answered = [] } }
     {
         Watched {
             desk,
+            answered: Log::new(),
             opening: PhantomData,
         }
     }
 
-    // The desk, and what a crash may have left since it was opened.
+    // The desk, and what a crash may have left since it was opened and since each act.
     fn close(self) -> Desk<D>
-        ensures desk { result ≡ self }
+        ensures desk { result ≡ self.desk }
         ensures later { W.moment ≤ D.moment result.disk }
         ensures images { (t : ℕ) (image : List ℕ) → t ≤ W.moment → D.since result.disk t image →
             W.images t image ⊎ StandsWithin result.founder W.history result.state.settled image }
+        ensures passed { AllByRecursion (λ then. HasPassed D.moment D.since W.history W.moment W.images result then.0)
+            self.answered }
     {
         self.desk
     }
 }
 
-impl<D: Disk, W: Opening> Keeper for Watched<D, W> {
-    ghost office = { λ w. office_of D.faults w };
+impl<D: Disk, W: Opening> Clerk for Watched<D, W> {
+    ghost office = { λ w. stamping D.moment D.faults w.desk w.answered };
 
     fn act(&mut self, request: &Request, reading: Instant) -> Reply {
         office_laws::histories_grow();
         office_laws::histories_are_legal();
         office_laws::steps_add_one_entry();
-        self.desk.act(request, reading)
+        let reply = self.desk.act(request, reading);
+        let answered = self.answered.and(&self.desk, request);
+        self.answered = answered;
+        reply
     }
 
     fn ask(&self, request: &Request) -> Reply {
@@ -108,7 +121,7 @@ impl<D: Disk, W: Opening> Keeper for Watched<D, W> {
 }
 
 /// Attends up to so many links of a door, with a desk that was opened so, and says what a crash at any moment meanwhile
-/// leaves.
+/// leaves, and since each act that was answered.
 pub(crate) fn attend_watched<
     W: Opening + Send,
     D: Disk + Send,
@@ -129,10 +142,21 @@ pub(crate) fn attend_watched<
     requires history { W.history ≡ desk.state.settled }
     requires moment { W.moment ≡ D.moment desk.disk }
     requires images { (t : ℕ) (image : List ℕ) → D.since desk.disk t image ↔ W.images t image }
-    ensures serves { Serves (link_words G.In.left G.In.gives G.In.faults G.In.is_open G.Out.taken G.Out.faults
-        G.Out.is_open)
-        (clock_of C.reading C.last clock.old) (office_of D.faults desk) (office_of D.faults result.keeper)
-        (door_of G.links G.faults door.old) (door_of G.links G.faults door.new) connections result.ends result.stop }
+    ensures serves { (answered : Answered D)
+        × Serves (link_words G.In.left G.In.gives G.In.faults G.In.is_open G.Out.taken G.Out.faults G.Out.is_open)
+        (record {
+          clock = clock_of C.reading C.last clock.old;
+          office = stamping D.moment D.faults desk [];
+          door = door_of G.links G.faults door.old;
+          most = connections;
+        })
+        (record {
+          office = stamping D.moment D.faults result.keeper answered;
+          door = door_of G.links G.faults door.new;
+          ends = result.ends;
+          stop = result.stop;
+        })
+        × AllByRecursion (λ then. WasBetween D.moment D.since desk result.keeper then.0) answered }
     ensures images { During D.moment D.since desk.disk result.keeper.disk
         (StandsWithin desk.founder desk.state.settled result.keeper.state.settled) }
 {

@@ -6,7 +6,7 @@ use Rattle.std.proofs.lemmas.List.Elements.{Contains-append_left, Contains-appen
 use Rattle.std.proofs.lemmas.List.Sums.{sum_by-cons}
 use Rattle.act_bodies.specs.declared.key.Key.{Key}
 use Rattle.act_model.specs.declared.entry.Entry.{Entry}
-use Rattle.act_model.specs.declared.keeper.Office.{Office}
+use Rattle.intake_lock.specs.declared.clerk.Office.{Office}
 use Rattle.act_model.specs.declared.keeper.OfficeState.{OfficeState}
 use Rattle.act_model.specs.declared.reply.Reply.{Reply}
 use Rattle.act_model.specs.declared.request.Request.{Request}
@@ -19,7 +19,8 @@ use Rattle.act_model.specs.Turns.{Turn, TakesReading, Answers, unless_untouched,
 use Rattle.intake_lock.specs.declared.view.Item.{Item}
 use Rattle.intake_lock.specs.declared.view.View.{View}
 use Rattle.intake_lock.specs.Rule.{IsCall, IsOrigin, Origins, Comes}
-use Rattle.intake_lock.specs.Items.{reading_of, IsTrue, AreTrue, rises, turn_of, TakesAt, Called, RisesBy}
+use Rattle.intake_lock.proofs.Stamps.{one_counts}
+use Rattle.intake_lock.specs.Items.{reading_of, StampTells, IsTrue, AreTrue, rises, turn_of, TakesAt, Called, RisesBy}
 
 -- ---- beginnings
 
@@ -121,15 +122,15 @@ module _ (steps : StepLaw) (founder : Key) (limit : Option ℕ) where
         extends_on before.settled a.mended after.settled (mends_extends before.settled before.doubt a.mended a.mends) (acts_extend a.mended reading a.acts)
     takes_extend None (a, place) = extends_same before.settled after.settled (settled_is a.stays)
 
-    acts_true : (mended : List Entry) (reading : ℤ) → reading ≡ reading_of item → is_act item.request.verb ≡ true → item.position ≡ length mended → Acts mended reading → IsTrue founder limit after.settled item
-    acts_true mended reading is act place (inl s) =
+    acts_true : (mended : List Entry) (reading : ℤ) → reading ≡ reading_of item → is_act item.request.verb ≡ true → item.position ≡ length mended → StampTells mended item.reading item.stamp after.settled → Acts mended reading → IsTrue founder limit after.settled item
+    acts_true mended reading is act place left (inl s) =
         record {
           past = mended;
           place = place;
           first = answer_extends mended item.request reading item.reply after.settled s.answers;
-          answered = inl (after.settled, subst (λ (t : ℤ). Answers founder limit mended item.request t item.reply after.settled) is s.answers, extends_refl after.settled);
+          answered = inl (after.settled, subst (λ (t : ℤ). Answers founder limit mended item.request t item.reply after.settled) is s.answers, extends_refl after.settled, left);
         }
-    acts_true mended reading is act place (inr f) =
+    acts_true mended reading is act place left (inr f) =
         record {
           past = mended;
           place = place;
@@ -143,16 +144,17 @@ module _ (steps : StepLaw) (founder : Key) (limit : Option ℕ) where
     takes_place (Some reading) (inr (a, place)) = let l = extends_length before.settled a.mended (mends_extends before.settled before.doubt a.mended a.mends) in omega arith
     takes_place None (a, place) = omega arith
 
-    pub takes_true : (reading : Option ℤ) → item.reading ≡ reading → TakesReading item.request.verb reading → TakesAt founder limit before item reading after → IsTrue founder limit after.settled item
-    takes_true (Some reading) is reads (inl (f, place)) =
+    pub takes_true : (reading : Option ℤ) → item.reading ≡ reading → TakesReading item.request.verb reading → IfSome item.stamp (λ given. given.entries ≡ length after.settled) → TakesAt founder limit before item reading after → IsTrue founder limit after.settled item
+    takes_true (Some reading) is reads counts (inl (f, place)) =
         record {
           past = before.settled;
           place = place;
           first = extends_same before.settled after.settled (settled_is f.stays);
           answered = inr (record { doubt = false; act = reads.0; reply = f.reply; rose = f.rose });
         }
-    takes_true (Some reading) is reads (inr (a, place)) = acts_true a.mended reading (reading_is item (Some reading) is) reads.0 place a.acts
-    takes_true None is reads (a, place) =
+    takes_true (Some reading) is reads counts (inr (a, place)) = acts_true a.mended reading (reading_is item (Some reading) is) reads.0 place
+        (subst (λ (r : Option ℤ). StampTells a.mended r item.stamp after.settled) (sym is) counts) a.acts
+    takes_true None is reads counts (a, place) =
         record {
           past = before.settled;
           place = place;
@@ -161,6 +163,7 @@ module _ (steps : StepLaw) (founder : Key) (limit : Option ℕ) where
             before.settled,
             subst (λ (t : ℤ). Answers founder limit before.settled item.request t item.reply before.settled) (reading_is item None is) a.answers,
             extends_same before.settled after.settled (settled_is a.stays),
+            subst (λ (r : Option ℤ). StampTells before.settled r item.stamp before.settled) (sym is) refl,
           );
         }
 
@@ -172,7 +175,7 @@ module _ (steps : StepLaw) (founder : Key) (limit : Option ℕ) where
         place = is.place;
         first = extends_on is.past history later is.first goes_on;
         answered = elim is.answered [
-          | inl a ↦ inl (a.0, a.1, extends_on a.0 history later a.2 goes_on)
+          | inl a ↦ inl (a.0, a.1, extends_on a.0 history later a.2 goes_on, a.3)
           | inr failed ↦ inr failed
         ];
       }
@@ -203,7 +206,8 @@ module _ (steps : StepLaw) where
   called_true before after [] is = tt
   called_true before after (item ∷ items) (between, others, last) =
       let same = called_same before between items others in
-      let here = takes_true steps between.founder between.limit between.state item after.state item.reading refl last.reads last.takes in (
+      let here = takes_true steps between.founder between.limit between.state item after.state item.reading refl last.reads
+      (one_counts item.stamp (length after.state.settled) after.stamps between.stamps item.reading last.stamps) last.takes in (
         subst (λ (l : Option ℕ). IsTrue before.founder l after.state.settled item) same.1 (subst (λ (f : Key). IsTrue f between.limit after.state.settled item) same.0 here),
         are_true_later steps before.founder before.limit between.state.settled after.state.settled items
             (takes_extend steps between.founder between.limit between.state item after.state item.reading last.takes)

@@ -1,3 +1,4 @@
+pub mod Stamps
 pub mod Sums
 pub mod Histories
 pub mod Views

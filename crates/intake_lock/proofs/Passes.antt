@@ -11,7 +11,7 @@ use lib.ListN.{get_elem?}
 use Rattle.atomic_table.specs.Table.{State, Splits, Joins, Final, Seen, opening as table_opening}
 use Rattle.atomic_table.proofs.Lists.{at_snoc, at_longer, set_here, set_else}
 use Rattle.act_model.specs.declared.entry.Entry.{Entry}
-use Rattle.act_model.specs.declared.keeper.Office.{Office}
+use Rattle.intake_lock.specs.declared.clerk.Office.{Office}
 use Rattle.act_model.specs.Conducts.{Extends}
 use Rattle.act_model.specs.Legal.{IsLegal}
 use Rattle.intake_lock.specs.declared.view.Item.{Item}
@@ -24,6 +24,7 @@ use Rattle.intake_lock.specs.Items.{AreTrue, RisesBy, rises}
 use Rattle.intake_lock.specs.Views.{seen, live, one_if_live, ticketed, one_if_ticketed, made_by, rises_by, HasTicketAt, HasTicket, HasTurnAt, HasTurn, stem, branch, joined, spent, longer_office, shorter_office, one_in, first_view}
 use Rattle.intake_lock.specs.Rule.{MOST, word, FitsStage, IsKnown, Fits, At, Apart, Rooted, Latest, IsCall, Comes, IsHome, IsOut, Standing, Closes}
 use Rattle.intake_lock.proofs.Histories.{same_length, extends_length, StepLaw, extends_refl, extends_on, comes_kept, are_true_later, are_true_both, rises_none}
+use Rattle.intake_lock.proofs.Stamps.{stamps_refl, stamped_both}
 use Rattle.intake_lock.proofs.Sums.{sum_set, sum_push, sum_two, sum_none, at_below}
 use Rattle.intake_lock.proofs.Views.{latest_set, here, fits_live, live_known, one_there, each, apart_set, sum_same, calls_set, kept_set}
 
@@ -103,9 +104,9 @@ module _ (steps : StepLaw) {V : Type 0} (office_of : V → Office) (opening : Of
           limit = h.limit;
           tickets = omega arith;
           fits = each_more vs b (λ u. Fits opening h.office h.drawn h.served u)
-              (fits_live opening h.office h.drawn h.served b refl (record { founder = known.0.founder; limit = known.0.limit; first = known.0.first; also = (h.office.state.settled, sym (Rattle.std.proofs.lemmas.List.append-nil h.office.state.settled)); true_of = tt }) tt)
+              (fits_live opening h.office h.drawn h.served b refl (record { founder = known.0.founder; limit = known.0.limit; first = known.0.first; also = (h.office.state.settled, sym (Rattle.std.proofs.lemmas.List.append-nil h.office.state.settled)); true_of = tt; stamps = known.0.stamps; stamped = tt }) tt)
               (each s.views id v w at (λ j u. Fits opening h.office h.drawn h.served u)
-              (fits_live opening h.office h.drawn h.served w stem_alive (record { founder = known.0.founder; limit = known.0.limit; first = known.0.first; also = known.0.also; true_of = known.0.true_of }) (subst (λ (st : Stage). FitsStage h.office h.drawn h.served w st) (sym rests) tt))
+              (fits_live opening h.office h.drawn h.served w stem_alive (record { founder = known.0.founder; limit = known.0.limit; first = known.0.first; also = known.0.also; true_of = known.0.true_of; stamps = known.0.stamps; stamped = known.0.stamped }) (subst (λ (st : Stage). FitsStage h.office h.drawn h.served w st) (sym rests) tt))
               (λ j u other at'. h.fits j u at'));
           apart = apart_more vs b (λ ticket has. has)
               (apart_set s.views id v w at (λ j u ticket other at' has has'. subst (λ (st : Stage). HasTicketAt st ticket) rests has) h.apart);
@@ -190,6 +191,8 @@ module _ (steps : StepLaw) {V : Type 0} (office_of : V → Office) (opening : Of
             true_of = true_in (seen w)
                 (Rattle.intake_lock.proofs.Histories.shorter_begins (seen v) (seen w) h.office.state.settled known_v.first known_w.first (grind (arith, nat_tests)))
                 (extends_refl (seen w));
+            stamps = known_w.stamps;
+            stamped = stamped_both h.office.stamps w.mine v.mine known_w.stamped known_v.stamped;
           }
       both_known false is =
           record {
@@ -200,6 +203,8 @@ module _ (steps : StepLaw) {V : Type 0} (office_of : V → Office) (opening : Of
             true_of = true_in (seen v)
                 (extends_refl (seen v))
                 (Rattle.intake_lock.proofs.Histories.shorter_begins (seen w) (seen v) h.office.state.settled known_w.first known_v.first (grind (arith, nat_tests)));
+            stamps = known_v.stamps;
+            stamped = stamped_both h.office.stamps w.mine v.mine known_w.stamped known_v.stamped;
           }
 
       -- the calls of both are the root's now
@@ -319,7 +324,7 @@ module _ {V : Type 0} (office_of : V → Office) where
         limit = refl;
         tickets = refl;
         fits = λ id u at. subst (λ (x : View). Fits o o 0 0 x) (only id u at).1
-            (record { founder = refl; limit = refl; first = extends_refl o.state.settled; also = (o.state.settled, sym (Rattle.std.proofs.lemmas.List.append-nil o.state.settled)); true_of = tt }, tt);
+            (record { founder = refl; limit = refl; first = extends_refl o.state.settled; also = (o.state.settled, sym (Rattle.std.proofs.lemmas.List.append-nil o.state.settled)); true_of = tt; stamps = stamps_refl o.stamps; stamped = tt }, tt);
         apart = λ i j x y ticket at_x at_y has has'. absurd (subst (λ (z : View). HasTicket z ticket) (sym (only i x at_x).1) has);
         rooted = record {
           root = 0;
@@ -406,6 +411,7 @@ module _ {V : Type 0} (office_of : V → Office) where
                 legal = h.legal;
                 comes = comes_kept opening h.office s.views (v ∷ []) only_mine h.comes;
                 counts = subst (λ (n : ℕ). RisesBy n opening.faults h.office.faults) rises h.counts;
+                stamped = close_known.stamped;
               }),
         )
 

@@ -10,18 +10,20 @@ use lib.ListN.{get_elem?}
 use Rattle.atomic_table.specs.Table.{State, Me, Act, keeps, takes, gives, Allows, stepped}
 use Rattle.atomic_table.proofs.Lists.{set_again}
 use Rattle.act_bodies.specs.declared.key.Key.{Key}
-use Rattle.act_model.specs.declared.keeper.Office.{Office}
+use Rattle.intake_lock.specs.declared.clerk.Office.{Office}
 use Rattle.act_model.specs.Conducts.{Extends, EitherWay}
 use Rattle.act_model.specs.Legal.{IsLegal}
 use Rattle.intake_lock.specs.declared.view.Item.{Item}
 use Rattle.intake_lock.specs.declared.view.Stage.{Stage}
 use Rattle.intake_lock.specs.declared.view.Stage.TheVariants.{Idle, Waiting, Holding}
 use Rattle.intake_lock.specs.declared.view.View.{View}
+use Rattle.intake_lock.specs.Clerks.{StampsOn}
 use Rattle.intake_lock.specs.Items.{AreTrue, Called, RisesBy, rises}
 use Rattle.intake_lock.specs.Views.{seen, live, ticketed, one_if_ticketed, made_by, rises_by, HasTicketAt, HasTicket, HasTurnAt, HasTurn, waiting, holding, published, idle}
 use Rattle.intake_lock.specs.Rule.{word, FitsStage, IsKnown, Fits, At, IsHome, IsOut, Standing}
 use Rattle.intake_lock.specs.Plays.{Mine, Draws, Gets, Looks, Publishes, Leaves, Tells}
 use Rattle.intake_lock.proofs.Histories.{StepLaw, extends_refl, extends_on, extends_length, shorter_begins, comes_kept, comes_more, called_same, called_extends, called_true, called_counts, LegalLaw, called_legal, are_true_later, are_true_both}
+use Rattle.intake_lock.proofs.Stamps.{stamps_refl, stamped_later, stamped_both, called_grows, called_stamped}
 use Rattle.intake_lock.proofs.Sums.{sum_set, sum_le}
 use Rattle.intake_lock.proofs.Views.{fits_live, live_known, ticket_range, turn_ticket, ticket_weighs, fits_later, one_there, here, each, apart_set, sum_same, rooted_set, latest_set, calls_set, calls_same, kept_set}
 
@@ -84,8 +86,8 @@ module _ (steps : StepLaw) {V : Type 0} (office_of : V → Office) (opening : Of
           limit = h.limit;
           tickets = omega arith;
           fits = each s.views id v w at (λ j u. Fits opening h.office (h.drawn + 1) h.served u)
-              (fits_live opening h.office (h.drawn + 1) h.served w one (record { founder = known.0.founder; limit = known.0.limit; first = known.0.first; also = known.0.also; true_of = known.0.true_of }) (omega arith, omega arith))
-              (λ j u other at'. fits_later opening h.office h.office h.drawn (h.drawn + 1) h.served h.served u (extends_refl h.office.state.settled) (more u u.stage) (h.fits j u at'));
+              (fits_live opening h.office (h.drawn + 1) h.served w one (record { founder = known.0.founder; limit = known.0.limit; first = known.0.first; also = known.0.also; true_of = known.0.true_of; stamps = known.0.stamps; stamped = known.0.stamped }) (omega arith, omega arith))
+              (λ j u other at'. fits_later opening h.office h.office h.drawn (h.drawn + 1) h.served h.served u (extends_refl h.office.state.settled) (stamps_refl h.office.stamps) (more u u.stage) (h.fits j u at'));
           apart = apart_set s.views id v w at
               (λ j u ticket other at' has has'. let range = ticket_range opening h.office h.drawn h.served u ticket (h.fits j u at') has' in let low = range.1 in let same : h.drawn ≡ ticket = has in absurd (omega arith))
               h.apart;
@@ -154,7 +156,7 @@ module _ (steps : StepLaw) {V : Type 0} (office_of : V → Office) (opening : Of
               tickets = h.tickets ∙ ap (λ (n : ℕ). h.served + n) (sym (sum_same s.views id v got at ticketed (sym weighs)));
               fits = each s.views id v got at (λ j u. Fits opening h.office h.drawn h.served u)
                   (fits_live opening h.office h.drawn h.served got one
-                  (record { founder = h.founder; limit = h.limit; first = extends_refl h.office.state.settled; also = known.also; true_of = are_true_later steps opening.founder opening.limit (seen v) h.office.state.settled v.mine known.first known.true_of })
+                  (record { founder = h.founder; limit = h.limit; first = extends_refl h.office.state.settled; also = known.also; true_of = are_true_later steps opening.founder opening.limit (seen v) h.office.state.settled v.mine known.first known.true_of; stamps = stamps_refl h.office.stamps; stamped = known.stamped })
                   (sym served, omega arith, refl))
                   (λ j u other at'. h.fits j u at');
               apart = apart_set s.views id v got at
@@ -187,6 +189,7 @@ module _ (steps : StepLaw) {V : Type 0} (office_of : V → Office) (opening : Of
               founder = ap (λ (o : Office). o.founder) k.stands ∙ h.founder ∙ sym known.founder;
               limit = ap (λ (o : Office). o.limit) k.stands ∙ h.limit ∙ sym known.limit;
               grows = subst (λ (o : Office). Extends (seen v) o.state.settled) (sym k.stands) known.first;
+              stamps = subst (λ (o : Office). StampsOn v.office.stamps o.stamps) (sym k.stands) known.stamps;
             } in (
               got,
               takes 0 (Some k.keeper),
@@ -238,6 +241,9 @@ module _ (steps : StepLaw) {V : Type 0} (office_of : V → Office) (opening : Of
       publish_grows : Extends h.office.state.settled later.state.settled
       publish_grows = called_extends steps h.office later items publish_called
 
+      publish_on : StampsOn h.office.stamps later.stamps
+      publish_on = called_grows h.office later items publish_called
+
       -- no other pass has the turn
       publish_others : (j : ℕ) (u : View) → j ≢ id → At s.views j u → (stage : Stage) → (HasTicketAt stage h.served → HasTicket u h.served) → FitsStage h.office h.drawn h.served u stage → FitsStage later h.drawn h.served u stage
       publish_others j u other at' Idle has fits = tt
@@ -279,9 +285,12 @@ module _ (steps : StepLaw) {V : Type 0} (office_of : V → Office) (opening : Of
                   true_of = are_true_both opening.founder opening.limit later.state.settled items m.0.mine
                       (subst (λ (l : Option ℕ). AreTrue opening.founder l later.state.settled items) h.limit (subst (λ (f : Key). AreTrue f h.office.limit later.state.settled items) h.founder (called_true steps h.office later items publish_called)))
                       (are_true_later steps opening.founder opening.limit (seen m.0) later.state.settled m.0.mine (extends_on (seen m.0) h.office.state.settled later.state.settled known.0.first grows) known.0.true_of);
+                  stamps = stamps_refl later.stamps;
+                  stamped = stamped_both later.stamps items m.0.mine (called_stamped h.office later items publish_called)
+                      (stamped_later h.office.stamps later.stamps m.0.mine publish_on known.0.stamped);
                 })
                 (subst (λ (st : Stage). FitsStage later h.drawn h.served told st) (sym turn) (known.1.0, known.1.1, refl)))
-                (λ j u other at'. fits_later opening h.office later h.drawn h.drawn h.served h.served u grows (publish_others j u other at' u.stage (λ has. has)) (h.fits j u at'));
+                (λ j u other at'. fits_later opening h.office later h.drawn h.drawn h.served h.served u grows publish_on (publish_others j u other at' u.stage (λ has. has)) (h.fits j u at'));
             apart = apart_set s.views id m.0 told at (λ j u t other at' has has'. other (h.apart j id u m.0 t at' at has' has)) h.apart;
             rooted = rooted_set s.views id m.0 told at refl h.rooted;
             latest = (id, told, here s.views id m.0 told at, refl);
@@ -338,8 +347,8 @@ module _ (steps : StepLaw) {V : Type 0} (office_of : V → Office) (opening : Of
             limit = h.limit;
             tickets = omega arith;
             fits = each s.views id m.0 w at (λ j u. Fits opening h.office h.drawn (h.served + 1) u)
-                (fits_live opening h.office h.drawn (h.served + 1) w one (record { founder = known.0.founder; limit = known.0.limit; first = known.0.first; also = known.0.also; true_of = known.0.true_of }) tt)
-                (λ j u other at'. fits_later opening h.office h.office h.drawn h.drawn h.served (h.served + 1) u (extends_refl h.office.state.settled) (next_others j u other at' u.stage (λ has. has)) (h.fits j u at'));
+                (fits_live opening h.office h.drawn (h.served + 1) w one (record { founder = known.0.founder; limit = known.0.limit; first = known.0.first; also = known.0.also; true_of = known.0.true_of; stamps = known.0.stamps; stamped = known.0.stamped }) tt)
+                (λ j u other at'. fits_later opening h.office h.office h.drawn h.drawn h.served (h.served + 1) u (extends_refl h.office.state.settled) (stamps_refl h.office.stamps) (next_others j u other at' u.stage (λ has. has)) (h.fits j u at'));
             apart = apart_set s.views id m.0 w at (λ j u t other at' has has'. has) h.apart;
             rooted = rooted_set s.views id m.0 w at refl h.rooted;
             latest = latest_set s.views id m.0 w at h.office refl h.latest;

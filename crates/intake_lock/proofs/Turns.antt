@@ -1,19 +1,21 @@
 -- The calls of a turn.
 use Rattle.std.proofs.Common.{◌≡◌, ℕ, ℤ, List, length, Option, Some, None, refl, sym, subst, inl, inr}
 use Rattle.act_bodies.specs.declared.key.Key.{Key}
-use Rattle.act_model.specs.declared.keeper.Office.{Office}
+use Rattle.intake_lock.specs.declared.clerk.Office.{Office}
 use Rattle.act_model.specs.declared.keeper.OfficeState.{OfficeState}
 use Rattle.act_model.specs.declared.reply.Reply.{Reply}
 use Rattle.act_model.specs.declared.request.Request.{Request}
-use Rattle.act_model.specs.Keepers.{TakesTurn}
 use Rattle.act_model.specs.Turns.{Takes}
+use Rattle.intake_lock.specs.declared.clerk.Stamp.{Stamp}
 use Rattle.intake_lock.specs.declared.view.Item.{Item}
+use Rattle.intake_lock.specs.Clerks.{TakesTurn}
 use Rattle.intake_lock.specs.Items.{TakesAt, Called, IsItemOf, Noted}
+use Rattle.intake_lock.proofs.Stamps.{stamp_given}
 
 -- the turn that a keeper took, as a call with its position
-module _ (founder : Key) (limit : Option ℕ) (before : OfficeState) (q : Request) (at : Option ℤ) (reply : Reply) (rise : ℕ) (after : OfficeState) where
+module _ (founder : Key) (limit : Option ℕ) (before : OfficeState) (q : Request) (at : Option ℤ) (reply : Reply) (rise : ℕ) (stamp : Option Stamp) (after : OfficeState) where
   abbrev call_at : ℕ → Item
-  call_at position = record { position = position; request = q; reading = at; reply = reply; rise = rise }
+  call_at position = record { position = position; request = q; reading = at; reply = reply; rise = rise; stamp = stamp }
 
   placed : (reading : Option ℤ) → Takes founder limit before (record { request = q; reading = at; reply = reply; rise = rise }) reading after → (position : ℕ) × TakesAt founder limit before (call_at position) reading after
   placed (Some reading) (inl f) = (length before.settled, inl (f, refl))
@@ -22,13 +24,14 @@ module _ (founder : Key) (limit : Option ℕ) (before : OfficeState) (q : Reques
 
 pub item_of : (before : Office) (q : Request) (reading : Option ℤ) (reply : Reply) (after : Office) → TakesTurn before q reading reply after → (item : Item) × IsItemOf before q reading reply after item
 item_of before q reading reply after t =
-    let p = placed before.founder before.limit before.state q reading reply t.rise after.state reading t.turn.takes in (
-      record { position = p.0; request = q; reading = reading; reply = reply; rise = t.rise },
+    let s = stamp_given before.stamps reading (length after.state.settled) after.stamps t.stamps in
+    let p = placed before.founder before.limit before.state q reading reply t.rise s.0 after.state reading t.turn.takes in (
+      record { position = p.0; request = q; reading = reading; reply = reply; rise = t.rise; stamp = s.0 },
       record {
         asked = refl;
         read = refl;
         answered = refl;
-        calls = record { reads = t.turn.reads; takes = p.1; counts = t.counts; founder = t.founder; limit = t.limit };
+        calls = record { reads = t.turn.reads; takes = p.1; counts = t.counts; founder = t.founder; limit = t.limit; stamps = s.1 };
       },
     )
 

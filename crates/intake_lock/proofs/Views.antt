@@ -6,7 +6,7 @@ use mathlib.Core.Logic.{dite}
 use native.Mathlib.Decide.{ℕ_discrete}
 use lib.ListN.{get_elem?}
 use Rattle.atomic_table.proofs.Lists.{at_set, set_here, set_else}
-use Rattle.act_model.specs.declared.keeper.Office.{Office}
+use Rattle.intake_lock.specs.declared.clerk.Office.{Office}
 use Rattle.act_model.specs.Conducts.{Extends}
 use Rattle.intake_lock.specs.declared.view.Item.{Item}
 use Rattle.intake_lock.specs.declared.view.Role.{Role}
@@ -15,8 +15,10 @@ use Rattle.intake_lock.specs.declared.view.Stage.{Stage}
 use Rattle.intake_lock.specs.declared.view.Stage.TheVariants.{Idle, Waiting, Holding}
 use Rattle.intake_lock.specs.declared.view.View.{View}
 use Rattle.intake_lock.specs.Views.{seen, live, one_if_live, ticketed, one_if_ticketed, HasTicketAt, HasTicket, HasTurnAt, HasTurn}
+use Rattle.intake_lock.specs.Clerks.{StampsOn}
 use Rattle.intake_lock.specs.Rule.{FitsStage, IsKnown, FitsRole, Fits, At, Apart, Rooted, Latest, IsCall, IsHome, IsOut}
 use Rattle.intake_lock.proofs.Histories.{extends_on}
+use Rattle.intake_lock.proofs.Stamps.{stamps_on, stamped_later}
 use Rattle.intake_lock.proofs.Sums.{sum_set, at_below}
 
 -- ---- one view
@@ -93,25 +95,27 @@ module _ (opening office : Office) (drawn served : ℕ) (v : View) where
   ticket_weighs fits = stage_weighs v.role fits
 
 -- a view of a longer history, with other tickets
-pub known_later : (opening office later : Office) (v : View) → Extends office.state.settled later.state.settled → IsKnown opening office v → IsKnown opening later v
-known_later opening office later v grows k =
+pub known_later : (opening office later : Office) (v : View) → Extends office.state.settled later.state.settled → StampsOn office.stamps later.stamps → IsKnown opening office v → IsKnown opening later v
+known_later opening office later v grows on k =
     record {
       founder = k.founder;
       limit = k.limit;
       first = extends_on (seen v) office.state.settled later.state.settled k.first grows;
       also = extends_on v.also office.state.settled later.state.settled k.also grows;
       true_of = k.true_of;
+      stamps = stamps_on v.office.stamps office.stamps later.stamps k.stamps on;
+      stamped = stamped_later office.stamps later.stamps v.mine on k.stamped;
     }
 
-fits_role_later : (opening office later : Office) (drawn drawn' served served' : ℕ) (v : View) (role : Role) → Extends office.state.settled later.state.settled
+fits_role_later : (opening office later : Office) (drawn drawn' served served' : ℕ) (v : View) (role : Role) → Extends office.state.settled later.state.settled → StampsOn office.stamps later.stamps
     → (FitsStage office drawn served v v.stage → FitsStage later drawn' served' v v.stage) → FitsRole opening office drawn served v role → FitsRole opening later drawn' served' v role
-fits_role_later opening office later drawn drawn' served served' v (Root out) grows stage (known, at) = (known_later opening office later v grows known, stage at)
-fits_role_later opening office later drawn drawn' served served' v Branch grows stage (known, at) = (known_later opening office later v grows known, stage at)
-fits_role_later opening office later drawn drawn' served served' v Spent grows stage fits = fits
+fits_role_later opening office later drawn drawn' served served' v (Root out) grows on stage (known, at) = (known_later opening office later v grows on known, stage at)
+fits_role_later opening office later drawn drawn' served served' v Branch grows on stage (known, at) = (known_later opening office later v grows on known, stage at)
+fits_role_later opening office later drawn drawn' served served' v Spent grows on stage fits = fits
 
-pub fits_later : (opening office later : Office) (drawn drawn' served served' : ℕ) (v : View) → Extends office.state.settled later.state.settled
+pub fits_later : (opening office later : Office) (drawn drawn' served served' : ℕ) (v : View) → Extends office.state.settled later.state.settled → StampsOn office.stamps later.stamps
     → (FitsStage office drawn served v v.stage → FitsStage later drawn' served' v v.stage) → Fits opening office drawn served v → Fits opening later drawn' served' v
-fits_later opening office later drawn drawn' served served' v grows stage fits = fits_role_later opening office later drawn drawn' served served' v v.role grows stage fits
+fits_later opening office later drawn drawn' served served' v grows on stage fits = fits_role_later opening office later drawn drawn' served served' v v.role grows on stage fits
 
 -- ---- one view in the place of another
 

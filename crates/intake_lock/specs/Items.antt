@@ -1,10 +1,10 @@
 -- Calls on the office, as a pass keeps them.
 use Rattle.std.specs.Prelude.{◌≡◌, ◌⊎◌, ℕ, ◌+◌, ◌-◌, ◌^◌, min, ◌≤◌, ◌<◌, ℤ, pos, Bool, true, List, [], ◌∷◌, length}
-use Rattle.std.specs.Prelude.{sum_by, Option, Some, None, unwrap_or}
+use Rattle.std.specs.Prelude.{sum_by, Option, Some, None, IfSome, IsSomeAnd, unwrap_or, ◌++◌, Contains}
 use Rattle.std.specs.List.{AllByRecursion}
 use Rattle.act_bodies.specs.declared.key.Key.{Key}
 use Rattle.act_model.specs.declared.entry.Entry.{Entry}
-use Rattle.act_model.specs.declared.keeper.Office.{Office}
+use Rattle.intake_lock.specs.declared.clerk.Office.{Office}
 use Rattle.act_model.specs.declared.keeper.OfficeState.{OfficeState}
 use Rattle.act_model.specs.declared.reply.Refusal.TheVariants.{DiskFault}
 use Rattle.act_model.specs.declared.reply.Reply.{Reply}
@@ -15,6 +15,7 @@ use Rattle.act_model.specs.Conducts.{Extends}
 use Rattle.act_model.specs.Keepers.{RoseBy}
 use Rattle.act_model.specs.Step.{Adds, outcome}
 use Rattle.act_model.specs.Turns.{Turn, TakesReading, Answers, FailsToMend, ActsMended, Asks}
+use Rattle.intake_lock.specs.declared.clerk.Stamp.{Stamp}
 use Rattle.intake_lock.specs.declared.view.Item.{Item}
 
 -- the reading of a call, or 0 where it took none
@@ -32,6 +33,11 @@ pub record Failed (item : Item) : Type 0 where
   pub reply : item.reply ≡ Refused (DiskFault doubt)
   pub rose : 0 < item.rise
 
+-- a query leaves the history, and the stamp of an act, where it got one, has as many entries as the act left
+abbrev pub StampTells : List Entry → Option ℤ → Option Stamp → List Entry → Type 0
+StampTells past None stamp after = after ≡ past
+StampTells past (Some reading) stamp after = IfSome stamp (λ given. given.entries ≡ length after)
+
 -- The call is true of this history. It was answered at some first entries of it, by the step, or for want of memory, or
 -- because the disk failed; and where the step adds an entry and it was done, that entry is the next one.
 pub record IsTrue (founder : Key) (limit : Option ℕ) (history : List Entry) (item : Item) : Type 0 where
@@ -39,10 +45,19 @@ pub record IsTrue (founder : Key) (limit : Option ℕ) (history : List Entry) (i
   pub place : item.position ≡ length past
   pub first : Extends past history
   pub answered : ((after : List Entry) × Answers founder limit past item.request (reading_of item) item.reply after
-      × Extends after history) ⊎ Failed item
+      × Extends after history × StampTells past item.reading item.stamp after) ⊎ Failed item
 
 abbrev pub AreTrue : Key → Option ℕ → List Entry → List Item → Type 0
 AreTrue founder limit history items = AllByRecursion (IsTrue founder limit history) items
+
+-- the stamp of a call with this reading, an act, is among these stamps, where acts are stamped
+abbrev pub HasStamp : Option (List Stamp) → Option ℤ → Option Stamp → Type 0
+HasStamp None reading stamp = Unit {0}
+HasStamp (Some stamps) None stamp = Unit {0}
+HasStamp (Some stamps) (Some reading) stamp = IsSomeAnd stamp (λ given. Contains stamps given)
+
+abbrev pub AreStamped : Option (List Stamp) → List Item → Type 0
+AreStamped stamps items = AllByRecursion (λ item. HasStamp stamps item.reading item.stamp) items
 
 -- by how much the count of faults rose in the calls together
 abbrev pub rises : List Item → ℕ
@@ -62,14 +77,23 @@ TakesAt founder limit before item (Some reading) after =
 TakesAt founder limit before item None after = Asks founder limit before (turn_of item) after
     × (item.position ≡ length before.settled)
 
+-- An act with this reading got this stamp, with so many settled entries: the newest, which stands last. A query got
+-- none, and nor did an act where no act is stamped.
+abbrev pub Stamped : Option (List Stamp) → Option ℤ → Option Stamp → ℕ → Option (List Stamp) → Type 0
+Stamped None reading stamp entries after = (stamp ≡ None) × (after ≡ None)
+Stamped (Some stamps) None stamp entries after = (stamp ≡ None) × (after ≡ Some stamps)
+Stamped (Some stamps) (Some reading) stamp entries after =
+    (given : Stamp) × (stamp ≡ Some given) × (given.entries ≡ entries) × (after ≡ Some (stamps ++ given ∷ []))
+
 -- The keeper took this call. Its count of faults rose by as much as the call says, and the founding officer's key and
--- the limit are as they were.
+-- the limit are as they were. It stamped the call, where it was an act and acts are stamped.
 pub record Calls (before : Office) (item : Item) (after : Office) : Type 0 where
   pub reads : TakesReading item.request.verb item.reading
   pub takes : TakesAt before.founder before.limit before.state item item.reading after.state
   pub counts : RoseBy item.rise before.faults after.faults
   pub founder : after.founder ≡ before.founder
   pub limit : after.limit ≡ before.limit
+  pub stamps : Stamped before.stamps item.reading item.stamp (length after.state.settled) after.stamps
 
 -- the keeper took these calls, the newest first
 abbrev pub Called : Office → List Item → Office → Type 0

@@ -1,3 +1,4 @@
+pub mod Clerks
 pub mod Items
 pub mod Views
 pub mod Rule

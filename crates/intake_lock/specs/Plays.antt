@@ -1,11 +1,12 @@
 -- What each step of the lock tells its thread: of the seat before, the number that was found, and the seat after.
 use Rattle.std.specs.Prelude.{◌≡◌, ◌≢◌, ◌⊎◌, ℕ, List, [], ◌∷◌, Option, Some}
 use Rattle.atomic_table.specs.Table.{Me}
-use Rattle.act_model.specs.declared.keeper.Office.{Office}
+use Rattle.intake_lock.specs.declared.clerk.Office.{Office}
 use Rattle.act_model.specs.Conducts.{Extends}
 use Rattle.intake_lock.specs.declared.view.Item.{Item}
 use Rattle.intake_lock.specs.declared.view.Stage.TheVariants.{Waiting}
 use Rattle.intake_lock.specs.declared.view.View.{View}
+use Rattle.intake_lock.specs.Clerks.{StampsOn}
 use Rattle.intake_lock.specs.Rule.{word}
 use Rattle.intake_lock.specs.Views.{seen, waiting, holding, published, idle}
 
@@ -26,6 +27,7 @@ module _ {V : Type 0} where
       pub founder : (office_of keeper).founder ≡ m.0.office.founder
       pub limit : (office_of keeper).limit ≡ m.0.office.limit
       pub grows : Extends (seen m.0) (office_of keeper).state.settled
+      pub stamps : StampsOn m.0.office.stamps (office_of keeper).stamps
 
     -- another ticket is served, and nothing changed; or the pass's own
     abbrev pub Looks : Mine V → ℕ → Mine V → Type 0

@@ -8,7 +8,7 @@ use mathlib.Core.Option as slot
 use lib.ListN.{get_elem?}
 use Rattle.atomic_table.specs.Table.{State}
 use Rattle.act_model.specs.declared.entry.Entry.{Entry}
-use Rattle.act_model.specs.declared.keeper.Office.{Office}
+use Rattle.intake_lock.specs.declared.clerk.Office.{Office}
 use Rattle.act_model.specs.Conducts.{Extends, EitherWay}
 use Rattle.act_model.specs.Legal.{IsLegal}
 use Rattle.intake_lock.specs.declared.view.Item.{Item}
@@ -17,7 +17,8 @@ use Rattle.intake_lock.specs.declared.view.Role.TheVariants.{Root, Branch, Spent
 use Rattle.intake_lock.specs.declared.view.Stage.{Stage}
 use Rattle.intake_lock.specs.declared.view.Stage.TheVariants.{Idle, Waiting, Holding}
 use Rattle.intake_lock.specs.declared.view.View.{View}
-use Rattle.intake_lock.specs.Items.{AddsAt, AreTrue, RisesBy}
+use Rattle.intake_lock.specs.Clerks.{StampsOn}
+use Rattle.intake_lock.specs.Items.{AddsAt, AreTrue, AreStamped, RisesBy}
 use Rattle.intake_lock.specs.Views.{seen, live, ticketed, made_by, rises_by, HasTicket, HasTurn}
 
 -- the greatest number of passes that may be live
@@ -37,13 +38,16 @@ FitsStage office drawn served v Idle = Unit {0}
 FitsStage office drawn served v (Waiting ticket) = (served ≤ ticket) × (ticket < drawn)
 FitsStage office drawn served v (Holding ticket) = (ticket ≡ served) × (served < drawn) × (v.office ≡ office)
 
--- a live pass is of this office: it has seen a beginning of its history, and its calls are true of what it has seen
+-- a live pass is of this office: it has seen a beginning of its history, and the first of its stamps; its calls are
+-- true of what it has seen, and its acts have stamps of the office, where acts are stamped
 pub record IsKnown (opening office : Office) (v : View) : Type 0 where
   pub founder : v.office.founder ≡ opening.founder
   pub limit : v.office.limit ≡ opening.limit
   pub first : Extends (seen v) office.state.settled
   pub also : Extends v.also office.state.settled
   pub true_of : AreTrue opening.founder opening.limit (seen v) v.mine
+  pub stamps : StampsOn v.office.stamps office.stamps
+  pub stamped : AreStamped office.stamps v.mine
 
 -- a pass that was joined has no calls, waits for nothing, and made nothing
 pub record IsGone (v : View) : Type 0 where
@@ -152,7 +156,8 @@ module _ {V : Type 0} (office_of : V → Office) where
 
 -- What the keeper stands for once the root was closed. The history extends what the root has seen, by as many entries
 -- as its passes made; each entry past that at the opening was added by a call of the root's, at its place, and so is
--- the act in doubt; and the count of faults rose by at least what the root's calls say.
+-- the act in doubt; the count of faults rose by at least what the root's calls say; and the root's acts have stamps of
+-- the office, where acts are stamped.
 pub record Closes (opening : Office) (view : View) (office : Office) : Type 0 where
   pub founder : office.founder ≡ opening.founder
   pub limit : office.limit ≡ opening.limit
@@ -161,3 +166,4 @@ pub record Closes (opening : Office) (view : View) (office : Office) : Type 0 wh
   pub legal : StaysLegal opening office
   pub comes : Comes opening office (view ∷ [])
   pub counts : RisesBy (rises_by view) opening.faults office.faults
+  pub stamped : AreStamped office.stamps view.mine

@@ -4,10 +4,12 @@
 ghost use Rattle.std.specs.Prelude.{◌≡◌, ◌≤◌, ℕ, List, Option, length};
 ghost use Rattle.act_bodies.specs.declared.key.Key.{Key};
 ghost use Rattle.act_model.specs.declared.entry.Entry.{Entry};
-ghost use Rattle.act_model.specs.declared.keeper.Office.{Office};
 ghost use Rattle.act_model.specs.Conducts.{Extends};
+ghost use Rattle.intake_lock.specs.declared.clerk.Office.{Office};
+ghost use Rattle.intake_lock.specs.declared.clerk.Stamp.{Stamp};
 ghost use Rattle.intake_lock.specs.declared.view.Item.{Item};
-ghost use Rattle.intake_lock.specs.Items.{IsTrue, Calls};
+ghost use Rattle.intake_lock.specs.Clerks.{StampsOn};
+ghost use Rattle.intake_lock.specs.Items.{IsTrue, Calls, HasStamp, AreStamped};
 
 /// Histories that begin one another: what begins a beginning of a history begins it; a beginning is no longer; and two
 /// beginnings that are as long are one.
@@ -31,3 +33,15 @@ pub fn calls_are_true()
 {
     act_model::laws::steps_add_one_entry();
 }
+
+/// A call on a keeper adds to its stamps and takes none away, and leaves the call's own among them. A call that has its
+/// stamp among some has it among more.
+pub fn stamps_grow()
+    ensures here { (before after : Office) (item : Item) → Calls before item after →
+        HasStamp after.stamps item.reading item.stamp }
+    ensures grows { (before after : Office) (item : Item) → Calls before item after →
+        StampsOn before.stamps after.stamps }
+    ensures follow { (a b c : Option (List Stamp)) → StampsOn a b → StampsOn b c → StampsOn a c }
+    ensures later { (a b : Option (List Stamp)) (items : List Item) → StampsOn a b → AreStamped a items →
+        AreStamped b items }
+{}

@@ -5,6 +5,7 @@ ghost use Rattle.std.specs.Prelude.{IfNone};
 ghost use Rattle.act_model.specs.Conducts.{Extends};
 ghost use Rattle.intake_lock.specs.declared.view.Role.TheVariants.{Root, Branch};
 ghost use Rattle.intake_lock.specs.declared.view.Stage.TheVariants.{Waiting, Holding};
+ghost use Rattle.intake_lock.specs.Clerks.{StampsOn};
 ghost use Rattle.intake_lock.specs.Items.{Called};
 ghost use Rattle.intake_lock.specs.Passes.{MaySplit, IsRoot};
 ghost use Rattle.intake_lock.specs.Plays.{Gets};
@@ -12,14 +13,16 @@ ghost use Rattle.intake_lock.specs.Rule.{word, Closes};
 ghost use Rattle.intake_lock.specs.Views.{live, seen, first_view, waiting, holding, published, idle, stem, branch};
 ghost use Rattle.intake_lock.specs.Views.{joined};
 
+use crate::clerk::Clerk;
 use crate::keeping::{DRAWN, KEEPER, LENGTH, LockTable, SERVED, Seat, Words};
 use crate::pass::Pass;
 use crate::plays::{Draw, Fork, Look, Merge, Next, Publish, Tell, Turned};
 use crate::turn::{Log, Turn};
 use crate::view::View;
-use act_model::Keeper;
 use atomic_table::{Mark, Refused, RuledPerch, Table};
 use std::alloc::Global;
+use std::fmt;
+use std::fmt::{Debug, Formatter};
 use std::marker::{Brand, Model};
 use std::snapshot::Snapshot;
 use std::sync::Wait;
@@ -28,11 +31,17 @@ use std::sync::Wait;
 ///
 /// Contracts see which lock it is, and the office that the keeper stood for when the lock was made.
 #[derive(Drop)]
-pub struct TurnLock<V: Keeper> {
+pub struct TurnLock<V: Clerk> {
     table: LockTable<V>,
 }
 
-impl<V: Keeper> Model for TurnLock<V> {
+impl<V: Clerk> Debug for TurnLock<V> {
+    fn fmt<W: fmt::Write>(&self, f: &mut Formatter<W>) -> fmt::Result {
+        f.write_str("TurnLock")
+    }
+}
+
+impl<V: Clerk> Model for TurnLock<V> {
     ghost use Rattle.std.specs.Prelude.{◌≡◌};
     ghost use Rattle.intake_lock.specs.Passes.{LockState};
 
@@ -43,7 +52,7 @@ impl<V: Keeper> Model for TurnLock<V> {
     ghost invariant = { λ l. (l.table.shared.table_id.words ≡ 3) × (l.table.shared.table_id.slots ≡ 1) };
 }
 
-impl<V: Keeper> TurnLock<V> {
+impl<V: Clerk> TurnLock<V> {
     /// A lock round a keeper without an act in doubt, and the root's pass.
     ///
     /// # Errors
@@ -83,6 +92,7 @@ impl<V: Keeper> TurnLock<V> {
         ensures office { (result.office.founder ≡ pass.view.office.founder)
             × (result.office.limit ≡ pass.view.office.limit) }
         ensures grows { Extends (seen pass.view) result.office.state.settled }
+        ensures stamps { StampsOn pass.view.office.stamps result.office.stamps }
         ensures items { result.items ≡ [] }
     {
         act_model::laws::steps_add_one_entry();
@@ -192,7 +202,7 @@ impl<V: Keeper> TurnLock<V> {
 
 // Looks at the ticket that is served, and takes the slot where it is the pass's own. None then, and else the ticket
 // that is served.
-fn look<V: Keeper>(words: &Words<V>, seat: &mut Seat<V>, ticket: u64) -> Option<u64>
+fn look<V: Clerk>(words: &Words<V>, seat: &mut Seat<V>, ticket: u64) -> Option<u64>
     requires seat { (seat.old.table_id ≡ words.now.table_id) × (words.now.table_id.words ≡ 3) × (seat.old.me.1 ≡ []) }
     requires ticket { (t : ℕ) × (seat.old.me.0.stage ≡ Waiting t) × (ticket ≡ word t) }
     requires live { live seat.old.me.0 ≡ 1 }
@@ -206,7 +216,7 @@ fn look<V: Keeper>(words: &Words<V>, seat: &mut Seat<V>, ticket: u64) -> Option<
 }
 
 // Waits until the ticket is served, and takes the slot.
-fn await_turn<V: Keeper, R: Wait>(rt: &R, words: &Words<V>, seat: &mut Seat<V>, ticket: u64)
+fn await_turn<V: Clerk, R: Wait>(rt: &R, words: &Words<V>, seat: &mut Seat<V>, ticket: u64)
     requires seat { (seat.old.table_id ≡ words.now.table_id) × (words.now.table_id.words ≡ 3) × (seat.old.me.1 ≡ []) }
     requires ticket { (t : ℕ) × (seat.old.me.0.stage ≡ Waiting t) × (ticket ≡ word t) }
     requires live { live seat.old.me.0 ≡ 1 }
@@ -223,7 +233,7 @@ fn await_turn<V: Keeper, R: Wait>(rt: &R, words: &Words<V>, seat: &mut Seat<V>, 
 }
 
 // Publishes the calls of a turn. The log and the keeper say which, and what office they left.
-fn publish<V: Keeper, W: Turned>(words: &Words<V>, seat: &mut Seat<V>, _log: &Mark<Log>, keeper: &V)
+fn publish<V: Clerk, W: Turned>(words: &Words<V>, seat: &mut Seat<V>, _log: &Mark<Log>, keeper: &V)
     requires seat { (seat.old.table_id ≡ words.now.table_id) × (words.now.table_id.words ≡ 3) }
     requires turn { (t : ℕ) × (seat.old.me.0.stage ≡ Holding t) }
     requires live { live seat.old.me.0 ≡ 1 }

@@ -2,6 +2,8 @@
 
 use crate::view::View;
 use atomic_table::Badge;
+use std::fmt;
+use std::fmt::{Debug, Formatter};
 use std::marker::Model;
 
 /// A pass of a lock: the leave to enter, with what its holder knows. It has no bytes.
@@ -10,6 +12,12 @@ use std::marker::Model;
 #[derive(Drop)]
 pub struct Pass {
     pub(crate) badge: Badge<View>,
+}
+
+impl Debug for Pass {
+    fn fmt<W: fmt::Write>(&self, f: &mut Formatter<W>) -> fmt::Result {
+        f.write_str("Pass")
+    }
 }
 
 impl Model for Pass {

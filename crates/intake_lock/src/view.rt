@@ -1,6 +1,7 @@
 //! What a pass knows. The types of this file are for proofs alone: no value of them is made.
 
-use act_model::{Entry, Office, Reply, Request};
+use crate::clerk::{Office, Stamp};
+use act_model::{Entry, Reply, Request};
 use item_list::ItemList;
 use obs_time::Instant;
 
@@ -16,6 +17,8 @@ pub struct Item {
     pub reply: Reply,
     /// By how much the keeper's count of faults rose in the call.
     pub rise: u64,
+    /// The stamp that it got, where it was an act and acts are stamped.
+    pub stamp: Option<Stamp>,
 }
 
 /// Which pass it is.

@@ -9,7 +9,9 @@ use Rattle.act_model.specs.declared.request.Body.{Body}
 use Rattle.act_model.specs.declared.request.Request.{Request}
 use Rattle.intake_lock.specs.declared.view.Item.{Item}
 use Rattle.intake_lock.specs.declared.view.View.{View}
-use Rattle.intake_lock.specs.Items.{IsTrue, AreTrue}
+use Rattle.intake_lock.specs.declared.clerk.Stamp.{Stamp}
+use Rattle.intake_lock.specs.Clerks.{StampsOn}
+use Rattle.intake_lock.specs.Items.{IsTrue, AreTrue, AreStamped}
 use Rattle.intake_lock.specs.Views.{seen}
 use Rattle.desk_http.specs.Answers.{IfKept, IsRequestRead}
 use Rattle.desk_http.specs.Heads.{Message}
@@ -62,10 +64,14 @@ all_more P (y ∷ ys) x all here = (all.0, all_more P ys x all.1 here)
 
 -- ---- calls for messages
 
+stamps_refl : (stamps : Option (List Stamp)) → StampsOn stamps stamps
+stamps_refl None = refl
+stamps_refl (Some stamps) = ([], ap (λ (l : List Stamp). Some l) (sym (append-nil stamps)))
+
 -- no message was asked yet
 pub attends_none : (view : View) (clock : ClockState) → Attends view view clock clock []
 attends_none view clock =
-    record { asks = tt; mine = refl; true_of = tt; causes = tt; order = tt; grows = ([], refl); clock = gives_none clock; founder = refl; limit = refl }
+    record { asks = tt; mine = refl; true_of = tt; causes = tt; order = tt; grows = ([], refl); stamps = stamps_refl view.office.stamps; stamped = tt; clock = gives_none clock; founder = refl; limit = refl }
 
 -- one message more was asked
 pub attends_more : (laws : CallLaws) (before between after : View) (a b c : ClockState) (es : List Exchange) (message : Message) (item : Item)
@@ -87,6 +93,9 @@ attends_more laws before between after a b c es message item so_far call asks =
       order = subst (λ (l : List Item). AreInOrder founder limit (seen after) (length (seen before)) l) (sym items)
           (order_more laws founder limit (length (seen before)) (seen between) (seen after) item (items_of es) least call.grows call.place so_far.true_of so_far.order);
       grows = laws.follow (seen before) (seen between) (seen after) so_far.grows call.grows;
+      stamps = laws.stamps_follow before.office.stamps between.office.stamps after.office.stamps so_far.stamps call.stamps;
+      stamped = subst (λ (l : List Item). AreStamped after.office.stamps l) (sym items)
+          (laws.has_stamp call.entered after.office item call.call, laws.stamped_later between.office.stamps after.office.stamps (items_of es) call.stamps so_far.stamped);
       clock = subst (Gives a c) (sym (readings_more es e)) (laws.readings a b c (readings_in es) (option_to_list item.reading) so_far.clock call.clock);
       founder = call.founder ∙ so_far.founder;
       limit = call.limit ∙ so_far.limit;

@@ -1,6 +1,6 @@
 -- Calls that are true of a history, and where they stand in it.
-use Rattle.std.proofs.Common.{◌≡◌, ℕ, ℤ, Bool, ◌≤◌, ◌<◌, List, [], ◌∷◌, length, Option, sym, ap, subst, ◌∙◌, inl, inr, arith}
-use Rattle.std.specs.Prelude.{◌⊎◌}
+use Rattle.std.proofs.Common.{◌≡◌, ℕ, ℤ, Bool, ◌≤◌, ◌<◌, List, [], ◌∷◌, ◌+◌, length, Option, Some, None, refl, sym, ap, subst, ◌∙◌, inl, inr, arith}
+use Rattle.std.specs.Prelude.{◌⊎◌, IsSome, IfSome}
 use Rattle.std.specs.List.{AllByRecursion}
 use Rattle.act_bodies.specs.declared.key.Key.{Key}
 use Rattle.act_model.specs.declared.entry.Entry.{Entry}
@@ -12,7 +12,8 @@ use Rattle.act_model.specs.Conducts.{Extends}
 use Rattle.act_model.specs.Step.{Outcome, Adds, outcome, after, step}
 use Rattle.act_model.specs.Turns.{Answers}
 use Rattle.intake_lock.specs.declared.view.Item.{Item}
-use Rattle.intake_lock.specs.Items.{reading_of, IsTrue, AreTrue, Failed}
+use Rattle.intake_lock.specs.declared.clerk.Stamp.{Stamp}
+use Rattle.intake_lock.specs.Items.{reading_of, StampTells, IsTrue, AreTrue, Failed}
 use Rattle.link_desk.specs.Calls.{HasCause, IsAdded, StandsBehind, AreInOrder, HadNoRise, IsStepped}
 use Rattle.link_desk.specs.Laws.{CallLaws}
 
@@ -43,12 +44,50 @@ module _ (laws : CallLaws) (founder : Key) (limit : Option ℕ) where
         next_is next (inl stepped) = step_adds founder limit is.past item.request (reading_of item) a.entry item.reply next adds stepped
         next_is next (inr (wants, stays)) = let done = a.done in absurd cc
 
-        by : ((next : List Entry) × Answers founder limit is.past item.request (reading_of item) item.reply next × Extends next history) ⊎ Failed item → item.position < length history
-        by (inl (next, answers, goes_on)) =
+        by : ((next : List Entry) × Answers founder limit is.past item.request (reading_of item) item.reply next × Extends next history × StampTells is.past item.reading item.stamp next) ⊎ Failed item → item.position < length history
+        by (inl (next, answers, goes_on, tells)) =
             let l = laws.longer next history goes_on in
             let n = ap length (next_is next answers) in
             let p = is.place in
             omega arith
+        by (inr failed) = let done = a.done in let reply = failed.reply in absurd cc
+
+    -- it is an act, its entry stands in the history, and its stamp has as many entries as there were with it
+    added_call : (a : IsAdded founder limit history item) → IsSome item.reading × Extends (a.entry ∷ a.past) history
+        × IfSome item.stamp (λ stamp. stamp.entries ≡ item.position + 1)
+    added_call a = by is.answered
+      where
+        same : is.past ≡ a.past
+        same = laws.one is.past a.past history is.first a.first (sym is.place ∙ a.place)
+
+        adds : outcome founder limit is.past item.request (reading_of item) ≡ Adds a.entry
+        adds = subst (λ (h : List Entry). outcome founder limit h item.request (reading_of item) ≡ Adds a.entry) (sym same) a.adds
+
+        next_is : (next : List Entry) → Answers founder limit is.past item.request (reading_of item) item.reply next → next ≡ a.entry ∷ is.past
+        next_is next (inl stepped) = step_adds founder limit is.past item.request (reading_of item) a.entry item.reply next adds stepped
+        next_is next (inr (wants, stays)) = let done = a.done in absurd cc
+
+        counts : (stamp : Option Stamp) (n : ℕ) → n ≡ item.position + 1 → IfSome stamp (λ given. given.entries ≡ n) → IfSome stamp (λ given. given.entries ≡ item.position + 1)
+        counts None n more has = tt
+        counts (Some given) n more has = has ∙ more
+
+        told : (reading : Option ℤ) (next : List Entry) → next ≡ a.entry ∷ is.past → StampTells is.past reading item.stamp next
+            → IsSome reading × IfSome item.stamp (λ stamp. stamp.entries ≡ item.position + 1)
+        told None next next_is same =
+            let both : length (a.entry ∷ is.past) ≡ length is.past = ap length (sym next_is ∙ same) in absurd (omega arith)
+        told (Some reading) next next_is tells =
+            let n = ap length next_is in
+            let p = is.place in
+            (refl, counts item.stamp (length next) (omega arith) tells)
+
+        stands : (next : List Entry) → next ≡ a.entry ∷ is.past → Extends next history → Extends (a.entry ∷ a.past) history
+        stands next next_is goes_on =
+            subst (λ (h : List Entry). Extends (a.entry ∷ h) history) same (subst (λ (h : List Entry). Extends h history) next_is goes_on)
+
+        by : ((next : List Entry) × Answers founder limit is.past item.request (reading_of item) item.reply next × Extends next history × StampTells is.past item.reading item.stamp next) ⊎ Failed item
+            → IsSome item.reading × Extends (a.entry ∷ a.past) history × IfSome item.stamp (λ stamp. stamp.entries ≡ item.position + 1)
+        by (inl (next, answers, goes_on, tells)) =
+            let has = told item.reading next (next_is next answers) tells in (has.0, stands next (next_is next answers) goes_on, has.1)
         by (inr failed) = let done = a.done in let reply = failed.reply in absurd cc
 
   -- a call that was true before added its entry before
@@ -64,6 +103,12 @@ module _ (laws : CallLaws) (founder : Key) (limit : Option ℕ) where
         text = a.text;
         done = a.done;
       }
+
+  -- the same of a later history that has the entry
+  pub added_later : (history later : List Entry) (item : Item) → Extends history later → IsTrue founder limit history item → (a : IsAdded founder limit later item)
+      → IsSome item.reading × Extends (a.entry ∷ a.past) history × IfSome item.stamp (λ stamp. stamp.entries ≡ item.position + 1)
+  unfolding added_earlier
+  added_later history later item goes_on is a = added_call history item is (added_earlier history later item goes_on is a)
 
   -- ---- calls in their order
 
@@ -120,10 +165,10 @@ StepKnowsNoDisk = (founder : Key) (limit : Option ℕ) (past after : List Entry)
 pub caused : StepKnowsNoDisk → (founder : Key) (limit : Option ℕ) (history : List Entry) (item : Item) → IsTrue founder limit history item → HasCause item
 caused never founder limit history item is doubt reply = by is.answered
   where
-    by : ((next : List Entry) × Answers founder limit is.past item.request (reading_of item) item.reply next × Extends next history) ⊎ Failed item → 0 < item.rise
-    by (inl (next, inl stepped, goes_on)) =
+    by : ((next : List Entry) × Answers founder limit is.past item.request (reading_of item) item.reply next × Extends next history × StampTells is.past item.reading item.stamp next) ⊎ Failed item → 0 < item.rise
+    by (inl (next, inl stepped, goes_on, tells)) =
         absurd (never founder limit is.past next item.request (reading_of item) doubt (stepped ∙ ap (λ (r : Reply). (r, next)) reply))
-    by (inl (next, inr (wants, stays), goes_on)) = absurd cc
+    by (inl (next, inr (wants, stays), goes_on, tells)) = absurd cc
     by (inr failed) = failed.rose
 
 -- ---- calls without a rise
@@ -131,8 +176,8 @@ caused never founder limit history item is doubt reply = by is.answered
 stepped : (founder : Key) (limit : Option ℕ) (history : List Entry) (item : Item) → item.rise ≡ 0 → IsTrue founder limit history item → IsStepped founder limit history item
 stepped founder limit history item none is = by is.answered
   where
-    by : ((next : List Entry) × Answers founder limit is.past item.request (reading_of item) item.reply next × Extends next history) ⊎ Failed item → IsStepped founder limit history item
-    by (inl (next, answers, goes_on)) = record { past = is.past; place = is.place; first = is.first; after = next; answers = answers; rest = goes_on }
+    by : ((next : List Entry) × Answers founder limit is.past item.request (reading_of item) item.reply next × Extends next history × StampTells is.past item.reading item.stamp next) ⊎ Failed item → IsStepped founder limit history item
+    by (inl (next, answers, goes_on, tells)) = record { past = is.past; place = is.place; first = is.first; after = next; answers = answers; rest = goes_on }
     by (inr failed) = let rose = failed.rose in absurd (omega arith)
 
 pub all_stepped : (founder : Key) (limit : Option ℕ) (history : List Entry) (items : List Item) → AreTrue founder limit history items → HadNoRise items

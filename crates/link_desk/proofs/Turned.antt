@@ -2,12 +2,13 @@
 use Rattle.std.proofs.Common.{◌≡◌, ℕ, ◌+◌, ℤ, List, [], ◌∷◌, ◌++◌, Option, Some, None, sym, ap, subst, ◌∙◌, arith}
 use Rattle.std.specs.Prelude.{IfSome, option_to_list}
 use Rattle.act_bodies.specs.declared.key.Key.{Key}
-use Rattle.act_model.specs.declared.keeper.Office.{Office}
+use Rattle.intake_lock.specs.declared.clerk.Office.{Office}
 use Rattle.act_model.specs.declared.reply.Reply.{Reply}
 use Rattle.act_model.specs.declared.request.Request.{Request}
 use Rattle.act_model.specs.Conducts.{Extends}
 use Rattle.intake_lock.specs.declared.view.Item.{Item}
 use Rattle.intake_lock.specs.declared.view.View.{View}
+use Rattle.intake_lock.specs.Clerks.{StampsOn}
 use Rattle.intake_lock.specs.Items.{IsTrue, Noted}
 use Rattle.intake_lock.specs.Views.{seen, holding, published, idle}
 use Rattle.act_model.specs.Clocks.{ClockState, Gives}
@@ -20,16 +21,17 @@ module _ (before : Office) (request : Request) (reply : Reply) (after : Office) 
   -- an act, with the clock's next reading
   pub asks_act : (reading : ℤ) (clock clock_after : ClockState) → Noted before request (Some reading) reply after items noted
       → IfSome (clock.to_come 0) (λ t. reading ≡ t) → ((k : ℕ) → clock_after.to_come k ≡ clock.to_come (k + 1)) → clock_after.last ≡ reading
-      → Asks before request reply after items noted clock clock_after
+      → Asks (record { office = before; items = items; clock = clock }) (record { office = after; items = noted; clock = clock_after }) request reply
   asks_act reading clock clock_after call told later last = record { reading = Some reading; noted = call; clock = gives_one clock clock_after reading told later last }
 
   -- a query
-  pub asks_query : (clock : ClockState) → Noted before request None reply after items noted → Asks before request reply after items noted clock clock
+  pub asks_query : (clock : ClockState) → Noted before request None reply after items noted
+      → Asks (record { office = before; items = items; clock = clock }) (record { office = after; items = noted; clock = clock }) request reply
   asks_query clock call = record { reading = None; noted = call; clock = gives_none clock }
 
 module _ (laws : CallLaws) (never : StepKnowsNoDisk) (before : View) (ticket : ℕ) (first last : Office) (items noted : List Item) (request : Request) (reply : Reply) (clock clock_after : ClockState)
-    (founder : first.founder ≡ before.office.founder) (limit : first.limit ≡ before.office.limit) (goes_on : Extends (seen before) first.state.settled) (none : items ≡ [])
-    (asks : Asks first request reply last items noted clock clock_after) where
+    (founder : first.founder ≡ before.office.founder) (limit : first.limit ≡ before.office.limit) (goes_on : Extends (seen before) first.state.settled) (stamps : StampsOn before.office.stamps first.stamps) (none : items ≡ [])
+    (asks : Asks (record { office = first; items = items; clock = clock }) (record { office = last; items = noted; clock = clock_after }) request reply) where
   -- the pass that has the turn's calls has this one more
   taken_here : (item : Item) × (item.request ≡ request) × (item.reply ≡ reply) × TakesCall before (idle (published last noted (holding ticket first before))) clock clock_after item
   taken_here =
@@ -52,6 +54,7 @@ module _ (laws : CallLaws) (never : StepKnowsNoDisk) (before : View) (ticket : �
           cause = caused never before.office.founder before.office.limit last.state.settled item true_here;
           place = omega arith;
           grows = laws.follow (seen before) first.state.settled last.state.settled goes_on (laws.grows first last item of_item.calls);
+          stamps = laws.stamps_follow before.office.stamps first.stamps last.stamps stamps (laws.stamps first last item of_item.calls);
           clock = subst (λ (r : Option ℤ). Gives clock clock_after (option_to_list r)) (sym of_item.read) asks.clock;
           founder = of_item.calls.founder ∙ founder;
           limit = of_item.calls.limit ∙ limit;

@@ -13,7 +13,8 @@ use Rattle.act_model.specs.Conducts.{Extends}
 use Rattle.act_model.specs.Turns.{TakesReading}
 use Rattle.intake_lock.specs.declared.view.Item.{Item}
 use Rattle.intake_lock.specs.declared.view.View.{View}
-use Rattle.intake_lock.specs.Items.{AreTrue}
+use Rattle.intake_lock.specs.Clerks.{StampsOn}
+use Rattle.intake_lock.specs.Items.{AreTrue, AreStamped}
 use Rattle.intake_lock.specs.Views.{seen}
 use Rattle.desk_http.specs.Answers.{IfKept}
 use Rattle.desk_http.specs.Heads.{Message, IsMessage, IsStream}
@@ -57,7 +58,8 @@ readings_in exchanges = filter_map (λ exchange. exchange.item.reading) exchange
 
 -- The calls that the pass made are those for these messages, in their order, with the clock's readings. They are true
 -- of the one history that the pass has now seen, at places that rise. One is answered that the disk failed only where
--- the disk's count of faults rose in that call.
+-- the disk's count of faults rose in that call. Where acts are stamped, the stamps of the calls are among those that
+-- the pass has seen.
 pub record Attends (before after : View) (was now : ClockState) (exchanges : List Exchange) : Type 0 where
   pub asks : AllByRecursion IsExchange exchanges
   pub mine : after.mine ≡ items_of exchanges ++ before.mine
@@ -66,6 +68,8 @@ pub record Attends (before after : View) (was now : ClockState) (exchanges : Lis
   pub order : AreInOrder before.office.founder before.office.limit (seen after) (length (seen before))
       (items_of exchanges)
   pub grows : Extends (seen before) (seen after)
+  pub stamps : StampsOn before.office.stamps after.office.stamps
+  pub stamped : AreStamped after.office.stamps (items_of exchanges)
   pub clock : Gives was now (readings_in exchanges)
   pub founder : after.office.founder ≡ before.office.founder
   pub limit : after.office.limit ≡ before.office.limit
@@ -174,19 +178,27 @@ Ends link ReadFault = IsCutOff link
 Ends link WriteFault = IsUnwritten link
 Ends link NoMemory = IsWanting link
 
+-- where a connection stands: what its pass knows, its clock, what its sink took, and its source
+pub record Standing (S : Type 0) : Type 0 where
+  pub view : View
+  pub clock : ClockState
+  pub taken : Option (List ℕ)
+  pub source : S
+
 -- A connection was attended and left: what came from the source, which calls the pass made for it, which bytes the sink
 -- took, and why it was left. No more than 1,000 messages were asked. Where the disk's count of faults rose in no call,
 -- each was answered by the step, or for want of memory.
-pub record IsAttended {S : Type 0} (left : S → Option (List ℕ)) (gives : Passes S) (before after : View)
-    (clock clock_after : ClockState) (old new : Option (List ℕ)) (source source_after : S) (ended : Left) : Type 0 where
+pub record IsAttended {S : Type 0} (left : S → Option (List ℕ)) (gives : Passes S) (before after : Standing S)
+    (ended : Left) : Type 0 where
   pub link : Link
-  pub supplied : Supplies left gives source source_after link
-  pub appended : Appends old new link.texts
-  pub attends : Attends before after clock clock_after link.exchanges
+  pub supplied : Supplies left gives before.source after.source link
+  pub appended : Appends before.taken after.taken link.texts
+  pub attends : Attends before.view after.view before.clock after.clock link.exchanges
   pub most : length link.exchanges ≤ ANSWERS
   pub ends : Ends link ended
   pub faultless : HadNoRise (items_of link.exchanges) →
-      AllByRecursion (IsStepped before.office.founder before.office.limit (seen after)) (items_of link.exchanges)
+      AllByRecursion (IsStepped before.view.office.founder before.view.office.limit (seen after.view))
+      (items_of link.exchanges)
 
 -- ---- causes
 

@@ -3,7 +3,7 @@ use Rattle.std.specs.Prelude.{◌≡◌, ℕ, ◌≤◌, ◌<◌, ℤ, Bool, Lis
 use Rattle.std.specs.List.{AllByRecursion}
 use Rattle.act_bodies.specs.declared.key.Key.{Key}
 use Rattle.act_model.specs.declared.entry.Entry.{Entry}
-use Rattle.act_model.specs.declared.keeper.Office.{Office}
+use Rattle.intake_lock.specs.declared.clerk.Office.{Office}
 use Rattle.act_model.specs.declared.reply.Reply.{Reply}
 use Rattle.act_model.specs.declared.reply.Reply.TheVariants.{Done, Refused}
 use Rattle.act_model.specs.declared.reply.Refusal.TheVariants.{DiskFault}
@@ -12,18 +12,24 @@ use Rattle.act_model.specs.Conducts.{Extends}
 use Rattle.act_model.specs.Turns.{Answers}
 use Rattle.intake_lock.specs.declared.view.Item.{Item}
 use Rattle.intake_lock.specs.declared.view.View.{View}
+use Rattle.intake_lock.specs.Clerks.{StampsOn}
 use Rattle.intake_lock.specs.Items.{reading_of, AddsAt, IsTrue, Calls, Noted}
 use Rattle.intake_lock.specs.Views.{seen}
 use Rattle.act_model.specs.Clocks.{ClockState, Gives}
 
 -- ---- one call
 
+-- where a turn stands: the office, the calls that were noted in the turn, and the clock
+pub record InTurn : Type 0 where
+  pub office : Office
+  pub items : List Item
+  pub clock : ClockState
+
 -- the keeper of a turn was asked this, with a reading of the clock for an act
-pub record Asks (before : Office) (request : Request) (reply : Reply) (after : Office) (items more : List Item)
-    (was now : ClockState) : Type 0 where
+pub record Asks (before after : InTurn) (request : Request) (reply : Reply) : Type 0 where
   pub reading : Option ℤ
-  pub noted : Noted before request reading reply after items more
-  pub clock : Gives was now (option_to_list reading)
+  pub noted : Noted before.office request reading reply after.office before.items after.items
+  pub clock : Gives before.clock after.clock (option_to_list reading)
 
 -- a reply that the disk failed comes only where the disk's count of faults rose in the call
 abbrev pub HasCause : Item → Type 0
@@ -32,6 +38,7 @@ HasCause item = (doubt : Bool) → item.reply ≡ Refused (DiskFault doubt) → 
 -- The pass made this one call, at an office that had come no less far than the pass had seen; it has then seen what the
 -- call left. The call is true of that, stands at a place that isn't before what the pass had seen, took the clock's
 -- next reading where it is an act, and is answered that the disk failed only where its count of faults rose in it.
+-- Where acts are stamped, the stamp of an act is the newest of those that the pass has seen before the reply is given.
 pub record TakesCall (before after : View) (was now : ClockState) (item : Item) : Type 0 where
   pub mine : after.mine ≡ item ∷ before.mine
   pub entered : Office
@@ -41,6 +48,7 @@ pub record TakesCall (before after : View) (was now : ClockState) (item : Item) 
   pub cause : HasCause item
   pub place : length (seen before) ≤ item.position
   pub grows : Extends (seen before) (seen after)
+  pub stamps : StampsOn before.office.stamps after.office.stamps
   pub clock : Gives was now (option_to_list item.reading)
   pub founder : after.office.founder ≡ before.office.founder
   pub limit : after.office.limit ≡ before.office.limit

@@ -2,11 +2,13 @@
 use Rattle.std.specs.Prelude.{◌≡◌, ℕ, ℤ, ◌≤◌, ◌<◌, List, [], ◌++◌, length, Option}
 use Rattle.act_bodies.specs.declared.key.Key.{Key}
 use Rattle.act_model.specs.declared.entry.Entry.{Entry}
-use Rattle.act_model.specs.declared.keeper.Office.{Office}
+use Rattle.intake_lock.specs.declared.clerk.Office.{Office}
 use Rattle.act_model.specs.Clocks.{ClockState, Gives}
 use Rattle.act_model.specs.Conducts.{Extends}
 use Rattle.intake_lock.specs.declared.view.Item.{Item}
-use Rattle.intake_lock.specs.Items.{IsTrue, Calls}
+use Rattle.intake_lock.specs.declared.clerk.Stamp.{Stamp}
+use Rattle.intake_lock.specs.Clerks.{StampsOn}
+use Rattle.intake_lock.specs.Items.{IsTrue, Calls, HasStamp, AreStamped}
 use Rattle.desk_http.specs.Heads.{Message, IsMessage, NoMessage, NeverMessage}
 
 -- histories that begin one another, calls that are true of them, and readings of a clock
@@ -24,6 +26,12 @@ pub record CallLaws : Type 0 where
       → length before.state.settled ≤ item.position
   pub later : (founder : Key) (limit : Option ℕ) (history later : List Entry) (item : Item)
       → Extends history later → IsTrue founder limit history item → IsTrue founder limit later item
+  pub has_stamp : (before after : Office) (item : Item) → Calls before item after
+      → HasStamp after.stamps item.reading item.stamp
+  pub stamps : (before after : Office) (item : Item) → Calls before item after → StampsOn before.stamps after.stamps
+  pub stamps_follow : (a b c : Option (List Stamp)) → StampsOn a b → StampsOn b c → StampsOn a c
+  pub stamped_later : (a b : Option (List Stamp)) (items : List Item) → StampsOn a b → AreStamped a items
+      → AreStamped b items
 
 -- messages in bytes of which more may come
 pub record StreamLaws : Type 0 where

@@ -17,6 +17,12 @@ use Rattle.act_model.specs.Clocks.{ClockState}
 use Rattle.link_desk.specs.Calls.{TakesCall}
 use Rattle.link_desk.specs.Attending.{is_last}
 
+-- what an answer may change: what the pass knows, the clock, and what the sink took
+pub record Answering : Type 0 where
+  pub view : View
+  pub clock : ClockState
+  pub taken : Option (List ℕ)
+
 -- the answer to a message was written whole, and the connection goes on unless the message asks to close; or a front of
 -- it was written and not all; or nothing, since there was no memory for its text
 abbrev pub IsAnswered : Option (List ℕ) → Option (List ℕ) → List ℕ → Bool → Reply → Option Left → Type 0
@@ -39,27 +45,26 @@ IsRefused old new (Some ReadFault) = ⊥
 IsRefused old new (Some NoMemory) = ⊥
 
 -- the pass and the clock are as they were
-abbrev pub IsUntouched : View → View → ClockState → ClockState → Type 0
-IsUntouched before after clock clock_after = (after ≡ before) × (clock_after ≡ clock)
+abbrev pub IsUntouched : Answering → Answering → Type 0
+IsUntouched before after = (after.view ≡ before.view) × (after.clock ≡ before.clock)
 
 -- the request was asked by a call of the pass, and answered where so many were answered before
-pub record AnswersRequest (before after : View) (clock clock_after : ClockState) (old new : Option (List ℕ))
-    (answered : ℕ) (closes : Bool) (result : Option Left) (item : Item) : Type 0 where
-  pub call : TakesCall before after clock clock_after item
-  pub written : IsAnswered old new (answer_of item.reply (is_last answered closes)) closes item.reply result
+pub record AnswersRequest (before after : Answering) (answered : ℕ) (closes : Bool) (result : Option Left) (item : Item)
+    : Type 0 where
+  pub call : TakesCall before.view after.view before.clock after.clock item
+  pub written : IsAnswered before.taken after.taken (answer_of item.reply (is_last answered closes)) closes item.reply
+      result
 
 -- what became of what was heard, and why the connection is left, or none where it goes on
-abbrev pub Becomes : View → View → ClockState → ClockState → Option (List ℕ) → Option (List ℕ) → ℕ → Heard
-    → Option Left → Type 0
-Becomes before after clock clock_after old new answered (heard.Request request last) result =
-    (item : Item) × (item.request ≡ request)
-    × AnswersRequest before after clock clock_after old new answered last result item
-Becomes before after clock clock_after old new answered heard.End result =
-    IsUntouched before after clock clock_after × (new ≡ old) × (result ≡ Some Ended)
-Becomes before after clock clock_after old new answered heard.Unread result =
-    IsUntouched before after clock clock_after × IsRefused old new result
-Becomes before after clock clock_after old new answered heard.ReadFault result =
-    IsUntouched before after clock clock_after × (new ≡ old) × (result ≡ Some ReadFault)
+abbrev pub Becomes : Answering → Answering → ℕ → Heard → Option Left → Type 0
+Becomes before after answered (heard.Request request last) result =
+    (item : Item) × (item.request ≡ request) × AnswersRequest before after answered last result item
+Becomes before after answered heard.End result =
+    IsUntouched before after × (after.taken ≡ before.taken) × (result ≡ Some Ended)
+Becomes before after answered heard.Unread result =
+    IsUntouched before after × IsRefused before.taken after.taken result
+Becomes before after answered heard.ReadFault result =
+    IsUntouched before after × (after.taken ≡ before.taken) × (result ≡ Some ReadFault)
 
 -- a count where the connection goes on, as in a call without a fault
 abbrev pub GoesOn : (Left → ℕ → ℕ → Type 0) → Option Left → ℕ → ℕ → Type 0

@@ -6,17 +6,19 @@ ghost use Rattle.act_model.specs.Clocks.{clock_of};
 ghost use Rattle.link_desk.specs.Calls.{Asks, TakesCall};
 
 use crate::laws::call_laws;
-use act_model::{Keeper, Reply, Request, laws as office_laws};
+use act_model::{Reply, Request, laws as office_laws};
 use desk_io::Clock;
-use intake_lock::{Pass, Turn, TurnLock};
+use intake_lock::{Clerk, Pass, Turn, TurnLock};
 use std::alloc::Global;
 use std::sync::Wait;
 
 // Asks the keeper of the turn. A request whose verb is an act takes one reading of the clock, whatever its answer, and
 // any other takes none.
-fn take_turn<V: Keeper, C: Clock>(turn: &mut Turn<V>, request: &Request, clock: &mut C) -> Reply
-    ensures call { Asks turn.old.office request.now result turn.new.office turn.old.items turn.new.items
-        (clock_of C.reading C.last clock.old) (clock_of C.reading C.last clock.new) }
+fn take_turn<V: Clerk, C: Clock>(turn: &mut Turn<V>, request: &Request, clock: &mut C) -> Reply
+    ensures call { Asks
+        (record { office = turn.old.office; items = turn.old.items; clock = clock_of C.reading C.last clock.old })
+        (record { office = turn.new.office; items = turn.new.items; clock = clock_of C.reading C.last clock.new })
+        request.now result }
     ensures lock { (turn.new.lock ≡ turn.old.lock) × (turn.new.id ≡ turn.old.id) }
     ensures view { turn.new.view ≡ turn.old.view }
 {
@@ -32,7 +34,7 @@ fn take_turn<V: Keeper, C: Clock>(turn: &mut Turn<V>, request: &Request, clock: 
 ///
 /// The pass that comes back is the same root or branch, and has one call more: the request's, with the reply that is
 /// given. A request whose verb is an act takes one reading of the clock, whatever its answer, and any other takes none.
-pub fn answer_one<V: Keeper, C: Clock, R: Wait>(
+pub fn answer_one<V: Clerk, C: Clock, R: Wait>(
     rt: &R,
     _alloc: Global,
     lock: &TurnLock<V>,

@@ -11,10 +11,9 @@ use crate::ANSWERS;
 use crate::answering::answer_one;
 use crate::laws::{call_laws, stream_laws};
 use crate::left::Left;
-use act_model::Keeper;
 use desk_http::{Heard, SendFault, Wire, laws as http_laws, write_reply, write_unread};
 use desk_io::{Clock, Failed, Sink, Source};
-use intake_lock::{Pass, TurnLock};
+use intake_lock::{Clerk, Pass, TurnLock};
 use std::alloc::Global;
 use std::sync::Wait;
 
@@ -39,7 +38,7 @@ fn refuse_head<K: Sink>(sink: &mut K) -> Left
 }
 
 // Answers what was heard. Says why the connection is left, and None where it goes on.
-fn answer_heard<V: Keeper, K: Sink, C: Clock, R: Wait>(
+fn answer_heard<V: Clerk, K: Sink, C: Clock, R: Wait>(
     rt: &R,
     alloc: Global,
     lock: &TurnLock<V>,
@@ -52,9 +51,10 @@ fn answer_heard<V: Keeper, K: Sink, C: Clock, R: Wait>(
     requires lock { pass.lock ≡ lock.now.id }
     requires few { answered < ANSWERS }
     ensures pass { (result.0.lock ≡ pass.lock) × (result.0.id ≡ pass.id) × (result.0.view.role ≡ pass.view.role) }
-    ensures becomes { Becomes pass.view result.0.view (clock_of C.reading C.last clock.old)
-        (clock_of C.reading C.last clock.new)
-        (K.taken sink.old) (K.taken sink.new) answered heard result.1 }
+    ensures becomes { Becomes
+        (record { view = pass.view; clock = clock_of C.reading C.last clock.old; taken = K.taken sink.old })
+        (record { view = result.0.view; clock = clock_of C.reading C.last clock.new; taken = K.taken sink.new })
+        answered heard result.1 }
     ensures faults { GoesOn WriteCounts result.1 (K.faults sink.old) (K.faults sink.new) }
     ensures stays { K.is_open sink.new ≡ K.is_open sink.old }
 {
@@ -84,7 +84,7 @@ fn answer_heard<V: Keeper, K: Sink, C: Clock, R: Wait>(
 /// The pass that comes back is the same root or branch, and has the calls of the connection, each with the reply that
 /// was written. The calls stand at places of the one history that rise: none is before what the pass had seen or before
 /// an earlier call, and each is after the entry that an earlier call added.
-pub fn attend<V: Keeper, S: Source, K: Sink, C: Clock, R: Wait>(
+pub fn attend<V: Clerk, S: Source, K: Sink, C: Clock, R: Wait>(
     rt: &R,
     alloc: Global,
     lock: &TurnLock<V>,
@@ -98,8 +98,19 @@ pub fn attend<V: Keeper, S: Source, K: Sink, C: Clock, R: Wait>(
 
     // What was read, asked and written at each end: of the bytes that came, whether the source tells its bytes or not.
     // A reply that the disk failed comes only where the keeper's count of faults rose in that call.
-    ensures attended { IsAttended S.left S.gives pass.view result.0.view (clock_of C.reading C.last clock.old)
-        (clock_of C.reading C.last clock.new) (K.taken sink.old) (K.taken sink.new) source.old source.new result.1 }
+    ensures attended { IsAttended S.left S.gives
+        (record {
+          view = pass.view;
+          clock = clock_of C.reading C.last clock.old;
+          taken = K.taken sink.old;
+          source = source.old;
+        })
+        (record {
+          view = result.0.view;
+          clock = clock_of C.reading C.last clock.new;
+          taken = K.taken sink.new;
+          source = source.new;
+        }) result.1 }
 
     // Bytes without a head fault, and no fault of the source or the sink, give `Ended`, `Enough` or `NoMemory`.
     ensures complete { (bytes : List ℕ) → S.left source.old ≡ Some bytes → HasNoHeadFault bytes →

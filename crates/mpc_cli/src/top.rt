@@ -55,15 +55,30 @@ pub fn single<S: Source, K: Sink, D: Disk, C: Clock>(
     ensures run { (key : Key) → command_of words.now ≡ Some (Command.Run key) →
         (run : Run) × Supplies S.left S.gives source.old source.new run
         × Appends (K.taken sink.old) (K.taken sink.new) run.texts
-        × Ends (disk_words D.reads D.leaves D.moment D.since D.faults) key disk result.disk
-        (clock_of C.reading C.last clock.old) (clock_of C.reading C.last clock.new) run
-        ((source.new ≡ source.old) × (sink.new ≡ sink.old) × (clock.new ≡ clock.old)) result.added result.status }
+        × Ends (disk_words D.reads D.leaves D.moment D.since D.faults)
+        (record {
+          founder = key;
+          disk = disk;
+          disk_after = result.disk;
+          clock = clock_of C.reading C.last clock.old;
+          clock_after = clock_of C.reading C.last clock.new;
+          run = run;
+          added = result.added;
+        })
+        ((source.new ≡ source.old) × (sink.new ≡ sink.old) × (clock.new ≡ clock.old)) result.status }
 
     // `export`: what was written and kept at each end. Source and clock aren't called.
     ensures export { command_of words.now ≡ Some Command.Export →
         (source.new ≡ source.old) × (clock.new ≡ clock.old)
-        × Exports (disk_words D.reads D.leaves D.moment D.since D.faults) disk result.disk
-        (K.taken sink.old) (K.taken sink.new) (sink.new ≡ sink.old) result.added result.status }
+        × Exports (disk_words D.reads D.leaves D.moment D.since D.faults)
+        (record {
+          disk = disk;
+          disk_after = result.disk;
+          taken = K.taken sink.old;
+          taken_after = K.taken sink.new;
+          added = result.added;
+        })
+        (sink.new ≡ sink.old) result.status }
 
     // `workload`: the sink took the summary, so far as the status says. Source and clock aren't called, and the disk is
     // given back as it was.
@@ -150,15 +165,30 @@ pub fn top<S: Source, K: Sink, D: Disk + Send, C: Clock + Send, G: Door, R: Thre
     ensures run { (key : Key) → command_of words.now ≡ Some (Command.Run key) →
         (run : Run) × Supplies S.left S.gives source.old source.new run
         × Appends (K.taken sink.old) (K.taken sink.new) run.texts
-        × Ends (disk_words D.reads D.leaves D.moment D.since D.faults) key disk result.0.disk
-        (clock_of C.reading C.last clock.old) (clock_of C.reading C.last clock.new) run
-        ((source.new ≡ source.old) × (sink.new ≡ sink.old) × (clock.new ≡ clock.old)) result.0.added result.0.status }
+        × Ends (disk_words D.reads D.leaves D.moment D.since D.faults)
+        (record {
+          founder = key;
+          disk = disk;
+          disk_after = result.0.disk;
+          clock = clock_of C.reading C.last clock.old;
+          clock_after = clock_of C.reading C.last clock.new;
+          run = run;
+          added = result.0.added;
+        })
+        ((source.new ≡ source.old) × (sink.new ≡ sink.old) × (clock.new ≡ clock.old)) result.0.status }
 
     // `export`: what was written and kept at each end. Source and clock aren't called.
     ensures export { command_of words.now ≡ Some Command.Export →
         (source.new ≡ source.old) × (clock.new ≡ clock.old)
-        × Exports (disk_words D.reads D.leaves D.moment D.since D.faults) disk result.0.disk
-        (K.taken sink.old) (K.taken sink.new) (sink.new ≡ sink.old) result.0.added result.0.status }
+        × Exports (disk_words D.reads D.leaves D.moment D.since D.faults)
+        (record {
+          disk = disk;
+          disk_after = result.0.disk;
+          taken = K.taken sink.old;
+          taken_after = K.taken sink.new;
+          added = result.0.added;
+        })
+        (sink.new ≡ sink.old) result.0.status }
 
     // `workload`: the sink took the summary, so far as the status says. Source and clock aren't called, and the disk is
     // given back as it was.
@@ -173,10 +203,24 @@ pub fn top<S: Source, K: Sink, D: Disk + Send, C: Clock + Send, G: Door, R: Thre
         (source.new ≡ source.old)
         × EndsService (disk_words D.reads D.leaves D.moment D.since D.faults)
         (link_words G.In.left G.In.gives G.In.faults G.In.is_open G.Out.taken G.Out.faults G.Out.is_open)
-        key disk result.0.disk (clock_of C.reading C.last clock.old)
-        (door_of G.links G.faults door.old) (door_of G.links G.faults door.new) connections result.1
+        (record {
+          founder = key;
+          disk = disk;
+          clock = clock_of C.reading C.last clock.old;
+          door = door_of G.links G.faults door.old;
+          most = connections;
+          taken = K.taken sink.old;
+        })
+        (record {
+          disk = result.0.disk;
+          door = door_of G.links G.faults door.new;
+          ends = result.1;
+          taken = K.taken sink.new;
+          added = result.0.added;
+          status = result.0.status;
+        })
         ((sink.new ≡ sink.old) × (clock.new ≡ clock.old) × (door.new ≡ door.old) × (result.1 ≡ []))
-        (sink.new ≡ sink.old) (K.taken sink.old) (K.taken sink.new) result.0.added result.0.status }
+        (sink.new ≡ sink.old) }
 
     // For every other command there are no links, and the door isn't called.
     ensures alone { is_done_alone (command_of words.now) ≡ true → (door.new ≡ door.old) × (result.1 ≡ []) }

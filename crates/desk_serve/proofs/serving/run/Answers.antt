@@ -5,6 +5,7 @@ use Rattle.desk_serve.specs.Links.{calls_in}
 use Rattle.mpc_desk.specs.Desks.{count_of}
 use Rattle.desk_serve.proofs.Gathering.{no_longer}
 use Rattle.desk_serve.proofs.Mending.{closed_so, mending_extends, extends_to, ends_legal, rose_between, counted, no_call_rose, quiet_calls, no_write_so_far, writes_as}
+use Rattle.desk_serve.proofs.KeptLemmas.{kept_calls}
 use Rattle.desk_serve.proofs.WatchLemmas.{service_images}
 use Rattle.desk_serve.proofs.serving.run.Goals as goal
 
@@ -20,7 +21,7 @@ write_lines-status-requires g c =
 pub overflow_sub-added : goal.overflow_sub-added
 overflow_sub-added g c =
     let on = disk_words g.D.Disk.reads g.D.Disk.leaves g.D.Disk.moment g.D.Disk.since g.D.Disk.faults in
-    let grows = c.attend_watched-desk.ensures.serves.grows in
+    let grows = c.attend_watched-desk.ensures.serves.1.grows in
     let closed = closed_so on c.attend_watched-desk.result.keeper c.mend_last-mended.new.desk c.mend_last-mended.result c.mend_last-mended.ensures in
     let longer : length c.in-Ok.desk.state.settled ≤ length c.mend_last-mended.new.desk.state.settled =
     no_longer c.in-Ok.desk.state.settled c.mend_last-mended.new.desk.state.settled
@@ -35,7 +36,7 @@ returns-clause-ends g c =
     let left = c.attend_watched-desk.result.keeper in
     let last = c.mend_last-mended.new.desk in
     let opens = c.in-Ok.ensures.opens in
-    let serves = c.attend_watched-desk.ensures.serves in
+    let serves = c.attend_watched-desk.ensures.serves.1 in
     let closed = closed_so on left last c.mend_last-mended.result c.mend_last-mended.ensures in
     let grows = extends_to on left last closed opened.state.settled serves.grows.newer serves.grows.grown in
     let longer = no_longer opened.state.settled last.state.settled grows in
@@ -53,6 +54,7 @@ returns-clause-ends g c =
       opens = opens;
       left = left;
       stop = c.attend_watched-desk.result.stop;
+      answered = c.attend_watched-desk.ensures.serves.0;
       serves = serves;
       last = last;
       mended = c.mend_last-mended.result;
@@ -61,6 +63,10 @@ returns-clause-ends g c =
       disk_is = c.close.ensures;
       images = service_images on c.args.founder c.args.disk c.close.result opened left last opens.founder_is opens.images
           c.attend_watched-desk.ensures.images closed.closed.no_image (mending_extends left.state last.state closed.rise closed.does) c.close.ensures;
+      kept = kept_calls g.D.Disk.moment g.D.Disk.since opened left last c.beginnings.ensures.one
+          (record { act = c.added_calls.ensures.act; stands = c.added_calls.ensures.stands; stamp = c.added_calls.ensures.stamp })
+          closed.closed.no_image (mending_extends left.state last.state closed.rise closed.does) c.attend_watched-desk.ensures.serves.0
+          c.attend_watched-desk.ensures.serves.2 (calls_in serves.attendances) serves.grows.true_of serves.grows.stamped;
       at_rest = closed.closed.at_rest;
       legal = legal;
       grows = grows;

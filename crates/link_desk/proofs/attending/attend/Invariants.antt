@@ -6,8 +6,9 @@ use Rattle.link_desk.proofs.attending.attend.Given as goal
 -- the connection has come so far, the pass is the same, no fault was counted, and what was open is open
 abbrev pub invariant-messages : goal.invariant-messages
 invariant-messages g l = record {
-  progress : Progress g.S.Source.left g.S.Source.gives l.fn.pass.view l.mine.view (clock_of g.C.Clock.reading g.C.Clock.last l.initial.clock) (clock_of g.C.Clock.reading g.C.Clock.last l.clock)
-      (g.K.Sink.taken l.initial.sink) (g.K.Sink.taken l.sink) l.initial.source l.source l.wire l.answered;
+  progress : Progress g.S.Source.left g.S.Source.gives
+      (record { view = l.fn.pass.view; clock = clock_of g.C.Clock.reading g.C.Clock.last l.initial.clock; taken = g.K.Sink.taken l.initial.sink; source = l.initial.source })
+      (record { view = l.mine.view; clock = clock_of g.C.Clock.reading g.C.Clock.last l.clock; taken = g.K.Sink.taken l.sink; source = l.source }) l.wire l.answered;
   lock : l.mine.lock ≡ l.fn.pass.lock;
   id : l.mine.id ≡ l.fn.pass.id;
   role : l.mine.view.role ≡ l.fn.pass.view.role;

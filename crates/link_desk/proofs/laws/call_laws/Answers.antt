@@ -11,4 +11,8 @@ returns c =
       grows = c.calls_are_true.ensures.grows;
       place = c.calls_are_true.ensures.place;
       later = c.calls_are_true.ensures.later;
+      has_stamp = c.stamps_grow.ensures.here;
+      stamps = c.stamps_grow.ensures.grows;
+      stamps_follow = c.stamps_grow.ensures.follow;
+      stamped_later = c.stamps_grow.ensures.later;
     }

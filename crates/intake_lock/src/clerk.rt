@@ -1,0 +1,57 @@
+//! What the lock goes round: a keeper of the office that may stamp each act when it answers it.
+
+ghost use Rattle.std.specs.Prelude.{◌≡◌, true, false, length, Some, None};
+ghost use Rattle.act_model.specs.Requests.{is_act};
+ghost use Rattle.intake_lock.specs.declared.clerk.Office.{Office};
+ghost use Rattle.intake_lock.specs.Clerks.{TakesTurn};
+
+use act_model::{Key, OfficeState, Reply, Request};
+use item_list::ItemList;
+use obs_time::Instant;
+
+/// What an act gets when it is answered. It is for proofs alone.
+#[derive(Debug, Drop)]
+pub struct Stamp {
+    /// The moment of the clerk's disk.
+    pub moment: u64,
+    /// How many entries the settled history has.
+    pub entries: u64,
+}
+
+/// What contracts see of a clerk: what they see of a keeper, and its stamps.
+#[derive(Debug, Drop)]
+pub struct Office {
+    /// The founding officer's key.
+    pub founder: Key,
+    /// How many bytes the journal may have, where there is a limit.
+    pub limit: Option<u64>,
+    /// What was settled, and what is in doubt.
+    pub state: OfficeState,
+    /// How often the disk has failed. At the greatest number that its type has it stands still.
+    pub faults: u64,
+    /// The stamps of the acts that were answered, the oldest first. None where no act is stamped.
+    pub stamps: Option<ItemList<Stamp>>,
+}
+
+/// Something that keeps the office, as act_model's Keeper, and may stamp each act when it answers it.
+///
+/// No call changes the founding officer's key or the limit.
+pub trait Clerk: Drop {
+    /// The office that it stands for.
+    ghost office: { Self → Office };
+
+    /// Takes the turn of an act at this reading of the clock: an act in doubt is mended first. The request has the verb
+    /// of an act. It takes memory.
+    fn act(&mut self, request: &Request, reading: Instant) -> Reply
+        requires act { is_act request.now.verb ≡ true }
+        ensures turn { TakesTurn (office self.old) request.now (Some reading) result (office self.new) };
+
+    /// Answers a query, a request whose verb is that of no act, from the settled history. It takes memory.
+    fn ask(&self, request: &Request) -> Reply
+        requires query { is_act request.now.verb ≡ false }
+        ensures turn { TakesTurn (office self.now) request.now None result (office self.now) };
+
+    /// How many entries the settled history has.
+    fn entries(&self) -> u64
+        ensures { result ≡ length (office self.now).state.settled };
+}
