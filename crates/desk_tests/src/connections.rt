@@ -2,9 +2,9 @@
 
 ghost use Rattle.std.specs.Prelude.{◌≡◌};
 
-use act_model::{Keeper, Key, Refusal, Reply, Request};
+use act_model::{Key, Refusal, Reply, Request};
 use desk_io::{Clock, MemSink, MemSource, TickClock};
-use intake_lock::{Pass, TurnLock};
+use intake_lock::{Clerk, Pass, TurnLock};
 use link_desk::{Left, attend};
 use obs_time::Instant;
 use std::alloc::Global;
@@ -18,7 +18,7 @@ struct Forgetful {
     founder: Key,
 }
 
-impl Keeper for Forgetful {
+impl Clerk for Forgetful {
     ghost use Rattle.std.specs.Prelude.{[], None};
 
     ghost office = { λ k. record {
@@ -26,6 +26,7 @@ impl Keeper for Forgetful {
       limit = None;
       state = record { settled = []; doubt = None };
       faults = 0;
+      stamps = None;
     } };
 
     fn act(&mut self, _request: &Request, _reading: Instant) -> Reply {

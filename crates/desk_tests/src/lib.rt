@@ -1,4 +1,4 @@
-//! Tests of the desk over a journal, of messages and of connections in memory.
+//! Tests of the desk over a journal and of connections, in memory.
 //!
 //! A crate with tests is proved twice, with and without them, so they stand in a crate above those that they test.
 #![tactic(auto)]
@@ -7,5 +7,3 @@
 mod connections;
 #[cfg(test)]
 mod desks;
-#[cfg(test)]
-mod messages;

@@ -1,14 +1,9 @@
-//! Tests of the files that an office keeps, each against a plain list that is walked: observations, designations, links
-//! and numbers.
+//! Tests of the files that an office keeps, each against a plain list that is walked: observations and designations.
 //!
 //! A crate with tests is proved twice, with and without them, so they stand in a crate above those that they test.
 #![tactic(auto)]
 
 #[cfg(test)]
 mod designations;
-#[cfg(test)]
-mod identifications;
-#[cfg(test)]
-mod numbers;
 #[cfg(test)]
 mod observations;

@@ -1,9 +1,7 @@
-//! Tests of the rules over batches, and of what becomes of requests, kind by kind, with ample memory.
+//! Tests of what becomes of requests, kind by kind, with ample memory.
 //!
 //! A crate with tests is proved twice, with and without them, so they stand in a crate above those that they test.
 #![tactic(auto)]
 
-#[cfg(test)]
-mod batches;
 #[cfg(test)]
 mod requests;

@@ -5,7 +5,7 @@ ghost use Rattle.act_model.specs.Roster.{IsFounder};
 
 use act_model::{Body, Keeper, Key, Reply, Request, Verb};
 use desk_io::TickClock;
-use intake_lock::{Pass, TurnLock};
+use intake_lock::{Clerk, Pass, TurnLock};
 use item_list::Bytes;
 use link_desk::answer_one;
 use obs_time::Instant;
@@ -48,7 +48,7 @@ pub(super) fn new_clock<R: Abort>(rt: &R) -> TickClock {
 }
 
 /// One turn at the lock.
-pub(super) fn take_turn<V: Keeper, R: Wait>(
+pub(super) fn take_turn<V: Clerk, R: Wait>(
     rt: &R,
     alloc: Global,
     lock: &TurnLock<V>,

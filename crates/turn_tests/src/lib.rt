@@ -1,5 +1,5 @@
-//! Tests of turns that threads take at the lock of one desk: over a keeper that counts, over an office in memory, and
-//! over a disk whose calls fail now and then.
+//! Tests of turns that threads take at the lock of one desk: over an office in memory, and over a disk whose calls fail
+//! now and then.
 //!
 //! A crate with tests is proved twice, with and without them, so they stand in a crate above those that they test.
 #![tactic(auto)]
@@ -7,7 +7,7 @@
 #[cfg(test)]
 mod asking;
 #[cfg(test)]
-mod passes;
+mod clerks;
 #[cfg(test)]
 mod turns;
 #[cfg(test)]

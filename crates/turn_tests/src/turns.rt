@@ -9,9 +9,10 @@ ghost use Rattle.intake_lock.specs.Views.{stem, branch};
 ghost use Rattle.turn_tests.specs.Roots.{IsRootFor};
 
 use super::asking::{answer, enrolment, founder, new_clock, number_of_reply, request, take_turn};
+use super::clerks::Unstamped;
 use act_model::{Keeper, Reply, Request, Verb};
 use disk_model::{Disk, MemDisk};
-use intake_lock::{Pass, TurnLock};
+use intake_lock::{Clerk, Pass, TurnLock};
 use mpc_desk::Desk;
 use std::alloc::Global;
 use std::process::Abort;
@@ -51,7 +52,7 @@ fn is_done(request: &Request, reply: &Reply) -> bool {
 }
 
 // All turns of a thread. How many of its acts were done.
-fn take_turns<V: Keeper, R: Abort + Wait>(
+fn take_turns<V: Clerk, R: Abort + Wait>(
     rt: &R,
     alloc: Global,
     lock: &TurnLock<V>,
@@ -74,12 +75,7 @@ fn take_turns<V: Keeper, R: Abort + Wait>(
 }
 
 // Splits a branch off the root, where as many more may be split as threads are left.
-fn split_root<V: Keeper, R: Abort>(
-    rt: &R,
-    lock: &TurnLock<V>,
-    root: Pass,
-    left: u64,
-) -> (Pass, Pass)
+fn split_root<V: Clerk, R: Abort>(rt: &R, lock: &TurnLock<V>, root: Pass, left: u64) -> (Pass, Pass)
     requires lock { root.lock ≡ lock.now.id }
     requires some { 0 < left }
     requires root { IsRootFor left root.view.role }
@@ -94,7 +90,7 @@ fn split_root<V: Keeper, R: Abort>(
 }
 
 // Runs so many threads, each with a branch of its own. How many acts of each were done, in the order of their numbers.
-fn run_threads<V: Keeper + Send, R: Abort + Threads + Wait + Sync>(
+fn run_threads<V: Clerk + Send, R: Abort + Threads + Wait + Sync>(
     rt: &R,
     alloc: Global,
     lock: &TurnLock<V>,
@@ -133,11 +129,11 @@ fn conducted<V: Keeper + Send, R: Abort + Threads + Wait + Sync>(
 ) -> Option<(V, Vec<u64>)>
     requires { (V.office keeper).state.doubt ≡ None }
 {
-    let Ok((lock, root)) = TurnLock::new(alloc, keeper) else {
+    let Ok((lock, root)) = TurnLock::new(alloc, Unstamped { keeper }) else {
         return None;
     };
     let (root, counts) = run_threads(rt, alloc, &lock, root, THREADS);
-    Some((lock.close(root), counts))
+    Some((lock.close(root).keeper, counts))
 }
 
 // The receipt of an act in the history; 0 where none has its number.

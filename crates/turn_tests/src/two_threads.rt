@@ -3,8 +3,9 @@
 ghost use Rattle.std.specs.Prelude.{◌≡◌, None};
 
 use super::asking::{enrolment, founder, new_clock, number_of_reply, take_turn, tally_of};
+use super::clerks::Unstamped;
 use act_model::Keeper;
-use intake_lock::{Pass, TurnLock};
+use intake_lock::{Clerk, Pass, TurnLock};
 use mpc_desk::PlainKeeper;
 use std::alloc::Global;
 use std::process::Abort;
@@ -13,7 +14,7 @@ use std::thread::{Threads, join};
 
 // Ten turns, in each of which a caller is enrolled, under the numbers from this one on. How many of them had a greater
 // receipt than the one before.
-fn take_ten_turns<V: Keeper, R: Abort + Wait>(
+fn take_ten_turns<V: Clerk, R: Abort + Wait>(
     rt: &R,
     alloc: Global,
     lock: &TurnLock<V>,
@@ -46,7 +47,7 @@ fn conducted<V: Keeper + Send, R: Abort + Threads + Wait + Sync>(
 ) -> Option<(V, u64, u64)>
     requires { (V.office keeper).state.doubt ≡ None }
 {
-    let Ok((lock, root)) = TurnLock::new(alloc, keeper) else {
+    let Ok((lock, root)) = TurnLock::new(alloc, Unstamped { keeper }) else {
         return None;
     };
     let Ok((root, branch)) = lock.split(root) else {
@@ -65,7 +66,7 @@ fn conducted<V: Keeper + Send, R: Abort + Threads + Wait + Sync>(
         { take_ten_turns(rt, alloc, shared, branch, 11) },
     );
     let root = lock.join(root, branch);
-    Some((lock.close(root), one, other))
+    Some((lock.close(root).keeper, one, other))
 }
 
 // What the tally has after the turns, and how often the receipts of each thread rose.

@@ -11,31 +11,6 @@ use std::process::Abort;
 use std::sync::Wait;
 use std::thread::Threads;
 
-pub(super) fn put<R: Abort>(rt: &R, bytes: &mut Vec<u8>, text: &str) {
-    bytes
-        .extend_from_slice(text.as_bytes())
-        .expect(rt, "memory");
-}
-
-pub(super) fn put_number<R: Abort>(rt: &R, alloc: Global, bytes: &mut Vec<u8>, number: u64) {
-    let text = format!(in alloc; "{number}").expect(rt, "memory");
-    put(rt, bytes, text.as_str());
-}
-
-/// A reply with this status and text behind other replies.
-pub(super) fn put_reply<R: Abort>(
-    rt: &R,
-    alloc: Global,
-    bytes: &mut Vec<u8>,
-    status: &str,
-    text: &[u8],
-) {
-    put(rt, bytes, status);
-    put_number(rt, alloc, bytes, text.len() as u64);
-    put(rt, bytes, "\n");
-    bytes.extend_from_slice(text).expect(rt, "memory");
-}
-
 pub(super) fn words_of<R: Abort>(rt: &R, alloc: Global, texts: &[&str]) -> Words {
     let mut words = Words::new(alloc);
     for text in texts {
@@ -159,21 +134,8 @@ pub(super) fn call<R: Abort>(
     )
 }
 
-/// Runs the program over these bytes, of which a read gives at most `greatest`, and looks at its end and at what it
-/// wrote.
-pub(super) fn expect_run<R: Abort>(
-    rt: &R,
-    alloc: Global,
-    bytes: &[u8],
-    greatest: usize,
-    faults: Faults,
-    want: Want,
-    taken: &[u8],
-) {
-    expect_call(rt, alloc, &RUN, bytes, greatest, faults, want, taken);
-}
-
-/// The same for a call with any words, whose sink takes what these tests write.
+/// Calls the program with these words over these bytes, of which a read gives at most `greatest`, and looks at its end and
+/// at what it wrote.
 pub(super) fn expect_call<R: Abort>(
     rt: &R,
     alloc: Global,

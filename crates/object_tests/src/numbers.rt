@@ -1,4 +1,4 @@
-ghost use Rattle.std.specs.Prelude.{◌≡◌, ◌↔◌, IsTrue, IfSome};
+ghost use Rattle.std.specs.Prelude.{◌≡◌, ◌↔◌, [], IsTrue, IfSome};
 ghost use Rattle.numbering_core.specs.Numbers.{next_number};
 
 mod plain;
@@ -58,8 +58,15 @@ fn change(
     }
 }
 
+fn is_open(register: &Register, order: u32) -> bool {
+    register.open().find(&given(order)).is_some()
+}
+
+// Of designations without a number those are open that have a good verdict.
 fn is_good(register: &Register, plain: &Plain, order: u32, good: bool) -> bool {
-    register.good(given(order)) == good && plain.good(given(order)) == good
+    register.good(given(order)) == good
+        && plain.good(given(order)) == good
+        && is_open(register, order) == good
 }
 
 // A designation, its verdict or None where that is voided, and of which designations the verdicts then are good.
@@ -164,5 +171,23 @@ fn numbers_in_a_row(rt: HostRuntime) -> Result<(), Fail> {
     assert_eq!(rt; right_numbers(&mut register, &mut plain), NUMBERS.len());
     let last = (Some(620_002), Some(Number(620_001)), Some(given(2)));
     assert_eq!(rt; newest(&register), last);
+    Ok(())
+}
+
+// Whether each of two designations with good verdicts is open, of which the second one got a number.
+fn open_after(register: &mut Register) -> Option<(bool, bool)>
+    requires { register.old.numbered ≡ [] }
+{
+    register.reserve(3).ok()?;
+    register.set(given(1), 2, 4);
+    register.set(given(2), 0, 9);
+    register.take(given(2), Number(620_000));
+    Some((is_open(register, 1), is_open(register, 2)))
+}
+
+#[test]
+fn open_until_numbered(rt: HostRuntime) -> Result<(), Fail> {
+    let mut register = Register::new(rt.alloc())?;
+    assert_eq!(rt; open_after(&mut register), Some((true, false)));
     Ok(())
 }

@@ -6,7 +6,7 @@ use super::calls::{
 };
 use super::exchange::Exchange;
 use super::setup::SETUP;
-use crate::Ended;
+use command_ends::Ended;
 use desk_io::MemSink;
 use disk_model::{Disk, MemDisk};
 use std::alloc::Global;

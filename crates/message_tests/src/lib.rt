@@ -1,0 +1,7 @@
+//! Tests of messages in memory: heads, bodies, limits, and answers that are written.
+//!
+//! A crate with tests is proved twice, with and without them, so they stand in a crate above those that they test.
+#![tactic(auto)]
+
+#[cfg(test)]
+mod messages;
