@@ -3,7 +3,10 @@
 of 1,000 lines, 5,000, 10,000, 20,000 .. lines in all, to 640,000, or until one takes more than ten seconds. Each line
 is accepted, and tested against all that stand. There are two tables: of lines that come in the order of their times,
 and of lines whose times lie anywhere in 28 days, so that each is put in its place far from the one before. Prints the
-seconds of each session, the best of three runs, and their ratio to those of the one before.
+seconds of each session, the best of three runs, and their ratio to those of the one before, and the least seconds of a
+processor that one took in the program, and in the system.
+
+The journal is kept in /dev/shm, so that no sync of a disk counts, or on the disk with the argument `disk`.
 
 Build the program first: (cd crates/mpc_cli && rt run -- run --key +founder-1 </dev/null). Then: python3 bench/filed.py
 """
@@ -11,8 +14,9 @@ import os
 import sys
 import tempfile
 
-from session import PROGRAM, SETUP, columns, line_of, name_of, run
+from session import PROGRAM, SETUP, columns, line_of, name_of, ran
 
+ABOVE = None if "disk" in sys.argv[1:] else "/dev/shm"
 BATCH = 1_000
 MOST = 640_000
 FRAME = 9_000  # lines of one frame number of `columns`
@@ -50,12 +54,18 @@ def table(path, line):
     while lines <= MOST and (before is None or before < 10):
         make(path, lines, line)
         words = [PROGRAM, "run", "--key", "+founder-1"]
-        seconds, peak, text = min((run(words, path) for _ in range(3)), key=lambda r: r[0])
-        accepted = text.count(b" obs ")
+        results = [ran(words, path, above=ABOVE) for _ in range(3)]
+        seconds, user, system = (min(result[place] for result in results) for place in range(3))
+        accepted = results[0].text.count(b" obs ")
         if accepted != lines:
             sys.exit(f"{accepted} lines were accepted, not {lines}")
         ratio = "" if before is None else f", {seconds / before:.2f} times the one before"
-        print(f"{lines:7} lines: {seconds:7.2f} s, peak {peak / 1e3:.1f} MB{ratio}", flush=True)
+        peak = min(result.peak for result in results)
+        print(
+            f"{lines:7} lines: {seconds:6.2f} s{ratio}; processor {user:.2f} s, system {system:.2f} s; "
+            f"peak {peak / 1e3:.1f} MB",
+            flush=True,
+        )
         lines, before = 2 * lines, seconds
 
 

@@ -1,9 +1,10 @@
 #!/usr/bin/env python3
 """How opening grows with the journal: makes journals of batches of accepted lines, of 1, 2, 4 .. MB, to 200, or as many
-MB as the first argument says, and opens each by a run over no input. Prints the seconds of each opening, the best of
-three, their ratio to those of the one before, and the peak memory for each byte of the journal. Then the processor's
-seconds of the opening beside those of a session that reads the same batches: its station isn't entered, so that each
-line is read, judged and refused.
+MB as an argument says, and opens each by a run over no input. The lines' times lie anywhere in 28 days, or with the
+argument `order` they come in their order. Prints the seconds of each opening, the best of three, their ratio to those of
+the one before, and the peak memory for each byte of the journal. Then the least seconds of a processor that an opening
+took in the program, beside those of a session that reads the same batches: its station isn't entered, so that each line
+is read, judged and refused.
 
 The folder of temporary files needs room for three times the largest journal.
 
@@ -11,25 +12,25 @@ Build the program first: (cd crates/mpc_cli && rt run -- run --key +founder-1 </
 python3 bench/opening.py
 """
 import os
-import resource
 import sys
 import tempfile
 
-from session import PROGRAM, SETUP, columns, run
+from filed import at_random, framed, in_order
+from session import PROGRAM, SETUP, ran
 
-MOST = int(sys.argv[1]) if len(sys.argv) > 1 and sys.argv[1].isdigit() else 200
+ORDER = "order" in sys.argv[1:]
+MOST = next((int(word) for word in sys.argv[1:] if word.isdigit()), 200)
 BATCH = 1_000
-FRAME = 9_000  # lines of one frame number of `columns`
+LINES = round(MOST * 1e6 / (81 * BATCH)) * BATCH
 WORDS = [PROGRAM, "run", "--key", "+founder-1"]
 
 
-def framed(key, number, verb, body):
-    return f"{key} {number} {verb} {len(body)}\n{body}"
+def line(number):
+    return in_order(number, LINES) if ORDER else at_random(number, LINES)
 
 
 def batch(place):
-    numbers = range(place * BATCH, (place + 1) * BATCH)
-    body = "".join(columns(number // FRAME, number % FRAME) for number in numbers)
+    body = "".join(line(number) for number in range(place * BATCH, (place + 1) * BATCH))
     return framed("observer-1", place + 1, "submit80", body)
 
 
@@ -44,27 +45,19 @@ def write(session, first, last, setup):
 def grow(folder, session, first, last):
     """Files the batches from the first to before the last; the first comes after the office's setup."""
     write(session, first, last, SETUP if first == 0 else [])
-    _, _, text = run(WORDS, session, folder)
-    accepted = text.count(b" obs ")
+    accepted = ran(WORDS, session, folder).text.count(b" obs ")
     if accepted != (last - first) * BATCH:
         sys.exit(f"{accepted} lines were accepted, not {(last - first) * BATCH}")
-
-
-def processor(path, folder=None):
-    """Processor's seconds, seconds, peak kilobytes and output of a run over this input."""
-    before = resource.getrusage(resource.RUSAGE_CHILDREN).ru_utime
-    seconds, peak, text = run(WORDS, path, folder)
-    return resource.getrusage(resource.RUSAGE_CHILDREN).ru_utime - before, seconds, peak, text
 
 
 def read(session, batches):
     """The processor's seconds of a session that reads these batches and files no line."""
     write(session, 0, batches, [act for act in SETUP if act[0] != "station"])
-    used, _, _, text = processor(session)
-    refused = text.count(b" refused T1\n")
+    results = [ran(WORDS, session) for _ in range(3)]
+    refused = results[0].text.count(b" refused T1\n")
     if refused != batches * BATCH:
         sys.exit(f"{refused} lines were refused, not {batches * BATCH}")
-    return used
+    return min(result.user for result in results)
 
 
 def sizes():
@@ -80,14 +73,15 @@ def main():
     with tempfile.TemporaryDirectory() as top:
         folder, session = os.path.join(top, "office"), os.path.join(top, "session")
         os.mkdir(folder)
-        _, empty, _ = run(WORDS, os.devnull)
+        empty = ran(WORDS, os.devnull).peak
         for size in sizes():
             wanted = round(size * 1e6 / (81 * BATCH))
             grow(folder, session, filed, wanted)
             filed = wanted
             journal = os.path.getsize(os.path.join(folder, "desk.journal"))
-            openings = [processor(os.devnull, folder) for _ in range(3)]
-            used, seconds, peak, _ = min(openings, key=lambda opening: opening[1])
+            openings = [ran(WORDS, os.devnull, folder) for _ in range(3)]
+            seconds, used = (min(opening[place] for opening in openings) for place in range(2))
+            peak = openings[0].peak
             reading = read(session, filed)
             ratio = "" if before is None else f", {seconds / before:.2f} times the one before"
             print(

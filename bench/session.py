@@ -12,11 +12,11 @@ time is that of reading, judging and answering alone.
 Build the program first: (cd crates/mpc_cli && rt run -- run --key +founder-1 </dev/null). Then: python3 bench/session.py
 """
 import os
-import resource
 import subprocess
 import sys
 import tempfile
 import time
+import typing
 
 STRANGERS = "strangers" in sys.argv[1:]
 FRAMES = 64 if STRANGERS else int(sys.argv[1]) if len(sys.argv) > 1 and sys.argv[1].isdigit() else 64
@@ -88,21 +88,36 @@ def make(path, verb):
     return os.path.getsize(path)
 
 
-def run(words, path, folder=None):
-    """Seconds, peak kilobytes and output of a command with the file as its input, in this folder, else in an empty one: the program
-    keeps its journal in the folder that it runs in."""
+class Ran(typing.NamedTuple):
+    seconds: float
+    user: float  # seconds of a processor in the program
+    system: float  # and in the system
+    peak: int  # kilobytes
+    text: bytes  # what it wrote
+
+
+def ran(words, path, folder=None, above=None):
+    """A command with the file as its input, in this folder, else in an empty one in the folder above: the program keeps its journal
+    in the folder that it runs in. It is started by `time`, a small process: the peak of what is started from here would be that of
+    this script at least."""
     if folder is None:
-        with tempfile.TemporaryDirectory() as empty:
-            return run(words, path, empty)
-    with open(path, "rb") as source, tempfile.TemporaryFile() as sink:
+        with tempfile.TemporaryDirectory(dir=above) as empty:
+            return ran(words, path, empty)
+    with open(path, "rb") as source, tempfile.TemporaryFile() as sink, tempfile.NamedTemporaryFile() as told:
         begun = time.monotonic()
-        child = subprocess.Popen(words, stdin=source, stdout=sink, cwd=folder)
+        child = subprocess.Popen(["/usr/bin/time", "-o", told.name, "-f", "%M", *words], stdin=source, stdout=sink, cwd=folder)
         _, status, used = os.wait4(child.pid, 0)
         seconds = time.monotonic() - begun
         if status != 0:
             sys.exit(f"{words[0]} ended with status {status}")
         sink.seek(0)
-        return seconds, used.ru_maxrss, sink.read()
+        return Ran(seconds, used.ru_utime, used.ru_stime, int(told.read().split()[-1]), sink.read())
+
+
+def run(words, path, folder=None):
+    """Seconds, peak kilobytes and output of a command."""
+    result = ran(words, path, folder)
+    return result.seconds, result.peak, result.text
 
 
 def measure(path, verb):
