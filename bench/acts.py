@@ -65,7 +65,7 @@ class Office:
 
 
 def two_lines(t):
-    """The lines of a tracklet, counted from 0. A tracklet with an even place and the one behind it are a week apart."""
+    """The lines of a tracklet, counted from 0. A tracklet with an even place and the one after it are a week apart."""
     name = name_of(t // 10_000, t % 10_000)
     day = 1 + t % 2 * 7 + t // 2 % 7
     fraction = t // 14 * 7 % 99_900

@@ -176,7 +176,7 @@ def not_read():
     peer = connect()
     peer.sendall(head("GET", "/v1/ask/tally", more="Connection: close\r\n") + bytes(BIG))
     [(status, text)] = answers(peer, 1)
-    check("bytes behind the last request",
+    check("bytes after the last request",
           status == 200 and text.startswith("entries 6\n") and peer.recv(1) == b"", text)
     peer.close()
 

@@ -1,9 +1,9 @@
--- A text that is kept in an array, with zeros behind it.
+-- A text that is kept in an array, with zeros after it.
 use Rattle.std.proofs.Common.{◌≡◌, ℕ, ◌-◌, min, List, ◌++◌, length, take, drop, replicate, ap, ◌∙◌, arith}
 use Rattle.std.proofs.lemmas.List.{take_min, drop-replicate}
 use Rattle.act_bodies.specs.Keys.{key_of}
 
--- what is copied to the front of the array, and the zeros behind it
+-- what is copied to the front of the array, and the zeros after it
 pub padded : (size n : ℕ) (text front : List ℕ) → n ≡ min (length text) size → front ≡ take n text
     → front ++ drop n (replicate size 0) ≡ take size text ++ replicate (size - length text) 0
 padded size n text front count copied =

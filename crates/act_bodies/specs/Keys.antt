@@ -6,7 +6,7 @@ use Rattle.act_bodies.specs.declared.key.Key.{Key}
 abbrev pub kept_bytes : ℕ
 kept_bytes = 34
 
--- a text as a key: its first 34 bytes, and zeros behind a shorter one
+-- a text as a key: its first 34 bytes, and zeros after a shorter one
 abbrev pub key_of : List ℕ → Key
 key_of text =
     record {

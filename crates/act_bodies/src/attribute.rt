@@ -38,7 +38,7 @@ fn attribute_in(value: &Value) -> Option<Attribute>
 ///
 /// # Errors
 ///
-/// `Unread` where the body is anything else; `NoMemory` for want of memory.
+/// `Unread` where the body is anything else; `NoMemory` where memory was refused.
 #[tactic(auto, unfolding(crate::specs::Bodies::attribute_of))]
 pub fn read_attribute(alloc: Global, body: &[u8]) -> Result<Attribute, BodyFault>
     ensures read { IfOk result (λ attribute. attribute_of body.now ≡ Some attribute) }

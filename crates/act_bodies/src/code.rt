@@ -118,7 +118,7 @@ fn code_in(value: &Value) -> Option<Code>
 ///
 /// # Errors
 ///
-/// `Unread` where the body is anything else; `NoMemory` for want of memory.
+/// `Unread` where the body is anything else; `NoMemory` where memory was refused.
 #[tactic(auto, unfolding(crate::specs::Bodies::code_of))]
 pub fn read_code(alloc: Global, body: &[u8]) -> Result<Code, BodyFault>
     ensures read { IfOk result (λ code. code_of body.now ≡ Some code) }

@@ -91,7 +91,7 @@ fn tracklets_in(alloc: Global, value: &Value) -> Result<Ids, BodyFault>
 ///
 /// # Errors
 ///
-/// `Unread` where the body is anything else; `NoMemory` for want of memory.
+/// `Unread` where the body is anything else; `NoMemory` where memory was refused.
 #[tactic(auto, unfolding(crate::specs::Bodies::designate_of, crate::specs::Bodies::designate_in))]
 pub fn read_designate(alloc: Global, body: &[u8]) -> Result<Designate, BodyFault>
     ensures read { IfOk result (λ designate. designate_of body.now ≡ Some designate) }

@@ -110,7 +110,7 @@ fn enrol_in(alloc: Global, value: &Value) -> Result<Enrol, BodyFault>
 ///
 /// # Errors
 ///
-/// `Unread` where the body is anything else; `NoMemory` for want of memory.
+/// `Unread` where the body is anything else; `NoMemory` where memory was refused.
 #[tactic(auto, unfolding(crate::specs::Bodies::enrol_of))]
 pub fn read_enrol(alloc: Global, body: &[u8]) -> Result<Enrol, BodyFault>
     ensures read { IfOk result (λ enrol. enrol_of body.now ≡ Some enrol) }

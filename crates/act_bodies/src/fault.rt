@@ -5,6 +5,6 @@
 pub enum BodyFault {
     /// It isn't the body of such an act.
     Unread,
-    /// Want of memory.
+    /// Out of memory.
     NoMemory,
 }

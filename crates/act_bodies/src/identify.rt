@@ -42,7 +42,7 @@ fn identify_in(value: &Value) -> Option<Identify>
 ///
 /// # Errors
 ///
-/// `Unread` where the body is anything else; `NoMemory` for want of memory.
+/// `Unread` where the body is anything else; `NoMemory` where memory was refused.
 #[tactic(auto, unfolding(crate::specs::Bodies::identify_of))]
 pub fn read_identify(alloc: Global, body: &[u8]) -> Result<Identify, BodyFault>
     ensures read { IfOk result (λ identify. identify_of body.now ≡ Some identify) }

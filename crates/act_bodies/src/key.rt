@@ -9,7 +9,7 @@ ghost use Rattle.act_bodies.specs.Keys.{key_of, key_text, same_key};
 pub struct Key {
     /// How many bytes the text has, 0 to 34.
     pub len: u8,
-    /// The text, with zeros behind it.
+    /// The text, with zeros after it.
     pub bytes: [u8; 34],
 }
 

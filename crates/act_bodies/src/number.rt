@@ -39,7 +39,7 @@ fn number_in(value: &Value) -> Option<Number>
 ///
 /// # Errors
 ///
-/// `Unread` where the body is anything else; `NoMemory` for want of memory.
+/// `Unread` where the body is anything else; `NoMemory` where memory was refused.
 #[tactic(auto, unfolding(crate::specs::Bodies::number_of_body))]
 pub fn read_number(alloc: Global, body: &[u8]) -> Result<Number, BodyFault>
     ensures read { IfOk result (λ number. number_of_body body.now ≡ Some number) }

@@ -30,7 +30,7 @@ fn release_in(value: &Value) -> Option<Release>
 ///
 /// # Errors
 ///
-/// `Unread` where the body is anything else; `NoMemory` for want of memory.
+/// `Unread` where the body is anything else; `NoMemory` where memory was refused.
 #[tactic(auto, unfolding(crate::specs::Bodies::release_of))]
 pub fn read_release(alloc: Global, body: &[u8]) -> Result<Release, BodyFault>
     ensures read { IfOk result (λ release. release_of body.now ≡ Some release) }

@@ -30,7 +30,7 @@ fn retract_in(value: &Value) -> Option<Retract>
 ///
 /// # Errors
 ///
-/// `Unread` where the body is anything else; `NoMemory` for want of memory.
+/// `Unread` where the body is anything else; `NoMemory` where memory was refused.
 #[tactic(auto, unfolding(crate::specs::Bodies::retract_of))]
 pub fn read_retract(alloc: Global, body: &[u8]) -> Result<Retract, BodyFault>
     ensures read { IfOk result (λ retract. retract_of body.now ≡ Some retract) }

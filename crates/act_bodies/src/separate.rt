@@ -34,7 +34,7 @@ fn separate_in(value: &Value) -> Option<Separate>
 ///
 /// # Errors
 ///
-/// `Unread` where the body is anything else; `NoMemory` for want of memory.
+/// `Unread` where the body is anything else; `NoMemory` where memory was refused.
 #[tactic(auto, unfolding(crate::specs::Bodies::separate_of))]
 pub fn read_separate(alloc: Global, body: &[u8]) -> Result<Separate, BodyFault>
     ensures read { IfOk result (λ separate. separate_of body.now ≡ Some separate) }

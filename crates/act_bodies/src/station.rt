@@ -100,7 +100,7 @@ fn station_in(alloc: Global, value: &Value) -> Result<Station, BodyFault>
 ///
 /// # Errors
 ///
-/// `Unread` where the body is anything else; `NoMemory` for want of memory.
+/// `Unread` where the body is anything else; `NoMemory` where memory was refused.
 #[tactic(auto, unfolding(crate::specs::Bodies::station_of))]
 pub fn read_station(alloc: Global, body: &[u8]) -> Result<Station, BodyFault>
     ensures read { IfOk result (λ station. station_of body.now ≡ Some station) }

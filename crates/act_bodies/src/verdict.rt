@@ -47,7 +47,7 @@ fn verdict_in(value: &Value) -> Option<Verdict>
 ///
 /// # Errors
 ///
-/// `Unread` where the body is anything else; `NoMemory` for want of memory.
+/// `Unread` where the body is anything else; `NoMemory` where memory was refused.
 #[tactic(auto, unfolding(crate::specs::Bodies::verdict_of))]
 pub fn read_verdict(alloc: Global, body: &[u8]) -> Result<Verdict, BodyFault>
     ensures read { IfOk result (λ verdict. verdict_of body.now ≡ Some verdict) }

@@ -181,7 +181,7 @@ module _ (founder : Key) (limit : Option ℕ) where
   answer_steps past q t reply next had (inl is) = is
   answer_steps past q t reply next had (inr (wants, same)) = absurd (had wants)
 
-  -- an answer that is a refusal leaves the history, so that want of memory may stand in its place
+  -- an answer that is a refusal leaves the history, so that out of memory may stand in its place
   pub answer_wanting : (past : List Entry) (q : Request) (t : ℤ) (r : Refusal) (next : List Entry) → Answers founder limit past q t (Refused r) next → Answers founder limit past q t (Refused NoMemory) next
   answer_wanting past q t r next (inl is) = inr (refl, refusal_leaves past q t r next is)
   answer_wanting past q t r next (inr (wants, same)) = inr (refl, same)

@@ -212,7 +212,7 @@ numbered_is a c b n is = grind (arith, nat_tests)
 numbered_itself : (e : Entry) → is_numbered e.caller e.number e ≡ true
 numbered_itself e = grind (arith, nat_tests)
 
--- an entry that stands for a number still does behind one with another number
+-- an entry that stands for a number still does after one with another number
 kept_behind : (e : Entry) (past : List Entry) (caller number : ℕ) (k : Kept) → IsUnused past e → kept past caller number ≡ Some k → kept (e ∷ past) caller number ≡ Some k
 kept_behind e past caller number k unused found = by (is_numbered caller number e) refl
   where

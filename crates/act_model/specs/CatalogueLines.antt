@@ -47,7 +47,7 @@ own_name (tracks.Designation d) = []
 abbrev pub track_front : TrackName → Front
 track_front name = record { number = None; name = in_seven (own_name name); star = false }
 
--- the line of an observation behind these columns; none for an observation that isn't there
+-- the line of an observation after these columns; none for an observation that isn't there
 abbrev pub written_line : List CodeRow → Front → Option Sighting → List ℕ
 written_line codes front None = []
 written_line codes front (Some s) = line_of (line_text s front (letters_for codes s))

@@ -110,7 +110,7 @@ pub fn a_refusal_only_mends()
         Mends before.settled before.doubt after.settled }
 {}
 
-/// A clock that gave some readings and then others gave them all, one behind the other.
+/// A clock that gave some readings and then others gave them all, one after the other.
 pub fn readings_go_on()
     ensures { (before between after : ClockState) (readings more : List ℤ) →
         Gives before between readings → Gives between after more → Gives before after (readings ++ more) }

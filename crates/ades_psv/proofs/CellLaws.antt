@@ -23,7 +23,7 @@ pub length-cells : (line : List ℕ) → length (cells line) ≡ count_by (λ b.
 unfolding cells
 length-cells line = length-map (pieces line) trimmed ∙ length-slice_split (λ b. eqb b 124) line
 
--- behind the first cell, places count from the next one
+-- after the first cell, places count from the next one
 pub past_cell : (cs more : List (List ℕ)) (cell : List ℕ) (k n : ℕ) → cs ≡ cell ∷ more → k < n → slice_get cs (n - k) ≡ slice_get more (n - (k + 1))
 past_cell cs more cell k n is lt =
     let next : n - k ≡ suc (n - (k + 1)) = omega arith in

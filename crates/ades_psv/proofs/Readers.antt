@@ -146,7 +146,7 @@ text_room laws text more room =
 
 -- ---- any pieces
 
--- what is reached behind two texts
+-- what is reached after two texts
 reached_again : (data_lines : List DataLine) (complete more : List (List ℕ)) (rest left : List ℕ) (r : Said) → rest ≡ left → (place : Place) (old : List ℕ)
     → (r >>= reached (record { place = place; count = 0 + length complete; found = [] ++ map read_of data_lines; rest = old }) more rest)
     ≡ ((r >>= behind data_lines) >>= reached (record { place = Opening; count = 0; found = []; rest = [] }) (complete ++ more) left)
@@ -224,7 +224,7 @@ the_fault text fault fails = rw (told text fault fails) refl
 fed_on_text : (laws : LineLaws) (text piece : List ℕ) (before after : Fed) → after ≡ fed before piece → before ≡ fed unfed text → after ≡ fed unfed (text ++ piece)
 fed_on_text laws text piece before after new is = new ∙ ap (λ (f : Fed). fed f piece) is ∙ fed_text laws text piece
 
--- a piece behind a text, where all is well
+-- a piece after a text, where all is well
 pub feeds_text : (laws : LineLaws) (text piece : List ℕ) (before after : Fed) (result : Result (Unit {0}) PsvFault) → Feeds before piece after result → before ≡ fed unfed text
     → OnOk result ((after ≡ fed unfed (text ++ piece)) × (complete_fault (text ++ piece) ≡ None))
 feeds_text laws text piece before after (Ok x) feeds is =

@@ -1,4 +1,4 @@
--- What lines say behind lines.
+-- What lines say after lines.
 use Rattle.std.proofs.Common.{◌≡◌, ℕ, ◌+◌, List, [], ◌∷◌, ◌++◌, length, Ok, Err, refl, sym, ap, ◌∙◌, arith}
 use Rattle.std.specs.List.{enumerate_from}
 use Rattle.ades_psv.specs.declared.header.Place.{Place}
@@ -34,7 +34,7 @@ on_lines number text first go (Data columns) all is =
     ap (λ (r : Said). r >>= before (record { columns = columns; number = number; text = text })) (is (Listing columns)) ∙ bind_before (record { columns = columns; number = number; text = text }) (first (Listing columns)) go
 on_lines number text first go (Fault fault) all is = refl
 
--- lines behind lines
+-- lines after lines
 pub said-append : (place : Place) (xs ys : List (ℕ × List ℕ)) → said_from place (xs ++ ys) ≡ (said_from place xs >>= λ end. said_from end.0 ys >>= behind end.1)
 unfolding said_from
 said-append place [] ys = sym (bind_none (said_from place ys))

@@ -190,7 +190,7 @@ new_columns : (line : ℕ × List ℕ) (more : List (ℕ × List ℕ)) (known : 
 new_columns line more known d names columns (inl is) = inl (deeper line more d is)
 new_columns line more known d names columns (inr is) = inr (headed line more known d names columns is)
 
--- behind a blank line
+-- after a blank line
 blank_on : (place : Place) (line : ℕ × List ℕ) (more : List (ℕ × List ℕ)) (d : DataLine) → are_blanks line.1 ≡ true → Stands place more d → Stands place (line ∷ more) d
 blank_on Opening line more d blank is = deeper line more d is
 blank_on Header line more d blank is = more_header line more d (rw blank refl) is
@@ -209,7 +209,7 @@ header_next line more d (Err fault) next names e on is = absurd cc
 same_place : (place next : Place) (more : List (ℕ × List ℕ)) (d : DataLine) → On place ≡ On next → Stands next more d → Stands place more d
 same_place place next more d on is = subst (λ (p : Place). Stands p more d) (let same : next ≡ place = cc in same) is
 
--- behind another line that leads on
+-- after another line that leads on
 filled_on : (place next : Place) (line : ℕ × List ℕ) (more : List (ℕ × List ℕ)) (d : DataLine) (version group element : Bool) → are_blanks line.1 ≡ false → is_version line.1 ≡ version → is_group line.1 ≡ group → is_element line.1 ≡ element
     → filled_step place line.1 ≡ On next → Stands next more d → Stands place (line ∷ more) d
 unfolding filled_step

@@ -88,7 +88,7 @@ pub map_join : {A B : Type 0} (f : A → B) (xs ys : List A) → map f (xs ++ ys
 map_join f [] ys = refl
 map_join f (x ∷ xs) ys = ap (λ (zs : List _). f x ∷ zs) (map_join f xs ys)
 
--- what lines say behind lines that were read
+-- what lines say after lines that were read
 pub said_further : (before middle : Reached) (xs ys : List (List ℕ)) (read : HasRead before xs middle) → said_behind before (xs ++ ys) ≡ (said_behind middle ys >>= behind read.data_lines)
 said_further before middle xs ys read =
     let number : before.count + 1 + length xs ≡ middle.count + 1 = omega (arith, read.count) in
@@ -106,7 +106,7 @@ reads_further before middle after xs ys first second = record {
       ∙ ap (λ (ls : List Line). before.found ++ ls) (sym (map_join read_of first.data_lines second.data_lines));
 }
 
--- a fault behind lines that were read
+-- a fault after lines that were read
 pub fails_further : (before middle : Reached) (xs ys : List (List ℕ)) (fault : PsvFault) → HasRead before xs middle → Fails middle ys fault → Fails before (xs ++ ys) fault
 fails_further before middle xs ys (faults.Header fault line) first fails =
     said_further before middle xs ys first ∙ ap (λ (r : Said). r >>= behind first.data_lines) fails

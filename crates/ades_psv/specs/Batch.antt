@@ -24,15 +24,15 @@ pub record DataLine : Type 0 where
   pub number : ℕ
   pub text : List ℕ
 
--- what lines say: the place behind them, and the data lines among them; or the first fault in them, with its line
+-- what lines say: the place after them, and the data lines among them; or the first fault in them, with its line
 abbrev pub Said : Type 0
 Said = Result (Place × List DataLine) (HeaderFault × ℕ)
 
--- a data line stands before those behind it
+-- a data line stands before those after it
 abbrev pub before : DataLine → Place × List DataLine → Said
 before line end = Ok (end.0, line ∷ end.1)
 
--- what a line of this number says, and those behind it, by what the line is
+-- what a line of this number says, and those after it, by what the line is
 abbrev pub said_on : ℕ → List ℕ → (Place → Said) → Step → Said
 said_on number text behind (On next) = behind next
 said_on number text behind (Data columns) =

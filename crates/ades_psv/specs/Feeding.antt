@@ -21,7 +21,7 @@ pub record Progress : Type 0 where
   pub count : ℕ
   -- the data lines among them, with their readings
   pub found : List Line
-  -- the unfinished line: what stands behind the last line feed
+  -- the unfinished line: what stands after the last line feed
   pub rest : List ℕ
 
 -- what a reader has come to: how far the batch was read, or the first fault of its headers, with its line
@@ -32,7 +32,7 @@ Fed = Result Progress (HeaderFault × ℕ)
 abbrev pub unfed : Fed
 unfed = Ok (record { place = Opening; count = 0; found = []; rest = [] })
 
--- what is reached behind these lines, which end those that were complete so far, and this rest
+-- what is reached after these lines, which end those that were complete so far, and this rest
 abbrev pub reached : Progress → List (List ℕ) → List ℕ → Place × List DataLine → Fed
 reached progress complete rest end = Ok (record {
   place = end.0;
@@ -83,7 +83,7 @@ fault_in (Err fault) = Some fault
 unfoldable pub complete_fault : List ℕ → Option (HeaderFault × ℕ)
 complete_fault text = fault_in (said_from Opening (enumerate_from 1 (complete_lines text)))
 
--- what a reader does with a piece: all is well so far, or the first fault is told; or memory was wanting, and nothing
+-- what a reader does with a piece: all is well so far, or the first fault is told; or memory was refused, and nothing
 -- was fed
 abbrev pub Feeds : Fed → List ℕ → Fed → Result (Unit {0}) PsvFault → Type 0
 Feeds before piece after (Ok _) = (after ≡ fed before piece) × IsOk after

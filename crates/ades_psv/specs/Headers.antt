@@ -18,7 +18,7 @@ number_sign = 35
 abbrev pub exclamation_mark : ℕ
 exclamation_mark = 33
 
--- the line of the format's version: `#` and `version=2017`, with any number of blanks before and behind the latter
+-- the line of the format's version: `#` and `version=2017`, with any number of blanks before and after the latter
 unfoldable pub is_version : List ℕ → Bool
 is_version line = begins_with number_sign line && is_word (codes "version=2017") (trimmed (drop 1 line))
 

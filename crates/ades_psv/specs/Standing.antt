@@ -10,7 +10,7 @@ abbrev pub is_passed : List ℕ → Bool
 is_passed line = are_blanks line || (is_group line || is_element line)
 
 -- Among these lines the data line stands below a column header, the nearest one above it, which breaks no rule: its
--- columns are those of the data line. A column header is the first line that isn't passed over behind one that opens a
+-- columns are those of the data line. A column header is the first line that isn't passed over after one that opens a
 -- group.
 pub record StandsBelow (numbered : List (ℕ × List ℕ)) (data_line : DataLine) : Type 0 where
   pub above : List (ℕ × List ℕ)

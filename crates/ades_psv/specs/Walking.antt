@@ -6,11 +6,11 @@ use Rattle.ades_psv.specs.declared.fault.PsvFault.TheVariants as faults
 use Rattle.ades_psv.specs.declared.walking.Reached.{Reached}
 use Rattle.ades_psv.specs.Batch.{DataLine, Said, said_from, read_of}
 
--- what lines say behind those that were read
+-- what lines say after those that were read
 abbrev pub said_behind : Reached → List (List ℕ) → Said
 said_behind reached lines = said_from reached.place (enumerate_from (reached.count + 1) lines)
 
--- the lines have no fault, and their data lines with their readings stand behind those that were found before
+-- the lines have no fault, and their data lines with their readings stand after those that were found before
 pub record HasRead (before : Reached) (lines : List (List ℕ)) (after : Reached) : Type 0 where
   pub data_lines : List DataLine
   pub said : said_behind before lines ≡ Ok (after.place, data_lines)

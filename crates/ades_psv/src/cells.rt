@@ -8,7 +8,7 @@ ghost use Rattle.ades_psv.specs.Columns.{place_of};
 
 use ascii_text::blanks::trimmed;
 
-/// What stands before the first bar of a text, and what stands behind it; the whole text where there is none. Cells are
+/// What stands before the first bar of a text, and what stands after it; the whole text where there is none. Cells are
 /// short, and a plain loop finds their end sooner than a search that is made for long texts.
 fn cut_at_bar(text: &[u8]) -> (&[u8], Option<&[u8]>)
     ensures parts { IfSome result.1 (λ behind. text.now ≡ result.0.now ++ 124 ∷ behind.now) }
@@ -25,7 +25,7 @@ fn cut_at_bar(text: &[u8]) -> (&[u8], Option<&[u8]>)
     }
 }
 
-/// The first cell of a line, and the line behind its bar, if a bar stands there.
+/// The first cell of a line, and the line after its bar, if a bar stands there.
 pub(crate) fn first_cell(line: &[u8]) -> (&[u8], Option<&[u8]>)
     ensures more { IfSome result.1 (λ behind. cells line.now ≡ result.0.now ∷ cells behind.now) }
     ensures last { IfNone result.1 (cells line.now ≡ result.0.now ∷ []) }

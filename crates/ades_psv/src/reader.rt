@@ -29,7 +29,7 @@ use text_lines::pieces::line_end;
 pub struct PsvReader {
     alloc: Global,
     reached: Reached,
-    /// What stands behind the last line feed.
+    /// What stands after the last line feed.
     rest: Bytes,
     /// The fault that was told.
     told: Option<(HeaderFault, u32)>,
@@ -48,9 +48,9 @@ impl Model for PsvReader {
     ghost invariant = { λ r. r.told ≡ None → IsUnderWay r.reached r.rest };
 }
 
-/// Reads the lines that a piece ends, the first of which begins in the rest; what stands behind the last line feed is
+/// Reads the lines that a piece ends, the first of which begins in the rest; what stands after the last line feed is
 /// the rest from then on. Takes memory. After a fault the rest and what was found are those before with something
-/// behind.
+/// after.
 fn read_piece(
     alloc: Global,
     reached: &mut Reached,
@@ -154,14 +154,14 @@ impl PsvReader {
         requires { HasRoom self.old (length piece.now) }
         ensures exact { Feeds self.old piece.now self.new result }
         ensures room { OnOk result ((more : ℕ) → HasRoom self.old (length piece.now + more) → HasRoom self.new more) }
-        // The piece stands behind the text that came before, and no complete line breaks a rule of headers.
+        // The piece stands after the text that came before, and no complete line breaks a rule of headers.
         ensures ok { (text : List ℕ) → self.old ≡ fed unfed text
             → OnOk result ((self.new ≡ fed unfed (text ++ piece.now)) × (complete_fault (text ++ piece.now) ≡ None)) }
         // Header only where the complete lines of the text have a fault, and it is their first one.
         ensures header { (text : List ℕ) (fault : HeaderFault) (line : ℕ) → self.old ≡ fed unfed text
             → result ≡ Err (faults.Header fault line)
             → (self.new ≡ fed unfed (text ++ piece.now)) × (complete_fault (text ++ piece.now) ≡ Some (fault, line)) }
-        // Once a fault was told, it is told again, and memory isn't wanting.
+        // A fault that was told is told again, and no memory is taken for it.
         ensures stays { IfErr self.old (λ fault. (result ≡ Err (faults.Header fault.0 fault.1))
             × (self.new ≡ self.old)) }
         ensures no_memory { result ≡ Err faults.NoMemory → self.new ≡ self.old }
@@ -217,7 +217,7 @@ impl PsvReader {
 /// The data lines of a whole batch, each with its number and what it says; or the first fault of its headers.
 ///
 /// The batch is cut into lines at line feeds; a carriage return before a line feed belongs to it, and what stands
-/// behind the last line feed is a line where it isn't empty. Lines count from 1, all of them. Lines of blanks alone are
+/// after the last line feed is a line where it isn't empty. Lines count from 1, all of them. Lines of blanks alone are
 /// passed over. The first other line is `# version=2017`; the lines of headers begin with `#` or `!`; the first line
 /// below them is the column header, and data lines follow, up to the next line that begins with `#`. The batch has
 /// fewer than 4,294,967,295 bytes. Takes memory.

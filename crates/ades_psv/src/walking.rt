@@ -53,7 +53,7 @@ impl Reached {
         Ok(())
     }
 
-    /// Reads the lines of a text that line feeds end; what stands behind the last line feed is left. Takes memory.
+    /// Reads the lines of a text that line feeds end; what stands after the last line feed is left. Takes memory.
     pub(crate) fn read_complete<'a>(
         &mut self,
         alloc: Global,

@@ -13,7 +13,7 @@ use Rattle.angle_fixed.specs.Writing.{nearest, is_negative}
 use Rattle.angle_fixed.proofs.Written.{nat_abs-signed}
 use Rattle.ascii_text.specs.Laws.{TextLaws}
 
--- ---- the text behind which blanks are taken away
+-- ---- the text after which blanks are taken away
 
 -- the text ends in a digit
 record EndsInDigit (text : List ℕ) : Type 0 where
@@ -132,7 +132,7 @@ dec_text_of minus p units rest spelled wide is sign =
 module _ (texts : TextLaws) where
   open texts use {length-digits_text, length-decimals_text, trimmed_end-blanks, trimmed_end-other}
 
-  -- blanks behind a text that ends in a digit are taken away
+  -- blanks after a text that ends in a digit are taken away
   trimmed_end-digit : (n : ℕ) (text : List ℕ) → EndsInDigit text → trimmed_end (text ++ blanks n) ≡ text
   trimmed_end-digit n text is =
       trimmed_end-blanks text n ∙ ap trimmed_end is.text_is ∙ trimmed_end-other is.front (48 + is.digit) (λ e. omega (arith, e)) ∙ sym is.text_is

@@ -11,7 +11,7 @@ use Rattle.angle_fixed.specs.Angles.{Parts, IsSpelled, IsSpelledSigned, sign_byt
 use Rattle.angle_fixed.specs.Reading.{parts_at, sign_at, signed_parts_at}
 use Rattle.ascii_text.specs.Laws.{TextLaws}
 
--- the steps behind each number
+-- the steps after each number
 abbrev made : ℕ → ℕ → ℕ → ℕ × ℕ → Parts
 made whole minute second decimals = record { whole = whole; minute = minute; second = second; count = decimals.0; value = decimals.1 }
 

@@ -122,7 +122,7 @@ module _ (texts : TextLaws) where
   length-spelling p space =
       omega (arith, length-append {A = ℕ}, length-digits_text Ten 2 p.whole, length-digits_text Ten 2 p.minute, length-digits_text Ten 2 p.second, length-decimals_text p.count p.value, length-blanks space)
 
-  -- what is spelled has as many blanks behind it as twelve bytes leave
+  -- what is spelled has as many blanks after it as twelve bytes leave
   rest_of_twelve : (p : Parts) (space front : ℕ) (text : List ℕ) → text ≡ spelling p space → length text + front ≡ 12 → space ≡ 4 - front - decimals_width p.count
   rest_of_twelve p space front text is wide = omega (arith, length-spelling p space, ap length is)
 

@@ -45,7 +45,7 @@ pub record Parts : Type 0 where
   pub count : ℕ
   pub value : ℕ
 
--- the text of parts, with this many blanks behind
+-- the text of parts, with this many blanks after
 unfoldable pub spelling : Parts → ℕ → List ℕ
 spelling p space =
     digits_text Ten 2 p.whole ++ (32 ∷ (digits_text Ten 2 p.minute
@@ -66,7 +66,7 @@ abbrev pub sign_byte : Bool → ℕ
 sign_byte false = 43
 sign_byte true = 45
 
--- the same behind a sign; the first of the pair says whether it is a minus
+-- the same after a sign; the first of the pair says whether it is a minus
 abbrev pub IsSpelledSigned : Bool × Parts → List ℕ → Type 0
 IsSpelledSigned p text = (rest : List ℕ) × (text ≡ sign_byte p.0 ∷ rest) × IsSpelled p.1 rest
 

@@ -25,7 +25,7 @@ ReadsTime text (Err Spelling) = (p : Parts) → IsSpelled p text → ⊥
 ReadsTime text (Err Decimals) = (p : Parts) × IsSpelled p text × (3 < p.count)
 ReadsTime text (Err Range) = (p : Parts) × IsSpelled p text × (p.count ≤ 3) × (IsOnClock p → ⊥)
 
--- A declination is what the text spells behind its sign, where it has at most two decimals and is at most 90 degrees:
+-- A declination is what the text spells after its sign, where it has at most two decimals and is at most 90 degrees:
 -- its units with the sign, how many decimals there are, and whether the sign is a minus. The faults are as above.
 abbrev pub ReadsArc : List ℕ → Result (ℤ × ℕ × Bool) AngleFault → Type 0
 ReadsArc text (Ok x) = (p : Bool × Parts) × IsSpelledSigned p text × (p.1.count ≤ 2) × IsWithinQuarter p.1

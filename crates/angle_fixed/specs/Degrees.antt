@@ -11,7 +11,7 @@ use Rattle.angle_fixed.specs.declared.fault.AngleFault.TheVariants.{Spelling, Ra
 use Rattle.angle_fixed.specs.Angles.{circle, degree, quarter, sign_byte, signed}
 use Rattle.angle_fixed.specs.Writing.{nearest, is_negative}
 
--- the text is a decimal number behind a sign, where the first of the pair says whether it is a minus; or without a
+-- the text is a decimal number after a sign, where the first of the pair says whether it is a minus; or without a
 -- sign, which is no minus
 abbrev pub IsSpelledSignedDegrees : ℕ → Bool × NumberParts → List ℕ → Type 0
 IsSpelledSignedDegrees most p text =
@@ -24,7 +24,7 @@ degree_units p = p.whole * degree + p.value * (degree / 10 ^ p.count)
 
 -- ---- reading
 
--- whether a minus stands at the front, and the text behind the sign; the sign may be left out
+-- whether a minus stands at the front, and the text after the sign; the sign may be left out
 unfoldable pub past_sign : List ℕ → Bool × List ℕ
 past_sign [] = (false, [])
 past_sign (byte ∷ text) = if byte == 43 then (false, text)

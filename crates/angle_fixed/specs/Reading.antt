@@ -27,7 +27,7 @@ parts_at text = do
       })
       else None
 
--- whether a sign is a minus, and the text behind it
+-- whether a sign is a minus, and the text after it
 unfoldable pub sign_at : List ℕ → Option (Bool × List ℕ)
 sign_at [] = None
 sign_at (byte ∷ text) = if byte == 43 then Some (false, text) else (if byte == 45 then Some (true, text) else None)

@@ -5,7 +5,7 @@ use Rattle.ascii_text.specs.DecimalNumbers.{NumberParts}
 use Rattle.angle_fixed.specs.declared.fault.AngleFault.{AngleFault}
 use Rattle.angle_fixed.specs.declared.fault.AngleFault.TheVariants.{Spelling, Decimals}
 
--- up to three digits stand before the point, and up to twelve decimals behind it
+-- up to three digits stand before the point, and up to twelve decimals after it
 pub record IsBoundedDegrees (d : DecimalNumber) : Type 0 where
   pub digits : d.digits ≤ 3
   pub whole : d.whole < 10 ^ d.digits
@@ -19,7 +19,7 @@ found_answer judge None = Err Spelling
 found_answer judge (Some None) = Err Decimals
 found_answer judge (Some (Some p)) = judge p
 
--- the digits hold the number before the point, and twelve decimals stand behind it
+-- the digits hold the number before the point, and twelve decimals stand after it
 pub record IsPlaced (d : DecimalNumber) : Type 0 where
   pub digits : d.digits ≤ 3
   pub whole : d.whole < 10 ^ d.digits

@@ -9,7 +9,7 @@ use Rattle.ascii_text.specs.Reading.{◌>>=◌, digit_at, digit_value, more_digi
 use Rattle.ascii_text.proofs.NumberTexts.{run_past}
 use Rattle.std.proofs.lemmas.List.{drop-drop}
 
--- a digit at the front: it is one more of the run, and what follows stands behind it
+-- a digit at the front: it is one more of the run, and what follows stands after it
 pub record OneMore (text after : List ℕ) : Type 0 where
   pub run : digit_run text ≡ 1 + digit_run after
   pub rest : after ≡ drop 1 text
@@ -75,7 +75,7 @@ run_end rest count most all short = elim (cases_lt count 18) [
   | inr full ↦ omega (arith, run_within_text rest)
 ]
 
--- the digits behind those that were read are passed over
+-- the digits after those that were read are passed over
 pub past_all : (most count more : ℕ) (text rest back : List ℕ) → count ≤ most → (count < most → digit_run rest ≡ 0) → digit_run text ≡ count + digit_run rest → rest ≡ drop count text
     → more ≡ digit_run rest → back ≡ drop more rest → 0 < more → Some (None, back) ≡ run_within most text
 past_all most count more text rest back within all run rest_is more_is back_is some =

@@ -65,7 +65,7 @@ more_digits-digits_text radix (suc count) value n rest below =
     rw (digit_at-cons radix (n / base radix ^ count) (digits_text radix count (n % base radix ^ count) ++ rest) first)
     (more_digits-digits_text radix count (value * base radix + n / base radix ^ count) (n % base radix ^ count) rest others ∙ ap (λ (v : ℕ). Some (v, rest)) same)
 
--- what digits behind others spell
+-- what digits after others spell
 record Spelled (radix : Radix) (value count : ℕ) (text : List ℕ) (x : ℕ × List ℕ) (n : ℕ) : Type 0 where
   pub below : n < base radix ^ count
   pub whole : x.0 ≡ value * base radix ^ count + n

@@ -56,7 +56,7 @@ digit_run-all (byte ∷ digits) rest all =
     let parts = tells_digits.parts byte digits all in
     digit_run-cons byte (digits ++ rest) parts.0 ∙ ap suc (digit_run-all digits rest parts.1) ∙ omega arith
 
--- how a run of digits is read: each digit behind the others
+-- how a run of digits is read: each digit after the others
 abbrev pub run_value : ℕ → List ℕ → ℕ
 run_value n [] = n
 run_value n (byte ∷ text) = run_value (n * 10 + (byte - 48)) text

@@ -23,7 +23,7 @@ digits_text radix zero n = []
 digits_text radix (suc count) n =
     digit_byte radix (n / base radix ^ count) ∷ digits_text radix count (n % base radix ^ count)
 
--- decimals behind a number: nothing where there are none, else a point and the digits
+-- decimals after a number: nothing where there are none, else a point and the digits
 unfoldable pub decimals_text : ℕ → ℕ → List ℕ
 decimals_text zero value = []
 decimals_text (suc count) value = 46 ∷ digits_text Ten (suc count) value

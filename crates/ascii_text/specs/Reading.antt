@@ -1,4 +1,4 @@
--- Reading from the front of a text: a reader gives a value and the text behind it, or nothing.
+-- Reading from the front of a text: a reader gives a value and the text after it, or nothing.
 use Rattle.std.specs.Prelude.{◌≡◌, refl, ℕ, zero, suc, ◌+◌, ◌-◌, ◌*◌, nat_lt, nat_le, ◌==◌, ◌&&◌, ◌||◌, if◌then◌else◌}
 use Rattle.std.specs.Prelude.{slice_index, List, [], ◌∷◌, Option, Some, None}
 use Rattle.std.specs.Char.{is_ascii_digit}
@@ -39,7 +39,7 @@ digit_at radix (byte ∷ text) = do
   digit ← digit_value radix byte
   Some (digit, text)
 
--- this many digits more, behind those that the value was read from
+-- this many digits more, after those that the value was read from
 unfoldable pub more_digits : Radix → ℕ → ℕ → List ℕ → Option (ℕ × List ℕ)
 more_digits radix value zero text = Some (value, text)
 more_digits radix value (suc count) text = do
@@ -50,7 +50,7 @@ more_digits radix value (suc count) text = do
 unfoldable pub digits_at : Radix → ℕ → List ℕ → Option (ℕ × List ℕ)
 digits_at radix count text = more_digits radix 0 count text
 
--- the text behind this byte
+-- the text after this byte
 unfoldable pub behind : ℕ → List ℕ → Option (List ℕ)
 behind byte [] = None
 behind byte (first ∷ text) = if first == byte then Some text else None
@@ -65,7 +65,7 @@ run_at text =
     if digit_run text == 0 then None
     else (digits_at Ten (digit_run text) text >>= λ digits. Some ((digit_run text, digits.0), digits.1))
 
--- the decimals of a number, as the number of them and their value: none without a point; behind a point
+-- the decimals of a number, as the number of them and their value: none without a point; after a point
 -- stands at least one
 unfoldable pub decimals_at : List ℕ → Option ((ℕ × ℕ) × List ℕ)
 decimals_at text = if slice_index text 0 == 46 then (behind 46 text >>= run_at) else Some ((0, 0), text)

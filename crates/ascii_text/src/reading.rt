@@ -1,4 +1,4 @@
-//! Reading from the front of a text: a value, and the text behind it.
+//! Reading from the front of a text: a value, and the text after it.
 
 ghost use Rattle.std.specs.Prelude.{◌≡◌, ◌+◌, ◌^◌, ◌<◌, ◌≤◌, length, drop, Some, IfSome, option_map};
 ghost use Rattle.ascii_text.specs.Digits.{base};
@@ -8,7 +8,7 @@ ghost use Rattle.ascii_text.specs.Reading.{decimals_at, number_at};
 
 use crate::digits::{Radix, base_of, digit_of};
 
-/// One digit, and the text behind it.
+/// One digit, and the text after it.
 #[tactic(auto, unfolding(crate::specs::Reading::digit_at))]
 fn digit_front(radix: Radix, text: &[u8]) -> Option<(u64, &[u8])>
     ensures exact { option_map (λ x. (x.0, x.1.now)) result ≡ digit_at radix text.now }
@@ -24,7 +24,7 @@ fn digit_front(radix: Radix, text: &[u8]) -> Option<(u64, &[u8])>
     }
 }
 
-/// The number that the first `count` bytes spell as digits of the radix, and the text behind them; `None` where fewer
+/// The number that the first `count` bytes spell as digits of the radix, and the text after them; `None` where fewer
 /// bytes stand there, or one of them is no digit. The radix to the power of `count` is at most 2^63: at most 18 digits
 /// of the radix ten.
 pub fn digits_at(radix: Radix, count: usize, text: &[u8]) -> Option<(u64, &[u8])>
@@ -43,7 +43,7 @@ pub fn digits_at(radix: Radix, count: usize, text: &[u8]) -> Option<(u64, &[u8])
     Some((value, rest))
 }
 
-/// The text behind this byte; `None` where another byte or nothing stands at the front.
+/// The text after this byte; `None` where another byte or nothing stands at the front.
 #[tactic(auto, unfolding(crate::specs::Reading::behind))]
 pub fn behind(byte: u8, text: &[u8]) -> Option<&[u8]>
     ensures exact { option_map (λ x. x.now) result ≡ behind byte text.now }
@@ -73,7 +73,7 @@ pub struct Decimals {
     pub value: u64,
 }
 
-/// The decimal digits at the front of a text, at most so many of them, and the text behind them. Each byte is looked at
+/// The decimal digits at the front of a text, at most so many of them, and the text after them. Each byte is looked at
 /// once.
 pub(crate) fn digits_front(most: usize, text: &[u8]) -> (Decimals, &[u8])
     requires { most ≤ 18 }
@@ -98,7 +98,7 @@ pub(crate) fn digits_front(most: usize, text: &[u8]) -> (Decimals, &[u8])
     (Decimals { count: most, value }, rest)
 }
 
-/// All the decimal digits at the front, and the text behind them; `None` where none stands there.
+/// All the decimal digits at the front, and the text after them; `None` where none stands there.
 #[tactic(auto, unfolding(crate::specs::Reading::run_at))]
 fn run_front(text: &[u8]) -> Option<(Decimals, &[u8])>
     requires { length text.now ≤ 18 }
@@ -114,8 +114,8 @@ fn run_front(text: &[u8]) -> Option<(Decimals, &[u8])>
     Some((digits, rest))
 }
 
-/// The decimals at the front, behind a point, and the text behind them; no decimals where no point stands there, and
-/// `None` where a point stands with no digit behind it. The text has at most 18 bytes.
+/// The decimals at the front, after a point, and the text after them; no decimals where no point stands there, and
+/// `None` where a point stands with no digit after it. The text has at most 18 bytes.
 #[tactic(auto, unfolding(crate::specs::Reading::decimals_at))]
 pub fn decimals_at(text: &[u8]) -> Option<(Decimals, &[u8])>
     requires { length text.now ≤ 18 }
@@ -129,7 +129,7 @@ pub fn decimals_at(text: &[u8]) -> Option<(Decimals, &[u8])>
     run_front(behind(b'.', text)?)
 }
 
-// All the decimal digits at the front, and the text behind them.
+// All the decimal digits at the front, and the text after them.
 #[tactic(auto, unfolding(crate::specs::Reading::run_at))]
 fn run_within(most: usize, text: &[u8]) -> Option<(Option<Decimals>, &[u8])>
     requires { most ≤ 18 }
@@ -149,7 +149,7 @@ fn run_within(most: usize, text: &[u8]) -> Option<(Option<Decimals>, &[u8])>
     Some((Some(digits), rest))
 }
 
-/// The decimals at the front of a text of any length, and the text behind them, as `decimals_at` reads them; `None` in
+/// The decimals at the front of a text of any length, and the text after them, as `decimals_at` reads them; `None` in
 /// their place where they are more than `most`, which is at most 18.
 #[tactic(auto, unfolding(crate::specs::Reading::decimals_at, crate::specs::Reading::decimals_within))]
 pub fn decimals_within(most: usize, text: &[u8]) -> Option<(Option<Decimals>, &[u8])>
@@ -165,7 +165,7 @@ pub fn decimals_within(most: usize, text: &[u8]) -> Option<(Option<Decimals>, &[
     Some((Some(Decimals { count: 0, value: 0 }), text))
 }
 
-/// The number at the front, without leading zeros, and the text behind it: all the decimal digits that stand there.
+/// The number at the front, without leading zeros, and the text after it: all the decimal digits that stand there.
 /// `None` where none stands there, where they are more than `most`, or where a zero leads others. `most` is at most 18.
 #[tactic(auto, unfolding(crate::specs::Reading::number_at))]
 pub fn number_at(most: usize, text: &[u8]) -> Option<(u64, &[u8])>

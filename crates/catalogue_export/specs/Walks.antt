@@ -13,7 +13,7 @@ use Rattle.catalogue_export.specs.declared.walk.Walk.{Walk}
 use Rattle.catalogue_export.specs.Pieces.{Piece, Front, ObjectName, ObjectLine, TrackLine, End, piece_text}
 use Rattle.catalogue_export.specs.Pieces.{object_pieces, track_pieces}
 
--- what comes behind the tracklet with this number
+-- what comes after the tracklet with this number
 abbrev pub tracks_after : List Deed → ℕ → List Piece
 tracks_after past t = flat_map (track_pieces past) (drop t (numbers_to (length (holdings past).tracklets))) ++ End ∷ []
 

@@ -117,7 +117,7 @@ fn object_front<V: Shelf>(shelf: &V, p: Designation, k: u64) -> Front
     }
 }
 
-/// The line of an observation behind these columns. Nothing for an observation that isn't there.
+/// The line of an observation after these columns. Nothing for an observation that isn't there.
 fn line_behind<V: Shelf>(alloc: Global, shelf: &V, front: Front, k: u64) -> Result<Bytes, NoMemory>
     requires number { IfSome front.number (λ n. IsNumber n.0) }
     requires name { All IsPrintable front.name }

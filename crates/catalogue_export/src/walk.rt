@@ -27,7 +27,7 @@ pub(crate) enum Stage {
     Names {
         /// The object's principal designation.
         p: Designation,
-        /// The place of the object behind it.
+        /// The place of the object after it.
         next: u64,
         /// The place of the designation.
         at: u64,
@@ -36,12 +36,12 @@ pub(crate) enum Stage {
     Observations {
         /// The object's principal designation.
         p: Designation,
-        /// The place of the object behind it.
+        /// The place of the object after it.
         next: u64,
         /// The place of the observation.
         at: u64,
     },
-    /// Behind the tracklet with this number.
+    /// After the tracklet with this number.
     Tracks(u64),
     /// Inside a tracklet, before the observation at a place in its list of observations.
     Tracklet {
@@ -50,7 +50,7 @@ pub(crate) enum Stage {
         /// The place of the observation.
         at: u64,
     },
-    /// Behind everything.
+    /// After everything.
     Ended,
 }
 

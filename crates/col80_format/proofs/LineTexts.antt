@@ -85,7 +85,7 @@ measured_columns line long =
     let band : drop 70 line ≡ column 71 line ∷ drop 71 line = drop_more line 70 0 (omega arith) in
     take_sum 5 1 (drop 65 line) ∙ ap (λ (t : List ℕ). take 5 (drop 65 line) ++ take 1 t) (drop-drop 5 65 line ∙ band)
 
--- the part of a text that stands behind one part and before another
+-- the part of a text that stands after one part and before another
 middle : (front part back : List ℕ) (n m : ℕ) → length front ≡ n → length part ≡ m → take m (drop n (front ++ (part ++ back))) ≡ part
 middle front part back n m front_long part_long = ap (take m) (drop_at front (part ++ back) n front_long) ∙ take_at part back m part_long
 

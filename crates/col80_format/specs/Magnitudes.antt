@@ -20,7 +20,7 @@ pub record WrittenMagnitude : Type 0 where
 abbrev pub whole_text : ℕ → List ℕ
 whole_text n = if nat_lt n 10 then blank ∷ digits_text Ten 1 n else digits_text Ten 2 n
 
--- the text is a magnitude with at most two decimals, and blanks behind it
+-- the text is a magnitude with at most two decimals, and blanks after it
 pub record SpellsMagnitude (written : WrittenMagnitude) (text : List ℕ) : Type 0 where
   pub whole : written.whole < 100
   pub few : written.count ≤ 2
@@ -37,7 +37,7 @@ IsMagnitudeText text (Some mag) count =
 
 -- ---- reading it
 
--- the whole number in two columns, and the text behind them
+-- the whole number in two columns, and the text after them
 unfoldable pub whole_at : List ℕ → Option (ℕ × List ℕ)
 whole_at [] = None
 whole_at (first ∷ rest) =

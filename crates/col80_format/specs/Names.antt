@@ -25,7 +25,7 @@ abbrev pub IsNumberText : List ℕ → Option Number → Type 0
 IsNumberText text None = text ≡ blanks 5
 IsNumberText text (Some number) = IsPackedAs (names.Number number) text
 
--- a temporary designation in its columns: it has no blank and no `|`, and only blanks stand before and behind it
+-- a temporary designation in its columns: it has no blank and no `|`, and only blanks stand before and after it
 pub record SpellsTemporary (name text : List ℕ) : Type 0 where
   pub some : 1 ≤ length name
   pub plain : All (λ byte. (byte ≢ blank) × (byte ≢ vertical_bar)) name

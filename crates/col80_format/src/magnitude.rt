@@ -19,7 +19,7 @@ pub(crate) struct Written {
     pub(crate) decimals: Decimals,
 }
 
-/// The whole number in the two columns at the front, and the text behind them.
+/// The whole number in the two columns at the front, and the text after them.
 #[tactic(auto, unfolding(crate::specs::Magnitudes::whole_at))]
 fn whole_at(text: &[u8]) -> Option<(u64, &[u8])>
     ensures exact { option_map (λ x. (x.0, x.1.now)) result ≡ whole_at text.now }
@@ -34,7 +34,7 @@ fn whole_at(text: &[u8]) -> Option<(u64, &[u8])>
     }
 }
 
-/// The numbers of the magnitude that is the whole text, but for blanks behind it.
+/// The numbers of the magnitude that is the whole text, but for blanks after it.
 #[tactic(auto, unfolding(crate::specs::Magnitudes::written_in))]
 fn written_in(text: &[u8]) -> Option<Written>
     requires { length text.now ≤ 18 }

@@ -1,4 +1,4 @@
--- Digits, one behind the other, and the ranges of their numbers.
+-- Digits, one after the other, and the ranges of their numbers.
 use Rattle.std.proofs.Common.{◌≡◌, ℕ, ◌+◌, ◌*◌, ◌<◌, ◌≤◌, Some, None, List, [], ◌∷◌, length, slice_index, sym, arith}
 use Rattle.std.specs.Char.{digit_value}
 use Rattle.std.specs.Str.Parse.{digits_value_after}

@@ -1,4 +1,4 @@
--- The grammar of the command line: the command is the first word, and its options stand behind it in any order, each
+-- The grammar of the command line: the command is the first word, and its options stand after it in any order, each
 -- exactly once.
 use Rattle.std.specs.Prelude.{ℕ, ◌≤◌, bytes_eq, codes, if◌then◌else◌, List, [], ◌∷◌, Option, Some, None}
 use Rattle.ascii_text.specs.Reading.{◌>>=◌}

@@ -3,7 +3,7 @@ use Rattle.std.specs.Prelude.{ℕ, Bool, false, ◌&&◌, ◌||◌, nat_le, ◌=
 use Rattle.std.specs.Prelude.{Some, None}
 use Rattle.std.specs.List.{list_all}
 
--- the bytes that a founder's key may have behind its plus sign: A to Z, a to z, 0 to 9 and the hyphen
+-- the bytes that a founder's key may have after its plus sign: A to Z, a to z, 0 to 9 and the hyphen
 abbrev pub is_key_byte : ℕ → Bool
 is_key_byte byte =
     (nat_le 48 byte && nat_le byte 57) || (nat_le 65 byte && nat_le byte 90) || (nat_le 97 byte && nat_le byte 122)

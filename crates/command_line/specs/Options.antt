@@ -11,11 +11,11 @@ abbrev pub begins_with_hyphen : List ℕ → Bool
 begins_with_hyphen [] = false
 begins_with_hyphen (first ∷ rest) = first == 45
 
--- an option in one word: what stands before its first equals sign and what stands behind it
+-- an option in one word: what stands before its first equals sign and what stands after it
 abbrev pub in_one_word : List ℕ → Option Named
 in_one_word word = option_map (λ place. (take place word, drop (place + 1) word)) (position (λ byte. byte == 61) word)
 
--- an option whose value is a word of its own, which doesn't begin with a hyphen, and the words behind it
+-- an option whose value is a word of its own, which doesn't begin with a hyphen, and the words after it
 abbrev pub in_two_words : List ℕ → List (List ℕ) → Option (Named × List (List ℕ))
 in_two_words name [] = None
 in_two_words name (value ∷ words) = if begins_with_hyphen value then None else Some ((name, value), words)
@@ -25,12 +25,12 @@ abbrev pub one_word_or_two : Option Named → List ℕ → List (List ℕ) → O
 one_word_or_two (Some named) word words = Some (named, words)
 one_word_or_two None word words = in_two_words word words
 
--- the option at the front of the words, and the words behind it
+-- the option at the front of the words, and the words after it
 unfoldable pub option_at : List (List ℕ) → Option (Named × List (List ℕ))
 option_at [] = None
 option_at (word ∷ words) = one_word_or_two (in_one_word word) word words
 
--- what was read, where no word stands behind it
+-- what was read, where no word stands after it
 abbrev pub if_last : {A : Type 0} → A → List (List ℕ) → Option A
 if_last found [] = Some found
 if_last found (word ∷ words) = None

@@ -1,6 +1,6 @@
 //! The words of a command line, and the commands that they name.
 //!
-//! The first word is the command, and its options stand behind it in any order, each exactly once: `--key K` in two
+//! The first word is the command, and its options stand after it in any order, each exactly once: `--key K` in two
 //! words or `--key=K` in one. A value that is a word of its own doesn't begin with a hyphen. Whatever else the words
 //! are, `--` and words for help among them, they name no command.
 #![tactic(auto)]

@@ -1,4 +1,4 @@
--- Parts that stand one behind the other.
+-- Parts that stand one after the other.
 use Rattle.std.proofs.Common.{◌≡◌, ℕ, List, [], ◌++◌, sym, ap, ◌∙◌, append_assoc}
 use Rattle.desk_frames.specs.declared.parts.Unread.{Unread}
 use Rattle.desk_frames.specs.declared.parts.Unread.TheVariants as unread
@@ -11,7 +11,7 @@ pub record IsPart {V : Type 0} (good : V → Type 0) (spelled : V → List ℕ �
   pub sample : V
   pub sample_good : good sample
 
--- two parts, one behind the other
+-- two parts, one after the other
 abbrev pub Both : {V W : Type 0} → (V → Type 0) → (W → Type 0) → V × W → Type 0
 Both good fine p = good p.0 × fine p.1
 
@@ -30,7 +30,7 @@ module _ {V W : Type 0} (good : V → Type 0) (first : V → List ℕ → List �
       sym (append_assoc bytes more after) ∙ ap (λ (t : List ℕ). t ++ after) fails.1.3 ∙ part.before v [] after in
       (λ p rest goods e. fails.0 p.0 (second p.1 rest) goods.0 e, (more ++ after, (v, behind.sample), (fails.1.2, behind.sample_good), whole))
 
-  -- where the second isn't read behind the first, both aren't, for the same reason
+  -- where the second isn't read after the first, both aren't, for the same reason
   pub second_fails : IsPart good first → (bytes : List ℕ) (v : V) (rest : List ℕ) (e : Unread) → good v → bytes ≡ first v rest → Fails fine second rest e
       → Fails (Both good fine) (spelled_both first second) bytes e
   second_fails part bytes v rest unread.Bad here is never = λ more p tail goods e.

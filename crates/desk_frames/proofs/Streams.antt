@@ -20,7 +20,7 @@ frame_good h body good long = record { key = good.key; number = good.number; ver
 pub frame_whole : (h : HeadParts) (body rest : List ℕ) → length body ≡ h.length → headed h (body ++ rest) ≡ framed (frame_of h body) rest
 frame_whole h body rest long = ap (λ (n : ℕ). headed (record h { length = n }) (body ++ rest)) (sym long)
 
--- a head at the front, behind which all of its body has come
+-- a head at the front, after which all of its body has come
 pub frame_at_front : (bytes : List ℕ) (h : HeadParts) (size : ℕ) → IsHeadAt bytes h size → size + h.length ≤ length bytes
     → IsFrame (frame_of h (take h.length (drop size bytes))) × (bytes ≡ framed (frame_of h (take h.length (drop size bytes))) (drop (size + h.length) bytes))
 frame_at_front bytes h size at come =
@@ -72,7 +72,7 @@ each_append : (fs gs : List Frame) → AllByRecursion IsFrame fs → AllByRecurs
 each_append [] gs here there = there
 each_append (f ∷ fs) gs here there = (here.0, each_append fs gs here.1 there)
 
--- frames at the front, and the session of what is behind them, are the session of the whole
+-- frames at the front, and the session of what is after them, are the session of the whole
 pub session_append : (bytes middle : List ℕ) (fs gs : List Frame) (rest : List ℕ) → AllByRecursion IsFrame fs → bytes ≡ streamed fs middle → IsSession middle gs rest → IsSession bytes (fs ++ gs) rest
 session_append bytes middle fs gs rest here is behind = record {
   whole = is ∙ ap (streamed fs) behind.whole ∙ sym (stream_append fs gs rest);
@@ -91,7 +91,7 @@ session_reached bytes fs rest session = omega (arith, ap length session.whole, l
 pub no_head_no_frame : (bytes : List ℕ) → NoHead bytes → NoFrame bytes
 no_head_no_frame bytes none f rest good e = none (head_of f) (f.body ++ rest) (head_good f good) e
 
--- a head behind which fewer bytes have come than its body has
+-- a head after which fewer bytes have come than its body has
 pub body_missing : (bytes : List ℕ) (h : HeadParts) (rest : List ℕ) → IsHead h → bytes ≡ headed h rest → length rest < h.length → NoFrame bytes
 body_missing bytes h rest good is few f tail fine e =
     let same = one_head h (head_of f) rest (f.body ++ tail) good (head_good f fine) (sym is ∙ e) in

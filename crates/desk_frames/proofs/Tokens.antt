@@ -55,7 +55,7 @@ module _ (P : ℕ → Type 0) (stop : ℕ) (apart : (byte : ℕ) → P byte → 
         | inr longer ↦ absurd (apart stop (each_next P b stop longer.0 (subst (λ (text : List ℕ). AllByRecursion P text) longer.1 here)) refl)
       ]
 
-  -- bytes of the class, and behind them one that neither ends a field nor goes on with it
+  -- bytes of the class, and after them one that neither ends a field nor goes on with it
   pub never_token : (most : ℕ) (front : List ℕ) (byte : ℕ) (tail : List ℕ) → AllByRecursion P front → ((length front ≡ most) ⊎ (P byte → ⊥)) → ((byte ≡ stop) → length front ≡ 0)
       → (more : List ℕ) → Lacks (IsToken P most) (stopped stop) ((front ++ byte ∷ tail) ++ more)
   never_token most front byte tail all last unended more text rest good e =
@@ -109,7 +109,7 @@ sample_is classes.Printable = (lit≤ tt, lit≤ tt)
 sample_is classes.Digit = (lit≤ tt, lit≤ tt)
 sample_is classes.Verb = inl (lit≤ tt, lit≤ tt)
 
--- bytes of the class, few enough: the byte that ends the field completes it, behind one of the class where there is none yet
+-- bytes of the class, few enough: the byte that ends the field completes it, after one of the class where there is none yet
 token_begins : (class : Class) (most stop : ℕ) → 0 < most → (bytes : List ℕ) → IsBegun (IsOf class) most bytes → Begins (IsToken (IsOf class) most) (stopped stop) bytes
 token_begins class most stop some [] begun = (sample class ∷ stop ∷ [], sample class ∷ [], record { some = omega arith; few = omega arith; each = (sample_is class, tt) }, refl)
 token_begins class most stop some (b ∷ bytes) begun = (stop ∷ [], b ∷ bytes, record { some = omega arith; few = begun.few; each = begun.each }, refl)

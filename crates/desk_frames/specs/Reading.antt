@@ -26,7 +26,7 @@ abbrev pub Fails : {V : Type 0} → (V → Type 0) → (V → List ℕ → List 
 Fails good spelled bytes unread.Part = Lacks good spelled bytes × Begins good spelled bytes
 Fails good spelled bytes unread.Bad = (more : List ℕ) → Lacks good spelled (bytes ++ more)
 
--- a part is read with the bytes behind it where it stands at the front, and otherwise it is said why it isn't
+-- a part is read with the bytes after it where it stands at the front, and otherwise it is said why it isn't
 abbrev pub Reads : {V X : Type 0} → (V → Type 0) → (V → List ℕ → List ℕ) → (X → V × List ℕ) → List ℕ → Result X Unread
     → Type 0
 Reads good spelled view bytes (Ok x) = good (view x).0 × (bytes ≡ spelled (view x).0 (view x).1)
@@ -70,7 +70,7 @@ abbrev pub number_from : ℕ → List ℕ → ℕ
 number_from n [] = n
 number_from n (digit ∷ digits) = number_from (10 * n + (digit - 48)) digits
 
--- a zero stands in front, and behind it something else than the byte that ends a number
+-- a zero stands in front, and after it something else than the byte that ends a number
 abbrev pub HasZeroInFront : ℕ → List ℕ → Type 0
 HasZeroInFront stop [] = ⊥
 HasZeroInFront stop (first ∷ []) = ⊥

@@ -33,7 +33,7 @@ pub enum Front<'a> {
     Bad,
 }
 
-/// The head at the front, and the bytes behind it.
+/// The head at the front, and the bytes after it.
 fn head_at(bytes: &[u8]) -> Result<(Head<'_>, &[u8]), Unread>
     ensures reads { Reads IsHead headed (λ x. (parts_of x.0, x.1.now)) bytes.now result }
     ensures size { IfOk result (λ x. x.0.size + length x.1.now ≡ length bytes.now) }
@@ -57,7 +57,7 @@ fn head_at(bytes: &[u8]) -> Result<(Head<'_>, &[u8]), Unread>
 ///
 /// The answer is `Whole` exactly where one stands there, `Bad` exactly where no frame can come there
 /// any more, and else `Part`: then there are fewer than `HEAD_BYTES`. It looks at no more than the
-/// first `HEAD_BYTES`, and the body behind the head may be missing.
+/// first `HEAD_BYTES`, and the body after the head may be missing.
 pub fn read_head(bytes: &[u8]) -> Front<'_>
     // The head that is answered stands at the front, with its fields and its size.
     ensures whole { IfWhole result (λ head. IsHeadAt bytes.now (parts_of head) head.size) }

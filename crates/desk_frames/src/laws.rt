@@ -39,7 +39,7 @@ pub fn one_session()
         IsSession bytes fs x → IsSession bytes gs y → (fs ≡ gs) × (x ≡ y) }
 {}
 
-/// Frames that stand at the front, and the session of the bytes behind them, are the session of
+/// Frames that stand at the front, and the session of the bytes after them, are the session of
 /// all the bytes.
 pub fn session_behind()
     ensures streams { (fs gs : List Frame) (rest : List ℕ) →
@@ -55,7 +55,7 @@ pub fn session_reaches()
         IsSession bytes fs rest → reached bytes rest + length rest ≡ length bytes }
 {}
 
-/// Bytes that come later stand behind the head, the frame or the frames that stand at the front.
+/// Bytes that come later stand after the head, the frame or the frames that stand at the front.
 pub fn goes_on()
     ensures heads { (h : HeadParts) (rest more : List ℕ) →
         headed h rest ++ more ≡ headed h (rest ++ more) }
@@ -80,7 +80,7 @@ pub fn head_and_body()
         framed f rest ≡ headed (head_of f) (f.body ++ rest) }
 {}
 
-/// Where no head stands, or a head behind which fewer bytes have come than its body has, and where
+/// Where no head stands, or a head after which fewer bytes have come than its body has, and where
 /// nothing has come, no frame stands.
 pub fn no_frame_yet()
     ensures head { (bytes : List ℕ) → NoHead bytes → NoFrame bytes }
@@ -94,7 +94,7 @@ pub fn heads_have_bytes()
     ensures { (h : HeadParts) (rest : List ℕ) → 0 < length (headed h rest) }
 {}
 
-/// Where no frame can come, none stands, none can come behind bytes that come later, and a byte has come.
+/// Where no frame can come, none stands, none can come after bytes that come later, and a byte has come.
 pub fn never_a_frame()
     ensures now { (bytes : List ℕ) → NeverFrame bytes → NoFrame bytes }
     ensures later { (bytes more : List ℕ) →

@@ -38,7 +38,7 @@ fn is_of(class: Class, byte: u8) -> bool
     }
 }
 
-/// One to `most` bytes of a class before the byte that ends them, and the bytes behind it.
+/// One to `most` bytes of a class before the byte that ends them, and the bytes after it.
 fn token_at(class: Class, most: usize, stop: u8, bytes: &[u8]) -> Result<(&[u8], &[u8]), Unread>
     requires ends { stop < 33 }
     ensures { ReadsToken (IsOf class) most stop (λ x. (x.0.now, x.1.now)) bytes.now result }
@@ -55,7 +55,7 @@ fn token_at(class: Class, most: usize, stop: u8, bytes: &[u8]) -> Result<(&[u8],
     Err(Unread::Part)
 }
 
-/// The key at the front, before its blank, and the bytes behind it.
+/// The key at the front, before its blank, and the bytes after it.
 ///
 /// # Errors
 ///
@@ -66,7 +66,7 @@ pub fn key_at(bytes: &[u8]) -> Result<(&[u8], &[u8]), Unread>
     token_at(Class::Printable, KEY_BYTES, b' ', bytes)
 }
 
-/// The verb at the front, before its blank, and the bytes behind it.
+/// The verb at the front, before its blank, and the bytes after it.
 pub fn verb_at(bytes: &[u8]) -> Result<(&[u8], &[u8]), Unread>
     ensures { Reads IsVerb (stopped 32) (λ x. (x.0.now, x.1.now)) bytes.now result }
 {
@@ -97,7 +97,7 @@ fn has_zero_in_front(stop: u8, bytes: &[u8]) -> bool
 }
 
 /// The number at the front, without leading zeros and of at most so many digits, before the byte
-/// that ends it, and the bytes behind it.
+/// that ends it, and the bytes after it.
 ///
 /// # Errors
 ///

@@ -6,7 +6,7 @@ ghost use Rattle.desk_frames.specs.Replies.{reply_frame};
 use itoa::Buffer;
 use std::alloc::AllocError;
 
-/// Puts the frame of a reply behind what `out` has: its status, its length, and its text.
+/// Puts the frame of a reply after what `out` has: its status, its length, and its text.
 ///
 /// It takes the memory for all of the frame first. Where that is refused, `out` keeps what it had.
 ///

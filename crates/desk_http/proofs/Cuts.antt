@@ -4,7 +4,7 @@ use Rattle.std.proofs.lemmas.Bool.{eq-eqb, ne_eqb}
 use Rattle.ascii_text.specs.Reading.{◌>>=◌}
 use Rattle.desk_http.specs.Heads.{cut_at}
 
--- the parts behind one byte more
+-- the parts after one byte more
 abbrev longer : ℕ → Option (List ℕ × List ℕ) → Option (List ℕ × List ℕ)
 longer first parts = parts >>= (λ p. Some (first ∷ p.0, p.1))
 

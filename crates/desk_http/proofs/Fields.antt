@@ -18,7 +18,7 @@ values_with name hs h is = values_push name hs h ∙ ap (λ t. values_named name
 pub values_without : (name : List ℕ) (hs : List Header) (h : Header) → is_named name h ≡ false → values_named name (hs ++ h ∷ []) ≡ values_named name hs
 values_without name hs h is = values_push name hs h ∙ ap (λ t. values_named name hs ++ cond t (h.1 ∷ []) []) is ∙ append-nil (values_named name hs)
 
--- one field more behind one, and behind several
+-- one field more after one, and after several
 pub after_one : (n : Named) (v : Bor (List ℕ)) (values : List (List ℕ)) (value : List ℕ) → n ≡ named.Once v → IsNamed n values → IsNamed named.Repeated (values ++ value ∷ [])
 after_one n v values value is read = (v.now, value, [], ap (λ t. t ++ value ∷ []) (subst (λ (n : Named). IsNamed n values) is read))
 

@@ -57,7 +57,7 @@ no_head_no_message bytes none m rest a = none m.parts (m.body ++ rest) a.head
 pub no_request_no_head : (bytes : List ℕ) → HasNoRequest bytes → NoHead bytes
 no_request_no_head bytes none parts rest a = none a.head rest a.reads
 
--- a head behind which fewer bytes have come than its body has
+-- a head after which fewer bytes have come than its body has
 pub body_missing : (bytes : List ℕ) (h : HeadParts) (rest : List ℕ) → IsHead bytes h rest → length rest < h.length → NoMessage bytes
 body_missing bytes h rest a lacks m behind b =
     let same = one_head bytes h m.parts rest (m.body ++ behind) a b.head in

@@ -1,4 +1,4 @@
--- Pieces that come out of a source: one behind the other, behind what was read ahead, until a head stands at the front or a body is whole.
+-- Pieces that come out of a source: one after the other, after what was read ahead, until a head stands at the front or a body is whole.
 use Rattle.std.proofs.Common.{◌≡◌, ℕ, ◌+◌, ◌-◌, ◌≤◌, List, [], ◌++◌, length, take, drop, Option, Some, None, IfSome, sym, ap, ◌∙◌, subst, append_assoc, arith, inl, inr, ◌<◌}
 use Rattle.std.specs.Prelude.{IsSomeAnd}
 use Rattle.std.proofs.lemmas.List.{append-nil, take-append-drop, length-append, length-take-le, nil_from_length, take_at}
@@ -50,7 +50,7 @@ module _ {S : Type 0} (left : S → Option (List ℕ)) (gives : Passes S) where
 
   -- ---- nothing was used yet
 
-  -- pieces came behind what was read ahead, while a message was awaited
+  -- pieces came after what was read ahead, while a message was awaited
   pub record Grows (before after : S) (ahead grown : List ℕ) : Type 0 where
     pub piece : List ℕ
     pub came : Comes left gives (AwaitsMessage ahead) before after piece
@@ -66,7 +66,7 @@ module _ {S : Type 0} (left : S → Option (List ℕ)) (gives : Passes S) where
     behind = once.behind ∙ ap (λ (t : List ℕ). t ++ once.piece) grows.behind ∙ append_assoc ahead grows.piece once.piece;
   }
 
-  -- what holds of the bytes read ahead holds of those before and the piece behind them
+  -- what holds of the bytes read ahead holds of those before and the piece after them
   pub of_all : (P : List ℕ → Type 0) (a b : S) (ahead grown : List ℕ) → Grows a b ahead grown → P grown
       → (piece : List ℕ) × Comes left gives (AwaitsMessage ahead) a b piece × P (ahead ++ piece)
   of_all P a b ahead grown grows holds = (grows.piece, grows.came, subst P grows.behind holds)

@@ -160,7 +160,7 @@ ended_is AtEnd e = absurd (false≢true e)
 ended_is Return e = absurd (false≢true e)
 ended_is Ended e = refl
 
--- where a front of the bytes has ended a head, the bytes behind it change nothing
+-- where a front of the bytes has ended a head, the bytes after it change nothing
 pub ends_early : (scan now : Scan) (before bytes : List ℕ) (n : ℕ) → scan ≡ scanned before → now ≡ over scan (take n bytes) → is_ended now ≡ true
     → now ≡ scanned (before ++ bytes)
 unfolding scanned

@@ -14,12 +14,12 @@ use Rattle.desk_http.specs.Answers.{Ends, IfKept, IsWholeRead, IsTextRead, IsCut
 use Rattle.desk_http.proofs.Messages.{head_grows, body_missing}
 use Rattle.desk_http.proofs.Fronts.{some_bytes}
 
--- what comes behind the bytes that begin with a head
+-- what comes after the bytes that begin with a head
 behind_head : (start first second middle : List ℕ) (h : HeadParts) → IsHead (start ++ first) h middle → IsHead (start ++ (first ++ second)) h (middle ++ second)
 behind_head start first second middle h stands =
     subst (λ (t : List ℕ). IsHead t h (middle ++ second)) (append_assoc start first second) (head_grows (start ++ first) h middle second stands)
 
--- while bytes of a body are missing behind its head, a message is awaited
+-- while bytes of a body are missing after its head, a message is awaited
 awaited : (start first middle came : List ℕ) (h : HeadParts) → IsHead (start ++ first) h middle → LacksText middle h.length came → AwaitsMessage start (first ++ came)
 awaited start first middle came h stands lacks =
     let is = behind_head start first came middle h stands in

@@ -25,11 +25,11 @@ module _ (old new : Option (List ℕ)) (head text answer : List ℕ) (joined : a
       ∙ ap (λ (t : List ℕ). head ++ take n t) (drop_at head text (length head) refl) in
       (length head + n, omega (arith, part.1, ap length joined, length-append head text), subst (Appends old new) (sym same) (Appends-trans old mid new head (take n text) before part.2))
 
--- what follows a text that was put behind another
+-- what follows a text that was put after another
 put_behind : (new old text rest : List ℕ) → new ≡ old ++ text → new ++ rest ≡ old ++ (text ++ rest)
 put_behind new old text rest same = ap (λ (t : List ℕ). t ++ rest) same ∙ append_assoc old text rest
 
--- nine texts, put one behind the other
+-- nine texts, put one after the other
 pub nine_put : (h0 h1 h2 h3 h4 h5 h6 h7 h8 h9 a b c d e f g h i : List ℕ) → h0 ≡ []
     → h1 ≡ h0 ++ a
     → h2 ≡ h1 ++ b

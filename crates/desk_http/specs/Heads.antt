@@ -62,14 +62,14 @@ names_close fields = has_option (codes "close") (elements_named (codes "connecti
 
 -- ---- routes
 
--- the text in front of a byte, and the text behind it, where it stands
+-- the text in front of a byte, and the text after it, where it stands
 unfoldable pub cut_at : ℕ → List ℕ → Option (List ℕ × List ℕ)
 cut_at byte [] = None
 cut_at byte (first ∷ text) = if first == byte then Some ([], text) else do
   parts ← cut_at byte text
   Some (first ∷ parts.0, parts.1)
 
--- the text behind this front
+-- the text after this front
 abbrev pub past : List ℕ → List ℕ → Option (List ℕ)
 past front text = if bytes_eq (take (length front) text) front then Some (drop (length front) text) else None
 
@@ -125,7 +125,7 @@ asked_of method target = act_or_query method (past (codes "/v1/act/") target) (p
 
 -- ---- heads
 
--- What a head says, by its method, its target, the version behind `HTTP/1.` and its fields, where it keeps the rules:
+-- What a head says, by its method, its target, the version after `HTTP/1.` and its fields, where it keeps the rules:
 -- neither Desk-Key nor Content-Length twice, a length of 1 to 10 digits, and no Transfer-Encoding. The answer to
 -- HTTP/1.0 is the last one, and so is the answer to a request with `close` in its Connection.
 unfoldable pub said_of : List ℕ → List ℕ → ℕ → List Header → Option HeadParts
@@ -160,7 +160,7 @@ pub record Message : Type 0 where
   pub parts : HeadParts
   pub body : List ℕ
 
--- a message stands at the front of the bytes, before this rest: a head, and behind it a body of the length that it says
+-- a message stands at the front of the bytes, before this rest: a head, and after it a body of the length that it says
 pub record IsMessage (bytes : List ℕ) (message : Message) (rest : List ℕ) : Type 0 where
   pub head : IsHead bytes message.parts (message.body ++ rest)
   pub long : length message.body ≡ message.parts.length
@@ -183,12 +183,12 @@ NeverMessage bytes = (more : List ℕ) → NoMessage (bytes ++ more)
 
 -- ---- streams
 
--- one fact behind a message that closes, and another behind one that doesn't
+-- one fact after a message that closes, and another after one that doesn't
 abbrev pub Behind : Bool → Type 0 → Type 0 → Type 0
 Behind true closing others = closing
 Behind false closing others = others
 
--- The messages of a stream, from its front on, up to a rest that begins with none. Behind a message that closes nothing
+-- The messages of a stream, from its front on, up to a rest that begins with none. After a message that closes nothing
 -- is read.
 abbrev pub IsStream : List ℕ → List Message → List ℕ → Type 0
 IsStream bytes [] rest = (bytes ≡ rest) × NoMessage rest

@@ -1,9 +1,9 @@
--- Where a head may end: at the first empty line behind a line that isn't empty.
+-- Where a head may end: at the first empty line after a line that isn't empty.
 use Rattle.std.specs.Prelude.{ℕ, Bool, true, false, ◌==◌, if◌then◌else◌, List, fold}
 use Rattle.desk_http.specs.declared.scan.Scan.{Scan}
 use Rattle.desk_http.specs.declared.scan.Scan.TheVariants.{Blank, Inside, LineEnd, Return, Ended}
 
--- an empty line has come behind a line that isn't empty
+-- an empty line has come after a line that isn't empty
 abbrev pub is_ended : Scan → Bool
 is_ended Blank = false
 is_ended Inside = false

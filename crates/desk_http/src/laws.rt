@@ -14,13 +14,13 @@ pub fn one_message()
         IsMessage bytes m x → IsMessage bytes n y → (m ≡ n) × (x ≡ y) }
 {}
 
-/// A text is one stream of messages, up to a rest that begins with none or stands behind one that closes.
+/// A text is one stream of messages, up to a rest that begins with none or stands after one that closes.
 pub fn one_stream()
     ensures { (bytes : List ℕ) (ms ns : List Message) (x y : List ℕ) →
         IsStream bytes ms x → IsStream bytes ns y → (ms ≡ ns) × (x ≡ y) }
 {}
 
-/// Bytes that come later stand behind the head or the message that stands at the front.
+/// Bytes that come later stand after the head or the message that stands at the front.
 pub fn goes_on()
     ensures heads { (bytes : List ℕ) (h : HeadParts) (rest more : List ℕ) →
         IsHead bytes h rest → IsHead (bytes ++ more) h (rest ++ more) }
@@ -28,7 +28,7 @@ pub fn goes_on()
         IsMessage bytes m rest → IsMessage (bytes ++ more) m (rest ++ more) }
 {}
 
-/// Where no head stands, or a head behind which fewer bytes have come than its body has, no message stands. None stands
+/// Where no head stands, or a head after which fewer bytes have come than its body has, no message stands. None stands
 /// where there are no bytes.
 pub fn no_message_yet()
     ensures request { (bytes : List ℕ) → HasNoRequest bytes → NoMessage bytes }
@@ -38,7 +38,7 @@ pub fn no_message_yet()
     ensures nothing { NoMessage [] }
 {}
 
-/// Where no message can come, none stands, and none can come behind bytes that come later. A byte has come: before the
+/// Where no message can come, none stands, and none can come after bytes that come later. A byte has come: before the
 /// first one any message can.
 pub fn never_a_message()
     ensures now { (bytes : List ℕ) → NeverMessage bytes → NoMessage bytes }

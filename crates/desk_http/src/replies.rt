@@ -64,7 +64,7 @@ fn decimal(n: u64) -> ArrayVec<u8, 20>
     digits
 }
 
-// A text behind what stands in the head so far.
+// A text after what stands in the head so far.
 fn put(head: &mut ArrayVec<u8, ANSWER_HEAD_BYTES>, text: &[u8])
     requires { array_vec_len head.old + length text.now ≤ ANSWER_HEAD_BYTES }
     ensures text { head.new.items ≡ head.old.items ++ text.now }

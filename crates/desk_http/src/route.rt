@@ -1,6 +1,6 @@
 //! What a method asks of a target.
 //!
-//! A target is compared byte for byte: percent signs and a query behind `?` are bytes like others.
+//! A target is compared byte for byte: percent signs and a query after `?` are bytes like others.
 
 ghost use Rattle.std.specs.Prelude.{◌≡◌, option_map};
 ghost use Rattle.desk_http.specs.Heads.{cut_at, number_in, act_asked, query_asked, asked_of};
@@ -24,7 +24,7 @@ const NOTHING: Asked = Asked {
     verb: Verb::Unknown,
 };
 
-// The text in front of the first such byte, and the text behind it.
+// The text in front of the first such byte, and the text after it.
 #[tactic(auto, unfolding(crate::specs::Heads::cut_at))]
 fn cut_at(byte: u8, text: &[u8]) -> Option<(&[u8], &[u8])>
     ensures { option_map (λ parts. (parts.0.now, parts.1.now)) result ≡ cut_at byte text.now }
@@ -44,7 +44,7 @@ fn number_in(text: &[u8]) -> Option<u64>
     }
 }
 
-// `{number}/{verb}`, behind `/v1/act/`.
+// `{number}/{verb}`, after `/v1/act/`.
 #[tactic(auto, unfolding(crate::specs::Heads::act_asked))]
 fn act_asked(method: &[u8], text: &[u8]) -> Asked
     ensures { result ≡ act_asked method.now text.now }
@@ -65,7 +65,7 @@ fn act_asked(method: &[u8], text: &[u8]) -> Asked
     }
 }
 
-// `{verb}`, behind `/v1/ask/`.
+// `{verb}`, after `/v1/ask/`.
 #[tactic(auto, unfolding(crate::specs::Heads::query_asked))]
 fn query_asked(method: &[u8], text: Option<&[u8]>) -> Asked
     ensures { result ≡ query_asked method.now (option_map (λ word. word.now) text.entry) }
@@ -84,7 +84,7 @@ fn query_asked(method: &[u8], text: Option<&[u8]>) -> Asked
 }
 
 /// What a method asks of a target: an act by POST `/v1/act/{number}/{verb}`, a query by GET or POST
-/// `/v1/ask/{verb}`. Another method or target, a verb of an act behind `ask` and one of a query behind
+/// `/v1/ask/{verb}`. Another method or target, a verb of an act after `ask` and one of a query after
 /// `act` name nothing: the verb is then unknown.
 #[tactic(auto, unfolding(crate::specs::Heads::asked_of))]
 pub fn asked_of(method: &[u8], target: &[u8]) -> Asked

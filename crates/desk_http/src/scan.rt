@@ -14,12 +14,12 @@ pub enum Scan {
     LineEnd,
     /// A carriage return stands at the front of the next line.
     Return,
-    /// An empty line has come behind a line that isn't empty.
+    /// An empty line has come after a line that isn't empty.
     Ended,
 }
 
 impl Scan {
-    /// Whether an empty line has come behind a line that isn't empty.
+    /// Whether an empty line has come after a line that isn't empty.
     pub fn is_ended(self) -> bool
         ensures { result ≡ is_ended self }
     {
@@ -42,7 +42,7 @@ fn scan_byte(scan: Scan, byte: u8) -> Scan
     }
 }
 
-/// How far a head has come with more bytes, where it had come so far with those before them. It looks at no byte behind
+/// How far a head has come with more bytes, where it had come so far with those before them. It looks at no byte after
 /// the head's end.
 #[tactic(auto, unfolding(crate::specs::Scans::scanned))]
 pub fn scan_more(scan: Scan, bytes: &[u8]) -> Scan

@@ -74,7 +74,7 @@ impl Wire {
         self.start += count;
     }
 
-    // Brings what was read ahead to the buffer's front, and reads once behind it. Says how many bytes
+    // Brings what was read ahead to the buffer's front, and reads once after it. Says how many bytes
     // came: 0 is the end of the source.
     fn refill<S: Source>(&mut self, source: &mut S) -> Result<usize, Failed>
         requires { length self.old < BUFFER_BYTES }
@@ -120,7 +120,7 @@ impl Wire {
         }
     }
 
-    // Reads a text of this length to its end, behind what is kept so far. Where nothing is to be kept,
+    // Reads a text of this length to its end, after what is kept so far. Where nothing is to be kept,
     // or memory is refused, it throws the text away.
     fn read_text<S: Source>(
         &mut self,
@@ -231,14 +231,14 @@ impl Wire {
         Ok(Whole { parts, body })
     }
 
-    /// The next request of the source, behind the bytes that were read ahead. Bytes that come behind it stay
+    /// The next request of the source, after the bytes that were read ahead. Bytes that come after it stay
     /// read ahead for the next call.
     ///
     /// That a body is too long, or that memory for it was refused, is said by the request's body, and the
     /// next request is read all the same.
     /// After `Unread` and `ReadFault` it isn't said which bytes were used.
     pub fn read_request<S: Source>(&mut self, source: &mut S) -> Heard
-        // What the answer says of the bytes that were read ahead and of those that came behind them. No read
+        // What the answer says of the bytes that were read ahead and of those that came after them. No read
         // was made but while a message was awaited.
         ensures came { (piece : List ℕ) × Comes S.left S.gives (AwaitsMessage self.old) source.old source.new piece
             × ReadsMessage (self.old ++ piece) self.new (S.left source.new) result }
@@ -292,7 +292,7 @@ fn move_to_front(buffer: &mut [u8], start: usize, end: usize)
     }
 }
 
-// Reads once into a buffer, behind the bytes that it keeps at its front.
+// Reads once into a buffer, after the bytes that it keeps at its front.
 fn read_behind<S: Source>(source: &mut S, buffer: &mut [u8], kept: usize) -> Result<usize, Failed>
     requires { kept < length buffer.old }
     ensures came { IfOk result (λ n. ReadsOnce S.left S.gives source.old source.new

@@ -1,4 +1,4 @@
--- What one call of a door says of the links to come, where these are told, and of the door's count of faults.
+-- What one call of a door says of the links to come, where these are known, and of the door's count of faults.
 use Rattle.std.specs.Prelude.{◌≡◌, ◌⊎◌, ⊤, ℕ, ◌-◌, ◌^◌, Bool, true, List, [], ◌∷◌, ◌++◌, None, Some, refl}
 use Rattle.std.specs.declared.option.Option.{Option}
 use Rattle.std.specs.declared.net.socket_addr.SocketAddr.{SocketAddr}
@@ -14,19 +14,19 @@ use Rattle.desk_io.specs.declared.doors.Next.TheVariants as answers
 
 -- ---- any door
 
--- links that were told to come begin with these, and lose them
+-- links that were known to come begin with these, and lose them
 abbrev pub Gives : {L : Type 0} → Option (List L) → Option (List L) → List L → Type 0
 Gives None new given = ⊤
 Gives (Some links) None given = ⊥
 Gives (Some links) (Some rest) given = links ≡ given ++ rest
 
--- no link was told
+-- no link was known to come
 abbrev pub NoLinkLeft : {L : Type 0} → Option (List L) → Type 0
 NoLinkLeft None = ⊤
 NoLinkLeft (Some links) = links ≡ []
 
 -- the links to come before and after an answer: a link is the first of them, a door is shut only where there are none,
--- and nothing is lost by a failure or a want of memory
+-- and nothing is lost by a failure, nor where memory is refused
 abbrev pub LinksAfter : {I O : Type 0} → Option (List (I × O)) → Option (List (I × O)) → Next I O → Type 0
 LinksAfter old new (answers.Link source sink) = Gives old new ((source, sink) ∷ [])
 LinksAfter old new answers.Shut = NoLinkLeft old × Gives old new []
@@ -47,7 +47,7 @@ pub Gives-nil : {L : Type 0} (a : Option (List L)) → Gives a a []
 Gives-nil None = tt
 Gives-nil (Some links) = refl
 
--- links behind links
+-- links after links
 pub Gives-trans : {L : Type 0} (a b c : Option (List L)) (xs ys : List L) → Gives a b xs → Gives b c ys
     → Gives a c (xs ++ ys)
 Gives-trans None b c xs ys first second = tt
@@ -91,7 +91,7 @@ IsUncalled source sink =
     (source ≡ record { is_open = true; faults = 0; reads = 2 ^ 64 - 1 })
     × (sink ≡ record { is_open = true; faults = 0 })
 
--- one call: a link that nobody has used yet, or a failure that was counted, or a want of memory
+-- one call: a link that nobody has used yet, or a failure that was counted, or out of memory
 abbrev pub AcceptsOnce : TcpDoorState → TcpDoorState → Next StreamSourceState StreamSinkState → Type 0
 AcceptsOnce before after (answers.Link source sink) =
     (after ≡ record before { is_bound = true }) × IsUncalled source sink

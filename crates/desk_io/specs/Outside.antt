@@ -11,6 +11,6 @@ one_more n = min (n + 1) (2 ^ 64 - 1)
 abbrev pub Rises : ℕ → ℕ → Type 0
 Rises before now = one_more before ≤ now
 
--- told bytes grew by a proper front of the piece
+-- known bytes grew by a proper front of the piece
 abbrev pub AppendsPart : Option (List ℕ) → Option (List ℕ) → List ℕ → Type 0
 AppendsPart old new piece = (n : ℕ) × (n < length piece) × Appends old new (take n piece)

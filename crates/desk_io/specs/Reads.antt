@@ -9,7 +9,7 @@ use Rattle.std.proofs.KnownBytes.{Consumes-nil, Consumes-trans}
 abbrev pub Passes : Type 0 → Type 1
 Passes S = S → List ℕ → S → Type 0
 
--- From the first source to this one, reads gave these bytes, one behind the other. Each read was made only where the
+-- From the first source to this one, reads gave these bytes, one after the other. Each read was made only where the
 -- bytes that had come before it asked for more.
 pub data ReadsOn {S : Type 0} (gives : Passes S) (Asks : List ℕ → Type 0) (first : S) : List ℕ → S → Type 0 where
   unread : ReadsOn gives Asks first [] first
@@ -32,7 +32,7 @@ module _ {S : Type 0} (gives : Passes S) where
   ReadsOn-weaker P Q weaker a b bytes (was_read came more c d reads asks gave) =
       was_read came more c d (ReadsOn-weaker P Q weaker a c came reads) (weaker came asks) gave
 
-  -- reads behind reads
+  -- reads after reads
   pub ReadsOn-trans : (Asks : List ℕ → Type 0) (a b : S) (xs : List ℕ) (c : S) (ys : List ℕ)
       → ReadsOn gives Asks a xs b → ReadsOn gives (λ came. Asks (xs ++ came)) b ys c → ReadsOn gives Asks a (xs ++ ys) c
   ReadsOn-trans Asks a b xs c ys first unread = subst (λ (l : List ℕ). ReadsOn gives Asks a l b)
@@ -55,7 +55,7 @@ module _ {S : Type 0} (left : S → Option (List ℕ)) (gives : Passes S) where
         reads = was_read xs ys b c first.reads asks gave;
       }
 
-  -- reads behind reads
+  -- reads after reads
   pub Comes-trans : (Asks : List ℕ → Type 0) (a b c : S) (xs ys : List ℕ) → Comes left gives Asks a b xs
       → Comes left gives (λ came. Asks (xs ++ came)) b c ys → Comes left gives Asks a c (xs ++ ys)
   Comes-trans Asks a b c xs ys first second =

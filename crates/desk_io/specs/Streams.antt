@@ -1,4 +1,4 @@
--- A source and a sink over streams, of whose content nothing is told.
+-- A source and a sink over streams, of whose content nothing is known.
 use Rattle.std.specs.Prelude.{◌≡◌, ◌⊎◌, ℕ, Bool, ◌-◌, ◌==◌, if◌then◌else◌, List, [], length}
 use Rattle.desk_io.specs.Outside.{one_more}
 

@@ -15,7 +15,7 @@ use std::time::Duration;
 /// The last nanosecond of 2199-12-31, in nanoseconds since 1970.
 const LAST_NS: i64 = 7_258_118_399_999_999_999;
 
-/// A clock whose readings are told: each is a step later than the one before, and no later than the
+/// A clock whose readings are known: each is a step later than the one before, and no later than the
 /// last moment of the year 2199.
 #[derive(Debug, Drop)]
 pub struct TickClock {
@@ -107,7 +107,7 @@ impl Clock for TickClock {
     }
 }
 
-/// The system's clock, held to the years that an `Instant` has. Its readings aren't told.
+/// The system's clock, held to the years that an `Instant` has. Its readings aren't known.
 #[derive(Debug, Drop)]
 pub struct SystemClock<R: rt::Clock + Copy> {
     system: R,

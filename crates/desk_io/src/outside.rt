@@ -1,7 +1,7 @@
 //! What the desk knows of the outside: a source of bytes, a sink for bytes, a clock.
 //!
-//! What an object holds is told or untold: a file or a socket tells nothing. How often it failed, whether it is
-//! open, and what a clock read last is always told.
+//! What an object holds is known or not: of a file or a socket nothing is known. How often it failed, whether it is
+//! open, and what a clock read last is always known.
 ghost use Rattle.std.specs.Prelude.{◌≡◌, ℕ, ◌<◌, ◌≤◌, ◌+◌, ℤ, Bool, false, List, [], length, take, IfOk, OnOk, OnErr};
 ghost use Rattle.std.specs.Prelude.{IfSome, Option};
 ghost use Rattle.std.specs.Io.KnownBytes.{ReadConsumes, WriteAppends, Appends, Keeps};
@@ -16,7 +16,7 @@ pub struct Failed;
 
 /// Where bytes come from.
 pub trait Source: Drop {
-    /// The bytes that reads will give from here on, where they are told.
+    /// The bytes that reads will give from here on, where they are known.
     ghost left: { Self → Option (List ℕ) };
 
     /// How often the source has failed.
@@ -25,7 +25,7 @@ pub trait Source: Drop {
     /// How many reads can still give bytes.
     ghost reads: { Self → ℕ };
 
-    /// Whether the real thing behind it is still there.
+    /// Whether the real thing under it is still there.
     ghost is_open: { Self → Bool };
 
     /// One read, from the source before it to the source after it: it gave these bytes, and none where it failed.
@@ -45,7 +45,7 @@ pub trait Source: Drop {
         ensures reads { reads self.new ≤ reads self.old }
         ensures nearer { IfOk result (λ n. 0 < n → reads self.new < reads self.old) };
 
-    /// Gives up the real thing behind the source.
+    /// Gives up the real thing under the source.
     fn end(&mut self)
         ensures bytes { Keeps (left self.old) (left self.new) }
         ensures counts { faults self.new ≡ faults self.old }
@@ -55,13 +55,13 @@ pub trait Source: Drop {
 
 /// Where bytes go.
 pub trait Sink: Drop {
-    /// The bytes that the sink took so far, where they are told.
+    /// The bytes that the sink took so far, where they are known.
     ghost taken: { Self → Option (List ℕ) };
 
     /// How often the sink has failed.
     ghost faults: { Self → ℕ };
 
-    /// Whether the real thing behind it is still there.
+    /// Whether the real thing under it is still there.
     ghost is_open: { Self → Bool };
 
     /// Takes bytes from the front of the piece and says how many: at least one of a piece that isn't empty.
@@ -74,7 +74,7 @@ pub trait Sink: Drop {
         ensures cause { OnErr result (Rises (faults self.old) (faults self.new)) }
         ensures stays { is_open self.new ≡ is_open self.old };
 
-    /// Gives up the real thing behind the sink.
+    /// Gives up the real thing under the sink.
     fn end(&mut self)
         ensures bytes { Keeps (taken self.old) (taken self.new) }
         ensures counts { faults self.new ≡ faults self.old }
@@ -83,7 +83,7 @@ pub trait Sink: Drop {
 
 /// What time it is.
 pub trait Clock: Drop {
-    /// The k-th reading to come, counted from 0, where it is told.
+    /// The k-th reading to come, counted from 0, where it is known.
     ghost reading: { Self → ℕ → Option ℤ };
 
     /// The last reading, in nanoseconds since 1970, and 0 before the first one.

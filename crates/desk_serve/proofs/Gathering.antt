@@ -135,7 +135,7 @@ module _ {I O : Type 0} (on : LinkWords I O) where
     abbrev all_end : View → GatherEnd I O
     all_end view = record { view = view; door = others.door; ends = others.ends ++ end ∷ []; stop = others.stop }
 
-    -- the end of this link stands behind those of the others
+    -- the end of this link stands after those of the others
     ended_behind : (ends : List (LinkEnd I O)) → others.ends ≡ start.ends ++ reverse ends
         → others.ends ++ end ∷ [] ≡ start.ends ++ reverse (end ∷ ends)
     ended_behind ends ended =

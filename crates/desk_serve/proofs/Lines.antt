@@ -1,7 +1,7 @@
--- Texts that are put one behind another.
+-- Texts that are put one after another.
 use Rattle.std.proofs.Common.{◌≡◌, ℕ, List, [], ◌++◌, ap, ◌∙◌, append_assoc}
 
--- what follows a text that was put behind another
+-- what follows a text that was put after another
 put_behind : (new old text rest : List ℕ) → new ≡ old ++ text → new ++ rest ≡ old ++ (text ++ rest)
 put_behind new old text rest same = ap (λ (t : List ℕ). t ++ rest) same ∙ append_assoc old text rest
 

@@ -86,7 +86,7 @@ gather_start view clock door most ends = record { view = view; clock = clock; do
 abbrev pub gather_end : {I O : Type 0} → View → DoorState I O → List (LinkEnd I O) → Stop → GatherEnd I O
 gather_end view door ends stop = record { view = view; door = door; ends = ends; stop = stop }
 
--- The root took in these links: the door gave them in this order, their ends stand newest first behind the earlier
+-- The root took in these links: the door gave them in this order, their ends stand newest first after the earlier
 -- ones, and the root's calls are its earlier ones and those that were made for the links.
 pub record Gathers {I O : Type 0} (on : LinkWords I O) (start : GatherStart I O) (end : GatherEnd I O) : Type 0 where
   pub attendances : List (Attendance on)

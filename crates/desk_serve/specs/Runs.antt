@@ -29,7 +29,7 @@ use Rattle.desk_serve.specs.Summaries.{summary}
 
 -- ---- the first fault
 
--- The first fault that arose: of the door, or a want of memory, or else what the last mending gave, which is made
+-- The first fault that arose: of the door, or out of memory, or else what the last mending gave, which is made
 -- whatever the links stopped at.
 abbrev pub first_fault : Stop → Status → Status
 first_fault stops.Full mended = mended

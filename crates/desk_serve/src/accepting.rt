@@ -99,7 +99,7 @@ fn split_root<V: Clerk>(lock: &TurnLock<V>, root: Pass, left: u64) -> Result<(Pa
 
 /// Takes up to `left` links of a door, and attends each in a thread of its own while the next one is awaited.
 ///
-/// Where a thread can't be started, the link is attended in this one, after the links that come behind it.
+/// Where a thread can't be started, the link is attended in this one, after the links that come after it.
 pub(crate) fn attend_links<V: Clerk + Send, T: Gate, C: Clock + Send, R: Threads + Wait + Sync>(
     rt: &R,
     alloc: Global,

@@ -15,7 +15,7 @@ pub(crate) trait Gate: Drop {
     /// Where a link's bytes go.
     type Out: Sink + Send;
 
-    /// The links to come, where they are told.
+    /// The links to come, where they are known.
     ghost links: { Self → Option (List (Self.In × Self.Out)) };
 
     /// How often the door has failed.

@@ -13,7 +13,7 @@ use desk_io::{Failed, Sink, write_all};
 /// The most bytes that the two lines have: their words, their line feeds, and two numbers of at most 20 digits.
 const SUMMARY_BYTES: usize = 62;
 
-// A text behind what stands in the lines so far.
+// A text after what stands in the lines so far.
 fn put(lines: &mut ArrayVec<u8, SUMMARY_BYTES>, text: &[u8])
     requires { array_vec_len lines.old + length text.now ≤ SUMMARY_BYTES }
     ensures text { lines.new.items ≡ lines.old.items ++ text.now }
@@ -22,7 +22,7 @@ fn put(lines: &mut ArrayVec<u8, SUMMARY_BYTES>, text: &[u8])
     lines.try_extend_from_slice(text).unwrap();
 }
 
-// A number in decimal behind it.
+// A number in decimal after it.
 fn put_number(lines: &mut ArrayVec<u8, SUMMARY_BYTES>, n: u64)
     requires { array_vec_len lines.old + 20 ≤ SUMMARY_BYTES }
     ensures text { lines.new.items ≡ lines.old.items ++ decimal n }

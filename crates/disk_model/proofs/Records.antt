@@ -31,7 +31,7 @@ deeds_more pool bytes capacity entries entry within =
     ∙ reverse-append (map (deed_of (pool ++ bytes)) entries) (deed_of (pool ++ bytes) entry ∷ [])
     ∙ ap (λ (ds : List Deed). deed_of (pool ++ bytes) entry ∷ reverse ds) (deeds_grown pool bytes capacity entries (recursion_from_All _ entries within))
 
--- the bytes of a write, put behind the pool
+-- the bytes of a write, put after the pool
 pub written_deed : (pool bytes : List ℕ) (at : ℕ) (done : _) → deed_of (pool ++ bytes) (Wrote at (length pool) (length bytes) done) ≡ deeds.Wrote at bytes done
 written_deed pool bytes at done =
     ap (λ (l : List ℕ). deeds.Wrote at (take (length bytes) l) done) (drop_at pool bytes (length pool) refl)

@@ -18,7 +18,7 @@ take_lengthened at len file le =
     ap (λ (l : List ℕ). take at l) parts
     ∙ take-append-le at (lengthened at file) (replicate more 0) (omega (arith, length-lengthened at file))
 
--- and nothing behind them
+-- and nothing after them
 drop_lengthened : (len : ℕ) (file : List ℕ) → drop len (lengthened len file) ≡ drop len file
 drop_lengthened len file = elim (cases_lt len (length file)) as (λ (w : (len < length file) ⊎ (length file ≤ len)). drop len (lengthened len file) ≡ drop len file) [
   | inl inside ↦

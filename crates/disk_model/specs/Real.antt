@@ -7,11 +7,11 @@ pub record FileState : Type 0 where
   pub is_open : Bool
   pub faults : ℕ
 
--- no read is told
+-- no read is known
 abbrev pub unread : FileState → Option (List ℕ)
 unread disk = None
 
--- no image is told, now or since a moment
+-- no image is known, now or since a moment
 abbrev pub no_image : FileState → List ℕ → Type 0
 no_image disk image = ⊥
 
@@ -22,6 +22,6 @@ no_image_since disk t image = ⊥
 abbrev pub no_moment : FileState → ℕ
 no_moment disk = 0
 
--- nothing is read as nothing told
+-- what is unknown is no reading
 pub untold : (file : List ℕ) → None ≡ Some file → ⊥
 untold file is = true≢false (ap (λ (told : Option (List ℕ)). is_none told) is)

@@ -1,7 +1,7 @@
 //! What is known of a disk: what reads give, what a crash may leave, how often it has failed.
 //!
 //! Until a sync, a crash may leave any bytes where a write was, also one that failed. Of a disk whose content isn't
-//! known, as a real file, no read is told and no image; its count of faults is always known.
+//! known, as a real file, no read is known and no image; its count of faults is always known.
 
 ghost use Rattle.std.specs.Prelude.{◌≡◌, ℕ, ◌≤◌, List, length, IfOk, OnOk, OnErr, IfSome, IsSome, Option, Some};
 ghost use Rattle.disk_model.specs.Counts.{Rises};

@@ -20,7 +20,7 @@ use Rattle.act_model.specs.Clocks.{ClockState, Gives}
 use Rattle.act_model.specs.Turns.{Turn, Answers, Conduct, at_rest}
 
 pub record FrameLaws : Type 0 where
-  -- bytes that come later stand behind a frame, and behind frames
+  -- bytes that come later stand after a frame, and after frames
   pub frame_goes_on : (f : Frame) (rest more : List ℕ) → framed f rest ++ more ≡ framed f (rest ++ more)
   pub stream_goes_on : (fs : List Frame) (rest more : List ℕ) → streamed fs rest ++ more ≡ streamed fs (rest ++ more)
   pub stream_joins : (fs gs : List Frame) (rest : List ℕ) → streamed (fs ++ gs) rest ≡ streamed fs (streamed gs rest)

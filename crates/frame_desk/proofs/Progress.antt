@@ -91,7 +91,7 @@ module _ {S : Type 0} (left : S → Option (List ℕ)) (gives : Passes S) {D : T
       }
 
   module _ (laws : FrameLaws) (here : Standing S D) (offset : ℕ) (p : Progress left gives on start here offset) where
-    -- while a frame is awaited behind those that were answered, the next one is
+    -- while a frame is awaited after those that were answered, the next one is
     next_awaited : (came : List ℕ) → AwaitsFrame here.ahead came → AwaitsNext (length p.serves.frames) (p.came ++ came)
     next_awaited came awaited =
         let stream = ap (λ (b : List ℕ). b ++ came) p.serves.stream ∙ laws.stream_goes_on p.serves.frames here.ahead came in

@@ -28,7 +28,7 @@ written_more turns turn reply is =
 
 module _ (before : ClockState) where
   module _ (laws : FrameLaws) where
-    -- bytes that come later stand behind the rest
+    -- bytes that come later stand after the rest
     pub serves_bytes : (after : ClockState) (bytes rest : List ℕ) (turns : List Turn) (piece : List ℕ) (s : Serves before after bytes rest turns)
         → (later : Serves before after (bytes ++ piece) (rest ++ piece) turns) × (later.frames ≡ s.frames)
     serves_bytes after bytes rest turns piece s = (

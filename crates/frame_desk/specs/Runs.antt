@@ -28,7 +28,7 @@ use Rattle.frame_desk.specs.Conducted.{LeavesIn, Grows}
 
 -- ---- what a run took from its source and wrote
 
--- The bytes that came from the source, and behind them those that are left there, none where that isn't known; how many
+-- The bytes that came from the source, and after them those that are left there, none where that isn't known; how many
 -- frames were answered, each with its whole reply; and the bytes that were written.
 pub record Run : Type 0 where
   pub came : List ℕ
@@ -41,7 +41,7 @@ abbrev pub Remains : Option (List ℕ) → List ℕ → Type 0
 Remains None more = more ≡ []
 Remains (Some left) more = left ≡ more
 
--- behind the frames that have come, which were all answered, a further frame may still come
+-- after the frames that have come, which were all answered, a further frame may still come
 abbrev pub AwaitsNext : ℕ → List ℕ → Type 0
 AwaitsNext answered came =
     (frames : List Frame) × (rest : List ℕ) × IsSession came frames rest × (length frames ≤ answered)

@@ -121,7 +121,7 @@ SinkFaults Over before now = now ≡ before
 SinkFaults NoMore before now = now ≡ before
 SinkFaults ReadFailed before now = now ≡ before
 
--- a piece of the source's bytes came behind those that were read ahead, while a frame was awaited, and this became of
+-- a piece of the source's bytes came after those that were read ahead, while a frame was awaited, and this became of
 -- them
 pub record TakesStep {S : Type 0} (left : S → Option (List ℕ)) (gives : Passes S) {D : Type 0} (on : DiskWords D)
     (old new : Standing S D) (turned : Turned) : Type 0 where

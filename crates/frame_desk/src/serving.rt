@@ -25,7 +25,7 @@ use std::alloc::Global;
 /// Why serving stopped.
 #[derive(Debug, Drop)]
 pub enum Stop {
-    /// The source ended behind the last frame, and all were answered.
+    /// The source ended after the last frame, and all were answered.
     Over,
     /// From this offset on the bytes are no frame.
     NoFrameAt(u64),
@@ -40,7 +40,7 @@ pub enum Stop {
 pub enum Turned {
     /// It was answered; this many bytes it had.
     Answered(u64),
-    /// The source ended behind the frame before.
+    /// The source ended after the frame before.
     Over,
     /// From here on the bytes are no frame.
     NoMore,

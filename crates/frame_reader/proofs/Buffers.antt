@@ -1,4 +1,4 @@
--- A buffer into which a piece is read behind the bytes that it keeps at its front.
+-- A buffer into which a piece is read after the bytes that it keeps at its front.
 use Rattle.std.proofs.Common.{◌≡◌, ℕ, ◌+◌, ◌-◌, ◌≤◌, List, [], ◌++◌, length, take, drop, slice_range, Option, Result, Ok, Err, IfOk, OnErr, sym, ap, ◌∙◌, arith}
 use Rattle.std.proofs.lemmas.List.{append-nil, take_at, drop_at, take-append-le, length-take-le, drop-take, drop-drop}
 use Rattle.std.proofs.KnownBytes.{Consumes-nil, Consumes-kept}
@@ -8,7 +8,7 @@ use borrow.Rule.Slice.PartMut.{put_mid, post_of}
 use lib.Seq.{take-add}
 use Rattle.frame_reader.specs.Reading.{ReadsOnce}
 
--- the bytes that are kept, and behind them the front of what was written there
+-- the bytes that are kept, and after them the front of what was written there
 take_behind : (xs ys : List ℕ) (kept k n : ℕ) → kept ≤ length xs → n ≤ length ys → take (kept + n) (put_mid kept k xs ys) ≡ take kept xs ++ take n ys
 take_behind xs ys kept k n within few =
     let front = take kept xs in

@@ -18,12 +18,12 @@ whole head body = record { key = head.key; number = head.number; verb = head.ver
 module _ {S : Type 0} (left : S → Option (List ℕ)) (gives : Passes S) (goes_on : (h : HeadParts) (rest more : List ℕ) → headed h rest ++ more ≡ headed h (rest ++ more))
     (missing : (bytes : List ℕ) (h : HeadParts) (rest : List ℕ) → IsHead h → bytes ≡ headed h rest → length rest < h.length → NoFrame bytes)
     (no_head : (bytes : List ℕ) → NeverFrame bytes → (more : List ℕ) → NoHead (bytes ++ more)) where
-  -- what comes behind the bytes that begin with a head
+  -- what comes after the bytes that begin with a head
   behind_head : (start first second middle : List ℕ) (h : HeadParts) → start ++ first ≡ headed h middle → start ++ (first ++ second) ≡ headed h (middle ++ second)
   behind_head start first second middle h stands =
       sym (append_assoc start first second) ∙ ap (λ (t : List ℕ). t ++ second) stands ∙ goes_on h middle second
 
-  -- while bytes of a body are missing behind its head, a frame is awaited
+  -- while bytes of a body are missing after its head, a frame is awaited
   awaited : (start first middle came : List ℕ) (h : HeadParts) → IsHead h → start ++ first ≡ headed h middle → LacksText middle h.length came → AwaitsFrame start (first ++ came)
   awaited start first middle came h good stands lacks =
       let bytes : List ℕ = start ++ (first ++ came) in

@@ -1,5 +1,5 @@
 -- Frames that are read out of a source: what each answer says of the bytes that were read ahead and those that came
--- behind them.
+-- after them.
 use Rattle.std.specs.Prelude.{◌≡◌, ℕ, ◌<◌, ◌≤◌, ◌⊎◌, List, [], ◌++◌, length, drop, Result, Ok, Err, IfSome}
 use Rattle.std.specs.declared.option.Option.{Option}
 use Rattle.std.specs.Io.KnownBytes.{IsAtEnd}
@@ -22,7 +22,7 @@ use Rattle.frame_reader.specs.declared.head.HeldFront.TheVariants as fronts
 -- ---- frames
 
 -- what is told of a body is true of its text: what was kept is all of it, what is too long to be kept has this length,
--- and room was wanting only for what isn't too long
+-- and memory was refused only for what isn't too long
 abbrev pub IfKept : FrameBody → List ℕ → Type 0
 IfKept (bodies.Whole bytes) text = (bytes ≡ text) × (length text ≤ BODY_BYTES)
 IfKept (bodies.TooLong size) text = (size ≡ length text) × (BODY_BYTES < size)

@@ -10,7 +10,7 @@ use Rattle.frame_reader.specs.declared.TheConstants.{BUFFER_BYTES}
 abbrev pub IsAwaited : List ℕ → Type 0
 IsAwaited bytes = NoFrame bytes × ¬ NeverFrame bytes
 
--- the same, of bytes that come behind those that were read ahead
+-- the same, of bytes that come after those that were read ahead
 abbrev pub AwaitsFrame : List ℕ → List ℕ → Type 0
 AwaitsFrame ahead came = IsAwaited (ahead ++ came)
 
@@ -18,7 +18,7 @@ AwaitsFrame ahead came = IsAwaited (ahead ++ came)
 abbrev pub LacksText : List ℕ → ℕ → List ℕ → Type 0
 LacksText ahead size came = length (ahead ++ came) < size
 
--- one read gave a piece of the source's bytes, or none, behind those that were read ahead
+-- one read gave a piece of the source's bytes, or none, after those that were read ahead
 pub record ReadsOnce {S : Type 0} (left : S → Option (List ℕ)) (gives : Passes S) (before after : S)
     (ahead grown : List ℕ) : Type 0 where
   pub piece : List ℕ

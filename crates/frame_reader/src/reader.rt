@@ -73,7 +73,7 @@ impl FrameReader {
         self.start += count;
     }
 
-    // Moves what was read ahead to the buffer's front, and reads once behind it. Says how many bytes
+    // Moves what was read ahead to the buffer's front, and reads once after it. Says how many bytes
     // came: 0 is the end of the source.
     fn refill<S: Source>(&mut self, source: &mut S) -> Result<usize, Failed>
         requires { length self.old < BUFFER_BYTES }
@@ -119,7 +119,7 @@ impl FrameReader {
         }
     }
 
-    // Reads a text of this length to its end, behind what is kept so far. Where nothing is to be kept,
+    // Reads a text of this length to its end, after what is kept so far. Where nothing is to be kept,
     // or memory is refused, it throws the text away.
     fn read_text<S: Source>(
         &mut self,
@@ -234,13 +234,13 @@ impl FrameReader {
         })
     }
 
-    /// The next frame of the source, behind the bytes that were read ahead.
+    /// The next frame of the source, after the bytes that were read ahead.
     ///
     /// That a body is too long, or that memory for it was refused, is told by the frame's body, and the
     /// next frame is read all the same.
     /// After `Bad` and `Failed` it isn't told which bytes were used.
     pub fn next_frame<S: Source>(&mut self, source: &mut S) -> NextFrame
-        // What the answer says of the bytes that were read ahead and of those that came behind them. No read
+        // What the answer says of the bytes that were read ahead and of those that came after them. No read
         // was made but while a frame was awaited.
         ensures came { (piece : List ℕ) × Comes S.left S.gives (AwaitsFrame self.old) source.old source.new piece
             × ReadsFrame (self.old ++ piece) self.new (S.left source.new) result }
@@ -271,7 +271,7 @@ fn extended(body: Option<Bytes>, text: &[u8]) -> Option<Bytes>
     Some(bytes)
 }
 
-// Reads once into a buffer, behind the bytes that it keeps at its front.
+// Reads once into a buffer, after the bytes that it keeps at its front.
 fn read_behind<S: Source>(source: &mut S, buffer: &mut [u8], kept: usize) -> Result<usize, Failed>
     requires { kept < length buffer.old }
     ensures came { IfOk result (λ n. ReadsOnce S.left S.gives source.old source.new

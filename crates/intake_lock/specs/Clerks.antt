@@ -26,7 +26,7 @@ StampsTurn (Some stamps) None entries after = after ≡ Some stamps
 StampsTurn (Some stamps) (Some reading) entries after =
     (moment : ℕ) × (after ≡ Some (stamps ++ (record { moment = moment; entries = entries }) ∷ []))
 
--- newer stamps may stand behind these
+-- newer stamps may stand after these
 abbrev pub StampsOn : Option (List Stamp) → Option (List Stamp) → Type 0
 StampsOn None after = after ≡ None
 StampsOn (Some stamps) after = (newer : List Stamp) × (after ≡ Some (stamps ++ newer))

@@ -38,7 +38,7 @@ abbrev pub StampTells : List Entry → Option ℤ → Option Stamp → List Entr
 StampTells past None stamp after = after ≡ past
 StampTells past (Some reading) stamp after = IfSome stamp (λ given. given.entries ≡ length after)
 
--- The call is true of this history. It was answered at some first entries of it, by the step, or for want of memory, or
+-- The call is true of this history. It was answered at some first entries of it, by the step, or as out of memory, or
 -- because the disk failed; and where the step adds an entry and it was done, that entry is the next one.
 pub record IsTrue (founder : Key) (limit : Option ℕ) (history : List Entry) (item : Item) : Type 0 where
   pub past : List Entry

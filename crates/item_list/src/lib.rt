@@ -10,7 +10,7 @@ use std::alloc::{AllocError, Global};
 use std::marker::Model;
 use std::slice;
 
-/// Want of memory, the answer that a call which takes memory may always give.
+/// Out of memory, the answer that a call which takes memory may always give.
 pub type NoMemory = AllocError;
 
 /// A list of items in their order.

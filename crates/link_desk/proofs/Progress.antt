@@ -139,7 +139,7 @@ module _ {S : Type 0} (left : S → Option (List ℕ)) (gives : Passes S) (start
       front_grown : IsOpen (p.came ++ piece) (messages_of p.exchanges) (ahead ++ piece)
       front_grown = open_grows laws.goes_on p.came (messages_of p.exchanges) ahead piece p.front
 
-      -- while a message is awaited behind those that were answered, the next one is
+      -- while a message is awaited after those that were answered, the next one is
       next_awaited : (came : List ℕ) → AwaitsMessage ahead came → AwaitsNext answered (p.came ++ came)
       next_awaited came awaited =
           let count = p.count in

@@ -4,7 +4,7 @@ use Rattle.std.specs.Prelude.{◌⊎◌}
 use Rattle.desk_http.specs.Heads.{Message, IsMessage, NoMessage, Behind, IsStream}
 use Rattle.link_desk.specs.Streams.{IsOpen, IsClosed, HasNoHeadFault}
 
--- bytes that come later stand behind the rest
+-- bytes that come later stand after the rest
 pub open_grows : ((bytes : List ℕ) (m : Message) (rest more : List ℕ) → IsMessage bytes m rest → IsMessage (bytes ++ more) m (rest ++ more))
     → (bytes : List ℕ) (ms : List Message) (rest more : List ℕ) → IsOpen bytes ms rest → IsOpen (bytes ++ more) ms (rest ++ more)
 open_grows grows bytes [] rest more is = ap (λ (b : List ℕ). b ++ more) is
@@ -17,7 +17,7 @@ pub open_more : (bytes : List ℕ) (ms : List Message) (front : List ℕ) (m : M
 open_more bytes [] front m rest is stands goes_on = (rest, subst (λ (b : List ℕ). IsMessage b m rest) (sym is) stands, goes_on, refl)
 open_more bytes (n ∷ ms) front m rest (middle, here, on, others) stands goes_on = (middle, here, on, open_more middle ms front m rest others stands goes_on)
 
--- where no message stands behind them, they are the stream
+-- where no message stands after them, they are the stream
 pub open_stream : (bytes : List ℕ) (ms : List Message) (rest : List ℕ) → IsOpen bytes ms rest → NoMessage rest → IsStream bytes ms rest
 open_stream bytes [] rest is none = (is, none)
 open_stream bytes (m ∷ ms) rest (middle, stands, goes_on, others) none = (
@@ -26,7 +26,7 @@ open_stream bytes (m ∷ ms) rest (middle, stands, goes_on, others) none = (
   subst (λ (b : Bool). Behind b ((ms ≡ []) × (middle ≡ rest)) (IsStream middle ms rest)) (sym goes_on) (open_stream middle ms rest others none),
 )
 
--- with a message that asks to close behind them, they are the stream
+-- with a message that asks to close after them, they are the stream
 pub closed_stream : (bytes : List ℕ) (ms : List Message) (front : List ℕ) (m : Message) (rest : List ℕ) → IsOpen bytes ms front → IsMessage front m rest → m.parts.closes ≡ true
     → IsStream bytes (ms ++ m ∷ []) rest
 closed_stream bytes [] front m rest is stands closes =

@@ -92,7 +92,7 @@ answers before (exchange ∷ exchanges) = answer_to before exchange ++ answers (
 
 -- ---- a connection at its end
 
--- the bytes that came, and behind them those that are left, none where that isn't known; the messages that were asked;
+-- the bytes that came, and after them those that are left, none where that isn't known; the messages that were asked;
 -- and the bytes that were written
 pub record Link : Type 0 where
   pub came : List ℕ
@@ -187,7 +187,7 @@ pub record Standing (S : Type 0) : Type 0 where
 
 -- A connection was attended and left: what came from the source, which calls the pass made for it, which bytes the sink
 -- took, and why it was left. No more than 1,000 messages were asked. Where the disk's count of faults rose in no call,
--- each was answered by the step, or for want of memory.
+-- each was answered by the step, or as out of memory.
 pub record IsAttended {S : Type 0} (left : S → Option (List ℕ)) (gives : Passes S) (before after : Standing S)
     (ended : Left) : Type 0 where
   pub link : Link

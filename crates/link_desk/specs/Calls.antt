@@ -65,7 +65,7 @@ pub record IsAdded (founder : Key) (limit : Option ℕ) (history : List Entry) (
   pub text : List ℕ
   pub done : item.reply ≡ Done text
 
--- a call stands no earlier in the history than an earlier one, and behind the entry that the earlier one added
+-- a call stands no earlier in the history than an earlier one, and after the entry that the earlier one added
 abbrev pub StandsBehind : Key → Option ℕ → List Entry → Item → Item → Type 0
 StandsBehind founder limit history item earlier =
     (earlier.position ≤ item.position) × (IsAdded founder limit history earlier → earlier.position < item.position)

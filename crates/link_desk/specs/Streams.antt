@@ -4,7 +4,7 @@ use Rattle.desk_http.specs.Heads.{Message, IsMessage, IsStream}
 use Rattle.desk_http.specs.Reading.{IsAwaited}
 use Rattle.link_desk.specs.declared.TheConstants.{ANSWERS}
 
--- these messages stand at the front of the bytes, one behind the other, before this rest, and none of them asks to
+-- these messages stand at the front of the bytes, one after the other, before this rest, and none of them asks to
 -- close
 abbrev pub IsOpen : List ℕ → List Message → List ℕ → Type 0
 IsOpen bytes [] rest = bytes ≡ rest
@@ -25,7 +25,7 @@ pub record HasNoHeadFault (bytes : List ℕ) : Type 0 where
   pub stream : IsStream bytes messages rest
   pub whole : IsClosed messages ⊎ (rest ≡ [])
 
--- behind the messages that have come, of which all that were answered ask to go on and which are fewer than 1,000, a
+-- after the messages that have come, of which all that were answered ask to go on and which are fewer than 1,000, a
 -- further one may still come
 pub record AwaitsNext (answered : ℕ) (came : List ℕ) : Type 0 where
   pub messages : List Message

@@ -3,7 +3,7 @@
 /// Why a connection was left.
 #[derive(Clone, Copy, Debug, PartialEq, Eq)]
 pub enum Left {
-    /// The input ended behind a request, with fewer than 1,000 answers; or a request that asked to close was answered.
+    /// The input ended after a request, with fewer than 1,000 answers; or a request that asked to close was answered.
     Ended,
     /// What came was no request. It was answered once, by `400` and `refused 1 Unread head`.
     Unread,

@@ -45,7 +45,7 @@ fn words_in<A: Iterator<Item = String> + Drop>(alloc: Global, args: A) -> Result
 }
 
 /// The words of the command line, after the program's name. Where they can't be had, the status says why: a word that
-/// isn't UTF-8 is none of the grammar's, and any other error is want of memory.
+/// isn't UTF-8 is none of the grammar's, and any other error means out of memory.
 fn words_of(rt: HostRuntime) -> Result<Words, Status> {
     let args = env::args(&rt).map_err(|error| match error.kind() {
         ErrorKind::InvalidData => Status::Usage,

@@ -1,4 +1,4 @@
--- The places of numbers: each stands as many places behind the first as it is above it.
+-- The places of numbers: each stands as many places after the first as it is above it.
 use Rattle.std.proofs.Common.{◌≡◌, ◌≢◌, ℕ, zero, suc, ◌+◌, ◌-◌, ◌<◌, ◌≤◌, Bool, cond, List, [], ◌∷◌, length, get_or, Some, None, refl, ap, sym, subst, ◌∙◌, inl, inr, arith, eq-eqb}
 use Rattle.std.specs.Prelude.{reverse, ◌⊎◌}
 use Rattle.std.proofs.lemmas.Bool.{ne_eqb}

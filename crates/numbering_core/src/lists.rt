@@ -55,7 +55,7 @@ pub fn number_of(entries: &OrderedList<NumberEntry>, d: Designation) -> Option<N
     entries.find(&key).map(|entry| entry.number)
 }
 
-/// The designation that has a number. Numbers are unbroken, so that each stands as many places behind the first as it
+/// The designation that has a number. Numbers are unbroken, so that each stands as many places after the first as it
 /// is above it.
 pub fn named(numbered: &[Numbering], n: Number) -> Option<Designation>
     requires { IsUnbroken (reverse numbered.now) }

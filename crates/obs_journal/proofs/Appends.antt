@@ -26,7 +26,7 @@ torn_front at n front rest file image long is torn =
     let kept : take at image ≡ front = ap (λ n. take n image) (sym within) ∙ torn.before ∙ ap (λ l. take at l) is ∙ take_at front rest at long in
     sym (take-append-drop at image) ∙ ap (λ l. l ++ drop at image) kept
 
--- and what stands behind it
+-- and what stands after it
 torn_back : (at : ℕ) (front rest file image : List ℕ) (byte : ℕ) → length front ≡ at → file ≡ front ++ byte ∷ rest → Torn at 1 file image → image ≡ front ++ get_or image at 0 ∷ rest
 torn_back at front rest file image byte long is torn =
     let longer : at < length image = omega (arith, torn.no_shorter, ap length is, length-append front (byte ∷ rest), long) in
@@ -55,7 +55,7 @@ module _ (ps : List RawParcel) (p : RawParcel) where
   pub row_more : (next : ℕ) (rest : List ℕ) → opened (ps ++ p ∷ []) (next ∷ rest) ≡ opened ps (1 ∷ (parcel_bytes p ++ next ∷ rest))
   row_more next rest = opened-append ps (p ∷ []) (next ∷ rest)
 
-  -- a write behind the closed gate, cut short or whole, leaves the parcels before it
+  -- a write after the closed gate, cut short or whole, leaves the parcels before it
   pub torn_behind : (at n : ℕ) (file image : List ℕ) → at ≡ row_length ps + 1 → IsRow file ps → Torn at n file image → IsRow image ps
   torn_behind at n file image at_is row torn = record {
     gate = row.gate;
@@ -65,7 +65,7 @@ module _ (ps : List RawParcel) (p : RawParcel) where
     each = row.each;
   }
 
-  -- the parcel and a closed gate stand behind the closed gate
+  -- the parcel and a closed gate stand after the closed gate
   pub record IsStaged (image : List ℕ) : Type 0 where
     pub doubtful : IsDoubtful image ps p
     pub closed : doubtful.gate ≢ 1

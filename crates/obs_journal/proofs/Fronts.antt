@@ -22,7 +22,7 @@ first_and_rest : (bytes : List ℕ) (byte : ℕ) → 1 ≤ length bytes → get_
 first_and_rest [] byte long is = absurd (omega (arith, long))
 first_and_rest (b ∷ bytes) byte long is = ap (λ x. x ∷ bytes) is
 
--- a gate, a head, a body and what is behind them
+-- a gate, a head, a body and what is after them
 pub put_together : (file bytes body : List ℕ) (gate n : ℕ) (head : Head) → bytes ≡ take 26 (drop gate file) → bytes ≡ 1 ∷ head_spelled head → body ≡ take n (drop (gate + 26) file) → length body + 21 ≡ head.counted → gate + 26 + n < length file
     → drop gate file ≡ 1 ∷ (parcel_bytes (with_body head body) ++ get_or (drop n (drop (gate + 26) file)) 0 0 ∷ drop 1 (drop n (drop (gate + 26) file)))
 put_together file bytes body gate n head front spelled body_is long inside =

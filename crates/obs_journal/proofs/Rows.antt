@@ -63,7 +63,7 @@ one_damage (p ∷ ps) (q ∷ qs) x y fp fq nx ny e =
     let first = one_parcel p q (opened ps (1 ∷ x)) (opened qs (1 ∷ y)) fp.0 fq.0 (same_rest _ _ _ _ e) in
     omega (arith, ap (λ (r : RawParcel). length r.body) first.0, one_damage ps qs x y fp.1 fq.1 nx ny first.1)
 
--- no row is fresh: behind an open gate stands more
+-- no row is fresh: after an open gate stands more
 fresh_row : (file : List ℕ) (ps : List RawParcel) → IsFresh file → IsRow file ps → ⊥
 fresh_row file ps (inl empty) row = absurd (omega (arith, ap length (sym empty ∙ row.file_is), length-opened ps (row.gate ∷ row.rest)))
 fresh_row file [] (inr one) row = row.closed (sym (same_first _ _ _ _ (sym one ∙ row.file_is)))

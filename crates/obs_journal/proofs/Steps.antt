@@ -23,7 +23,7 @@ module _ {D : Type 0} (reads : D → Option (List ℕ)) (leaves : D → List ℕ
     abbrev pub Either : List ℕ → Type 0
     Either image = IsRow image ps ⊎ IsRow image (ps ++ p ∷ [])
 
-    -- while the parcel is written behind the closed gate
+    -- while the parcel is written after the closed gate
     pub rows_stay : {old mid : D} (at n : ℕ) → at ≡ row_length ps + 1 → ((image : List ℕ) → leaves old image → IsRow image ps) → EachSince moment since old mid (After (Torn at n) (leaves old)) → EachSince moment since old mid (λ image. IsRow image ps)
     rows_stay at n at_is rows torn image was = let from = torn image was in torn_behind ps p at n from.0 image at_is (rows from.0 from.1) from.2
 

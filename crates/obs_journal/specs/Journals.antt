@@ -15,7 +15,7 @@ pub record JournalState (D : Type 0) : Type 0 where
   pub position : ℕ
   pub in_doubt : Option ℕ
 
--- An image while one more parcel is in doubt: behind the others any byte stands as its gate, and behind that it stands
+-- An image while one more parcel is in doubt: after the others any byte stands as its gate, and after that it stands
 -- whole, with a closed gate after it.
 pub record IsDoubtful (image : List ℕ) (parcels : List RawParcel) (doubt : RawParcel) : Type 0 where
   pub gate : ℕ
@@ -31,7 +31,7 @@ abbrev pub Holds : List RawParcel → Option RawParcel → List ℕ → Type 0
 Holds parcels None image = IsRow image parcels
 Holds parcels (Some doubt) image = IsDoubtful image parcels doubt
 
--- the journal stands for these parcels, with this one in doubt: each image holds them, and the position is behind their
+-- the journal stands for these parcels, with this one in doubt: each image holds them, and the position is after their
 -- closed gate
 pub record StandsFor {D : Type 0} (leaves : D → List ℕ → Type 0) (journal : JournalState D) (parcels : List RawParcel)
     (doubt : Option RawParcel) : Type 0 where

@@ -18,7 +18,7 @@ pub record IsParcel (parcel : RawParcel) : Type 0 where
   pub moment : FitsSigned w64 parcel.moment
   pub body : length parcel.body ≤ 1048576
 
--- what the length of a parcel counts: the bytes of all that stands behind it
+-- what the length of a parcel counts: the bytes of all that stands after it
 abbrev pub counted : RawParcel → ℕ
 counted parcel = 21 + length parcel.body
 
@@ -28,7 +28,7 @@ head_bytes parcel =
     to_be_bytes w32 (counted parcel) ++ (to_be_bytes w32 parcel.caller ++ (to_be_bytes w64 parcel.number
     ++ (to_be_bytes w64 (cast_unsigned w64 parcel.moment) ++ parcel.verb ∷ [])))
 
--- the head, and the body behind it
+-- the head, and the body after it
 unfoldable pub parcel_bytes : RawParcel → List ℕ
 parcel_bytes parcel = head_bytes parcel ++ parcel.body
 

@@ -11,7 +11,7 @@ abbrev pub IsSafe : {D : Type 0} (reads : D → Option (List ℕ)) (leaves : D �
 IsSafe reads leaves at bytes old new =
     (image : List ℕ) → leaves new image → (file : List ℕ) × (reads old ≡ Some file) × (image ≡ written at bytes file)
 
--- the file with a parcel behind the closed gate that ends at this position: the parcel stands there with the closed
+-- the file with a parcel after the closed gate that ends at this position: the parcel stands there with the closed
 -- gate 0 after it, and its own gate is 1
 abbrev pub appended : RawParcel → ℕ → List ℕ → List ℕ
 appended parcel position file = written (position - 1) (1 ∷ []) (written position (parcel_bytes parcel ++ 0 ∷ []) file)

@@ -14,7 +14,7 @@ use crate::{OPEN, OpenFault, Parcel};
 use disk_model::Disk;
 use std::alloc::Global;
 
-// The bytes of a gate, and of the head behind it.
+// The bytes of a gate, and of the head after it.
 const GATE_AND_HEAD_BYTES: u64 = 26;
 
 // What the length of a parcel counts beside the body.
@@ -90,7 +90,7 @@ fn has_room(counted: u32, left: u64) -> bool
     21 <= counted && counted <= 1_048_597 && counted + 6 <= left
 }
 
-// The head in these bytes behind an open gate, where its parcel and the gate after it are among the bytes that are
+// The head in these bytes after an open gate, where its parcel and the gate after it are among the bytes that are
 // left of the file, of which the gate is the first.
 fn whole_head(bytes: &[u8], left: u64) -> Option<Head>
     requires { length bytes.now + 1 ≡ min 26 left }
@@ -110,7 +110,7 @@ fn whole_head(bytes: &[u8], left: u64) -> Option<Head>
     }
 }
 
-// Reads the body behind a head, which the gate after it follows.
+// Reads the body after a head, which the gate after it follows.
 fn read_parcel<D: Disk>(
     alloc: Global,
     disk: &mut D,

@@ -24,7 +24,7 @@ pub fn one_parcel()
         parcel_bytes p ++ x ≡ parcel_bytes q ++ y → (p ≡ q) × (x ≡ y) }
 {}
 
-/// A file that holds parcels, and one in doubt behind them, spells those parcels, without that one or with it.
+/// A file that holds parcels, and one in doubt after them, spells those parcels, without that one or with it.
 pub fn in_doubt()
     ensures { (file : List ℕ) (parcels : List RawParcel) (doubt : RawParcel) → IsDoubtful file parcels doubt →
         IsRow file parcels ⊎ IsRow file (parcels ++ doubt ∷ []) }

@@ -1,7 +1,7 @@
 //! A journal on a disk: what was acknowledged outlives a stop at any moment, and nothing is ever there in part.
 //!
 //! The file is a row of gates, each followed by a parcel where it is open; the row ends at the first closed gate. A
-//! parcel is added behind the closed gate, with a new closed gate after it, and is safe before its own gate is opened.
+//! parcel is added after the closed gate, with a new closed gate after it, and is safe before its own gate is opened.
 //! So a stop leaves the parcels from before, with the new one or without it.
 //!
 //! A call that fails says whether the parcel is out (`Untouched`) or in doubt (`InDoubt`). `mend` settles a doubt by

@@ -25,7 +25,7 @@ pub(crate) fn write_and_sync<D: Disk>(disk: &mut D, at: u64, bytes: &[u8]) -> Re
     disk.sync()
 }
 
-/// Writes a parcel and the closed gate after it behind the closed gate, and waits until they are safe.
+/// Writes a parcel after the closed gate, with a new closed gate after it, and waits until they are safe.
 pub(crate) fn stage<D: Disk>(disk: &mut D, position: u64, bytes: &[u8]) -> Result<(), Failed>
     ensures safe { OnOk result (IsSafe D.reads D.leaves position bytes.now disk.old disk.new) }
     ensures wrote { OnOk result (IfSome (D.reads disk.old)

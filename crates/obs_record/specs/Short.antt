@@ -2,7 +2,7 @@
 use Rattle.std.specs.Prelude.{◌≡◌, ℕ, ◌-◌, ◌≤◌, min, List, ◌++◌, length, take, replicate}
 use Rattle.obs_record.specs.declared.short.Short.{Short}
 
--- a short text: 12 bytes are kept, and those behind the text are 0
+-- a short text: 12 bytes are kept, and those after the text are 0
 pub record IsShort (short : Short) : Type 0 where
   pub room : length short.bytes ≡ 12
   pub within : short.len ≤ 12

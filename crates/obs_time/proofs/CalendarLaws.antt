@@ -19,7 +19,7 @@ begun_is_true a b h = grind (arith, ints)
 begun_is_false : (a b : ℤ) → b <ℤ a → le_z a b ≡ false
 begun_is_false a b h = grind (arith, ints)
 
--- a number that has begun, and none behind it, is the last
+-- a number that has begun, and none after it, is the last
 last_begun_is : (begins : ℕ → ℤ) (day : ℤ) (first more k : ℕ) → first ≤ k → k ≤ first + more → begins k ≤ℤ day → ((j : ℕ) → k < j → j ≤ first + more → day <ℤ begins j) → last_begun begins day first more ≡ k
 unfolding last_begun
 last_begun_is begins day first zero k low high begun later = omega arith

@@ -26,7 +26,7 @@ pub guard_some : {A : Type 0} (b : Bool) (x y : A) → cond b (Some x) None ≡ 
 guard_some true x y e = (refl, cc)
 guard_some false x y e = absurd cc
 
--- the parts of a date, one behind another
+-- the parts of a date, one after another
 join : (year month day separator : ℕ) (text a b c d rest : List ℕ) → text ≡ digits_text Ten 4 year ++ a → a ≡ separator ∷ b → b ≡ digits_text Ten 2 month ++ c → c ≡ separator ∷ d → d ≡ digits_text Ten 2 day ++ rest
     → text ≡ date_text separator (record { year = year; month = month; day = day }) rest
 join year month day separator text a b c d rest ea eb ec ed ee = cc

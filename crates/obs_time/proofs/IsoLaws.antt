@@ -22,7 +22,7 @@ record TakesClock (clock : WrittenClock) (text rest : List ℕ) : Type 0 where
   pub spelling : text ≡ clock_text clock rest
   pub digits : ClockHasDigits clock
 
--- the parts of a time of day, one behind another
+-- the parts of a time of day, one after another
 join_clock : (hour minute second : ℕ) (text a b c d rest : List ℕ) → text ≡ digits_text Ten 2 hour ++ a → a ≡ 58 ∷ b → b ≡ digits_text Ten 2 minute ++ c → c ≡ 58 ∷ d → d ≡ digits_text Ten 2 second ++ rest
     → text ≡ clock_text (record { hour = hour; minute = minute; second = second }) rest
 join_clock hour minute second text a b c d rest ea eb ec ed ee = cc
@@ -37,7 +37,7 @@ record TakesTime (time : WrittenDate × WrittenClock) (text rest : List ℕ) : T
   pub date : HasDigits time.0
   pub clock : ClockHasDigits time.1
 
--- the parts, one behind another
+-- the parts, one after another
 join_time : (time : WrittenDate × WrittenClock) (text a b rest : List ℕ) → text ≡ date_text 45 time.0 a → a ≡ 84 ∷ b → b ≡ clock_text time.1 rest → text ≡ time_text time rest
 join_time time text a b rest ea eb ec = ea ∙ ap (date_text 45 time.0) (eb ∙ ap (λ (t : List ℕ). 84 ∷ t) ec)
 

@@ -56,7 +56,7 @@ date_exists d y e =
     let given : IsDate d.year (pos d.month) (pos d.day) = (d.year_in, (omega (arith, signed_arith, d.month_in), omega (arith, signed_arith, d.month_in)), (omega (arith, signed_arith, d.day_in), omega (arith, signed_arith, d.day_in))) in
     subst (λ (z : ℤ). IsDate z (pos d.month) (pos d.day)) (sym e) given
 
--- the years of the observed days, and of the day behind them
+-- the years of the observed days, and of the day after them
 pub year_of_day : (d : Date) (day : ℤ) → epoch_day d ≡ day → neg_ℤ (pos 62_091) ≤ℤ day → day ≤ℤ pos 84_006 → (pos 1800 ≤ℤ d.year) × (d.year ≤ℤ pos 2200)
 year_of_day d day e low high =
     (year_from_1800 d.year d.month d.day (civil d) (rw e low), year_to_2200 d.year d.month d.day (civil d) (rw e high))

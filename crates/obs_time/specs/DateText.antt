@@ -23,7 +23,7 @@ pub record HasDigits (date : WrittenDate) : Type 0 where
   pub month : date.month < 10 ^ 2
   pub day : date.day < 10 ^ 2
 
--- a date, and behind it the rest of a text
+-- a date, and after it the rest of a text
 abbrev pub date_text : ℕ → WrittenDate → List ℕ → List ℕ
 date_text separator date rest =
     digits_text Ten 4 date.year ++ (separator ∷ (digits_text Ten 2 date.month

@@ -18,11 +18,11 @@ pub record WrittenDay : Type 0 where
   pub count : ℕ
   pub decimals : ℕ
 
--- a day with its decimals, and blanks behind it
+-- a day with its decimals, and blanks after it
 abbrev pub day_text : WrittenDay → ℕ → List ℕ
 day_text day space = date_text 32 day.date (decimals_text day.count day.decimals ++ blanks space)
 
--- the text is `YYYY MM DD.d`, with one decimal or more and any number of blanks behind them
+-- the text is `YYYY MM DD.d`, with one decimal or more and any number of blanks after them
 pub record SpellsDay (day : WrittenDay) (text : List ℕ) : Type 0 where
   pub digits : HasDigits day.date
   pub some : 1 ≤ day.count

@@ -32,7 +32,7 @@ pub record WrittenIso : Type 0 where
   pub count : ℕ
   pub decimals : ℕ
 
--- a time of day `hh:mm:ss`, and behind it the rest of a text
+-- a time of day `hh:mm:ss`, and after it the rest of a text
 abbrev pub clock_text : WrittenClock → List ℕ → List ℕ
 clock_text clock rest =
     digits_text Ten 2 clock.hour ++ (58 ∷ (digits_text Ten 2 clock.minute

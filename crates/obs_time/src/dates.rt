@@ -25,7 +25,7 @@ pub(crate) struct Numbers {
     day: u8,
 }
 
-/// The date at the front of a text, with this byte between its parts, and the text behind it.
+/// The date at the front of a text, with this byte between its parts, and the text after it.
 #[tactic(auto, unfolding(crate::specs::DateText::date_at))]
 pub(crate) fn date_at(separator: u8, text: &[u8]) -> Option<(Numbers, &[u8])>
     ensures exact { option_map (λ x. (written x.0, x.1.now)) result ≡ date_at separator text.now }

@@ -24,7 +24,7 @@ struct Day {
     decimals: u64,
 }
 
-/// The day with decimals that is the whole text, but for blanks behind it.
+/// The day with decimals that is the whole text, but for blanks after it.
 #[tactic(auto, unfolding(crate::specs::DayText::day_at))]
 fn day_at(text: &[u8; 17]) -> Option<Day>
     ensures exact { option_map written_day result ≡ day_at text.now }
@@ -83,7 +83,7 @@ fn answer(text: &[u8; 17]) -> Result<(Instant, u8), TimeFault>
 }
 
 /// Reads columns 16 to 32 of an 80-column record, as the Minor Planet Center's page on the format of optical
-/// observations has them: `YYYY MM DD.d` with 1 to 6 decimals of the day, and blanks behind. Gives the moment, which is
+/// observations has them: `YYYY MM DD.d` with 1 to 6 decimals of the day, and blanks after. Gives the moment, which is
 /// exact, and the number of decimals.
 ///
 /// # Errors

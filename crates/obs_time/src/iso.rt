@@ -34,7 +34,7 @@ struct Time {
     clock: Clock,
 }
 
-/// The time of day at the front of a text, and the text behind it.
+/// The time of day at the front of a text, and the text after it.
 #[tactic(auto, unfolding(crate::specs::IsoText::clock_at))]
 fn clock_at(text: &[u8]) -> Option<(Clock, &[u8])>
     ensures exact { option_map (λ x. (written_clock x.0, x.1.now)) result ≡ clock_at text.now }
@@ -53,7 +53,7 @@ fn clock_at(text: &[u8]) -> Option<(Clock, &[u8])>
     Some((clock, rest))
 }
 
-/// The date and the time of day at the front of a text, and the text behind them.
+/// The date and the time of day at the front of a text, and the text after them.
 #[tactic(auto, unfolding(crate::specs::IsoText::time_at))]
 fn time_at(text: &[u8]) -> Option<(Time, &[u8])>
     ensures exact { option_map (λ x. (written_time x.0, x.1.now)) result ≡ time_at text.now }

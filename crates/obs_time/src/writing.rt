@@ -21,7 +21,7 @@ use ascii_text::writing::{put_blanks, put_decimals, put_digits};
 /// The greatest number of decimals of a day that are written.
 const MOST_DECIMALS: usize = 6;
 
-/// Writes columns 16 to 32 of an 80-column record: `YYYY MM DD.d` with 1 to 6 decimals of the day, and blanks behind.
+/// Writes columns 16 to 32 of an 80-column record: `YYYY MM DD.d` with 1 to 6 decimals of the day, and blanks after.
 /// The moment is rounded to the last decimal, halves away from 1970-01-01T00:00:00; what reaches the day's end goes
 /// into the next day, which may be 2200-01-01.
 pub fn write_day_fraction(t: Instant, decimals: u8) -> [u8; 17]

@@ -37,7 +37,7 @@ module _ {T : Type 0} {cmp : T → T → Ordering} (total : IsTotalOrder cmp) wh
 
   -- ---- among items in order
 
-  -- an item that is found behind the first is above it
+  -- an item that is found after the first is above it
   behind_first : (x other : T) (xs : List T) → AllByRecursion (λ y. cmp x y ≡ Less) xs → IsSome (found cmp other xs) → cmp x other ≡ Less
   behind_first x other [] below there = absurd (false≢true there)
   behind_first x other (y ∷ ys) below there = by (ties cmp other y) refl there (behind_first x other ys below.1)
@@ -46,7 +46,7 @@ module _ {T : Type 0} {cmp : T → T → Ordering} (total : IsTotalOrder cmp) wh
       by true is there rest = sym (alike_right total y other x (tie_from_test (cmp y other) is)) ∙ below.0
       by false is there rest = rest there
 
-  -- one that is found is the first, or is behind it
+  -- one that is found is the first, or is after it
   pub found_more : (x other : T) (xs : List T) → (b : Bool) → ties cmp other x ≡ b → found cmp other (x ∷ xs) ≡ cond b (Some x) (found cmp other xs)
   found_more x other xs b is = ap (λ (b : Bool). cond b (Some x) (found cmp other xs)) is
 

@@ -31,7 +31,7 @@ module _ {T : Type 0} {cmp : T → T → Ordering} (total : IsTotalOrder cmp) wh
       by Equal is = same_Some x y (sym (found_first x xs) ∙ same x ∙ found_by x y ys true (ap is_eq is))
       by Greater is = absurd (none-some x (sym (below_first x y ys (below_from_above total y x is) others.0) ∙ sym (same x) ∙ found_first x xs))
 
-  -- what is found behind the first item
+  -- what is found after the first item
   behind : (x : T) (xs ys : List T) → IsStrictlySorted cmp (x ∷ xs) → IsStrictlySorted cmp (x ∷ ys) → ((key : T) → found cmp key (x ∷ xs) ≡ found cmp key (x ∷ ys)) → (key : T)
       → found cmp key xs ≡ found cmp key ys
   behind x xs ys sorted others same key = by (ties cmp key x) refl

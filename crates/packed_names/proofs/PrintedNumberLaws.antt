@@ -31,7 +31,7 @@ blank_ends : (rest : List ℕ) → digit_run (32 ∷ rest) ≡ 0
 unfolding digit_run
 blank_ends rest = refl
 
--- what stands behind the first blank
+-- what stands after the first blank
 pub behind_blank : (one other rest after : List ℕ) → digit_run (one ++ (32 ∷ rest)) ≡ length one → digit_run (other ++ (32 ∷ after)) ≡ length other → one ++ (32 ∷ rest) ≡ other ++ (32 ∷ after) → 32 ∷ rest ≡ 32 ∷ after
 behind_blank one other rest after ends_one ends_other same =
     let lengths : length one ≡ length other = sym ends_one ∙ ap digit_run same ∙ ends_other in
@@ -104,7 +104,7 @@ module _ (texts : TextLaws) where
   pub digit_run-year : (year : ℕ) (rest : List ℕ) → year < 10 ^ 4 → digit_run (digits_text Ten 4 year ++ (32 ∷ rest)) ≡ length (digits_text Ten 4 year)
   digit_run-year year rest below = omega (arith, digit_run-digits_text 4 year (32 ∷ rest) below, length-digits_text Ten 4 year, blank_ends rest)
 
-  -- a text with a blank behind its digits is no printed number
+  -- a text with a blank after its digits is no printed number
   pub no_number : (digits rest : List ℕ) → digit_run (digits ++ (32 ∷ rest)) ≡ length digits → number_in (digits ++ (32 ∷ rest)) ≡ None
   no_number digits rest ends = none_from (number_in (digits ++ (32 ∷ rest))) (λ number read.
       let took = number_in_takes (digits ++ (32 ∷ rest)) number read in

@@ -13,7 +13,7 @@ index_of letter =
     if nat_le 65 letter && nat_le letter 72 then Some (letter - 65)
     else (if nat_le 74 letter && nat_le letter 90 then Some (letter - 66) else None)
 
--- the index of the letter at the front, which is among the first count letters, and the text behind it
+-- the index of the letter at the front, which is among the first count letters, and the text after it
 unfoldable pub letter_at : ℕ → List ℕ → Option (ℕ × List ℕ)
 letter_at count [] = None
 letter_at count (letter ∷ text) = do

@@ -32,7 +32,7 @@ large_number_in text = do
 unfoldable pub number_in : List ℕ → Option ℕ
 number_in text = first_of (small_number_in text) (large_number_in text)
 
--- the century, and the text behind its letter
+-- the century, and the text after its letter
 unfoldable pub century_at : List ℕ → Option (ℕ × List ℕ)
 century_at [] = None
 century_at (letter ∷ text) = if nat_le 73 letter && nat_le letter 75 then Some (letter - 55, text) else None
@@ -78,7 +78,7 @@ survey_of first second third =
     else (if (first == 84) && ((second == 50) && (third == 83)) then Some T2
     else (if (first == 84) && ((second == 51) && (third == 83)) then Some T3 else None)))
 
--- the survey at the front, and the text behind its letters
+-- the survey at the front, and the text after its letters
 unfoldable pub survey_at : List ℕ → Option (Survey × List ℕ)
 survey_at (first ∷ second ∷ third ∷ text) = do
   survey ← survey_of first second third

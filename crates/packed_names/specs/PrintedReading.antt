@@ -19,7 +19,7 @@ number_in text = do
   number ← number_at 10 text
   whole number.0 number.1
 
--- year, blank, letter, and the text behind them
+-- year, blank, letter, and the text after them
 unfoldable pub half_at : List ℕ → Option (HalfMonth × List ℕ)
 half_at text = do
   year ← digits_at Ten 4 text

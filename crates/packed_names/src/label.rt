@@ -7,7 +7,7 @@ ghost use Rattle.std.specs.Prelude.{◌≡◌, ◌≤◌, List, ℕ, length};
 pub struct Label {
     /// How many bytes the text has.
     pub len: u8,
-    /// The text, and behind it bytes that are 0.
+    /// The text, and after it bytes that are 0.
     pub bytes: [u8; 13],
 }
 

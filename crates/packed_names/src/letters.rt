@@ -27,7 +27,7 @@ fn index_of(letter: u8) -> Option<u8>
     }
 }
 
-/// The index of the letter at the front among the first `count`, and the text behind it.
+/// The index of the letter at the front among the first `count`, and the text after it.
 #[tactic(auto, unfolding(crate::specs::Letters::letter_at))]
 pub(crate) fn letter_at(count: u8, text: &[u8]) -> Option<(u8, &[u8])>
     ensures value { option_map (λ x. (x.0, x.1.now)) result ≡ letter_at count text.now }

@@ -100,7 +100,7 @@ overlaps-code rows code from to =
 
 -- ---- the index
 
--- one more row at the end, and in the index behind those of its code
+-- one more row at the end, and in the index after those of its code
 pub with_one : (entries longer : List (StationCode × List Row)) (rows of_code : List Row) (row : Row)
     → IsByCode entries rows → of_code ≡ filter (has_code row.code) rows ++ row ∷ []
     → ((code : List ℕ) → lookup (λ key. bytes_eq code key.code) longer ≡ cond (bytes_eq row.code code) (Some of_code) (lookup (λ key. bytes_eq code key.code) entries))

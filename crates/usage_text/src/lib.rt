@@ -110,7 +110,7 @@ fn program<'a>(alloc: Global) -> Result<Command<'a>, AllocError> {
     .subcommand(workload(alloc)?)
 }
 
-/// Writes the help of a command under its whole name, behind an empty line.
+/// Writes the help of a command under its whole name, after an empty line.
 fn push_help(out: &mut String, command: Command<'_>, name: &str) -> Result<(), AllocError> {
     let mut named = command.bin_name(name)?;
     let help = named.render_help()?;

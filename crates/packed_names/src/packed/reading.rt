@@ -54,7 +54,7 @@ fn number_in(text: &[u8]) -> Option<u32>
     }
 }
 
-/// The century at the front, as 20 for K, and the text behind its letter.
+/// The century at the front, as 20 for K, and the text after its letter.
 #[tactic(auto, unfolding(crate::specs::PackedReading::century_at))]
 fn century_at(text: &[u8]) -> Option<(u16, &[u8])>
     ensures value { option_map (λ x. (x.0, x.1.now)) result ≡ century_at text.now }
@@ -66,7 +66,7 @@ fn century_at(text: &[u8]) -> Option<(u16, &[u8])>
     }
 }
 
-/// The half-month at the front of the form with a century letter, and the text behind it.
+/// The half-month at the front of the form with a century letter, and the text after it.
 #[tactic(auto, unfolding(crate::specs::PackedReading::century_half_at))]
 fn century_half_at(text: &[u8]) -> Option<(HalfMonth, &[u8])>
     ensures { option_map (λ x. (x.0, x.1.now)) result ≡ century_half_at text.now }
@@ -154,7 +154,7 @@ fn survey_of(first: u8, second: u8, third: u8) -> Option<Survey>
     }
 }
 
-/// The survey whose letters stand at the front, and the text behind them.
+/// The survey whose letters stand at the front, and the text after them.
 #[tactic(auto, unfolding(crate::specs::PackedReading::survey_at))]
 fn survey_at(text: &[u8]) -> Option<(Survey, &[u8])>
     ensures { option_map (λ x. (x.0, x.1.now)) result ≡ survey_at text.now }

@@ -20,7 +20,7 @@ pub(crate) fn number_in(text: &[u8]) -> Option<u64>
     if rest.is_empty() { Some(number) } else { None }
 }
 
-/// The year and the letter at the front, and the text behind them.
+/// The year and the letter at the front, and the text after them.
 #[tactic(auto, unfolding(crate::specs::PrintedReading::half_at))]
 fn half_at(text: &[u8]) -> Option<(HalfMonth, &[u8])>
     ensures { option_map (λ x. (x.0, x.1.now)) result ≡ half_at text.now }

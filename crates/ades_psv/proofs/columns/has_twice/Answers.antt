@@ -10,7 +10,7 @@ use Rattle.ades_psv.proofs.columns.has_twice.Goals.{else-not-is_empty-via-then-n
 pub names-init : goal.names-init
 names-init c = rw c.new-seen.ensures.empty (repeats_none (cells c.args.line.now))
 
--- a name that isn't empty, and what stands behind it
+-- a name that isn't empty, and what stands after it
 rest_of : (line : List ℕ) (name : List ℕ) (behind : Option (Bor (List ℕ))) → IfSome behind (λ rest. cells line ≡ name ∷ cells rest.now) → IfNone behind (cells line ≡ name ∷ [])
     → (names : List (List ℕ)) × (cells line ≡ name ∷ names)
 rest_of line name None more last = ([], last)

@@ -2,7 +2,7 @@ use Rattle.std.proofs.Common.{◌≡◌, ◌<◌, ◌^◌, drop}
 use Rattle.desk_frames.specs.Reading.{number_from}
 use Rattle.desk_frames.proofs.parts.value_of.Given as goal
 
--- the digits that are left, behind those that were read, write the whole number
+-- the digits that are left, after those that were read, write the whole number
 abbrev pub invariant-loop-digit : goal.invariant-loop-digit
 invariant-loop-digit l = record {
   so_far : number_from l.value (drop l.digit-index l.digits) ≡ number_from 0 l.digits;

@@ -11,7 +11,7 @@ use Rattle.obs_time.proofs.WritingLaws.{text_of, text_is}
 use Rattle.obs_time.proofs.TextLaws.{text_is_read, one_text, text_is_kept}
 use Rattle.obs_time.proofs.writing.write_day_fraction.Goals as goal
 
--- what is written are the date and the decimals, and blanks behind them
+-- what is written are the date and the decimals, and blanks after them
 spelled : (c : goal.After-unwrap) → c.unwrap.result ≡ date_text 32 (date_part c.rounded_civil-civil.result) (decimals_text c.args.decimals (c.rounded_civil-civil.result.ns_of_day / c.decimal_unit.result) ++ blanks (6 - c.args.decimals))
 spelled c =
     let count = c.args.decimals in
