@@ -17,6 +17,9 @@ use obs_record::{HeaderFault, Lines, Short};
 use packed_names::Designation;
 use station_tables::Kind;
 use std::alloc::Global;
+use std::error::Error;
+use std::fmt;
+use std::fmt::{Display, Formatter};
 
 /// An act: what a request with the verb of an act asks to be done, read from its body.
 #[derive(Debug, Drop)]
@@ -110,6 +113,18 @@ pub enum ActFault {
     /// Memory was refused.
     NoMemory,
 }
+
+impl Display for ActFault {
+    fn fmt<W: fmt::Write>(&self, f: &mut Formatter<W>) -> fmt::Result {
+        match self {
+            ActFault::Header { fault, line } => write!(f, "{fault} in line {line}"),
+            ActFault::Unread => f.pad("not an act, or not the body that the verb wants"),
+            ActFault::NoMemory => f.pad("out of memory"),
+        }
+    }
+}
+
+impl Error for ActFault {}
 
 fn unread_body(fault: BodyFault) -> ActFault
     ensures unread { result ≡ ActFault.Unread → fault ≡ BodyFault.Unread }

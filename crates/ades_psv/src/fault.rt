@@ -2,6 +2,9 @@
 
 use item_list::NoMemory;
 use obs_record::HeaderFault;
+use std::error::Error;
+use std::fmt;
+use std::fmt::{Display, Formatter};
 
 /// Why a batch wasn't read.
 #[derive(Clone, Copy, Debug, PartialEq, Eq)]
@@ -16,6 +19,17 @@ pub enum PsvFault {
     /// Memory was refused.
     NoMemory,
 }
+
+impl Display for PsvFault {
+    fn fmt<W: fmt::Write>(&self, f: &mut Formatter<W>) -> fmt::Result {
+        match self {
+            PsvFault::Header { fault, line } => write!(f, "{fault} in line {line}"),
+            PsvFault::NoMemory => f.pad("out of memory"),
+        }
+    }
+}
+
+impl Error for PsvFault {}
 
 impl From<NoMemory> for PsvFault {
     ghost use Rattle.std.specs.Prelude.{◌≡◌};

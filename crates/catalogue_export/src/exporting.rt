@@ -11,6 +11,9 @@ use act_model::Shelf;
 use desk_io::{Sink, write_all};
 use item_list::{Bytes, NoMemory};
 use std::alloc::Global;
+use std::error::Error;
+use std::fmt;
+use std::fmt::{Display, Formatter};
 
 /// Why a catalogue wasn't written whole. A front of it was.
 #[derive(Clone, Copy, Debug, PartialEq, Eq)]
@@ -20,6 +23,17 @@ pub enum ExportFault {
     /// Memory was refused.
     NoMemory,
 }
+
+impl Display for ExportFault {
+    fn fmt<W: fmt::Write>(&self, f: &mut Formatter<W>) -> fmt::Result {
+        f.pad(match self {
+            ExportFault::WriteFault => "the sink failed",
+            ExportFault::NoMemory => "out of memory",
+        })
+    }
+}
+
+impl Error for ExportFault {}
 
 /// The catalogue of an office, as one text.
 pub(crate) fn catalogue_text<V: Shelf>(alloc: Global, shelf: &V) -> Result<Bytes, NoMemory>

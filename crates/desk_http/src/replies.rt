@@ -14,6 +14,9 @@ use arrayvec::ArrayVec;
 use ascii_text::writing::put_decimal;
 use desk_io::{Failed, Sink, write_all};
 use std::alloc::Global;
+use std::error::Error;
+use std::fmt;
+use std::fmt::{Display, Formatter};
 
 /// The most bytes that the head of an answer has.
 const ANSWER_HEAD_BYTES: usize = 160;
@@ -26,6 +29,17 @@ pub enum SendFault {
     /// Memory was refused for the answer's text. Nothing was written.
     NoMemory,
 }
+
+impl Display for SendFault {
+    fn fmt<W: fmt::Write>(&self, f: &mut Formatter<W>) -> fmt::Result {
+        f.pad(match self {
+            SendFault::WriteFault => "the sink failed",
+            SendFault::NoMemory => "out of memory",
+        })
+    }
+}
+
+impl Error for SendFault {}
 
 // The words beside a status.
 fn reason_of(status: u16) -> &'static [u8]

@@ -9,10 +9,21 @@ ghost use Rattle.desk_io.specs.Outside.{Rises, AppendsPart};
 ghost use Rattle.obs_time.specs.Instants.{IsInstantNs};
 
 use obs_time::Instant;
+use std::error::Error;
+use std::fmt;
+use std::fmt::{Display, Formatter};
 
 /// The outside failed in this call. Its count of faults has risen.
 #[derive(Clone, Copy, Debug, PartialEq, Eq)]
 pub struct Failed;
+
+impl Display for Failed {
+    fn fmt<W: fmt::Write>(&self, f: &mut Formatter<W>) -> fmt::Result {
+        f.pad("the outside failed")
+    }
+}
+
+impl Error for Failed {}
 
 /// Where bytes come from.
 pub trait Source: Drop {

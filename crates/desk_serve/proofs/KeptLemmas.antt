@@ -63,7 +63,7 @@ all_weaker P Q weaker (x ∷ xs) all = (weaker x all.0, all_weaker P Q weaker xs
 module _ {D : Type 0} (laws : GrowthLaws) (moment : D → ℕ) (since : D → ℕ → List ℕ → Type 0) (faults : D → ℕ) where
   -- what was kept before an act is kept after it
   keeps_on : (then old new : DeskState D) (request : Request) (reading : ℤ) (reply : Reply) → EitherWay (IsLegal old.founder) old.state
-      → KeeperTakesTurn (office_of faults old) request (Some reading) reply (office_of faults new) → ActsInTurn moment since faults old request reading reply new
+      → KeeperTakesTurn (office_of faults old) request (Some reading) reply (office_of faults new) → ActsInTurn moment since faults (record { old = old; request = request; reading = reading; reply = reply; new = new })
       → new.founder ≡ old.founder → Keeps moment since old.founder then old → Keeps moment since new.founder then new
   keeps_on then old new request reading reply legal turn inside same k =
       let taken : Turn = record { request = request; reading = Some reading; reply = reply; rise = turn.rise } in
@@ -96,7 +96,7 @@ module _ {D : Type 0} (laws : GrowthLaws) (moment : D → ℕ) (since : D → �
   pub passed_on : (leaves : D → List ℕ → Type 0) → ((disk : D) (image : List ℕ) → since disk (moment disk) image → leaves disk image) → (first : List Entry) (from : ℕ)
       (images : ℕ → List ℕ → Type 0) (old new : DeskState D) (answered more : Answered D) (request : Request) (reading : ℤ) (reply : Reply)
       → IsWatched moment since first from images old → IsWatched moment since first from images new
-      → KeeperTakesTurn (office_of faults old) request (Some reading) reply (office_of faults new) → ActsInTurn moment since faults old request reading reply new
+      → KeeperTakesTurn (office_of faults old) request (Some reading) reply (office_of faults new) → ActsInTurn moment since faults (record { old = old; request = request; reading = reading; reply = reply; new = new })
       → IsAtRest leaves new → new.founder ≡ old.founder → more ≡ answered ++ (new, request) ∷ []
       → AllByRecursion (λ then. HasPassed moment since first from images old then.0) answered → AllByRecursion (λ then. HasPassed moment since first from images new then.0) more
   passed_on leaves only first from images old new answered more request reading reply was is turn inside at_rest same more_is passed =

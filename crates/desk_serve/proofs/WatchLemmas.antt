@@ -102,7 +102,7 @@ module _ {D : Type 0} (laws : GrowthLaws) (moment : D → ℕ) (since : D → �
       }
 
   -- each image of an act
-  pub act_within : (request : Request) (reading : ℤ) (reply : Reply) → IsInstantNs reading → ActsInTurn moment since faults old request reading reply new
+  pub act_within : (request : Request) (reading : ℤ) (reply : Reply) → IsInstantNs reading → ActsInTurn moment since faults (record { old = old; request = request; reading = reading; reply = reply; new = new })
       → During moment since old.disk new.disk (StandsWithin old.founder first new.state.settled)
   act_within request reading reply years inside = by inside.acts
     where
@@ -124,7 +124,7 @@ module _ {D : Type 0} (laws : GrowthLaws) (moment : D → ℕ) (since : D → �
 -- a desk is watched on over an act
 pub watched_on : {D : Type 0} (laws : GrowthLaws) (moment : D → ℕ) (since : D → ℕ → List ℕ → Type 0) (faults : D → ℕ) (first : List Entry) (from : ℕ) (images : ℕ → List ℕ → Type 0)
     (old new : DeskState D) (request : Request) (reading : ℤ) (reply : Reply) → IsWatched moment since first from images old
-    → TakesTurn (office_of faults old) request (Some reading) reply (office_of faults new) → ActsInTurn moment since faults old request reading reply new
+    → TakesTurn (office_of faults old) request (Some reading) reply (office_of faults new) → ActsInTurn moment since faults (record { old = old; request = request; reading = reading; reply = reply; new = new })
     → new.founder ≡ old.founder → IsWatched moment since first from images new
 watched_on laws moment since faults first from images old new request reading reply was turn inside same =
     let taken : Turn = record { request = request; reading = Some reading; reply = reply; rise = turn.rise } in

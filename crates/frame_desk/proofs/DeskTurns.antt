@@ -37,7 +37,7 @@ module _ {D : Type 0} (on : DiskWords D) (desk new : DeskState D) where
   -- the turn of an act, with the clock's next reading
   pub act_turn : (q : Request) (reply : Reply) (before after : ClockState) (reading : ℤ) → is_act q.verb ≡ true → IsInstantNs reading
       → IfSome (before.to_come 0) (λ t. reading ≡ t) → ((k : ℕ) → after.to_come k ≡ before.to_come (k + 1)) → after.last ≡ reading
-      → ActsInTurn on.moment on.since on.faults desk q reading reply new → StaysDesk on desk new → TakesTurn on desk q reply new before after
+      → ActsInTurn on.moment on.since on.faults (record { old = desk; request = q; reading = reading; reply = reply; new = new }) → StaysDesk on desk new → TakesTurn on desk q reply new before after
   act_turn q reply before after reading act years told later last does stays = record {
     reading = Some reading;
     reads = (act, years);

@@ -58,7 +58,8 @@ Grows founder limit before (turn ∷ turns) after (between, is, later) =
 -- a desk acts with a reading of the clock, and answers a query without one
 abbrev pub ActsOrAsks : {D : Type 0} → DiskWords D → DeskState D → Request → Option ℤ → Reply → DeskState D → Type 0
 ActsOrAsks on old request (Some reading) reply new =
-    ActsInTurn on.moment on.since on.faults old request reading reply new
+    ActsInTurn on.moment on.since on.faults
+    (record { old = old; request = request; reading = reading; reply = reply; new = new })
 ActsOrAsks on old request None reply new =
     Answers old.founder (Some old.limit) old.state.settled request (pos 0) reply old.state.settled × (new ≡ old)
 

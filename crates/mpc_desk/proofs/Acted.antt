@@ -120,7 +120,7 @@ module _ {D : Type 0} (leaves : D → List ℕ → Type 0) (core now : CoreState
     desk_of core journal doubt = record { founder = core.founder; limit = limit; state = state_of core doubt; disk = journal.disk }
 
     -- nothing is added
-    pub stays : (reply : Reply) → Answers core.founder (Some limit) core.history q t reply core.history → TakesAct moment since faults before q t reply (desk_of now journal doubt)
+    pub stays : (reply : Reply) → Answers core.founder (Some limit) core.history q t reply core.history → TakesAct moment since faults (record { old = before; request = q; reading = t; reply = reply; new = desk_of now journal doubt })
     stays reply answers =
         let as_now : Answers core.founder (Some limit) core.history q t reply now.history = subst (λ (h : List Entry). Answers core.founder (Some limit) core.history q t reply h) (sym history) answers in
         record {
@@ -141,13 +141,13 @@ module _ {D : Type 0} (leaves : D → List ℕ → Type 0) (core now : CoreState
           (inside (parcels_in core.history) here.stands)
 
       -- the entry is added
-      pub keeps_it : (new : CoreState) (reply : Reply) (text : List ℕ) → new.history ≡ e ∷ now.history → reply ≡ Done text → text ≡ entry_answer core.history e → TakesAct moment since faults before q t reply (desk_of new after doubt)
+      pub keeps_it : (new : CoreState) (reply : Reply) (text : List ℕ) → new.history ≡ e ∷ now.history → reply ≡ Done text → text ≡ entry_answer core.history e → TakesAct moment since faults (record { old = before; request = q; reading = t; reply = reply; new = desk_of new after doubt })
       keeps_it new reply text more says answer =
           let as_new : Answers core.founder (Some limit) core.history q t reply new.history = subst (λ (h : List Entry). Answers core.founder (Some limit) core.history q t reply h) (sym (more ∙ ap (λ (h : List Entry). e ∷ h) history)) (answers_ready core.founder (Some limit) core.history q t e reply text adds says answer) in
           record { acts = inl (λ rise. record { answers = as_new; settled = none }); images = images_are }
 
       -- the disk failed, and the entry isn't kept, or it is in doubt
-      pub fails_it : (d : Bool) (left : Option Ready) → state_of now left ≡ unless_untouched d core.history e → Rises (faults journal.disk) (faults after.disk) → TakesAct moment since faults before q t (Refused (DiskFault d)) (desk_of now after left)
+      pub fails_it : (d : Bool) (left : Option Ready) → state_of now left ≡ unless_untouched d core.history e → Rises (faults journal.disk) (faults after.disk) → TakesAct moment since faults (record { old = before; request = q; reading = t; reply = Refused (DiskFault d); new = desk_of now after left })
       fails_it d left leaves' rises =
           record { acts = inr (rises, λ rise rose. record { entry = e; doubt = d; adds = adds; reply = refl; leaves = leaves'; rose = rose }); images = images_are }
 

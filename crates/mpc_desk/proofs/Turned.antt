@@ -57,14 +57,14 @@ by_none state none image (inr with) = absurd (subst (λ (o : Option Entry). IsSo
 module _ {D : Type 0} (moment : D → ℕ) (since : D → ℕ → List ℕ → Type 0) (faults : D → ℕ) (old new : DeskState D) (q : Request) (t : ℤ) (reply : Reply) where
   -- the disk failed in mending
   pub failed_turn : IsSome old.state.doubt → reply ≡ Refused (DiskFault false) → new.state ≡ old.state → During moment since old.disk new.disk (λ _. ⊥) → faults old.disk ≤ faults new.disk → Rises (faults old.disk) (faults new.disk)
-      → ActsInTurn moment since faults old q t reply new
+      → ActsInTurn moment since faults (record { old = old; request = q; reading = t; reply = reply; new = new })
   failed_turn doubted says stays none later rises =
       let (rise, some, counts) = rose_fault (faults old.disk) (faults new.disk) later rises in
       record { rise = rise; counts = counts; acts = inl (record { fails = record { doubted = doubted; reply = says; stays = stays; rose = some }; no_image = none }) }
 
   -- the act was taken at what mending left
   module _ (mid : DeskState D) (mends : Mends old.state.settled old.state.doubt mid.state.settled) (settled : mid.state.doubt ≡ None) (founder : mid.founder ≡ old.founder) (limit : mid.limit ≡ old.limit)
-      (none : During moment since old.disk mid.disk (λ _. ⊥)) (first : faults old.disk ≤ faults mid.disk) (second : faults mid.disk ≤ faults new.disk) (takes : TakesAct moment since faults mid q t reply new) where
+      (none : During moment since old.disk mid.disk (λ _. ⊥)) (first : faults old.disk ≤ faults mid.disk) (second : faults mid.disk ≤ faults new.disk) (takes : TakesAct moment since faults (record { old = mid; request = q; reading = t; reply = reply; new = new })) where
     weaker : (image : List ℕ) → MayLeave mid mid.state.settled q t image → MayLeave old mid.state.settled q t image
     weaker image (inl rests) = inl (by_doubt old.state.settled old.state.doubt mid.state.settled mends image (by_none mid.state settled image rests))
     weaker image (inr (entry, adds, stands)) =
@@ -76,7 +76,7 @@ module _ {D : Type 0} (moment : D → ℕ) (since : D → ℕ → List ℕ → T
     as_old : (P : Key → ℕ → Type 0) → P mid.founder mid.limit → P old.founder old.limit
     as_old P has = subst (λ (n : ℕ). P old.founder n) limit (subst (λ (k : Key). P k mid.limit) founder has)
 
-    pub taken_turn : ActsInTurn moment since faults old q t reply new
+    pub taken_turn : ActsInTurn moment since faults (record { old = old; request = q; reading = t; reply = reply; new = new })
     taken_turn =
         ⊎_elim
         (λ settles.
@@ -96,7 +96,7 @@ module _ {D : Type 0} (moment : D → ℕ) (since : D → ℕ → List ℕ → T
         takes.acts
 
   -- the turn of an act
-  pub act_turn : is_act q.verb ≡ true → IsInstantNs t → new.founder ≡ old.founder → new.limit ≡ old.limit → ActsInTurn moment since faults old q t reply new → TakesTurn (office_of faults old) q (Some t) reply (office_of faults new)
+  pub act_turn : is_act q.verb ≡ true → IsInstantNs t → new.founder ≡ old.founder → new.limit ≡ old.limit → ActsInTurn moment since faults (record { old = old; request = q; reading = t; reply = reply; new = new }) → TakesTurn (office_of faults old) q (Some t) reply (office_of faults new)
   act_turn act instant founder limit acts = record {
     rise = acts.rise;
     turn = record {

@@ -98,13 +98,25 @@ pub record ActsOn {D : Type 0} (moment : D → ℕ) (since : D → ℕ → List 
       ⊎ FailsToKeep old.founder (Some old.limit) mended turn reading new.state
   pub images : During moment since old.disk new.disk (MayLeave old mended turn.request reading)
 
+-- An act at a desk: the desk before it, what was asked, at which reading of the clock, the reply, and the desk after it.
+pub record DeskAct (D : Type 0) : Type 0 where
+  pub old : DeskState D
+  pub request : Request
+  pub reading : ℤ
+  pub reply : Reply
+  pub new : DeskState D
+
+-- its turn, where the count of faults rose by this
+abbrev pub turn_in : {D : Type 0} → DeskAct D → ℕ → Turn
+turn_in act rise = turn_of act.request act.reading act.reply rise
+
 -- An act, whatever was in doubt: by how much the count of faults rose, and what a crash inside it may leave.
-pub record ActsInTurn {D : Type 0} (moment : D → ℕ) (since : D → ℕ → List ℕ → Type 0) (faults : D → ℕ)
-    (old : DeskState D) (request : Request) (reading : ℤ) (reply : Reply) (new : DeskState D) : Type 0 where
+pub record ActsInTurn {D : Type 0} (moment : D → ℕ) (since : D → ℕ → List ℕ → Type 0) (faults : D → ℕ) (act : DeskAct D)
+    : Type 0 where
   pub rise : ℕ
-  pub counts : RoseBy rise (count_of (faults old.disk)) (count_of (faults new.disk))
-  pub acts : FailsOn moment since old (turn_of request reading reply rise) new
-      ⊎ ActsOn moment since old (turn_of request reading reply rise) reading new
+  pub counts : RoseBy rise (count_of (faults act.old.disk)) (count_of (faults act.new.disk))
+  pub acts : FailsOn moment since act.old (turn_in act rise) act.new
+      ⊎ ActsOn moment since act.old (turn_in act rise) act.reading act.new
 
 -- ---- the desk as a keeper
 
@@ -125,11 +137,12 @@ settled_by _ _ history = history
 
 -- An act that is taken at the settled history: nothing is in doubt after it; or the disk's count rose, and its entry
 -- isn't kept, or is in doubt. A crash inside it leaves no more than the history with its entry.
-pub record TakesAct {D : Type 0} (moment : D → ℕ) (since : D → ℕ → List ℕ → Type 0) (faults : D → ℕ) (old : DeskState D)
-    (request : Request) (reading : ℤ) (reply : Reply) (new : DeskState D) : Type 0 where
+pub record TakesAct {D : Type 0} (moment : D → ℕ) (since : D → ℕ → List ℕ → Type 0) (faults : D → ℕ) (act : DeskAct D)
+    : Type 0 where
   pub acts : ((rise : ℕ)
-      → Settles old.founder (Some old.limit) old.state.settled (turn_of request reading reply rise) reading new.state)
-      ⊎ (Rises (faults old.disk) (faults new.disk) × ((rise : ℕ) → 0 < rise
-      → FailsToKeep old.founder (Some old.limit) old.state.settled (turn_of request reading reply rise) reading
-      new.state))
-  pub images : During moment since old.disk new.disk (MayLeave old old.state.settled request reading)
+      → Settles act.old.founder (Some act.old.limit) act.old.state.settled (turn_in act rise) act.reading act.new.state)
+      ⊎ (Rises (faults act.old.disk) (faults act.new.disk) × ((rise : ℕ) → 0 < rise
+      → FailsToKeep act.old.founder (Some act.old.limit) act.old.state.settled (turn_in act rise) act.reading
+      act.new.state))
+  pub images : During moment since act.old.disk act.new.disk
+      (MayLeave act.old act.old.state.settled act.request act.reading)

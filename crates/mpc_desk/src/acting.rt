@@ -35,7 +35,9 @@ impl<D: Disk> Desk<D> {
             (office_of D.faults self.new) }
         // A crash at any moment of the call leaves a file that stands for the history before it, for that with the act
         // in doubt, or for the history after mending with the entry that the act becomes there.
-        ensures inside { ActsInTurn D.moment D.since D.faults self.old request.now reading result self.new }
+        ensures inside { ActsInTurn D.moment D.since D.faults (record {
+            old = self.old; request = request.now; reading = reading; reply = result; new = self.new;
+        }) }
         ensures at_rest { IsAtRest D.leaves self.new }
 
         // An act that is answered is in the settled history, under its caller's number; and its answer is that entry's.
@@ -76,7 +78,9 @@ impl<D: Disk> Desk<D> {
         requires act { is_act request.now.verb ≡ true }
         requires reading { IsInstantNs reading }
         requires settled { self.old.state.doubt ≡ None }
-        ensures takes { TakesAct D.moment D.since D.faults self.old request.now reading result self.new }
+        ensures takes { TakesAct D.moment D.since D.faults (record {
+            old = self.old; request = request.now; reading = reading; reply = result; new = self.new;
+        }) }
         ensures founder { self.new.founder ≡ self.old.founder }
         ensures limit { self.new.limit ≡ self.old.limit }
         ensures at_rest { IsAtRest D.leaves self.new }

@@ -3,6 +3,10 @@
 ghost use Rattle.std.specs.Prelude.{◌≡◌};
 ghost use Rattle.obs_record.specs.Rules.{rule_name};
 
+use std::error::Error;
+use std::fmt;
+use std::fmt::{Display, Formatter};
+
 /// The rules that a line of a batch may break. The rules S are of its spelling, the rules T of the
 /// tables of the office, the rules B of the office's books.
 #[derive(Clone, Copy, Debug, PartialEq, Eq)]
@@ -75,6 +79,20 @@ pub enum HeaderFault {
     /// A column stands twice.
     H5,
 }
+
+impl Display for HeaderFault {
+    fn fmt<W: fmt::Write>(&self, f: &mut Formatter<W>) -> fmt::Result {
+        f.pad(match self {
+            HeaderFault::H1 => "H1",
+            HeaderFault::H2 => "H2",
+            HeaderFault::H3 => "H3",
+            HeaderFault::H4 => "H4",
+            HeaderFault::H5 => "H5",
+        })
+    }
+}
+
+impl Error for HeaderFault {}
 
 impl RuleCode {
     /// The name of the rule, as answers give it.

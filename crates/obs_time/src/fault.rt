@@ -1,5 +1,9 @@
 //! Why a text stands for no moment or date.
 
+use std::error::Error;
+use std::fmt;
+use std::fmt::{Display, Formatter};
+
 /// What is wrong with a text of a date or a moment. The first that holds is answered, in the order `Spelling`,
 /// `Decimals`, `Range`, `NoSuchDate`.
 #[derive(Clone, Copy, Debug, PartialEq, Eq)]
@@ -13,3 +17,16 @@ pub enum TimeFault {
     /// There are more decimals than are read.
     Decimals,
 }
+
+impl Display for TimeFault {
+    fn fmt<W: fmt::Write>(&self, f: &mut Formatter<W>) -> fmt::Result {
+        f.pad(match self {
+            TimeFault::Spelling => "no spelling of a date or a moment",
+            TimeFault::NoSuchDate => "a date that the calendar has not",
+            TimeFault::Range => "a year, an hour, a minute or a second out of range",
+            TimeFault::Decimals => "too many decimals",
+        })
+    }
+}
+
+impl Error for TimeFault {}

@@ -8,6 +8,9 @@ use crate::half_month::HalfMonth;
 use crate::number::Number;
 use crate::provisional::{Provisional, limit};
 use crate::survey::Survey;
+use std::error::Error;
+use std::fmt;
+use std::fmt::{Display, Formatter};
 
 /// The designation of a minor planet that has no number yet.
 ///
@@ -38,6 +41,17 @@ pub enum NameFault {
     /// The text has the shape of a name, and its number, year or order is none that a name has.
     OutOfRange,
 }
+
+impl Display for NameFault {
+    fn fmt<W: fmt::Write>(&self, f: &mut Formatter<W>) -> fmt::Result {
+        f.pad(match self {
+            NameFault::Spelling => "no spelling of a name",
+            NameFault::OutOfRange => "a number, a year or an order that no name has",
+        })
+    }
+}
+
+impl Error for NameFault {}
 
 /// Whether the year and the index are those of a half-month.
 pub fn is_half_month(half: HalfMonth) -> bool

@@ -17,17 +17,17 @@ use Rattle.mpc_desk.proofs.desk.Desk.act_settled.Goals as goal
 
 pub returns-in-Kept-clause-takes : goal.returns-in-Kept-clause-takes
 returns-in-Kept-clause-takes g c =
-    subst (λ (d : DeskState g.row.D.Denot). TakesAct {D = g.row.D.Denot} g.D.Disk.moment g.D.Disk.since g.D.Disk.faults d c.args.request.now c.args.reading c.in-Kept.reply (record { founder = c.prepare.new.self.founder; limit = c.self.inside.limit; state = state_of c.prepare.new.self c.self.inside.doubt; disk = c.self.inside.journal.disk })) c.self.view_is
+    subst (λ (d : DeskState g.row.D.Denot). TakesAct {D = g.row.D.Denot} g.D.Disk.moment g.D.Disk.since g.D.Disk.faults (record { old = d; request = c.args.request.now; reading = c.args.reading; reply = c.in-Kept.reply; new = record { founder = c.prepare.new.self.founder; limit = c.self.inside.limit; state = state_of c.prepare.new.self c.self.inside.doubt; disk = c.self.inside.journal.disk } })) c.self.view_is
     (stays g.D.Disk.leaves c.self.inside.core c.prepare.new.self c.self.inside.journal c.self.inside.doubt c.self.invariant (ap (λ (d : DeskState g.row.D.Denot). d.state.doubt) c.self.view_is ∙ c.requires.settled) c.in-Kept.ensures.history c.in-Kept.ensures.founder g.D.Disk.moment g.D.Disk.since g.D.Disk.faults c.self.inside.limit c.args.request.now c.args.reading c.in-Kept.reply (answers_kept c.self.inside.core.founder (Some c.self.inside.limit) c.self.inside.core.history c.args.request.now c.args.reading c.in-Kept.reply c.in-Kept.ensures.answer))
 
 pub returns-in-Refused-clause-takes : goal.returns-in-Refused-clause-takes
 returns-in-Refused-clause-takes g c =
-    subst (λ (d : DeskState g.row.D.Denot). TakesAct {D = g.row.D.Denot} g.D.Disk.moment g.D.Disk.since g.D.Disk.faults d c.args.request.now c.args.reading (Refused c.in-Refused.refusal) (record { founder = c.prepare.new.self.founder; limit = c.self.inside.limit; state = state_of c.prepare.new.self c.self.inside.doubt; disk = c.self.inside.journal.disk })) c.self.view_is
+    subst (λ (d : DeskState g.row.D.Denot). TakesAct {D = g.row.D.Denot} g.D.Disk.moment g.D.Disk.since g.D.Disk.faults (record { old = d; request = c.args.request.now; reading = c.args.reading; reply = (Refused c.in-Refused.refusal); new = record { founder = c.prepare.new.self.founder; limit = c.self.inside.limit; state = state_of c.prepare.new.self c.self.inside.doubt; disk = c.self.inside.journal.disk } })) c.self.view_is
     (stays g.D.Disk.leaves c.self.inside.core c.prepare.new.self c.self.inside.journal c.self.inside.doubt c.self.invariant (ap (λ (d : DeskState g.row.D.Denot). d.state.doubt) c.self.view_is ∙ c.requires.settled) c.in-Refused.ensures.history c.in-Refused.ensures.founder g.D.Disk.moment g.D.Disk.since g.D.Disk.faults c.self.inside.limit c.args.request.now c.args.reading (Refused c.in-Refused.refusal) (answers_refused c.self.inside.core.founder (Some c.self.inside.limit) c.self.inside.core.history c.args.request.now c.args.reading c.in-Refused.refusal c.in-Refused.ensures.answer))
 
 pub returns-in_default-clause-takes : goal.returns-in_default-clause-takes
 returns-in_default-clause-takes g c =
-    subst (λ (d : DeskState g.row.D.Denot). TakesAct {D = g.row.D.Denot} g.D.Disk.moment g.D.Disk.since g.D.Disk.faults d c.args.request.now c.args.reading (Refused NoMemory) (record { founder = c.prepare.new.self.founder; limit = c.self.inside.limit; state = state_of c.prepare.new.self c.self.inside.doubt; disk = c.self.inside.journal.disk })) c.self.view_is
+    subst (λ (d : DeskState g.row.D.Denot). TakesAct {D = g.row.D.Denot} g.D.Disk.moment g.D.Disk.since g.D.Disk.faults (record { old = d; request = c.args.request.now; reading = c.args.reading; reply = (Refused NoMemory); new = record { founder = c.prepare.new.self.founder; limit = c.self.inside.limit; state = state_of c.prepare.new.self c.self.inside.doubt; disk = c.self.inside.journal.disk } })) c.self.view_is
     (stays g.D.Disk.leaves c.self.inside.core c.prepare.new.self c.self.inside.journal c.self.inside.doubt c.self.invariant (ap (λ (d : DeskState g.row.D.Denot). d.state.doubt) c.self.view_is ∙ c.requires.settled) c.in-Ready.ensures.history c.in-Ready.ensures.founder g.D.Disk.moment g.D.Disk.since g.D.Disk.faults c.self.inside.limit c.args.request.now c.args.reading (Refused NoMemory) (inr (refl, refl)))
 
 pub append-requires-clause-space : goal.append-requires-clause-space
@@ -55,17 +55,17 @@ invariant_of-self-in-Err-InDoubt g c =
 
 pub returns-in-Ok-append-clause-takes : goal.returns-in-Ok-append-clause-takes
 returns-in-Ok-append-clause-takes g c =
-    subst (λ (d : DeskState g.row.D.Denot). TakesAct {D = g.row.D.Denot} g.D.Disk.moment g.D.Disk.since g.D.Disk.faults d c.args.request.now c.args.reading c.commit.result (record { founder = c.commit.new.self.founder; limit = c.self.inside.limit; state = state_of c.commit.new.self c.self.inside.doubt; disk = c.append.new.self.disk })) c.self.view_is
+    subst (λ (d : DeskState g.row.D.Denot). TakesAct {D = g.row.D.Denot} g.D.Disk.moment g.D.Disk.since g.D.Disk.faults (record { old = d; request = c.args.request.now; reading = c.args.reading; reply = c.commit.result; new = record { founder = c.commit.new.self.founder; limit = c.self.inside.limit; state = state_of c.commit.new.self c.self.inside.doubt; disk = c.append.new.self.disk } })) c.self.view_is
     (keeps_it g.D.Disk.leaves c.self.inside.core c.prepare.new.self c.self.inside.journal c.self.inside.doubt c.self.invariant (ap (λ (d : DeskState g.row.D.Denot). d.state.doubt) c.self.view_is ∙ c.requires.settled) c.in-Ready.ensures.history c.in-Ready.ensures.founder g.D.Disk.moment g.D.Disk.since g.D.Disk.faults c.self.inside.limit c.args.request.now c.args.reading c.in-Ready.prepared.entry c.in-Ready.ensures.answer.0 (subst IsOfAct c.entry.ensures.entry (c.entry.ensures.act, c.entry.ensures.short)) c.in-Ok.parcel (c.in-Ok.ensures ∙ ap parcel_of c.entry.ensures.entry) c.append.new.self c.append.ensures.any_moment c.commit.new.self c.commit.result c.in-Ready.prepared.answer c.commit.ensures.history c.commit.ensures.reply c.in-Ready.ensures.answer.1.answer)
 
 pub returns-in-Err-Untouched-clause-takes : goal.returns-in-Err-Untouched-clause-takes
 returns-in-Err-Untouched-clause-takes g c =
-    subst (λ (d : DeskState g.row.D.Denot). TakesAct {D = g.row.D.Denot} g.D.Disk.moment g.D.Disk.since g.D.Disk.faults d c.args.request.now c.args.reading (Refused (DiskFault false)) (record { founder = c.prepare.new.self.founder; limit = c.self.inside.limit; state = state_of c.prepare.new.self c.self.inside.doubt; disk = c.append.new.self.disk })) c.self.view_is
+    subst (λ (d : DeskState g.row.D.Denot). TakesAct {D = g.row.D.Denot} g.D.Disk.moment g.D.Disk.since g.D.Disk.faults (record { old = d; request = c.args.request.now; reading = c.args.reading; reply = (Refused (DiskFault false)); new = record { founder = c.prepare.new.self.founder; limit = c.self.inside.limit; state = state_of c.prepare.new.self c.self.inside.doubt; disk = c.append.new.self.disk } })) c.self.view_is
     (fails_it g.D.Disk.leaves c.self.inside.core c.prepare.new.self c.self.inside.journal c.self.inside.doubt c.self.invariant (ap (λ (d : DeskState g.row.D.Denot). d.state.doubt) c.self.view_is ∙ c.requires.settled) c.in-Ready.ensures.history c.in-Ready.ensures.founder g.D.Disk.moment g.D.Disk.since g.D.Disk.faults c.self.inside.limit c.args.request.now c.args.reading c.in-Ready.prepared.entry c.in-Ready.ensures.answer.0 (subst IsOfAct c.entry.ensures.entry (c.entry.ensures.act, c.entry.ensures.short)) c.in-Ok.parcel (c.in-Ok.ensures ∙ ap parcel_of c.entry.ensures.entry) c.append.new.self c.append.ensures.any_moment false c.self.inside.doubt (untouched_state g.D.Disk.leaves c.self.inside.core c.prepare.new.self c.self.inside.journal c.self.inside.doubt c.self.invariant (ap (λ (d : DeskState g.row.D.Denot). d.state.doubt) c.self.view_is ∙ c.requires.settled) c.in-Ready.ensures.history c.in-Ready.ensures.founder c.in-Ready.prepared.entry) c.in-Err-Untouched.ensures.cause)
 
 pub returns-in-Err-InDoubt-clause-takes : goal.returns-in-Err-InDoubt-clause-takes
 returns-in-Err-InDoubt-clause-takes g c =
-    subst (λ (d : DeskState g.row.D.Denot). TakesAct {D = g.row.D.Denot} g.D.Disk.moment g.D.Disk.since g.D.Disk.faults d c.args.request.now c.args.reading (Refused (DiskFault true)) (record { founder = c.prepare.new.self.founder; limit = c.self.inside.limit; state = state_of c.prepare.new.self (Some c.in-Ready.prepared); disk = c.append.new.self.disk })) c.self.view_is
+    subst (λ (d : DeskState g.row.D.Denot). TakesAct {D = g.row.D.Denot} g.D.Disk.moment g.D.Disk.since g.D.Disk.faults (record { old = d; request = c.args.request.now; reading = c.args.reading; reply = (Refused (DiskFault true)); new = record { founder = c.prepare.new.self.founder; limit = c.self.inside.limit; state = state_of c.prepare.new.self (Some c.in-Ready.prepared); disk = c.append.new.self.disk } })) c.self.view_is
     (fails_it g.D.Disk.leaves c.self.inside.core c.prepare.new.self c.self.inside.journal c.self.inside.doubt c.self.invariant (ap (λ (d : DeskState g.row.D.Denot). d.state.doubt) c.self.view_is ∙ c.requires.settled) c.in-Ready.ensures.history c.in-Ready.ensures.founder g.D.Disk.moment g.D.Disk.since g.D.Disk.faults c.self.inside.limit c.args.request.now c.args.reading c.in-Ready.prepared.entry c.in-Ready.ensures.answer.0 (subst IsOfAct c.entry.ensures.entry (c.entry.ensures.act, c.entry.ensures.short)) c.in-Ok.parcel (c.in-Ok.ensures ∙ ap parcel_of c.entry.ensures.entry) c.append.new.self c.append.ensures.any_moment true (Some c.in-Ready.prepared) (doubted_state g.D.Disk.leaves c.self.inside.core c.prepare.new.self c.self.inside.journal c.self.inside.doubt c.self.invariant (ap (λ (d : DeskState g.row.D.Denot). d.state.doubt) c.self.view_is ∙ c.requires.settled) c.in-Ready.ensures.history c.in-Ready.ensures.founder c.in-Ready.prepared) c.in-Err-InDoubt.ensures.cause)
 
 pub returns-in_default-clause-at_rest : goal.returns-in_default-clause-at_rest
