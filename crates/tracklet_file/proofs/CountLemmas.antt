@@ -185,26 +185,45 @@ in_retracted tracklets (o ∷ older) k there = by (k == next_number older) (in_r
     by false rest = (there.0, rest)
 
 -- a count, as one observation is changed
-pub count_changed : (counts : Observation → Bool) (change : Observation → Observation) (observations : List Observation) (k : ℕ) (o : Observation) → numbered observations k ≡ Some o
-    → count_by counts (changed_at change observations k) + cond (counts o) 1 0 ≡ count_by counts observations + cond (counts (change o)) 1 0
-count_changed counts change [] k o there = absurd (none-some o there)
-count_changed counts change (newest ∷ older) k o there = by (k == next_number older) refl there (count_changed counts change older k o)
+pub count_changed : {A : Type 0} (counts : A → Bool) (change : A → A) (items : List A) (k : ℕ) (item : A) → numbered items k ≡ Some item
+    → count_by counts (changed_at change items k) + cond (counts item) 1 0 ≡ count_by counts items + cond (counts (change item)) 1 0
+count_changed counts change [] k item there = absurd (none-some item there)
+count_changed counts change (newest ∷ older) k item there = by (k == next_number older) refl there (count_changed counts change older k item)
   where
-    by : (b : Bool) → (k == next_number older) ≡ b → cond b (Some newest) (numbered older k) ≡ Some o
-        → (numbered older k ≡ Some o → count_by counts (changed_at change older k) + cond (counts o) 1 0 ≡ count_by counts older + cond (counts (change o)) 1 0)
-        → count_by counts (cond b (change newest ∷ older) (newest ∷ changed_at change older k)) + cond (counts o) 1 0 ≡ count_by counts (newest ∷ older) + cond (counts (change o)) 1 0
+    by : (b : Bool) → (k == next_number older) ≡ b → cond b (Some newest) (numbered older k) ≡ Some item
+        → (numbered older k ≡ Some item → count_by counts (changed_at change older k) + cond (counts item) 1 0 ≡ count_by counts older + cond (counts (change item)) 1 0)
+        → count_by counts (cond b (change newest ∷ older) (newest ∷ changed_at change older k)) + cond (counts item) 1 0 ≡ count_by counts (newest ∷ older) + cond (counts (change item)) 1 0
     by true is found rest =
-        let same : newest ≡ o = same_Some newest o found in
-        let old : ◌≡◌ {A = ℕ} (cond (counts newest) 1 0) (cond (counts o) 1 0) = ap (λ (p : Observation). cond (counts p) 1 0) same in
-        let new : ◌≡◌ {A = ℕ} (cond (counts (change newest)) 1 0) (cond (counts (change o)) 1 0) = ap (λ (p : Observation). cond (counts (change p)) 1 0) same in
-        let before = sum_by-cons (λ (p : Observation). cond (counts p) 1 0) newest older in
-        let after = sum_by-cons (λ (p : Observation). cond (counts p) 1 0) (change newest) older in
+        let same : newest ≡ item = same_Some newest item found in
+        let old : ◌≡◌ {A = ℕ} (cond (counts newest) 1 0) (cond (counts item) 1 0) = ap (λ (x : _). cond (counts x) 1 0) same in
+        let new : ◌≡◌ {A = ℕ} (cond (counts (change newest)) 1 0) (cond (counts (change item)) 1 0) = ap (λ (x : _). cond (counts (change x)) 1 0) same in
+        let before = sum_by-cons (λ (x : _). cond (counts x) 1 0) newest older in
+        let after = sum_by-cons (λ (x : _). cond (counts x) 1 0) (change newest) older in
         omega arith
     by false is found rest =
         let inner = rest found in
-        let before = sum_by-cons (λ (p : Observation). cond (counts p) 1 0) newest older in
-        let after = sum_by-cons (λ (p : Observation). cond (counts p) 1 0) newest (changed_at change older k) in
+        let before = sum_by-cons (λ (x : _). cond (counts x) 1 0) newest older in
+        let after = sum_by-cons (λ (x : _). cond (counts x) 1 0) newest (changed_at change older k) in
         omega arith
+
+-- what counts for something counts
+pub count_some : {A : Type 0} (counts : A → Bool) (items : List A) (k : ℕ) (item : A) → numbered items k ≡ Some item → counts item ≡ true → 0 < count_by counts items
+count_some counts [] k item at one = absurd (none-some item at)
+count_some counts (newest ∷ older) k item at one = by (k == next_number older) at (count_some counts older k item)
+  where
+    by : (b : Bool) → cond b (Some newest) (numbered older k) ≡ Some item → (numbered older k ≡ Some item → counts item ≡ true → 0 < count_by counts older) → 0 < count_by counts (newest ∷ older)
+    by true found rest =
+        let here : ◌≡◌ {A = ℕ} (cond (counts newest) 1 0) 1 = ap (λ (b : Bool). cond b 1 0) (ap counts (same_Some newest item found) ∙ one) in
+        omega (arith, here, sum_by-cons (λ (x : _). cond (counts x) 1 0) newest older)
+    by false found rest = omega (arith, rest found one, sum_by-cons (λ (x : _). cond (counts x) 1 0) newest older)
+
+pub count_low : {A : Type 0} (counts : A → Bool) (items : List A) → count_by counts items ≤ length items
+count_low counts [] = lit≤ tt
+count_low counts (item ∷ items) = omega (arith, one (counts item), count_low counts items, sum_by-cons (λ (x : _). cond (counts x) 1 0) item items)
+  where
+    one : (b : Bool) → cond b 1 0 ≤ 1
+    one true = omega arith
+    one false = omega arith
 
 pub isolated_retracted : (tracklets : List Tracklet) (observations : List Observation) (k : ℕ) (o : Observation) → numbered observations k ≡ Some o → o.live ≡ true
     → isolated_in tracklets (with_retraction observations k) + cond (is_none (home_of tracklets o.track)) 1 0 ≡ isolated_in tracklets observations
@@ -267,10 +286,7 @@ counted_rehomed tracklets observations t home {isolated} {retracted} there count
 -- a live observation of an isolated tracklet is among the isolated ones
 pub some_isolated : (tracklets : List Tracklet) (observations : List Observation) (k : ℕ) (o : Observation) → numbered observations k ≡ Some o → o.live ≡ true → is_none (home_of tracklets o.track) ≡ true
     → 0 < isolated_in tracklets observations
-some_isolated tracklets observations k o there live isolated =
-    let after = isolated_retracted tracklets observations k o there live in
-    let one : ◌≡◌ {A = ℕ} (cond (is_none (home_of tracklets o.track)) 1 0) 1 = ap (λ (b : Bool). cond b 1 0) isolated in
-    omega arith
+some_isolated tracklets observations k o there live isolated = count_some (is_isolated tracklets) observations k o there (ap (λ (b : Bool). b && is_none (home_of tracklets o.track)) live ∙ isolated)
 
 pub live_at : (observations : List Observation) (k : ℕ) (o : Observation) → numbered observations k ≡ Some o → is_live observations k ≡ true → o.live ≡ true
 live_at observations k o there live = sym (ap (λ (found : Option Observation). option_map_or (λ (o : Observation). o.live) found false) there) ∙ live

@@ -1,29 +1,28 @@
 -- The index of homes, as tracklets come and get other homes, and what is read from it.
-use Rattle.std.proofs.Common.{◌≡◌, ℕ, ◌<◌, ◌≤◌, Bool, true, false, cond, List, [], ◌∷◌, ◌++◌, length, Option, Some, None, refl, ap, sym, subst, ◌∙◌, arith}
-use Rattle.std.specs.Prelude.{◌==◌, ◌&&◌, nat_lt, slice_get, IsSome, is_some, IfSome, if◌then◌else◌}
-use Rattle.std.specs.Option.{option_map, option_and_then, option_cmp}
-use Rattle.std.specs.Cmp.{IsTotalOrder}
-use Rattle.std.specs.Cmp.Lexicographic.{options_total}
+use Rattle.std.proofs.Common.{◌≡◌, ℕ, ◌+◌, ◌<◌, ◌≤◌, Bool, true, false, cond, List, [], ◌∷◌, ◌++◌, length, Option, Some, None, refl, ap, sym, subst, ◌∙◌, arith}
+use Rattle.std.specs.Prelude.{◌==◌, ◌&&◌, ◌||◌, not, nat_lt, slice_get, IsSome, is_some, is_none, IfSome}
+use Rattle.std.specs.Option.{option_and_then}
 use Rattle.std.specs.declared.cmp.Ordering.{Ordering}
 use Rattle.std.specs.declared.cmp.Ordering.TheVariants.{Less, Equal, Greater}
-use Rattle.std.specs.Ordering.{is_eq, nat_cmp, ordering_then, ordering_reverse}
+use Rattle.std.specs.Ordering.{is_eq, eq_by_cmp, nat_cmp, ordering_then, ordering_reverse}
 use Rattle.std.proofs.lemmas.Bool.{false≢true, eqb-true, eqb-false, eq-eqb, ne_eqb, lt-ltb}
 use Rattle.std.proofs.lemmas.Bool.Decides.{nat_tests}
 use Rattle.std.proofs.lemmas.Cmp.{tied_itself}
+use Rattle.std.proofs.lemmas.List.Sums.{sum_by-cons}
 use borrow.Author.Tests.{ltb-true}
 use Rattle.packed_names.specs.declared.name.Designation.{Designation}
-use Rattle.packed_names.specs.contracts.name.DesignationOrd.TheImpl as designations
 use Rattle.packed_names.specs.Laws.{OrderLaws}
 use Rattle.packed_names.specs.Order.{designation_cmp}
-use Rattle.ordered_list.specs.Orders.{ties, found, IsNextAbove}
+use Rattle.ordered_list.specs.Orders.{found, IsNextAbove}
 use Rattle.tracklet_file.specs.declared.homes.HomeEntry.{HomeEntry}
 use Rattle.tracklet_file.specs.contracts.homes.HomeEntryOrd.TheImpl as derived
 use Rattle.tracklet_file.specs.declared.tracklet.Tracklet.{Tracklet}
 use Rattle.tracklet_file.specs.Numbering.{next_number, numbered}
 use Rattle.tracklet_file.specs.Tracklets.{IsTracklet, home_of, with_home, is_home, later_at, next_at}
-use Rattle.tracklet_file.specs.Homes.{home_entry, same_home, has_home, AreHomed, number_at}
-use Rattle.tracklet_file.proofs.NumberingLemmas.{numbered_within, numbered_changed, numbered_others}
+use Rattle.tracklet_file.specs.Homes.{home_entry, is_entry, KeptHomes, IsHomed, isolated_tracks_in, number_at}
+use Rattle.tracklet_file.proofs.NumberingLemmas.{numbered_within}
 use Rattle.tracklet_file.proofs.PositionLemmas.{both_tie, numbers_tie}
+use Rattle.tracklet_file.proofs.CountLemmas.{count_changed, count_some, home_of_given, home_of_others}
 
 abbrev pub cmp : HomeEntry → HomeEntry → Ordering
 cmp = (derived.ghosts).cmp
@@ -133,137 +132,128 @@ pub rest_from : (tracklets : List Tracklet) (d : Designation) (after : ℕ) (num
 rest_from tracklets d after None is = tt
 rest_from tracklets d after (Some t) is = is
 
+-- a tracklet without a home is counted
+pub isolated_some : (tracklets : List Tracklet) (homes : KeptHomes) (t : ℕ) (was : Option Designation) → IsTracklet tracklets t → was ≡ home_of tracklets t → is_some was ≡ false → IsHomed cmp tracklets homes
+    → 0 < homes.isolated
+isolated_some tracklets homes t was there was_is none homed = subst (λ (n : ℕ). 0 < n) (sym homed.isolated_are) (by (numbered tracklets t) refl there)
+  where
+    by : (o : Option Tracklet) → numbered tracklets t ≡ o → IsSome o → 0 < isolated_tracks_in tracklets
+    by None at there = absurd (false≢true there)
+    by (Some tracklet) at there =
+        count_some (λ (t : Tracklet). is_none t.home) tracklets t tracklet at
+        (ap (λ (o : Option Tracklet). is_none (option_and_then (λ (t : Tracklet). t.home) o)) (sym at) ∙ ap is_none (sym was_is) ∙ ap not none)
+
 -- ---- the order of entries
 
 module _ (laws : OrderLaws) where
-  homes_are : (one other : Option Designation) → option_cmp (designations.ghosts).cmp one other ≡ option_cmp designation_cmp one other
-  homes_are None None = refl
-  homes_are None (Some e) = refl
-  homes_are (Some d) None = refl
-  homes_are (Some d) (Some e) = laws.compared d e
+  order_is : (one other : HomeEntry) → cmp one other ≡ ordering_then (designation_cmp one.home other.home) (nat_cmp one.track other.track)
+  order_is one other = ap (λ (o : Ordering). ordering_then o (nat_cmp one.track other.track)) (laws.compared one.home other.home)
 
-  pub order_is : (one other : HomeEntry) → cmp one other ≡ ordering_then (option_cmp designation_cmp one.home other.home) (nat_cmp one.track other.track)
-  order_is one other = ap (λ (o : Ordering). ordering_then o (nat_cmp one.track other.track)) (homes_are one.home other.home)
-
-  homes_total : IsTotalOrder (option_cmp designation_cmp)
-  homes_total = options_total laws.total
-
-  pub entries_tie : (home other : Option Designation) (t u : ℕ) → ties cmp (home_entry home t) (home_entry other u) ≡ (same_home other home && (u == t))
-  entries_tie home other t u =
-      ap is_eq (order_is (home_entry other u) (home_entry home t)) ∙ both_tie (option_cmp designation_cmp other home) (nat_cmp u t) ∙ ap (λ (b : Bool). same_home other home && b) (numbers_tie u t)
-
-  pub home_itself : (home : Option Designation) → same_home home home ≡ true
-  home_itself home = ap is_eq (tied_itself homes_total home)
+  -- whether a key is that of a tracklet's entry
+  entry_is : (d : Designation) (u : ℕ) (home : Option Designation) (t : ℕ) → is_entry cmp (home_entry d u) home t ≡ (is_home d home && (t == u))
+  entry_is d u None t = refl
+  entry_is d u (Some e) t =
+      ap is_eq (order_is (home_entry e t) (home_entry d u)) ∙ both_tie (designation_cmp e d) (nat_cmp t u) ∙ ap (λ (b : Bool). eq_by_cmp designation_cmp e d && b) (numbers_tie t u)
 
   -- ---- changes
 
-  none_of : (b : Bool) → (b && false) ≡ false
-  none_of true = refl
-  none_of false = refl
+  turned : (t u : ℕ) (b : Bool) → (u == t) ≡ b → (t == u) ≡ b
+  turned t u true same = eq-eqb t u (sym (eqb-true _ _ same))
+  turned t u false differs = ne_eqb t u (λ alike. absurd (eqb-false _ _ differs (sym alike)))
 
-  pub homed_more : (newest : Tracklet) (older tracklets' : List Tracklet) (entries after : List HomeEntry) (entry : HomeEntry) → entry ≡ home_entry newest.home (next_number older) → tracklets' ≡ newest ∷ older
-      → ((key : HomeEntry) → found cmp key after ≡ (if ties cmp key entry then Some entry else found cmp key entries)) → AreHomed cmp entries older → AreHomed cmp after tracklets'
-  homed_more newest older tracklets' entries after entry entry_is tracklets_are finds was home t =
-      ap is_some (finds (home_entry home t))
-      ∙ ap (λ (b : Bool). is_some (cond b (Some entry) (found cmp (home_entry home t) entries)))
-      (ap (ties cmp (home_entry home t)) entry_is ∙ entries_tie home newest.home t (next_number older))
-      ∙ by (t == next_number older) refl
-      ∙ sym (ap (λ (ts : List Tracklet). has_home home (numbered ts t)) tracklets_are)
+  -- one more tracklet
+  pub homed_more : (newest : Tracklet) (older tracklets' : List Tracklet) (homes after : KeptHomes) (number : ℕ) → IsHomed cmp older homes → number ≡ next_number older → tracklets' ≡ newest ∷ older
+      → ((key : HomeEntry) → is_some (found cmp key after.entries) ≡ (is_entry cmp key newest.home number || is_some (found cmp key homes.entries)))
+      → after.isolated ≡ homes.isolated + cond (is_none newest.home) 1 0 → homes.isolated < homes.room → homes.room + cond (is_none newest.home) 1 0 ≤ after.room + 1
+      → IsHomed cmp tracklets' after
+  homed_more newest older tracklets' homes after number was number_is tracklets_are finds isolated_is some room_is =
+      subst (λ (ts : List Tracklet). IsHomed cmp ts after) (sym tracklets_are)
+      record {
+        entered = λ d u. finds (home_entry d u) ∙ ap (λ (b : Bool). b || is_some (found cmp (home_entry d u) homes.entries)) (entry_is d u newest.home number)
+            ∙ ap (λ (b : Bool). (is_home d newest.home && (number == u)) || b) (was.entered d u) ∙ by d u (u == next_number older) refl;
+        isolated_are = omega (arith, isolated_is, was.isolated_are, sum_by-cons (λ (t : Tracklet). cond (is_none t.home) 1 0) newest older);
+        enough = omega arith;
+      }
     where
-      either : (b : Bool) (o : Option HomeEntry) → is_some o ≡ false → is_some (cond b (Some entry) o) ≡ b
-      either true o none = refl
-      either false o none = none
+      own : (a : Bool) → ((a && true) || false) ≡ a
+      own true = refl
+      own false = refl
 
-      by : (b : Bool) → (t == next_number older) ≡ b
-          → is_some (cond (same_home newest.home home && (next_number older == t)) (Some entry) (found cmp (home_entry home t) entries)) ≡ has_home home (numbered (newest ∷ older) t)
-      by true same =
-          let here : t ≡ next_number older = eqb-true _ _ same in
-          let none : is_some (found cmp (home_entry home t) entries) ≡ false = was home t ∙ ap (has_home home) (none_above older t (omega (arith, here))) in
-          ap (λ (b : Bool). is_some (cond (same_home newest.home home && b) (Some entry) (found cmp (home_entry home t) entries))) (eq-eqb (next_number older) t (sym here))
-          ∙ ap (λ (b : Bool). is_some (cond b (Some entry) (found cmp (home_entry home t) entries))) (whole (same_home newest.home home))
-          ∙ either (same_home newest.home home) (found cmp (home_entry home t) entries) none
-          ∙ sym (ap (λ (b : Bool). has_home home (cond b (Some newest) (numbered older t))) same)
-        where
-          whole : (b : Bool) → (b && true) ≡ b
-          whole true = refl
-          whole false = refl
-      by false differs =
-          ap (λ (b : Bool). is_some (cond (same_home newest.home home && b) (Some entry) (found cmp (home_entry home t) entries)))
-          (ne_eqb (next_number older) t (λ alike. absurd (eqb-false _ _ differs (sym alike))))
-          ∙ ap (λ (b : Bool). is_some (cond b (Some entry) (found cmp (home_entry home t) entries))) (none_of (same_home newest.home home))
-          ∙ was home t
-          ∙ sym (ap (λ (b : Bool). has_home home (cond b (Some newest) (numbered older t))) differs)
+      others : (a b : Bool) → ((a && false) || b) ≡ b
+      others true b = refl
+      others false b = refl
 
-  -- a tracklet that is there has an entry with its home
-  pub entry_there : (tracklets : List Tracklet) (entries : List HomeEntry) (t : ℕ) (was : Option Designation) → IsTracklet tracklets t → was ≡ home_of tracklets t → AreHomed cmp entries tracklets
-      → IsSome (found cmp (home_entry was t) entries)
-  entry_there tracklets entries t was there is homed = homed was t ∙ by (numbered tracklets t) there is
-    where
-      by : (o : Option Tracklet) → IsSome o → was ≡ option_and_then (λ (t : Tracklet). t.home) o → has_home was o ≡ true
-      by None there is = absurd (false≢true there)
-      by (Some tracklet) there is = ap (λ (h : Option Designation). same_home h was) (sym is) ∙ home_itself was
+      by : (d : Designation) (u : ℕ) (b : Bool) → (u == next_number older) ≡ b → ((is_home d newest.home && (number == u)) || is_home d (home_of older u)) ≡ is_home d (home_of (newest ∷ older) u)
+      by d u true same =
+          let here : u ≡ next_number older = eqb-true _ _ same in
+          ap (λ (b : Bool). (is_home d newest.home && b) || is_home d (home_of older u)) (eq-eqb number u (number_is ∙ sym here))
+          ∙ ap (λ (b : Bool). (is_home d newest.home && true) || b) (no_home d older u (omega (arith, here)))
+          ∙ own (is_home d newest.home)
+          ∙ ap (is_home d) (sym (newest_home newest older) ∙ ap (home_of (newest ∷ older)) (sym here))
+      by d u false differs =
+          ap (λ (b : Bool). (is_home d newest.home && b) || is_home d (home_of older u)) (ap (λ (n : ℕ). n == u) number_is ∙ turned (next_number older) u false differs)
+          ∙ others (is_home d newest.home) (is_home d (home_of older u))
+          ∙ ap (is_home d) (sym (older_home newest older u differs))
 
-  abbrev with_this : Option Designation → Tracklet → Tracklet
-  with_this home tracklet = record tracklet { home = home }
+  -- a tracklet with a home has its entry
+  pub entry_there : (tracklets : List Tracklet) (homes : KeptHomes) (t : ℕ) (was : Option Designation) → was ≡ home_of tracklets t → IsHomed cmp tracklets homes
+      → IfSome was (λ d. IsSome (found cmp (home_entry d t) homes.entries))
+  entry_there tracklets homes t None is homed = tt
+  entry_there tracklets homes t (Some d) is homed = homed.entered d t ∙ ap (is_home d) (sym is) ∙ ap is_eq (tied_itself laws.total d)
 
-  -- the new home decides, and of the old one nothing is left
-  decides : (entry : HomeEntry) (kept : Option HomeEntry) (a b : Bool) → is_some kept ≡ b → is_some (cond (a && true) (Some entry) (cond (b && true) None kept)) ≡ a
-  decides entry kept true b is = refl
-  decides entry kept false true is = refl
-  decides entry kept false false is = is
-
-  pub homed_changed : (t : ℕ) (was home : Option Designation) (tracklets tracklets' : List Tracklet) (entries after : List HomeEntry) → IsTracklet tracklets t → was ≡ home_of tracklets t
+  -- another home for a tracklet
+  pub homed_changed : (t : ℕ) (was home : Option Designation) (tracklets tracklets' : List Tracklet) (homes after : KeptHomes) → IsTracklet tracklets t → was ≡ home_of tracklets t
       → tracklets' ≡ with_home tracklets t home
-      → ((key : HomeEntry) → found cmp key after
-      ≡ (if ties cmp key (home_entry home t) then Some (home_entry home t) else (if ties cmp key (home_entry was t) then None else found cmp key entries)))
-      → AreHomed cmp entries tracklets → AreHomed cmp after tracklets'
-  homed_changed t was home tracklets tracklets' entries after there was_is tracklets_are finds homed other u =
-      ap is_some (finds (home_entry other u))
-      ∙ ap (λ (b : Bool). is_some (cond b (Some (home_entry home t)) (cond (ties cmp (home_entry other u) (home_entry was t)) None (found cmp (home_entry other u) entries)))) (entries_tie other home u t)
-      ∙ ap (λ (b : Bool). is_some (cond (same_home home other && (t == u)) (Some (home_entry home t)) (cond b None (found cmp (home_entry other u) entries)))) (entries_tie other was u t)
-      ∙ by (u == t) refl
-      ∙ sym (ap (λ (ts : List Tracklet). has_home other (numbered ts u)) tracklets_are)
+      → ((key : HomeEntry) → is_some (found cmp key after.entries) ≡ (is_entry cmp key home t || (not (is_entry cmp key was t) && is_some (found cmp key homes.entries))))
+      → after.isolated + cond (is_none was) 1 0 ≡ homes.isolated + cond (is_none home) 1 0 → homes.room + cond (is_none home) 1 0 ≤ after.room + cond (is_none was) 1 0
+      → IsHomed cmp tracklets homes → IsHomed cmp tracklets' after
+  homed_changed t was home tracklets tracklets' homes after there was_is tracklets_are finds isolated_is room_is homed =
+      subst (λ (ts : List Tracklet). IsHomed cmp ts after) (sym tracklets_are)
+      record {
+        entered = λ d u. finds (home_entry d u)
+            ∙ ap (λ (b : Bool). b || (not (is_entry cmp (home_entry d u) was t) && is_some (found cmp (home_entry d u) homes.entries))) (entry_is d u home t)
+            ∙ ap (λ (b : Bool). (is_home d home && (t == u)) || (not b && is_some (found cmp (home_entry d u) homes.entries))) (entry_is d u was t)
+            ∙ ap (λ (b : Bool). (is_home d home && (t == u)) || (not (is_home d was && (t == u)) && b)) (homed.entered d u)
+            ∙ by d u (u == t) refl;
+        isolated_are = recounted (numbered tracklets t) refl there was_is;
+        enough = omega (arith, isolated_is, room_is, homed.enough);
+      }
     where
-      at_own : (o : Option Tracklet) → IsSome o → was ≡ option_and_then (λ (t : Tracklet). t.home) o
-          → (has_home other (option_map (with_this home) o) ≡ same_home home other) × (has_home other o ≡ same_home was other)
-      at_own None there is = absurd (false≢true there)
-      at_own (Some tracklet) there is = (refl, ap (λ (h : Option Designation). same_home h other) (sym is))
+      own : (a b : Bool) → ((a && true) || (not (b && true) && b)) ≡ a
+      own true b = refl
+      own false true = refl
+      own false false = refl
 
-      by : (b : Bool) → (u == t) ≡ b
-          → is_some (cond (same_home home other && (t == u)) (Some (home_entry home t)) (cond (same_home was other && (t == u)) None (found cmp (home_entry other u) entries))) ≡ has_home other (numbered (with_home tracklets t home) u)
-      by true same =
+      others : (a b c : Bool) → ((a && false) || (not (b && false) && c)) ≡ c
+      others true true c = refl
+      others true false c = refl
+      others false true c = refl
+      others false false c = refl
+
+      by : (d : Designation) (u : ℕ) (b : Bool) → (u == t) ≡ b
+          → ((is_home d home && (t == u)) || (not (is_home d was && (t == u)) && is_home d (home_of tracklets u))) ≡ is_home d (home_of (with_home tracklets t home) u)
+      by d u true same =
           let here : u ≡ t = eqb-true _ _ same in
-          let own = at_own (numbered tracklets t) there was_is in
-          ap (λ (b : Bool). is_some (cond (same_home home other && b) (Some (home_entry home t)) (cond (same_home was other && b) None (found cmp (home_entry other u) entries)))) (eq-eqb t u (sym here))
-          ∙ decides (home_entry home t) (found cmp (home_entry other u) entries) (same_home home other) (same_home was other) (homed other u ∙ ap (λ (n : ℕ). has_home other (numbered tracklets n)) here ∙ own.1)
-          ∙ sym own.0
-          ∙ ap (has_home other) (sym (numbered_changed (with_this home) tracklets t))
-          ∙ ap (λ (n : ℕ). has_home other (numbered (with_home tracklets t home) n)) (sym here)
-      by false differs =
-          let apart : (t == u) ≡ false = ne_eqb t u (λ alike. absurd (eqb-false _ _ differs (sym alike))) in
-          ap (λ (b : Bool). is_some (cond b (Some (home_entry home t)) (cond (same_home was other && (t == u)) None (found cmp (home_entry other u) entries))))
-          (ap (λ (b : Bool). same_home home other && b) apart ∙ none_of (same_home home other))
-          ∙ ap (λ (b : Bool). is_some (cond b None (found cmp (home_entry other u) entries))) (ap (λ (b : Bool). same_home was other && b) apart ∙ none_of (same_home was other))
-          ∙ homed other u
-          ∙ sym (ap (has_home other) (numbered_others (with_this home) tracklets t u differs))
+          ap (λ (b : Bool). (is_home d home && b) || (not (is_home d was && b) && is_home d (home_of tracklets u))) (turned t u true same)
+          ∙ ap (λ (h : Option Designation). (is_home d home && true) || (not (is_home d was && true) && is_home d h)) (ap (home_of tracklets) here ∙ sym was_is)
+          ∙ own (is_home d home) (is_home d was)
+          ∙ ap (is_home d) (sym (home_of_given tracklets t home there) ∙ ap (home_of (with_home tracklets t home)) (sym here))
+      by d u false differs =
+          ap (λ (b : Bool). (is_home d home && b) || (not (is_home d was && b) && is_home d (home_of tracklets u))) (turned t u false differs)
+          ∙ others (is_home d home) (is_home d was) (is_home d (home_of tracklets u))
+          ∙ ap (is_home d) (sym (home_of_others tracklets t u home differs))
+
+      recounted : (o : Option Tracklet) → numbered tracklets t ≡ o → IsSome o → was ≡ option_and_then (λ (t : Tracklet). t.home) o → after.isolated ≡ isolated_tracks_in (with_home tracklets t home)
+      recounted None at there is = absurd (false≢true there)
+      recounted (Some tracklet) at there is =
+          let all = count_changed (λ (t : Tracklet). is_none t.home) (λ (t : Tracklet). record t { home = home }) tracklets t tracklet at in
+          let old : ◌≡◌ {A = ℕ} (cond (is_none was) 1 0) (cond (is_none tracklet.home) 1 0) = ap (λ (h : Option Designation). cond (is_none h) 1 0) is in
+          omega (arith, all, old, isolated_is, homed.isolated_are)
 
   -- ---- what is read
 
-  -- the entry of a tracklet of the designation
-  home_same : (d : Designation) (home : Option Designation) → same_home home (Some d) ≡ is_home d home
-  home_same d None = refl
-  home_same d (Some e) = refl
-
-  home_is : (d : Designation) (home : Option Designation) → is_home d home ≡ true → home ≡ Some d
-  home_is d None is = absurd (false≢true is)
-  home_is d (Some e) is = ap Some ((laws.designations e d).0 is)
-
-  has_is : (d : Designation) (o : Option Tracklet) → has_home (Some d) o ≡ is_home d (option_and_then (λ (t : Tracklet). t.home) o)
-  has_is d None = refl
-  has_is d (Some tracklet) = home_same d tracklet.home
-
-  own_order : (d : Designation) (t u : ℕ) → cmp (home_entry (Some d) t) (home_entry (Some d) u) ≡ nat_cmp t u
-  own_order d t u = order_is (home_entry (Some d) t) (home_entry (Some d) u) ∙ ap (λ (o : Ordering). ordering_then o (nat_cmp t u)) (tied_itself homes_total (Some d))
+  own_order : (d : Designation) (t u : ℕ) → cmp (home_entry d t) (home_entry d u) ≡ nat_cmp t u
+  own_order d t u = order_is (home_entry d t) (home_entry d u) ∙ ap (λ (o : Ordering). ordering_then o (nat_cmp t u)) (tied_itself laws.total d)
 
   greater : (a b : ℕ) → b < a → nat_cmp a b ≡ Greater
   greater a b past = grind (arith, nat_tests)
@@ -274,54 +264,53 @@ module _ (laws : OrderLaws) where
   from_greater : (a b : ℕ) → nat_cmp a b ≡ Greater → b < a
   from_greater a b is = grind (arith, nat_tests)
 
-  module _ (d : Designation) (after : ℕ) (tracklets : List Tracklet) (entries : List HomeEntry) (homed : AreHomed cmp entries tracklets) where
+  module _ (d : Designation) (after : ℕ) (tracklets : List Tracklet) (homes : KeptHomes) (homed : IsHomed cmp tracklets homes) where
     abbrev key : HomeEntry
-    key = home_entry (Some d) after
+    key = home_entry d after
 
     -- a later tracklet of the designation has an entry above the key
-    has_entry : (t : ℕ) → is_home d (home_of tracklets t) ≡ true → IsSome (found cmp (home_entry (Some d) t) entries)
-    has_entry t is = homed (Some d) t ∙ has_is d (numbered tracklets t) ∙ is
+    has_entry : (t : ℕ) → is_home d (home_of tracklets t) ≡ true → IsSome (found cmp (home_entry d t) homes.entries)
+    has_entry t is = homed.entered d t ∙ is
 
-    is_above : (t : ℕ) → after < t → cmp (home_entry (Some d) t) key ≡ Greater
+    is_above : (t : ℕ) → after < t → cmp (home_entry d t) key ≡ Greater
     is_above t past = own_order d t after ∙ greater t after past
 
     refuted : (b : Bool) → (b ≡ true → ⊥) → b ≡ false
     refuted true never = absurd (never refl)
     refuted false never = refl
 
-    none_later : IsNextAbove cmp key entries None → (t : ℕ) → after < t → is_home d (home_of tracklets t) ≡ false
-    none_later none t past = refuted (is_home d (home_of tracklets t)) (λ is. none (home_entry (Some d) t) (has_entry t is) (is_above t past))
+    none_later : IsNextAbove cmp key homes.entries None → (t : ℕ) → after < t → is_home d (home_of tracklets t) ≡ false
+    none_later none t past = refuted (is_home d (home_of tracklets t)) (λ is. none (home_entry d t) (has_entry t is) (is_above t past))
 
-    -- an entry of another home above the key is above all of the designation's
-    past_all : (entry : HomeEntry) → is_home d entry.home ≡ false → cmp entry key ≡ Greater → (t : ℕ) → cmp (home_entry (Some d) t) entry ≡ Less
-    past_all entry other above t = by (option_cmp designation_cmp entry.home (Some d)) refl
+    -- an entry of another designation above the key is above all of this one's
+    past_all : (entry : HomeEntry) → eq_by_cmp designation_cmp entry.home d ≡ false → cmp entry key ≡ Greater → (t : ℕ) → cmp (home_entry d t) entry ≡ Less
+    past_all entry other above t = by (designation_cmp entry.home d) refl
       where
-        by : (o : Ordering) → option_cmp designation_cmp entry.home (Some d) ≡ o → cmp (home_entry (Some d) t) entry ≡ Less
+        by : (o : Ordering) → designation_cmp entry.home d ≡ o → cmp (home_entry d t) entry ≡ Less
         by Less is =
             let low : cmp entry key ≡ Less = order_is entry key ∙ ap (λ (o : Ordering). ordering_then o (nat_cmp entry.track after)) is in
             let both = sym low ∙ above in cc
-        by Equal is = absurd (false≢true (sym other ∙ sym (home_same d entry.home) ∙ ap is_eq is))
+        by Equal is = absurd (false≢true (sym other ∙ ap is_eq is))
         by Greater is =
-            order_is (home_entry (Some d) t) entry
-            ∙ ap (λ (o : Ordering). ordering_then o (nat_cmp t entry.track)) (homes_total.antisymm (Some d) entry.home ∙ ap ordering_reverse is)
+            order_is (home_entry d t) entry ∙ ap (λ (o : Ordering). ordering_then o (nat_cmp t entry.track)) (laws.total.antisymm d entry.home ∙ ap ordering_reverse is)
 
-    pub first_at : (r : Option HomeEntry) → IsNextAbove cmp key entries r → IsFirst tracklets d after (number_at d r)
+    pub first_at : (r : Option HomeEntry) → IsNextAbove cmp key homes.entries r → IsFirst tracklets d after (number_at d r)
     first_at None none = later_none tracklets d after (none_later none)
-    first_at (Some entry) next = by (is_home d entry.home) refl
+    first_at (Some entry) next = by (eq_by_cmp designation_cmp entry.home d) refl
       where
-        by : (b : Bool) → is_home d entry.home ≡ b → IsFirst tracklets d after (cond (is_home d entry.home) (Some entry.track) None)
+        by : (b : Bool) → eq_by_cmp designation_cmp entry.home d ≡ b → IsFirst tracklets d after (cond (eq_by_cmp designation_cmp entry.home d) (Some entry.track) None)
         by false other =
             subst (λ (b : Bool). IsFirst tracklets d after (cond b (Some entry.track) None)) (sym other)
             (later_none tracklets d after
-            (λ t past. refuted (is_home d (home_of tracklets t)) (λ is. next.least (home_entry (Some d) t) (has_entry t is) (is_above t past) (past_all entry other next.above t))))
+            (λ t past. refuted (is_home d (home_of tracklets t)) (λ is. next.least (home_entry d t) (has_entry t is) (is_above t past) (past_all entry other next.above t))))
         by true own =
             subst (λ (b : Bool). IsFirst tracklets d after (cond b (Some entry.track) None)) (sym own)
-            (later_first tracklets d after entry.track (from_greater entry.track after (sym (own_order d entry.track after) ∙ ap (λ (e : HomeEntry). cmp e key) (sym entry_is) ∙ next.above)) there
+            (later_first tracklets d after entry.track (from_greater entry.track after (sym (own_order d entry.track after) ∙ ap (λ (e : HomeEntry). cmp e key) (sym is_own) ∙ next.above)) there
             (λ u past before. refuted (is_home d (home_of tracklets u))
-            (λ is. next.least (home_entry (Some d) u) (has_entry u is) (is_above u past) (ap (cmp (home_entry (Some d) u)) entry_is ∙ own_order d u entry.track ∙ less u entry.track before))))
+            (λ is. next.least (home_entry d u) (has_entry u is) (is_above u past) (ap (cmp (home_entry d u)) is_own ∙ own_order d u entry.track ∙ less u entry.track before))))
           where
-            entry_is : entry ≡ home_entry (Some d) entry.track
-            entry_is = ap (λ (h : Option Designation). home_entry h entry.track) (home_is d entry.home own)
+            is_own : entry ≡ home_entry d entry.track
+            is_own = ap (λ (h : Designation). home_entry h entry.track) ((laws.designations entry.home d).0 own)
 
             there : is_home d (home_of tracklets entry.track) ≡ true
-            there = sym (has_is d (numbered tracklets entry.track)) ∙ sym (homed (Some d) entry.track) ∙ ap (λ (e : HomeEntry). is_some (found cmp e entries)) (sym entry_is) ∙ ap is_some next.there
+            there = sym (homed.entered d entry.track) ∙ ap (λ (e : HomeEntry). is_some (found cmp e homes.entries)) (sym is_own) ∙ ap is_some next.there

@@ -1,5 +1,5 @@
 -- What the file keeps, as its lists change, and what is read from it.
-use Rattle.std.proofs.Common.{◌≡◌, ℕ, ◌+◌, ◌-◌, ◌<◌, ◌≤◌, Bool, true, false, cond, List, [], ◌∷◌, ◌++◌, length, get_or, set, Option, Some, None, zero, suc, inl, inr, refl, ap, sym, subst, ◌∙◌, lit≤, arith}
+use Rattle.std.proofs.Common.{◌≡◌, ℕ, ◌+◌, ◌-◌, ◌<◌, ◌≤◌, Bool, true, false, cond, List, [], ◌∷◌, ◌++◌, length, get_or, set, Option, Some, None, zero, suc, inl, inr, refl, ap, sym, subst, ◌∙◌, arith}
 use Rattle.std.specs.Prelude.{◌==◌, ◌&&◌, nat_lt, count_by, unwrap_or, slice_get, not, is_none, IsSome, is_some, IfSome, if◌then◌else◌, reverse}
 use Rattle.std.specs.Option.{option_map, option_and_then}
 use Rattle.std.specs.declared.cmp.Ordering.{Ordering}
@@ -20,10 +20,10 @@ use Rattle.tracklet_file.specs.Tracklets.{IsTracklet, home_of, with_home, is_iso
 use Rattle.tracklet_file.specs.Contents.{AreInTracklets}
 use Rattle.tracklet_file.specs.Chains.{is_live_of, chain_of, AreChained, extended, linked}
 use Rattle.tracklet_file.specs.Positions.{position_of, live_in, counts_at}
-use Rattle.tracklet_file.specs.Keeping.{IsKept}
+use Rattle.tracklet_file.specs.Keeping.{Kept, IsKept}
 use Rattle.tracklet_file.proofs.NumberingLemmas.{numbered_within, numbered_at, length-changed_at}
 use Rattle.tracklet_file.proofs.TrackLemmas.{first_is}
-use Rattle.tracklet_file.proofs.CountLemmas.{counted_more, counted_retracted, counted_rehomed, count_changed, tracklet_at}
+use Rattle.tracklet_file.proofs.CountLemmas.{counted_more, counted_retracted, counted_rehomed, count_some, tracklet_at}
 use Rattle.tracklet_file.proofs.ChainLemmas.{chained_more, chained_tracklet, chained_retracted}
 use Rattle.tracklet_file.proofs.PositionLemmas.{ReadsKeys, indexed_more, indexed_less}
 
@@ -63,23 +63,6 @@ absent_too items others number same absent = by (numbered others number) refl
     by (Some other) is =
         let inside = numbered_within others number (ap is_some is) in
         absurd (false≢true (sym (ap is_some absent) ∙ there_within items number inside.0 (omega arith)))
-
--- what counts for something counts
-pub count_some : (counts : Observation → Bool) → ((o : Observation) → counts (record o { live = false }) ≡ false) → (observations : List Observation) (k : ℕ) (o : Observation) → numbered observations k ≡ Some o → counts o ≡ true
-    → 0 < count_by counts observations
-count_some counts dead observations k o at one =
-    let all = count_changed counts (λ (o : Observation). record o { live = false }) observations k o at in
-    let more : ◌≡◌ {A = ℕ} (cond (counts o) 1 0) 1 = ap (λ (b : Bool). cond b 1 0) one in
-    let none : ◌≡◌ {A = ℕ} (cond (counts (record o { live = false })) 1 0) 0 = ap (λ (b : Bool). cond b 1 0) (dead o) in
-    omega arith
-
-pub count_low : (counts : Observation → Bool) (observations : List Observation) → count_by counts observations ≤ length observations
-count_low counts [] = lit≤ tt
-count_low counts (o ∷ older) = omega (arith, one (counts o), count_low counts older, sum_by-cons (λ (o : Observation). cond (counts o) 1 0) o older)
-  where
-    one : (b : Bool) → cond b 1 0 ≤ 1
-    one true = omega arith
-    one false = omega arith
 
 -- a kept number, where it isn't 0
 pub number_read : (o : Option ℕ) → ((k : ℕ) → o ≡ Some k → 0 < k) → cond (unwrap_or o 0 == 0) None (Some (unwrap_or o 0)) ≡ o
@@ -153,37 +136,37 @@ less n m some same = omega arith
 
 -- ---- changes
 
-module _ (cmp : Position → Position → Ordering) (tracklets : List Tracklet) (observations : List Observation) (isolated retracted : ℕ) (chains : List Chain) (links : List ℕ) (entries : List Position)
-    (was : IsKept cmp tracklets observations isolated retracted chains links entries) where
-  pub kept_tracklet : (newest : Tracklet) (tracklets' : List Tracklet) (chains' : List Chain) → tracklets' ≡ newest ∷ tracklets → chains' ≡ chains ++ record { first = 0; last = 0; live = 0 } ∷ []
-      → IsKept cmp tracklets' observations isolated retracted chains' links entries
+module _ (cmp : Position → Position → Ordering) (tracklets : List Tracklet) (observations : List Observation) (kept : Kept)
+    (was : IsKept cmp tracklets observations kept) where
+  pub kept_tracklet : (newest : Tracklet) (tracklets' : List Tracklet) (chains' : List Chain) → tracklets' ≡ newest ∷ tracklets → chains' ≡ kept.chains ++ record { first = 0; last = 0; live = 0 } ∷ []
+      → IsKept cmp tracklets' observations (record kept { chains = chains' })
   kept_tracklet newest tracklets' chains' tracklets_are chains_are =
-      subst (λ (ts : List Tracklet). IsKept cmp ts observations isolated retracted chains' links entries) (sym tracklets_are)
-      (subst (λ (cs : List Chain). IsKept cmp (newest ∷ tracklets) observations isolated retracted cs links entries) (sym chains_are)
+      subst (λ (ts : List Tracklet). IsKept cmp ts observations (record kept { chains = chains' })) (sym tracklets_are)
+      (subst (λ (cs : List Chain). IsKept cmp (newest ∷ tracklets) observations (record kept { chains = cs })) (sym chains_are)
       record {
         counted = counted_more newest tracklets observations was.counted;
-        chained = subst (λ (n : ℕ). AreChained n observations (chains ++ record { first = 0; last = 0; live = 0 } ∷ []) links) (omega arith)
-            (chained_tracklet tracklets observations chains links was.counted.in_tracklets was.chained);
+        chained = subst (λ (n : ℕ). AreChained n observations (kept.chains ++ record { first = 0; last = 0; live = 0 } ∷ []) kept.links) (omega arith)
+            (chained_tracklet tracklets observations kept.chains kept.links was.counted.in_tracklets was.chained);
         indexed = was.indexed;
       })
 
   pub kept_added : (newest : Observation) (chain : Chain) (observations' : List Observation) (chains' : List Chain) (links' : List ℕ) (after : List Position) (isolated' live : ℕ) (item probe : Position) → ReadsKeys cmp
-      → IsTracklet tracklets newest.track → newest.live ≡ true → chain ≡ get_or chains (newest.track - 1) chain
-      → observations' ≡ newest ∷ observations → chains' ≡ set chains (newest.track - 1) (extended chain (next_number observations)) → links' ≡ linked links chain.last (next_number observations)
-      → isolated' ≡ isolated + cond (is_none (home_of tracklets newest.track)) 1 0
+      → IsTracklet tracklets newest.track → newest.live ≡ true → chain ≡ get_or kept.chains (newest.track - 1) chain
+      → observations' ≡ newest ∷ observations → chains' ≡ set kept.chains (newest.track - 1) (extended chain (next_number observations)) → links' ≡ linked kept.links chain.last (next_number observations)
+      → isolated' ≡ kept.isolated + cond (is_none (home_of tracklets newest.track)) 1 0
       → item ≡ position_of newest.sighting (live + 1) → probe ≡ position_of newest.sighting 0
-      → ((key : Position) → found cmp key after ≡ (if ties cmp key item then Some item else found cmp key entries)) → live ≡ live_in (found cmp probe entries)
-      → IsKept cmp tracklets observations' isolated' retracted chains' links' after
+      → ((key : Position) → found cmp key after ≡ (if ties cmp key item then Some item else found cmp key kept.positions)) → live ≡ live_in (found cmp probe kept.positions)
+      → IsKept cmp tracklets observations' (record { isolated = isolated'; retracted = kept.retracted; chains = chains'; links = links'; positions = after })
   kept_added newest chain observations' chains' links' after isolated' live item probe keys there alive read observations_are chains_are links_are isolated_is item_is probe_is finds had =
-      subst (λ (os : List Observation). IsKept cmp tracklets os isolated' retracted chains' links' after) (sym observations_are)
-      (subst (λ (cs : List Chain). IsKept cmp tracklets (newest ∷ observations) isolated' retracted cs links' after) (sym chains_are)
-      (subst (λ (ls : List ℕ). IsKept cmp tracklets (newest ∷ observations) isolated' retracted (set chains (newest.track - 1) (extended chain (next_number observations))) ls after) (sym links_are)
+      subst (λ (os : List Observation). IsKept cmp tracklets os (record { isolated = isolated'; retracted = kept.retracted; chains = chains'; links = links'; positions = after })) (sym observations_are)
+      (subst (λ (cs : List Chain). IsKept cmp tracklets (newest ∷ observations) (record { isolated = isolated'; retracted = kept.retracted; chains = cs; links = links'; positions = after })) (sym chains_are)
+      (subst (λ (ls : List ℕ). IsKept cmp tracklets (newest ∷ observations) (record { isolated = isolated'; retracted = kept.retracted; chains = set kept.chains (newest.track - 1) (extended chain (next_number observations)); links = ls; positions = after })) (sym links_are)
       record {
         counted = record { in_tracklets = (there, was.counted.in_tracklets); isolated_are = isolated_are; retracted_are = retracted_are };
-        chained = chained_more (length tracklets) newest observations chains links chain was.chained inside.0 inside.1 alive read;
-        indexed = indexed_more cmp keys entries after observations was.indexed newest.sighting (live + 1)
-            (subst (λ (p : Position). (key : Position) → found cmp key after ≡ cond (ties cmp key p) (Some p) (found cmp key entries)) item_is finds) newest refl alive
-            (ap (λ (n : ℕ). n + 1) (had ∙ ap (λ (p : Position). live_in (found cmp p entries)) probe_is));
+        chained = chained_more (length tracklets) newest observations kept.chains kept.links chain was.chained inside.0 inside.1 alive read;
+        indexed = indexed_more cmp keys kept.positions after observations was.indexed newest.sighting (live + 1)
+            (subst (λ (p : Position). (key : Position) → found cmp key after ≡ cond (ties cmp key p) (Some p) (found cmp key kept.positions)) item_is finds) newest refl alive
+            (ap (λ (n : ℕ). n + 1) (had ∙ ap (λ (p : Position). live_in (found cmp p kept.positions)) probe_is));
       }))
     where
       inside : (0 < newest.track) × (newest.track ≤ length tracklets)
@@ -196,94 +179,94 @@ module _ (cmp : Position → Position → Ordering) (tracklets : List Tracklet) 
           ap (λ (b : Bool). cond (b && is_none (home_of tracklets newest.track)) 1 0) alive in
           omega (arith, was.counted.isolated_are)
 
-      retracted_are : retracted ≡ count_by is_retracted (newest ∷ observations)
+      retracted_are : kept.retracted ≡ count_by is_retracted (newest ∷ observations)
       retracted_are =
           let longer = sum_by-cons (λ (o : Observation). cond (is_retracted o) 1 0) newest observations in
           let own : ◌≡◌ {A = ℕ} (cond (is_retracted newest) 1 0) 0 = ap (λ (b : Bool). cond (not b) 1 0) alive in
           omega (arith, was.counted.retracted_are)
 
   pub kept_retracted : (k : ℕ) (o : Observation) (chain : Chain) (observations' : List Observation) (chains' : List Chain) (after : List Position) (isolated' retracted' fewer live : ℕ) (item probe : Position) → ReadsKeys cmp
-      → numbered observations k ≡ Some o → o.live ≡ true → chain ≡ get_or chains (o.track - 1) chain → fewer + 1 ≡ chain.live
-      → observations' ≡ with_retraction observations k → chains' ≡ set chains (o.track - 1) (record chain { live = fewer }) → retracted' ≡ retracted + 1
-      → isolated' + cond (is_none (home_of tracklets o.track)) 1 0 ≡ isolated
+      → numbered observations k ≡ Some o → o.live ≡ true → chain ≡ get_or kept.chains (o.track - 1) chain → fewer + 1 ≡ chain.live
+      → observations' ≡ with_retraction observations k → chains' ≡ set kept.chains (o.track - 1) (record chain { live = fewer }) → retracted' ≡ kept.retracted + 1
+      → isolated' + cond (is_none (home_of tracklets o.track)) 1 0 ≡ kept.isolated
       → item ≡ position_of o.sighting live → probe ≡ position_of o.sighting 0
-      → ((key : Position) → found cmp key after ≡ (if ties cmp key item then Some item else found cmp key entries)) → live + 1 ≡ live_in (found cmp probe entries)
-      → IsKept cmp tracklets observations' isolated' retracted' chains' links after
+      → ((key : Position) → found cmp key after ≡ (if ties cmp key item then Some item else found cmp key kept.positions)) → live + 1 ≡ live_in (found cmp probe kept.positions)
+      → IsKept cmp tracklets observations' (record { isolated = isolated'; retracted = retracted'; chains = chains'; links = kept.links; positions = after })
   kept_retracted k o chain observations' chains' after isolated' retracted' fewer live item probe keys at alive read less observations_are chains_are retracted_is isolated_is item_is probe_is finds rest =
-      subst (λ (os : List Observation). IsKept cmp tracklets os isolated' retracted' chains' links after) (sym observations_are)
-      (subst (λ (cs : List Chain). IsKept cmp tracklets (with_retraction observations k) isolated' retracted' cs links after) (sym chains_are)
-      (subst (λ (n : ℕ). IsKept cmp tracklets (with_retraction observations k) isolated' n (set chains (o.track - 1) (record chain { live = fewer })) links after) (sym retracted_is)
+      subst (λ (os : List Observation). IsKept cmp tracklets os (record { isolated = isolated'; retracted = retracted'; chains = chains'; links = kept.links; positions = after })) (sym observations_are)
+      (subst (λ (cs : List Chain). IsKept cmp tracklets (with_retraction observations k) (record { isolated = isolated'; retracted = retracted'; chains = cs; links = kept.links; positions = after })) (sym chains_are)
+      (subst (λ (n : ℕ). IsKept cmp tracklets (with_retraction observations k) (record { isolated = isolated'; retracted = n; chains = set kept.chains (o.track - 1) (record chain { live = fewer }); links = kept.links; positions = after })) (sym retracted_is)
       record {
         counted = counted_retracted tracklets observations k o at alive was.counted isolated' isolated_is;
-        chained = chained_retracted (length tracklets) observations k o chains links chain fewer was.chained at alive inside.0 inside.1 read less;
-        indexed = indexed_less cmp keys entries after observations was.indexed o.sighting live
-            (subst (λ (p : Position). (key : Position) → found cmp key after ≡ cond (ties cmp key p) (Some p) (found cmp key entries)) item_is finds) k o at refl alive
-            (rest ∙ ap (λ (p : Position). live_in (found cmp p entries)) probe_is);
+        chained = chained_retracted (length tracklets) observations k o kept.chains kept.links chain fewer was.chained at alive inside.0 inside.1 read less;
+        indexed = indexed_less cmp keys kept.positions after observations was.indexed o.sighting live
+            (subst (λ (p : Position). (key : Position) → found cmp key after ≡ cond (ties cmp key p) (Some p) (found cmp key kept.positions)) item_is finds) k o at refl alive
+            (rest ∙ ap (λ (p : Position). live_in (found cmp p kept.positions)) probe_is);
       }))
     where
       inside : (0 < o.track) × (o.track ≤ length tracklets)
       inside = numbered_within tracklets o.track (tracklet_at tracklets observations k o was.counted.in_tracklets at)
 
   pub kept_rehomed : (t : ℕ) (home : Option Designation) (tracklets' : List Tracklet) (isolated' : ℕ) → IsTracklet tracklets t → tracklets' ≡ with_home tracklets t home
-      → isolated' + cond (is_none (home_of tracklets t)) (count_by (is_live_of t) observations) 0 ≡ isolated + cond (is_none home) (count_by (is_live_of t) observations) 0
-      → IsKept cmp tracklets' observations isolated' retracted chains links entries
+      → isolated' + cond (is_none (home_of tracklets t)) (count_by (is_live_of t) observations) 0 ≡ kept.isolated + cond (is_none home) (count_by (is_live_of t) observations) 0
+      → IsKept cmp tracklets' observations (record kept { isolated = isolated' })
   kept_rehomed t home tracklets' isolated' there tracklets_are after_is =
-      subst (λ (ts : List Tracklet). IsKept cmp ts observations isolated' retracted chains links entries) (sym tracklets_are)
+      subst (λ (ts : List Tracklet). IsKept cmp ts observations (record kept { isolated = isolated' })) (sym tracklets_are)
       record {
         counted = counted_rehomed tracklets observations t home there was.counted isolated' after_is;
-        chained = subst (λ (n : ℕ). AreChained n observations chains links) (sym (length-changed_at (λ (tracklet : Tracklet). record tracklet { home = home }) tracklets t)) was.chained;
+        chained = subst (λ (n : ℕ). AreChained n observations kept.chains kept.links) (sym (length-changed_at (λ (tracklet : Tracklet). record tracklet { home = home }) tracklets t)) was.chained;
         indexed = was.indexed;
       }
 
   -- ---- what is read
 
   -- the chain of a tracklet that is there
-  pub chain_read : (t : ℕ) (chain : Chain) → IsTracklet tracklets t → chain ≡ get_or chains (t - 1) chain → (t - 1 < length chains) × (chain ≡ chain_of observations t)
+  pub chain_read : (t : ℕ) (chain : Chain) → IsTracklet tracklets t → chain ≡ get_or kept.chains (t - 1) chain → (t - 1 < length kept.chains) × (chain ≡ chain_of observations t)
   chain_read t chain there read =
       let inside = numbered_within tracklets t there in
-      let within : t - 1 < length chains = omega (arith, was.chained.as_many_chains) in
+      let within : t - 1 < length kept.chains = omega (arith, was.chained.as_many_chains) in
       let back : t - 1 + 1 ≡ t = omega arith in
       (within, read ∙ was.chained.chain_is (t - 1) chain within ∙ ap (chain_of observations) back)
 
   -- a live observation is counted in its tracklet's chain, and found in the index
   module _ (k : ℕ) (o : Observation) (at : numbered observations k ≡ Some o) (alive : o.live ≡ true) where
-    pub chain_some : (chain : Chain) → chain ≡ get_or chains (o.track - 1) chain → 0 < chain.live
+    pub chain_some : (chain : Chain) → chain ≡ get_or kept.chains (o.track - 1) chain → 0 < chain.live
     chain_some chain read =
         let is = (chain_read o.track chain (tracklet_at tracklets observations k o was.counted.in_tracklets at) read).1 in
         subst (λ (n : ℕ). 0 < n) (sym (ap (λ (c : Chain). c.live) is))
-        (count_some (is_live_of o.track) (λ o. refl) observations k o at (ap (λ (b : Bool). b && (o.track == o.track)) alive ∙ eq-eqb o.track o.track refl))
+        (count_some (is_live_of o.track) observations k o at (ap (λ (b : Bool). b && (o.track == o.track)) alive ∙ eq-eqb o.track o.track refl))
 
-    pub index_some : (probe : Position) → probe ≡ position_of o.sighting 0 → ((p : Position) → ties cmp p p ≡ true) → 0 < live_in (found cmp probe entries)
+    pub index_some : (probe : Position) → probe ≡ position_of o.sighting 0 → ((p : Position) → ties cmp p p ≡ true) → 0 < live_in (found cmp probe kept.positions)
     index_some probe is itself =
-        subst (λ (p : Position). 0 < live_in (found cmp p entries)) (sym is)
+        subst (λ (p : Position). 0 < live_in (found cmp p kept.positions)) (sym is)
         (subst (λ (n : ℕ). 0 < n) (sym (was.indexed (position_of o.sighting 0)))
-        (count_some (counts_at cmp (position_of o.sighting 0)) (λ o. refl) observations k o at
+        (count_some (counts_at cmp (position_of o.sighting 0)) observations k o at
         (ap (λ (b : Bool). b && ties cmp (position_of o.sighting 0) (position_of o.sighting 0)) alive ∙ itself (position_of o.sighting 0))))
 
   -- a tracklet that is there has a chain, and an observation a link
-  pub first_there : (t : ℕ) (chain : Chain) → numbered (reverse chains) t ≡ Some chain → cond (chain.first == 0) None (Some chain.first) ≡ first_of observations t
+  pub first_there : (t : ℕ) (chain : Chain) → numbered (reverse kept.chains) t ≡ Some chain → cond (chain.first == 0) None (Some chain.first) ≡ first_of observations t
   first_there t chain at =
-      let read = read_there chains t chain at in
-      let within : t - 1 < length chains = read.1 in
+      let read = read_there kept.chains t chain at in
+      let within : t - 1 < length kept.chains = read.1 in
       let back : t - 1 + 1 ≡ t = omega (arith, read.0) in
       let is : chain.first ≡ unwrap_or (first_of observations t) 0 =
       ap (λ (c : Chain). c.first) (sym (read.2 chain) ∙ was.chained.chain_is (t - 1) chain within) ∙ ap (λ (n : ℕ). unwrap_or (first_of observations n) 0) back in
       ap (λ (n : ℕ). cond (n == 0) None (Some n)) is ∙ number_read (first_of observations t) (first_positive observations t)
 
-  pub first_absent : (t : ℕ) → numbered (reverse chains) t ≡ None → first_of observations t ≡ None
+  pub first_absent : (t : ℕ) → numbered (reverse kept.chains) t ≡ None → first_of observations t ≡ None
   first_absent t absent =
       ap (λ (xs : List ℕ). slice_get xs 0)
-      (later_absent tracklets observations t 0 was.counted.in_tracklets (absent_too (reverse chains) tracklets t (length-reverse chains ∙ was.chained.as_many_chains) absent))
+      (later_absent tracklets observations t 0 was.counted.in_tracklets (absent_too (reverse kept.chains) tracklets t (length-reverse kept.chains ∙ was.chained.as_many_chains) absent))
 
-  pub next_there : (k next : ℕ) → numbered (reverse links) k ≡ Some next → cond (next == 0) None (Some next) ≡ next_of observations k
+  pub next_there : (k next : ℕ) → numbered (reverse kept.links) k ≡ Some next → cond (next == 0) None (Some next) ≡ next_of observations k
   next_there k next at =
-      let read = read_there links k next at in
-      let within : k - 1 < length links = read.1 in
+      let read = read_there kept.links k next at in
+      let within : k - 1 < length kept.links = read.1 in
       let back : k - 1 + 1 ≡ k = omega (arith, read.0) in
       let is : next ≡ unwrap_or (next_of observations k) 0 = sym (read.2 0) ∙ was.chained.link_is (k - 1) within ∙ ap (λ (n : ℕ). unwrap_or (next_of observations n) 0) back in
       ap (λ (n : ℕ). cond (n == 0) None (Some n)) is ∙ number_read (next_of observations k) (next_positive observations k)
 
-  pub next_absent : (k : ℕ) → numbered (reverse links) k ≡ None → next_of observations k ≡ None
+  pub next_absent : (k : ℕ) → numbered (reverse kept.links) k ≡ None → next_of observations k ≡ None
   next_absent k absent =
       ap (λ (found : Option Observation). option_and_then (λ (t : ℕ). slice_get (later_of_track observations t k) 0) (option_map (λ (o : Observation). o.track) found))
-      (absent_too (reverse links) observations k (length-reverse links ∙ was.chained.as_many_links) absent)
+      (absent_too (reverse kept.links) observations k (length-reverse kept.links ∙ was.chained.as_many_links) absent)

@@ -9,18 +9,25 @@ use Rattle.tracklet_file.specs.declared.homes.HomeEntry.{HomeEntry}
 use Rattle.tracklet_file.specs.Contents.{IsCounted}
 use Rattle.tracklet_file.specs.Chains.{AreChained}
 use Rattle.tracklet_file.specs.Positions.{IsIndexed}
-use Rattle.tracklet_file.specs.Homes.{AreHomed}
+use Rattle.tracklet_file.specs.Homes.{KeptHomes, IsHomed}
 
--- the counts, the chains and the index are those of the plain lists
+-- the counts of isolated and of retracted observations, the chains and their links, and the index of positions
+pub record Kept : Type 0 where
+  pub isolated : ℕ
+  pub retracted : ℕ
+  pub chains : List Chain
+  pub links : List ℕ
+  pub positions : List Position
+
+-- they are those of the plain lists
 pub record IsKept (cmp : Position → Position → Ordering) (tracklets : List Tracklet) (observations : List Observation)
-    (isolated retracted : ℕ) (chains : List Chain) (links : List ℕ) (entries : List Position) : Type 0 where
-  pub counted : IsCounted tracklets observations isolated retracted
-  pub chained : AreChained (length tracklets) observations chains links
-  pub indexed : IsIndexed cmp entries observations
+    (kept : Kept) : Type 0 where
+  pub counted : IsCounted tracklets observations kept.isolated kept.retracted
+  pub chained : AreChained (length tracklets) observations kept.chains kept.links
+  pub indexed : IsIndexed cmp kept.positions observations
 
 -- beside them, the index of homes is that of the tracklets
 pub record IsFiled (cmp : Position → Position → Ordering) (home_cmp : HomeEntry → HomeEntry → Ordering)
-    (tracklets : List Tracklet) (observations : List Observation) (isolated retracted : ℕ) (chains : List Chain)
-    (links : List ℕ) (entries : List Position) (homes : List HomeEntry) : Type 0 where
-  pub kept : IsKept cmp tracklets observations isolated retracted chains links entries
-  pub homed : AreHomed home_cmp homes tracklets
+    (tracklets : List Tracklet) (observations : List Observation) (held : Kept) (homes : KeptHomes) : Type 0 where
+  pub kept : IsKept cmp tracklets observations held
+  pub homed : IsHomed home_cmp tracklets homes

@@ -12,7 +12,7 @@ ghost use Rattle.tracklet_file.specs.Contents.{UsesOne, KeepsRoom};
 
 use crate::chain::{Chain, extend, link, some_number};
 use crate::counting::{isolated_after, with_one, without_one};
-use crate::homes::{HomeEntry, number_at, rehome};
+use crate::homes::{HomeEntry, enter, number_at, rehome, room_for};
 use crate::observation::Observation;
 use crate::position::{Position, at_position, live_at, position_of};
 use crate::searches::numbered;
@@ -42,12 +42,14 @@ pub struct TrackletFile {
     homes: OrderedList<HomeEntry>,
     isolated: u64,
     retracted: u64,
+    // Room for an entry of each is kept in the index of homes.
+    isolated_tracks: u64,
 }
 
 impl Model for TrackletFile {
     ghost use Rattle.std.specs.Prelude.{◌-◌, min, reverse, vec_len, vec_capacity};
     ghost use Rattle.tracklet_file.specs.Contents.{Contents};
-    ghost use Rattle.tracklet_file.specs.Keeping.{IsFiled};
+    ghost use Rattle.tracklet_file.specs.Keeping.{Kept, IsFiled};
 
     ghost Value = { Contents };
 
@@ -57,13 +59,22 @@ impl Model for TrackletFile {
       observation_room = min (vec_capacity f.observations - vec_len f.observations)
           (min (vec_capacity f.links - vec_len f.links) f.index.room);
       tracklet_room = min (vec_capacity f.tracklets - vec_len f.tracklets)
-          (min (vec_capacity f.chains - vec_len f.chains) f.homes.room);
+          (min (vec_capacity f.chains - vec_len f.chains) (f.homes.room - f.isolated_tracks));
     } };
 
     ghost invariant = { λ f.
         IsFiled ⟦<Position as Ord>⟧.cmp ⟦<HomeEntry as Ord>⟧.cmp (reverse f.tracklets.items)
-        (reverse f.observations.items) f.isolated f.retracted f.chains.items f.links.items f.index.items
-        f.homes.items };
+        (reverse f.observations.items) (record {
+          isolated = f.isolated;
+          retracted = f.retracted;
+          chains = f.chains.items;
+          links = f.links.items;
+          positions = f.index.items;
+        }) (record {
+          entries = f.homes.items;
+          room = f.homes.room;
+          isolated = f.isolated_tracks;
+        }) };
 }
 
 impl TrackletFile {
@@ -85,6 +96,7 @@ impl TrackletFile {
             homes: OrderedList::new(alloc)?,
             isolated: 0,
             retracted: 0,
+            isolated_tracks: 0,
         })
     }
 
@@ -93,7 +105,7 @@ impl TrackletFile {
     ///
     /// # Errors
     ///
-    /// Memory was refused.
+    /// Memory was refused, or they and the isolated tracklets are 2^32 tracklets or more.
     pub fn reserve(&mut self, sightings: u32, tracks: u32) -> Result<(), NoMemory>
         ensures observation_room { OnOk result (sightings ≤ self.new.observation_room) }
         ensures tracklet_room { OnOk result (tracks ≤ self.new.tracklet_room) }
@@ -106,7 +118,7 @@ impl TrackletFile {
         self.index.reserve(sightings)?;
         self.tracklets.reserve(tracks as usize)?;
         self.chains.reserve(tracks as usize)?;
-        self.homes.reserve(tracks)?;
+        self.homes.reserve(room_for(self.isolated_tracks, tracks)?)?;
         Ok(())
     }
 
@@ -131,7 +143,8 @@ impl TrackletFile {
             last: 0,
             live: 0,
         });
-        self.homes.insert(HomeEntry { home, track });
+        self.isolated_tracks = with_one(self.isolated_tracks, home.is_none());
+        enter(&mut self.homes, track, home);
         track
     }
 
@@ -195,6 +208,7 @@ impl TrackletFile {
         let was = self.home(t);
         let live = self.chains[(t - 1) as usize].live;
         self.isolated = isolated_after(self.isolated, live, was, home);
+        self.isolated_tracks = isolated_after(self.isolated_tracks, 1, was, home);
         rehome(&mut self.homes, t, was, home);
         self.tracklets[(t - 1) as usize].home = home;
     }
@@ -294,7 +308,7 @@ impl TrackletFile {
     {
         orders();
         let key = HomeEntry {
-            home: Some(d),
+            home: d,
             track: after,
         };
         number_at(d, self.homes.next_above(&key))

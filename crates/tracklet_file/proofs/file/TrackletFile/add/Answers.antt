@@ -7,9 +7,9 @@ use Rattle.tracklet_file.specs.Tracklets.{IsTracklet, home_of}
 use Rattle.tracklet_file.specs.Chains.{is_live_of, extended, linked}
 use Rattle.tracklet_file.specs.Contents.{Contents}
 use Rattle.tracklet_file.proofs.NumberingLemmas.{numbered_within, place_within, reverse_push}
-use Rattle.tracklet_file.proofs.CountLemmas.{none_told}
+use Rattle.tracklet_file.proofs.CountLemmas.{none_told, count_low}
 use Rattle.tracklet_file.proofs.ChainLemmas.{last_low}
-use Rattle.tracklet_file.proofs.KeepingLemmas.{chain_read, count_low, kept_added}
+use Rattle.tracklet_file.proofs.KeepingLemmas.{chain_read, kept_added}
 use Rattle.tracklet_file.proofs.file.TrackletFile.add.Goals as goal
 
 pub overflow_sub-track : goal.overflow_sub-track
@@ -25,7 +25,7 @@ pub extend-requires : goal.extend-requires
 extend-requires c =
     let observations = reverse c.self.inside.observations.items in
     let there : IsTracklet (reverse c.self.inside.tracklets.items) c.args.track = subst (λ (v : Contents). IsTracklet v.tracklets c.args.track) (sym c.self.view_is) c.requires.there in
-    let chain = (chain_read _ _ _ _ _ _ _ _ c.self.invariant.kept c.args.track c.index-chain.result.now there c.index-chain.ensures).1 in
+    let chain = (chain_read _ _ _ _ c.self.invariant.kept c.args.track c.index-chain.result.now there c.index-chain.ensures).1 in
     let live = count_low (is_live_of c.args.track) observations in
     omega (arith, live, length-reverse c.self.inside.observations.items, ap (λ (chain : Chain). chain.live) chain)
 
@@ -42,7 +42,7 @@ pub link-requires-clause-there : goal.link-requires-clause-there
 link-requires-clause-there c =
     let observations = reverse c.self.inside.observations.items in
     let there : IsTracklet (reverse c.self.inside.tracklets.items) c.args.track = subst (λ (v : Contents). IsTracklet v.tracklets c.args.track) (sym c.self.view_is) c.requires.there in
-    let chain = (chain_read _ _ _ _ _ _ _ _ c.self.invariant.kept c.args.track c.index-chain.result.now there c.index-chain.ensures).1 in
+    let chain = (chain_read _ _ _ _ c.self.invariant.kept c.args.track c.index-chain.result.now there c.index-chain.ensures).1 in
     omega (arith, last_low observations c.args.track, ap (λ (chain : Chain). chain.last) chain, c.self.invariant.kept.chained.as_many_links)
 
 pub invariant_of-self : goal.invariant_of-self
@@ -56,7 +56,7 @@ invariant_of-self c =
     record {
       homed = c.self.invariant.homed;
       kept =
-          kept_added _ _ _ _ _ _ _ _ c.self.invariant.kept (record { track = c.args.track; sighting = c.args.s; entry = c.args.entry; live = true }) c.index-chain.result.now _ _ _ _
+          kept_added _ _ _ _ c.self.invariant.kept (record { track = c.args.track; sighting = c.args.s; entry = c.args.entry; live = true }) c.index-chain.result.now _ _ _ _
           c.with_one-self-inside.result c.live_at-live.result c.position_of-2.result c.position_of.result (record { alike = c.ties_find_alike.ensures; plain = λ key s live. refl }) there refl c.index-chain.ensures
           (ap reverse c.push_reserved.ensures.items ∙ reverse_push c.self.inside.observations.items _)
           (ap (set c.self.inside.chains.items (c.args.track - 1)) (c.extend.ensures ∙ ap (extended c.index-chain.result.now) number))

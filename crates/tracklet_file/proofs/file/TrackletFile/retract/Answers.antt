@@ -46,7 +46,7 @@ overflow_sub-live c =
     let live : is_live observations c.args.k ≡ true = ap (λ (v : Contents). is_live v.observations c.args.k) c.self.view_is ∙ c.requires in
     let at = read_at c.self.inside.observations.items c.args.k c.index.result.now (live_there observations c.args.k live) c.index.ensures in
     let alive = live_at observations c.args.k c.index.result.now at live in
-    let some = index_some _ _ _ _ _ _ _ _ c.self.invariant.kept c.args.k c.index.result.now at alive c.position_of.result c.position_of.ensures c.ties_itself.ensures in
+    let some = index_some _ _ _ _ c.self.invariant.kept c.args.k c.index.result.now at alive c.position_of.result c.position_of.ensures c.ties_itself.ensures in
     omega (arith, some, c.live_at-live.ensures)
 
 pub insert-requires : goal.insert-requires
@@ -55,7 +55,7 @@ insert-requires c none =
     let live : is_live observations c.args.k ≡ true = ap (λ (v : Contents). is_live v.observations c.args.k) c.self.view_is ∙ c.requires in
     let at = read_at c.self.inside.observations.items c.args.k c.index.result.now (live_there observations c.args.k live) c.index.ensures in
     let alive = live_at observations c.args.k c.index.result.now at live in
-    let some = index_some _ _ _ _ _ _ _ _ c.self.invariant.kept c.args.k c.index.result.now at alive c.position_of.result c.position_of.ensures c.ties_itself.ensures in
+    let some = index_some _ _ _ _ c.self.invariant.kept c.args.k c.index.result.now at alive c.position_of.result c.position_of.ensures c.ties_itself.ensures in
     absurd (found_some _ c.self.inside.index.items c.position_of-2.result c.position_of.result c.index.result.now.sighting (c.live_at-live.result - 1) c.position_of-2.ensures c.position_of.ensures (λ key s live. refl) c.ties_find_alike.ensures c.ties_itself.ensures some none)
 
 pub overflow_sub-o : goal.overflow_sub-o
@@ -80,7 +80,7 @@ overflow_sub-index_mut c =
     let live : is_live observations c.args.k ≡ true = ap (λ (v : Contents). is_live v.observations c.args.k) c.self.view_is ∙ c.requires in
     let at = read_at c.self.inside.observations.items c.args.k c.index.result.now (live_there observations c.args.k live) c.index.ensures in
     let alive = live_at observations c.args.k c.index.result.now at live in
-    chain_some _ _ _ _ _ _ _ _ c.self.invariant.kept c.args.k c.index.result.now at alive c.index_mut.result.now c.index_mut.ensures.value
+    chain_some _ _ _ _ c.self.invariant.kept c.args.k c.index.result.now at alive c.index_mut.result.now c.index_mut.ensures.value
 
 pub index_mut-requires-2 : goal.index_mut-requires-2
 index_mut-requires-2 c =
@@ -95,16 +95,16 @@ invariant_of-self c =
     let live : is_live observations c.args.k ≡ true = ap (λ (v : Contents). is_live v.observations c.args.k) c.self.view_is ∙ c.requires in
     let at = read_at c.self.inside.observations.items c.args.k c.index.result.now (live_there observations c.args.k live) c.index.ensures in
     let alive = live_at observations c.args.k c.index.result.now at live in
-    let some = index_some _ _ _ _ _ _ _ _ c.self.invariant.kept c.args.k c.index.result.now at alive c.position_of.result c.position_of.ensures c.ties_itself.ensures in
+    let some = index_some _ _ _ _ c.self.invariant.kept c.args.k c.index.result.now at alive c.position_of.result c.position_of.ensures c.ties_itself.ensures in
     let tracklets = reverse c.self.inside.tracklets.items in
     let there = live_there observations c.args.k live in
     let home : c.home.result ≡ home_of tracklets c.index.result.now.track = c.home.ensures ∙ sym (ap (λ (v : Contents). home_of v.tracklets c.index.result.now.track) c.self.view_is) in
     let isolated : c.is_none-isolated.result ≡ is_none (home_of tracklets c.index.result.now.track) = none_told c.home.result c.is_none-isolated.result c.is_none-isolated.ensures ∙ ap is_none home in
-    let chain = chain_some _ _ _ _ _ _ _ _ c.self.invariant.kept c.args.k c.index.result.now at alive c.index_mut.result.now c.index_mut.ensures.value in
+    let chain = chain_some _ _ _ _ c.self.invariant.kept c.args.k c.index.result.now at alive c.index_mut.result.now c.index_mut.ensures.value in
     record {
       homed = c.self.invariant.homed;
       kept =
-          kept_retracted _ _ _ _ _ _ _ _ c.self.invariant.kept c.args.k c.index.result.now c.index_mut.result.now _ _ _ c.without_one-self-inside.result (c.self.inside.retracted + 1)
+          kept_retracted _ _ _ _ c.self.invariant.kept c.args.k c.index.result.now c.index_mut.result.now _ _ _ c.without_one-self-inside.result (c.self.inside.retracted + 1)
           (c.index_mut.result.now.live - 1) (c.live_at-live.result - 1) c.position_of-2.result c.position_of.result (record { alike = c.ties_find_alike.ensures; plain = λ key s live. refl })
           at alive c.index_mut.ensures.value (omega (arith, chain))
           (sym (changed_in_place (λ (o : Observation). record o { live = false }) c.self.inside.observations.items c.args.k c.index.result.now there c.index.ensures)) refl refl
@@ -125,7 +125,7 @@ returns-clause-room_stays c =
     let live : is_live observations c.args.k ≡ true = ap (λ (v : Contents). is_live v.observations c.args.k) c.self.view_is ∙ c.requires in
     let at = read_at c.self.inside.observations.items c.args.k c.index.result.now (live_there observations c.args.k live) c.index.ensures in
     let alive = live_at observations c.args.k c.index.result.now at live in
-    let some = index_some _ _ _ _ _ _ _ _ c.self.invariant.kept c.args.k c.index.result.now at alive c.position_of.result c.position_of.ensures c.ties_itself.ensures in
+    let some = index_some _ _ _ _ c.self.invariant.kept c.args.k c.index.result.now at alive c.position_of.result c.position_of.ensures c.ties_itself.ensures in
     let there = there_some _ c.self.inside.index.items c.position_of-2.result c.position_of.result c.index.result.now.sighting (c.live_at-live.result - 1) c.position_of-2.ensures c.position_of.ensures (λ key s live. refl) c.ties_find_alike.ensures c.ties_itself.ensures some in
     let stays = c.insert.ensures.replaces there in
     record {

@@ -8,9 +8,9 @@ use Rattle.tracklet_file.specs.Tracklets.{IsTracklet, home_of, with_home, is_iso
 use Rattle.tracklet_file.specs.Chains.{is_live_of}
 use Rattle.tracklet_file.specs.Contents.{Contents}
 use Rattle.tracklet_file.proofs.NumberingLemmas.{numbered_within, place_within, changed_in_place}
-use Rattle.tracklet_file.proofs.CountLemmas.{live_are_isolated}
-use Rattle.tracklet_file.proofs.KeepingLemmas.{chain_read, count_low, kept_rehomed}
-use Rattle.tracklet_file.proofs.HomeLemmas.{entry_there, homed_changed}
+use Rattle.tracklet_file.proofs.CountLemmas.{live_are_isolated, count_low}
+use Rattle.tracklet_file.proofs.KeepingLemmas.{chain_read, kept_rehomed}
+use Rattle.tracklet_file.proofs.HomeLemmas.{isolated_some, entry_there, homed_changed}
 use Rattle.tracklet_file.proofs.file.TrackletFile.set_home.Goals as goal
 
 pub overflow_sub-t : goal.overflow_sub-t
@@ -29,7 +29,7 @@ isolated_after-self-inside-requires-clause-counted c none =
     let there : IsTracklet tracklets c.args.t = subst (λ (v : Contents). IsTracklet v.tracklets c.args.t) (sym c.self.view_is) c.requires in
     let alone : is_none (home_of tracklets c.args.t) ≡ true =
     ap (λ (v : Contents). is_none (home_of v.tracklets c.args.t)) c.self.view_is ∙ ap is_none (sym c.home-was.ensures) ∙ ap not none in
-    let chain = (chain_read _ _ _ _ _ _ _ _ c.self.invariant.kept c.args.t c.index.result.now there c.index.ensures).1 in
+    let chain = (chain_read _ _ _ _ c.self.invariant.kept c.args.t c.index.result.now there c.index.ensures).1 in
     let among = live_are_isolated tracklets c.args.t alone observations in
     omega (arith, among, ap (λ (chain : Chain). chain.live) chain, c.self.invariant.kept.counted.isolated_are)
 
@@ -37,7 +37,7 @@ pub isolated_after-self-inside-requires-clause-fits : goal.isolated_after-self-i
 isolated_after-self-inside-requires-clause-fits c =
     let observations = reverse c.self.inside.observations.items in
     let there : IsTracklet (reverse c.self.inside.tracklets.items) c.args.t = subst (λ (v : Contents). IsTracklet v.tracklets c.args.t) (sym c.self.view_is) c.requires in
-    let chain = (chain_read _ _ _ _ _ _ _ _ c.self.invariant.kept c.args.t c.index.result.now there c.index.ensures).1 in
+    let chain = (chain_read _ _ _ _ c.self.invariant.kept c.args.t c.index.result.now there c.index.ensures).1 in
     let live = count_low (is_live_of c.args.t) observations in
     let isolated = count_low (is_isolated (reverse c.self.inside.tracklets.items)) observations in
     omega (arith, live, isolated, length-reverse c.self.inside.observations.items, ap (λ (chain : Chain). chain.live) chain, c.self.invariant.kept.counted.isolated_are)
@@ -50,25 +50,38 @@ index_mut-requires c =
     let within : c.args.t - 1 < length c.self.inside.tracklets.items = place_within c.self.inside.tracklets.items c.args.t (subst (λ (v : Contents). IsTracklet v.tracklets c.args.t) (sym c.self.view_is) c.requires) in
     omega arith
 
-pub rehome-requires : goal.rehome-requires
-rehome-requires c =
+pub isolated_after-self-inside-requires-2-clause-counted : goal.isolated_after-self-inside-requires-2-clause-counted
+isolated_after-self-inside-requires-2-clause-counted c none =
     let tracklets = reverse c.self.inside.tracklets.items in
     let there : IsTracklet tracklets c.args.t = subst (λ (v : Contents). IsTracklet v.tracklets c.args.t) (sym c.self.view_is) c.requires in
     let was : c.home-was.result ≡ home_of tracklets c.args.t = c.home-was.ensures ∙ sym (ap (λ (v : Contents). home_of v.tracklets c.args.t) c.self.view_is) in
-    entry_there c.orders.ensures tracklets c.self.inside.homes.items c.args.t c.home-was.result there was c.self.invariant.homed
+    isolated_some tracklets _ c.args.t c.home-was.result there was none c.self.invariant.homed
+
+pub rehome-requires-clause-there : goal.rehome-requires-clause-there
+rehome-requires-clause-there c =
+    let tracklets = reverse c.self.inside.tracklets.items in
+    let was : c.home-was.result ≡ home_of tracklets c.args.t = c.home-was.ensures ∙ sym (ap (λ (v : Contents). home_of v.tracklets c.args.t) c.self.view_is) in
+    entry_there c.orders.ensures tracklets _ c.args.t c.home-was.result was c.self.invariant.homed
+
+pub rehome-requires-clause-room : goal.rehome-requires-clause-room
+rehome-requires-clause-room c none =
+    let tracklets = reverse c.self.inside.tracklets.items in
+    let there : IsTracklet tracklets c.args.t = subst (λ (v : Contents). IsTracklet v.tracklets c.args.t) (sym c.self.view_is) c.requires in
+    let was : c.home-was.result ≡ home_of tracklets c.args.t = c.home-was.ensures ∙ sym (ap (λ (v : Contents). home_of v.tracklets c.args.t) c.self.view_is) in
+    omega (arith, isolated_some tracklets _ c.args.t c.home-was.result there was none c.self.invariant.homed, c.self.invariant.homed.enough)
 
 pub invariant_of-self : goal.invariant_of-self
 invariant_of-self c =
     let tracklets = reverse c.self.inside.tracklets.items in
     let observations = reverse c.self.inside.observations.items in
     let there : IsTracklet tracklets c.args.t = subst (λ (v : Contents). IsTracklet v.tracklets c.args.t) (sym c.self.view_is) c.requires in
-    let chain = (chain_read _ _ _ _ _ _ _ _ c.self.invariant.kept c.args.t c.index.result.now there c.index.ensures).1 in
+    let chain = (chain_read _ _ _ _ c.self.invariant.kept c.args.t c.index.result.now there c.index.ensures).1 in
     let live : c.index.result.now.live ≡ count_by (is_live_of c.args.t) observations = ap (λ (chain : Chain). chain.live) chain in
     let was : c.home-was.result ≡ home_of tracklets c.args.t = c.home-was.ensures ∙ sym (ap (λ (v : Contents). home_of v.tracklets c.args.t) c.self.view_is) in
     let tracklets_are = sym (changed_in_place (λ (tracklet : Tracklet). record tracklet { home = c.args.home }) c.self.inside.tracklets.items c.args.t c.index_mut.result.now there c.index_mut.ensures.value) in
     record {
-      homed = homed_changed c.orders.ensures c.args.t c.home-was.result c.args.home tracklets _ c.self.inside.homes.items c.rehome.new.homes.items there was tracklets_are c.rehome.ensures.finds c.self.invariant.homed;
-      kept = kept_rehomed _ _ _ _ _ _ _ _ c.self.invariant.kept c.args.t c.args.home _ c.isolated_after-self-inside.result there
+      homed = homed_changed c.orders.ensures c.args.t c.home-was.result c.args.home tracklets _ _ _ there was tracklets_are c.rehome.ensures.finds c.isolated_after-self-inside-2.ensures c.rehome.ensures.room c.self.invariant.homed;
+      kept = kept_rehomed _ _ _ _ c.self.invariant.kept c.args.t c.args.home _ c.isolated_after-self-inside.result there
           tracklets_are
           (ap (λ (h : Option Designation). c.isolated_after-self-inside.result + cond (is_none h) (count_by (is_live_of c.args.t) observations) 0) (sym was)
           ∙ ap (λ (n : ℕ). c.isolated_after-self-inside.result + cond (is_none c.home-was.result) n 0) (sym live)
