@@ -27,112 +27,140 @@ fn with(column: usize, text: &[u8]) -> [u8; 80] {
     line
 }
 
-/// What stands in the line from a column on, and the rule that it breaks then.
-const SPELLINGS: &[(usize, &[u8], Option<RuleCode>)] = &[
-    (1, b"", None),
-    (14, b"\xc8", Some(RuleCode::S2)),
-    (1, b"\x1f", Some(RuleCode::S2)),
-    (80, b"\x7f", Some(RuleCode::S2)),
-    (80, b"~", None),
-    (72, b"~", None),
-    (73, b"ref01", None),
-    (13, b"*", None),
-    (14, b"~", None),
+/// What stands in a line from a column on.
+type Spelling = (usize, &'static [u8]);
+
+/// What breaks no rule.
+const UNBROKEN: &[Spelling] = &[
+    (1, b""),
+    (80, b"~"),
+    (72, b"~"),
+    (73, b"ref01"),
+    (13, b"*"),
+    (14, b"~"),
     // columns 1 to 12
-    (1, b"            ", Some(RuleCode::S3)),
-    (5, b"CJ95O010", Some(RuleCode::S3)),
-    (1, b"1", Some(RuleCode::S3)),
-    (5, b"1", Some(RuleCode::S3)),
-    (1, b"00433", None),
-    (1, b"00433       ", None),
-    (1, b"00000       ", Some(RuleCode::S3)),
-    (1, b"00001       ", None),
-    (1, b"~zzzz       ", None),
-    (1, b"~zzz ", Some(RuleCode::S3)),
-    (1, b"A0000", None),
-    (1, b"a000A", Some(RuleCode::S3)),
-    (6, b"K24E00A", None),
-    (6, b"k24e00A", None),
-    (6, b"_OE0000", None),
-    (6, b"J24A00A", None),
-    (6, b"A      ", None),
-    (6, b"      A", None),
-    (6, b"   A   ", None),
-    (6, b" A B   ", Some(RuleCode::S3)),
-    (6, b" A|B   ", Some(RuleCode::S3)),
-    (6, b"|      ", Some(RuleCode::S3)),
+    (1, b"00433"),
+    (1, b"00433       "),
+    (1, b"00001       "),
+    (1, b"~zzzz       "),
+    (1, b"A0000"),
+    (6, b"K24E00A"),
+    (6, b"k24e00A"),
+    (6, b"_OE0000"),
+    (6, b"J24A00A"),
+    (6, b"A      "),
+    (6, b"      A"),
+    (6, b"   A   "),
+    (6, b"PLS2040"),
+    (6, b"PLS0000"),
     // column 15
-    (15, b"V", Some(RuleCode::S4)),
-    (15, b"v", Some(RuleCode::S4)),
-    (15, b"R", Some(RuleCode::S4)),
-    (15, b"r", Some(RuleCode::S4)),
-    (15, b"S", Some(RuleCode::S4)),
-    (15, b"s", Some(RuleCode::S4)),
-    (15, b" ", None),
-    (15, b"~", None),
+    (15, b" "),
+    (15, b"~"),
     // columns 16 to 32
-    (16, b"2024 02 30.12345 ", Some(RuleCode::S5)),
-    (16, b"2024 02 29.12345 ", None),
-    (16, b"2023 02 29.12345 ", Some(RuleCode::S5)),
-    (16, b"1799 12 31.999999", Some(RuleCode::S5)),
-    (16, b"1800 01 01.0     ", None),
-    (16, b"2199 12 31.999999", None),
-    (16, b"2200 01 01.0     ", Some(RuleCode::S5)),
-    (16, b"2024 03 15       ", Some(RuleCode::S5)),
-    (16, b"2024 03 15.      ", Some(RuleCode::S5)),
-    (16, b" 024 03 15.12345 ", Some(RuleCode::S5)),
-    (32, b"6", None),
-    (32, b"x", Some(RuleCode::S5)),
+    (16, b"2024 02 29.12345 "),
+    (16, b"1800 01 01.0     "),
+    (16, b"2199 12 31.999999"),
+    (32, b"6"),
     // columns 33 to 44
-    (33, b"24 00 00.00 ", Some(RuleCode::S6)),
-    (33, b"23 59 59.999", None),
-    (33, b"00 00 00    ", None),
-    (33, b"06 60 00.0  ", Some(RuleCode::S6)),
-    (33, b"06 00 60.0  ", Some(RuleCode::S6)),
-    (33, b"06 12 34.   ", Some(RuleCode::S6)),
-    (33, b" 6 12 34.56 ", Some(RuleCode::S6)),
-    (44, b"7", None),
-    (44, b"x", Some(RuleCode::S6)),
+    (33, b"23 59 59.999"),
+    (33, b"00 00 00    "),
+    (44, b"7"),
     // columns 45 to 56
-    (45, b"-00 00 00.00", None),
-    (45, b"+90 00 00.00", None),
-    (45, b"-90 00 00   ", None),
-    (45, b"+90 00 00.01", Some(RuleCode::S7)),
-    (45, b"+23 60 00.0 ", Some(RuleCode::S7)),
-    (45, b"+23 00 60.0 ", Some(RuleCode::S7)),
-    (45, b" 23 45 01.2 ", Some(RuleCode::S7)),
-    (56, b"3", None),
-    (56, b"x", Some(RuleCode::S7)),
-    // columns 57 to 65
-    (57, b"x", Some(RuleCode::S8)),
-    (60, b"x", Some(RuleCode::S8)),
-    (65, b"x", Some(RuleCode::S8)),
+    (45, b"-00 00 00.00"),
+    (45, b"+90 00 00.00"),
+    (45, b"-90 00 00   "),
+    (56, b"3"),
     // columns 66 to 70
-    (66, b"19.  ", Some(RuleCode::S9)),
-    (66, b"     ", None),
-    (66, b"19   ", None),
-    (66, b" 9.5 ", None),
-    (66, b" 0   ", None),
-    (66, b"99.99", None),
-    (66, b"09.5 ", Some(RuleCode::S9)),
-    (66, b" 19.5", Some(RuleCode::S9)),
-    (66, b"9.5  ", Some(RuleCode::S9)),
-    (66, b"-1.5 ", Some(RuleCode::S9)),
-    (66, b"1    ", Some(RuleCode::S9)),
-    (70, b"x", Some(RuleCode::S9)),
+    (66, b"     "),
+    (66, b"19   "),
+    (66, b" 9.5 "),
+    (66, b" 0   "),
+    (66, b"99.99"),
     // columns 71 to 80
-    (71, b" ", None),
-    (78, b"   ", None),
-    // several rules at once
-    (1, b"\xc8bcde       ", Some(RuleCode::S2)),
-    (12, b"|  V", Some(RuleCode::S3)),
-    (15, b"V2024 02 30", Some(RuleCode::S4)),
-    (31, b"x x", Some(RuleCode::S5)),
-    (44, b"x*", Some(RuleCode::S6)),
-    (56, b"xx", Some(RuleCode::S7)),
-    (65, b"x1. ", Some(RuleCode::S8)),
-    (6, b"PLS2040", None),
-    (6, b"PLS0000", None),
+    (71, b" "),
+    (78, b"   "),
+];
+
+/// What breaks S2, also where it breaks a later rule; so are those below.
+const BREAKS_S2: &[Spelling] = &[
+    (14, b"\xc8"),
+    (1, b"\x1f"),
+    (80, b"\x7f"),
+    (1, b"\xc8bcde       "),
+];
+
+/// What breaks S3.
+const BREAKS_S3: &[Spelling] = &[
+    (1, b"            "),
+    (5, b"CJ95O010"),
+    (1, b"1"),
+    (5, b"1"),
+    (1, b"00000       "),
+    (1, b"~zzz "),
+    (1, b"a000A"),
+    (6, b" A B   "),
+    (6, b" A|B   "),
+    (6, b"|      "),
+    (12, b"|  V"),
+];
+
+/// What breaks S4.
+const BREAKS_S4: &[Spelling] = &[
+    (15, b"V"),
+    (15, b"v"),
+    (15, b"R"),
+    (15, b"r"),
+    (15, b"S"),
+    (15, b"s"),
+    (15, b"V2024 02 30"),
+];
+
+/// What breaks S5.
+const BREAKS_S5: &[Spelling] = &[
+    (16, b"2024 02 30.12345 "),
+    (16, b"2023 02 29.12345 "),
+    (16, b"1799 12 31.999999"),
+    (16, b"2200 01 01.0     "),
+    (16, b"2024 03 15       "),
+    (16, b"2024 03 15.      "),
+    (16, b" 024 03 15.12345 "),
+    (32, b"x"),
+    (31, b"x x"),
+];
+
+/// What breaks S6.
+const BREAKS_S6: &[Spelling] = &[
+    (33, b"24 00 00.00 "),
+    (33, b"06 60 00.0  "),
+    (33, b"06 00 60.0  "),
+    (33, b"06 12 34.   "),
+    (33, b" 6 12 34.56 "),
+    (44, b"x"),
+    (44, b"x*"),
+];
+
+/// What breaks S7.
+const BREAKS_S7: &[Spelling] = &[
+    (45, b"+90 00 00.01"),
+    (45, b"+23 60 00.0 "),
+    (45, b"+23 00 60.0 "),
+    (45, b" 23 45 01.2 "),
+    (56, b"x"),
+    (56, b"xx"),
+];
+
+/// What breaks S8.
+const BREAKS_S8: &[Spelling] = &[(57, b"x"), (60, b"x"), (65, b"x"), (65, b"x1. ")];
+
+/// What breaks S9.
+const BREAKS_S9: &[Spelling] = &[
+    (66, b"19.  "),
+    (66, b"09.5 "),
+    (66, b" 19.5"),
+    (66, b"9.5  "),
+    (66, b"-1.5 "),
+    (66, b"1    "),
+    (70, b"x"),
 ];
 
 /// The rule that the line with these bytes from a column on breaks.
@@ -140,9 +168,9 @@ fn broken(column: usize, text: &[u8]) -> Option<RuleCode> {
     read_line(&with(column, text)).err()
 }
 
-/// The first row whose line breaks another rule, counted from 0; None where there is none. So are those below.
-fn wrong_spelling() -> Option<usize> {
-    for (row, &(column, text, rule)) in SPELLINGS.iter().enumerate() {
+/// The first of these spellings that breaks another rule, counted from 0; None where there is none. So are those below.
+fn wrong_spelling(spellings: &[Spelling], rule: Option<RuleCode>) -> Option<usize> {
+    for (row, &(column, text)) in spellings.iter().enumerate() {
         if broken(column, text) != rule {
             return Some(row);
         }
@@ -150,9 +178,25 @@ fn wrong_spelling() -> Option<usize> {
     None
 }
 
+/// The first wrong one for each rule.
+fn wrong_spellings() -> [Option<usize>; 9] {
+    [
+        wrong_spelling(UNBROKEN, None),
+        wrong_spelling(BREAKS_S2, Some(RuleCode::S2)),
+        wrong_spelling(BREAKS_S3, Some(RuleCode::S3)),
+        wrong_spelling(BREAKS_S4, Some(RuleCode::S4)),
+        wrong_spelling(BREAKS_S5, Some(RuleCode::S5)),
+        wrong_spelling(BREAKS_S6, Some(RuleCode::S6)),
+        wrong_spelling(BREAKS_S7, Some(RuleCode::S7)),
+        wrong_spelling(BREAKS_S8, Some(RuleCode::S8)),
+        wrong_spelling(BREAKS_S9, Some(RuleCode::S9)),
+    ]
+}
+
 #[test]
 fn breaks_the_first_rule(rt: HostRuntime) {
-    expect_none_wrong(&rt, wrong_spelling());
+    let wrong = wrong_spellings();
+    assert_eq!(rt; wrong, [None; 9]);
 }
 
 /// The rule that a line of so many blanks breaks.
