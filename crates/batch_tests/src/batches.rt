@@ -1,3 +1,5 @@
+//! Tests of the rulings on the lines of batches.
+
 ghost use Rattle.std.specs.Prelude.{◌≡◌};
 ghost use Rattle.batch_rules.specs.Memory.{order_of_2024, memory_office};
 

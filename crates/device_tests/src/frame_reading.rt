@@ -1,3 +1,5 @@
+//! Tests of frames that are read from a source in any pieces, and of replies that are written.
+
 use desk_io::{Failed, MemSink, MemSource};
 use frame_reader::{FrameBody, FrameReader, NextFrame, ReadFrame, write_reply_frame};
 use std::alloc::Global;

@@ -1,3 +1,5 @@
+//! Tests of sources, sinks, clocks and doors, in memory and over the real things.
+
 mod tcp;
 
 use crate::tables::expect_none_wrong;

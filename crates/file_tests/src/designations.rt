@@ -1,3 +1,5 @@
+//! Tests of the rows of designations, beside a plain list of them.
+
 ghost use Rattle.packed_names.specs.Ranges.{IsHalfMonth};
 
 mod plain;

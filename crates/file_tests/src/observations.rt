@@ -1,3 +1,5 @@
+//! Tests of the file of observations and tracklets, beside plain lists of them.
+
 mod plain;
 
 use angle_fixed::{Dec, Ra};

@@ -1,3 +1,5 @@
+//! Tests of the office's tables.
+
 use obs_record::Short;
 use station_tables::*;
 use std::alloc::Global;

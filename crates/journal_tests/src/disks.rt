@@ -1,3 +1,5 @@
+//! Tests of a disk in memory and of one over a real file.
+
 use disk_model::{Disk, Failed, FileDisk, MemDisk};
 use std::alloc::Global;
 use std::fs;

@@ -1,5 +1,5 @@
-//! Calls of the whole program, over sources, sinks, clocks and doors in memory, and over a port. Whole sessions stand in
-//! session_tests.
+//! Calls of the whole program, over sources, sinks, clocks and doors in memory, and over a port. Whole sessions stand
+//! in session_tests.
 
 mod calls;
 mod command_lines;

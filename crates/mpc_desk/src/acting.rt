@@ -36,7 +36,11 @@ impl<D: Disk> Desk<D> {
         // A crash at any moment of the call leaves a file that stands for the history before it, for that with the act
         // in doubt, or for the history after mending with the entry that the act becomes there.
         ensures inside { ActsInTurn D.moment D.since D.faults (record {
-            old = self.old; request = request.now; reading = reading; reply = result; new = self.new;
+          old = self.old;
+          request = request.now;
+          reading = reading;
+          reply = result;
+          new = self.new;
         }) }
         ensures at_rest { IsAtRest D.leaves self.new }
 
@@ -79,7 +83,11 @@ impl<D: Disk> Desk<D> {
         requires reading { IsInstantNs reading }
         requires settled { self.old.state.doubt ≡ None }
         ensures takes { TakesAct D.moment D.since D.faults (record {
-            old = self.old; request = request.now; reading = reading; reply = result; new = self.new;
+          old = self.old;
+          request = request.now;
+          reading = reading;
+          reply = result;
+          new = self.new;
         }) }
         ensures founder { self.new.founder ≡ self.old.founder }
         ensures limit { self.new.limit ≡ self.old.limit }

@@ -1,3 +1,5 @@
+//! Tests of links between designations, beside a plain list of them.
+
 ghost use Rattle.std.specs.Prelude.{◌≡◌, ◌↔◌, IsTrue};
 ghost use Rattle.identify_core.specs.Principals.{principal_of, IsPrincipal};
 

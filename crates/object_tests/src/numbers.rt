@@ -1,3 +1,5 @@
+//! Tests of verdicts and numbers, beside plain lists of them.
+
 ghost use Rattle.std.specs.Prelude.{◌≡◌, ◌↔◌, [], IsTrue, IfSome};
 ghost use Rattle.numbering_core.specs.Numbers.{next_number};
 

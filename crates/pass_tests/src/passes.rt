@@ -1,3 +1,5 @@
+//! Tests of passes of the turn lock: entering, noting, leaving, splitting, joining and closing.
+
 ghost use Rattle.std.specs.Prelude.{◌≡◌, true, false, [], None, Some};
 ghost use Rattle.act_model.specs.Requests.{is_act};
 ghost use Rattle.intake_lock.specs.declared.view.Role.TheVariants.{Root, Branch};

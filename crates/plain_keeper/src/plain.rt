@@ -1,3 +1,5 @@
+//! The office in memory as a keeper.
+
 ghost use Rattle.std.specs.Prelude.{◌≡◌, ◌≢◌, [], Bool, true, false, IfOk, Some, None};
 ghost use Rattle.act_model.specs.Keepers.{TakesTurn};
 ghost use Rattle.act_model.specs.Requests.{is_act};

@@ -1,3 +1,5 @@
+//! Tests of the door on a port and of its links.
+
 use desk_io::{Door, Failed, Next, Sink, Source, TcpDoor, write_all};
 use std::io;
 use std::io::{ErrorKind, Read, Write};

@@ -1,3 +1,5 @@
+//! Tests of the bodies of acts on observations, tracklets, objects and numbers.
+
 use crate::tables::expect_none_wrong;
 use act_bodies::{
     BodyFault, read_attribute, read_designate, read_identify, read_number, read_release,

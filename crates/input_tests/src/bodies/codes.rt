@@ -1,3 +1,5 @@
+//! Tests of the bodies that enter codes.
+
 use crate::tables::expect_none_wrong;
 use act_bodies::{BodyFault, Code, read_code};
 use obs_record::Short;

@@ -1,3 +1,5 @@
+//! Tests of the bodies that enrol callers.
+
 use crate::tables::expect_none_wrong;
 use act_bodies::{BodyFault, Enrol, Rank, read_enrol};
 use std::alloc::Global;

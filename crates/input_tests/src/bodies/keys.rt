@@ -1,3 +1,5 @@
+//! Tests of keys.
+
 use act_bodies::Key;
 
 #[test]

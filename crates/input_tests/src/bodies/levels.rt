@@ -1,3 +1,5 @@
+//! Tests of bodies that nest deeply.
+
 use act_bodies::{BodyFault, read_enrol};
 use item_list::{Bytes, NoMemory};
 use std::alloc::Global;

@@ -1,3 +1,5 @@
+//! Tests of the bodies that enter stations.
+
 use crate::tables::expect_none_wrong;
 use act_bodies::{BodyFault, Station, read_station};
 use std::alloc::Global;

@@ -134,8 +134,8 @@ pub(super) fn call<R: Abort>(
     )
 }
 
-/// Calls the program with these words over these bytes, of which a read gives at most `greatest`, and looks at its end and
-/// at what it wrote.
+/// Calls the program with these words over these bytes, of which a read gives at most `greatest`, and looks at its end
+/// and at what it wrote.
 pub(super) fn expect_call<R: Abort>(
     rt: &R,
     alloc: Global,
