@@ -98,7 +98,8 @@ pub record ActsOn {D : Type 0} (moment : D → ℕ) (since : D → ℕ → List 
       ⊎ FailsToKeep old.founder (Some old.limit) mended turn reading new.state
   pub images : During moment since old.disk new.disk (MayLeave old mended turn.request reading)
 
--- An act at a desk: the desk before it, what was asked, at which reading of the clock, the reply, and the desk after it.
+-- An act at a desk: the desk before it, what was asked, at which reading of the clock, the reply, and the desk after
+-- it.
 pub record DeskAct (D : Type 0) : Type 0 where
   pub old : DeskState D
   pub request : Request
