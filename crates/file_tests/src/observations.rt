@@ -1,3 +1,4 @@
+mod homes;
 mod plain;
 
 use angle_fixed::{Dec, Ra};
