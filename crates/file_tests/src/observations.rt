@@ -1,5 +1,6 @@
 //! Tests of the file of observations and tracklets, beside plain lists of them.
 
+mod homes;
 mod plain;
 
 use angle_fixed::{Dec, Ra};

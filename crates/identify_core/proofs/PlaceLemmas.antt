@@ -1,11 +1,15 @@
 -- The places of links.
-use Rattle.std.proofs.Common.{◌≡◌, ℕ, zero, suc, ◌+◌, ◌<◌, ◌≤◌, length, Bool, true, false, cond, List, [], ◌∷◌, get_or, None, ap, sym, subst, ◌∙◌, inl, inr, arith}
+use Rattle.std.proofs.Common.{◌≡◌, ℕ, zero, suc, ◌+◌, ◌-◌, ◌<◌, ◌≤◌, length, take, drop, set, ◌++◌, refl, Bool, true, false, cond, List, [], ◌∷◌, get_or, None, ap, sym, subst, ◌∙◌, inl, inr, arith}
 use Rattle.std.specs.declared.cmp.Ordering.TheVariants.{Less}
 use Rattle.std.specs.List.{Contains, insert, remove, prefix_len}
 use Rattle.std.specs.List.Sorted.{IsPartitionedBy, IsPartitionPoint}
 use Rattle.std.specs.Ordering.{is_lt, is_eq}
-use Rattle.std.proofs.lemmas.Bool.{cases_Bool}
+use Rattle.std.specs.Prelude.{nat_lt}
+use Rattle.std.proofs.lemmas.Bool.{cases_Bool, false≢true}
+use Rattle.std.proofs.lemmas.Bool.Decides.{nat_tests}
+use borrow.Rule.Slice.PartMut.{put_mid, mid_of}
 use Rattle.std.proofs.lemmas.Cmp.{tied_itself}
+use Rattle.std.proofs.lemmas.List.{length-take}
 use Rattle.std.proofs.lemmas.List.Sums.{prefix_len_is}
 use Rattle.packed_names.specs.declared.name.Designation.{Designation}
 use Rattle.packed_names.specs.Order.{designation_cmp}
@@ -109,3 +113,79 @@ rising_remove [] zero up = tt
 rising_remove [] (suc n) up = tt
 rising_remove (x ∷ links) zero up = up.1
 rising_remove (x ∷ links) (suc n) up = (behind_remove x links n up.0, rising_remove links n up.1)
+
+-- where a link isn't before another one, no later link is
+none_before : (y x : Link) (links : List Link) → AreBehind x links → is_lt (link_cmp x y) ≡ false → place_in y links ≡ 0
+none_before y x [] behind late = refl
+none_before y x (z ∷ links) behind late = elim (cases_Bool (is_lt (link_cmp z y))) [
+  | inl before ↦ absurd (false≢true (sym late ∙ before_too y x z behind.0 before))
+  | inr later ↦ ap (λ (b : Bool). cond b (1 + place_in y links) 0) later
+]
+
+never : (i : ℕ) → 0 ≡ cond (nat_lt i 0) (0 - 1) 0
+never i = grind (arith, nat_tests)
+
+-- the place of a link among links of which one is taken out
+pub place_removed : (y : Link) (links : List Link) (i : ℕ) → IsRising links → i < length links → place_in y (remove links i) ≡ cond (nat_lt i (place_in y links)) (place_in y links - 1) (place_in y links)
+place_removed y [] i up low = absurd (omega (arith, low))
+place_removed y (x ∷ links) zero up low = by (is_lt (link_cmp x y)) refl
+  where
+    by : (b : Bool) → is_lt (link_cmp x y) ≡ b → place_in y links ≡ cond (nat_lt zero (cond b (1 + place_in y links) 0)) (cond b (1 + place_in y links) 0 - 1) (cond b (1 + place_in y links) 0)
+    by true before = grind (arith, nat_tests)
+    by false late = none_before y x links up.0 late ∙ never zero
+place_removed y (x ∷ links) (suc k) up low = by (is_lt (link_cmp x y)) (place_removed y links k up.1 (omega (arith, low)))
+  where
+    by : (b : Bool) → place_in y (remove links k) ≡ cond (nat_lt k (place_in y links)) (place_in y links - 1) (place_in y links)
+        → cond b (1 + place_in y (remove links k)) 0 ≡ cond (nat_lt (suc k) (cond b (1 + place_in y links) 0)) (cond b (1 + place_in y links) 0 - 1) (cond b (1 + place_in y links) 0)
+    by true rest = ap (λ (n : ℕ). 1 + n) rest ∙ stepped (place_in y links) k
+      where
+        stepped : (n k : ℕ) → 1 + cond (nat_lt k n) (n - 1) n ≡ cond (nat_lt (suc k) (1 + n)) (1 + n - 1) (1 + n)
+        stepped n k = grind (arith, nat_tests)
+    by false rest = never (suc k)
+
+-- ---- a link that is moved
+
+-- the first of so many links comes behind the others
+to_last : (x y : Link) (links : List Link) (k : ℕ) → k ≤ length links → set ((take k links ++ x ∷ []) ++ drop k links) k y ≡ insert links k y
+to_last x y links zero low = refl
+to_last x y [] (suc k) low = absurd (omega (arith, low))
+to_last x y (z ∷ links) (suc k) low = ap (λ (ls : List Link). z ∷ ls) (to_last x y links k (omega (arith, low)))
+
+-- a part of the links that ends with one, and the others of it
+last_one : (links : List Link) (k : ℕ) (d : Link) → k < length links → drop k (take (suc k) links) ≡ get_or links k d ∷ []
+last_one [] k d low = absurd (omega (arith, low))
+last_one (x ∷ links) zero d low = refl
+last_one (x ∷ links) (suc k) d low = last_one links k d (omega (arith, low))
+
+all_but : (links : List Link) (k : ℕ) → k < length links → (length (take (suc k) links) - 1 ≡ k) × (take k (take (suc k) links) ≡ take k links)
+all_but [] k low = absurd (omega (arith, low))
+all_but (x ∷ links) zero low = (refl, refl)
+all_but (x ∷ links) (suc k) low =
+    let rest = all_but links k (omega (arith, low)) in
+    (omega (arith, low, length-take (suc k) links), ap (λ (ls : List Link). x ∷ ls) rest.1)
+
+-- the links from one place to another, of which the first comes last and is replaced
+pub moved_on : (links : List Link) (from to n : ℕ) (y : Link) → from ≤ to → n + from ≡ suc to → to < length links
+    → set (put_mid from n links (drop 1 (mid_of from n links) ++ take 1 (mid_of from n links))) to y ≡ insert (remove links from) to y
+moved_on [] from to n y le size low = absurd (omega (arith, low))
+moved_on (x ∷ links) zero to n y le size low =
+    let is : n ≡ suc to = omega (arith, size) in
+    ap (λ (n : ℕ). set (put_mid zero n (x ∷ links) (drop 1 (mid_of zero n (x ∷ links)) ++ take 1 (mid_of zero n (x ∷ links)))) to y) is ∙ to_last x y links to (omega (arith, low))
+moved_on (x ∷ links) (suc from) zero n y le size low = absurd (omega (arith, le))
+moved_on (x ∷ links) (suc from) (suc to) n y le size low =
+    ap (λ (ls : List Link). x ∷ ls) (moved_on links from to n y (omega (arith, le)) (omega (arith, size)) (omega (arith, low)))
+
+-- the same where the last comes first
+pub moved_back : (links : List Link) (from to n : ℕ) (y : Link) → to ≤ from → n + to ≡ suc from → from < length links
+    → set (put_mid to n links (drop (length (mid_of to n links) - 1) (mid_of to n links) ++ take (length (mid_of to n links) - 1) (mid_of to n links))) to y ≡ insert (remove links from) to y
+moved_back links from zero n y le size low =
+    let is : n ≡ suc from = omega (arith, size) in
+    let parts = all_but links from low in
+    ap (λ (n : ℕ). set (put_mid zero n links (drop (length (mid_of zero n links) - 1) (mid_of zero n links) ++ take (length (mid_of zero n links) - 1) (mid_of zero n links))) zero y) is
+    ∙ ap (λ (k : ℕ). set ((drop k (take (suc from) links) ++ take k (take (suc from) links)) ++ drop (suc from) links) zero y) parts.0
+    ∙ ap (λ (ls : List Link). set ((ls ++ take from (take (suc from) links)) ++ drop (suc from) links) zero y) (last_one links from y low)
+    ∙ ap (λ (ls : List Link). y ∷ (ls ++ drop (suc from) links)) parts.1
+moved_back [] from (suc to) n y le size low = absurd (omega (arith, low))
+moved_back (x ∷ links) zero (suc to) n y le size low = absurd (omega (arith, le))
+moved_back (x ∷ links) (suc from) (suc to) n y le size low =
+    ap (λ (ls : List Link). x ∷ ls) (moved_back links from to n y (omega (arith, le)) (omega (arith, size)) (omega (arith, low)))

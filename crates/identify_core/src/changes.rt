@@ -1,7 +1,7 @@
 //! Changes of links that are in order, and of their index. No change takes memory.
 
-ghost use Rattle.std.specs.Prelude.{◌≡◌, ◌≢◌, ◌+◌, ◌<◌, ◌∷◌, count_by, Some, None, vec_len, vec_capacity};
-ghost use Rattle.std.specs.List.{Contains};
+ghost use Rattle.std.specs.Prelude.{◌≡◌, ◌≢◌, ◌+◌, ◌<◌, ◌∷◌, count_by, Some, None, length, vec_len, vec_capacity};
+ghost use Rattle.std.specs.List.{insert, remove};
 ghost use Rattle.std.specs.List.Sorted.{IsPermutation};
 ghost use Rattle.packed_names.specs.declared.name.Designation.{Designation};
 ghost use Rattle.ordered_list.specs.Orders.{IsStrictlySorted};
@@ -11,7 +11,7 @@ ghost use Rattle.identify_core.specs.Keeping.{has_principal, link_cmp, AreKept, 
 
 use crate::entry::PrincipalEntry;
 use crate::link::Link;
-use crate::searches::{first_of, place_of};
+use crate::searches::{first_of, place_of, place_without};
 use ordered_list::OrderedList;
 use packed_names::Designation;
 
@@ -31,17 +31,20 @@ pub fn put(links: &mut Vec<Link>, link: Link)
     }
 }
 
-/// Takes a link out.
-fn take_out(links: &mut Vec<Link>, link: Link)
-    requires sorted { IsStrictlySorted link_cmp links.old.items }
-    requires there { Contains links.old.items link }
-    ensures sorted { IsStrictlySorted link_cmp links.new.items }
-    ensures fewer { IsPermutation links.old.items (link ∷ links.new.items) }
-    ensures length { vec_len links.new + 1 ≡ vec_len links.old }
-    ensures capacity { vec_capacity links.new ≡ vec_capacity links.old }
+/// Puts a link in place of the one at `from`, at the place `to` among the others. Only the links between the two places
+/// are moved.
+fn move_to(links: &mut [Link], from: usize, to: usize, link: Link)
+    requires from { from < length links.old }
+    requires to { to < length links.old }
+    ensures moved { links.new ≡ insert (remove links.old from) to link }
+    ensures length { length links.new ≡ length links.old }
 {
-    let place = place_of(links.as_slice(), link);
-    let _ = links.remove(place);
+    if from < to {
+        links[from..to + 1].rotate_left(1);
+    } else {
+        links[to..from + 1].rotate_right(1);
+    }
+    links[to] = link;
 }
 
 /// Gives the member of a link another principal.
@@ -61,14 +64,13 @@ pub fn give(
     ensures capacity { vec_capacity links.new ≡ vec_capacity links.old }
     ensures room { entries.new.room ≡ entries.old.room }
 {
-    take_out(links, link);
-    put(
-        links,
-        Link {
-            principal: p,
-            member: link.member,
-        },
-    );
+    let moved = Link {
+        principal: p,
+        member: link.member,
+    };
+    let from = place_of(links.as_slice(), link);
+    let to = place_without(links.as_slice(), from, moved);
+    move_to(links.as_mut_slice(), from, to, moved);
     entries.insert(PrincipalEntry {
         designation: link.member,
         principal: p,

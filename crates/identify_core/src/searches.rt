@@ -1,7 +1,7 @@
 //! Searches by halving: among links that are in order, and in the index of designations.
 
-ghost use Rattle.std.specs.Prelude.{◌≡◌, ◌≢◌, ◌≤◌, length, Some, IfSome, IfNone};
-ghost use Rattle.std.specs.List.{prefix_len};
+ghost use Rattle.std.specs.Prelude.{◌≡◌, ◌≢◌, ◌<◌, ◌≤◌, length, Some, IfSome, IfNone};
+ghost use Rattle.std.specs.List.{prefix_len, remove};
 ghost use Rattle.std.specs.Ordering.{eq_by_cmp, is_lt};
 ghost use Rattle.packed_names.specs.declared.name.Designation.{Designation};
 ghost use Rattle.packed_names.specs.Order.{designation_cmp};
@@ -54,6 +54,17 @@ pub fn place_of(links: &[Link], link: Link) -> usize
     ensures within { result ≤ length links.now }
 {
     links.partition_point(|other| is_before(*other, link))
+}
+
+/// The place of a link among the others, once the one at a place is taken out.
+pub fn place_without(links: &[Link], from: usize, link: Link) -> usize
+    requires sorted { IsStrictlySorted link_cmp links.now }
+    requires from { from < length links.now }
+    ensures count { result ≡ place_in link (remove links.now from) }
+    ensures within { result < length links.now }
+{
+    let place = place_of(links, link);
+    if from < place { place - 1 } else { place }
 }
 
 /// How many links stand before those of a principal.
