@@ -24,4 +24,5 @@ known_caller item = option_map (λ k. k.caller) item
 
 -- each key finds the caller who has it, the newest where several have, and nobody where no caller has
 abbrev pub IsIndexed : (KnownKey → KnownKey → Ordering) → List KnownKey → List Member → Type 0
-IsIndexed cmp keys members = (key : Key) → known_caller (found cmp (key_item key) keys) ≡ enrolled_as (reverse members) key
+IsIndexed cmp keys members =
+    (key : Key) → known_caller (found cmp (key_item key) keys) ≡ enrolled_as (reverse members) key
