@@ -1,7 +1,7 @@
 -- What stands with an entry once it is added.
 use Rattle.std.proofs.Common.{◌≡◌, ℕ, ◌+◌, ◌-◌, ◌<◌, ◌≤◌, List, [], ◌∷◌, ◌++◌, length, refl, sym, ap, subst, ◌∙◌, arith, suc}
 use Rattle.std.specs.Prelude.{◌^◌, min, reverse, unwrap_or}
-use Rattle.std.proofs.lemmas.List.{reverse-append}
+use Rattle.std.proofs.lemmas.List.{reverse-append, length-reverse}
 use Rattle.ordered_list.specs.Contents.{UsesOne}
 use Rattle.station_tables.specs.Rows.{TableRows}
 use Rattle.act_model.specs.declared.deed.Deed.{Deed}
@@ -47,9 +47,9 @@ module _ (items : List Filed) (f : Filed) (ready : Ready) (at : IsReadyAt (histo
   pub members_are : (old new : List Member) → reverse new ≡ with_enrolled ready.deed (reverse old) → reverse old ≡ members (deeds past) → reverse new ≡ members (deeds (history_of now))
   members_are old new is before = is ∙ ap (with_enrolled ready.deed) before ∙ sym (ap members deeds_are)
 
-  pub members_within : (old : List Member) (count : ℕ) → count ≡ length (with_enrolled ready.deed (reverse old)) → reverse old ≡ members (deeds past) → count < CALLERS
-  members_within old count is before =
-      subst (λ (n : ℕ). n < CALLERS) (sym (is ∙ ap (λ (ms : List Member). length (with_enrolled ready.deed ms)) before ∙ ap (λ (d : Deed). length (with_enrolled d (members (deeds past)))) at.deed)) at.callers
+  pub members_within : (new : List Member) → reverse new ≡ members (deeds (history_of now)) → length new < CALLERS
+  members_within new is =
+      subst (λ (n : ℕ). n < CALLERS) (sym (sym (length-reverse new) ∙ ap length is ∙ ap (λ (h : List Entry). length (members (deeds h))) history_is)) at.callers
 
   pub tables_are : (old new : TableRows) → new ≡ unwrap_or ready.tables old → old ≡ tables_of (deeds past) → new ≡ tables_of (deeds (history_of now))
   tables_are old new is before = is ∙ ap (unwrap_or ready.tables) before ∙ at.tables ∙ sym (ap (λ (h : List Entry). tables_of (deeds h)) history_is)
@@ -69,17 +69,17 @@ module _ (items : List Filed) (f : Filed) (ready : Ready) (at : IsReadyAt (histo
   objects_are new stand = subst (λ (ds : List Deed). StandFor ds new) (sym deeds_are) stand
 
 -- what was used of the room
-pub used : (deed : Deed) (room room' : ℕ) → UsesOne room room' → (mcap mcap' mlen mlen' obs obs' tr tr' : ℕ) (o o' : ObjectsValue) → UsesObjects deed o o' → mcap' ≡ mcap → mlen ≤ mlen' → mlen' ≤ mlen + 1 → obs ≤ obs' + added_by deed → tr ≤ tr' + added_by deed
-    → UsesRoom deed (record { entries = room; callers = mcap - mlen; observations = obs; tracklets = tr; takes = o.take_room; links = o.link_room; register = o.register_room }) (record { entries = room'; callers = mcap' - mlen'; observations = obs'; tracklets = tr'; takes = o'.take_room; links = o'.link_room; register = o'.register_room })
-used deed room room' one mcap mcap' mlen mlen' obs obs' tr tr' o o' objects same_m no_fewer one_more observations tracklets =
+pub used : (deed : Deed) (room room' callers callers' : ℕ) → UsesOne room room' → UsesOne callers callers' → (obs obs' tr tr' : ℕ) (o o' : ObjectsValue) → UsesObjects deed o o' → obs ≤ obs' + added_by deed → tr ≤ tr' + added_by deed
+    → UsesRoom deed (record { entries = room; callers = callers; observations = obs; tracklets = tr; takes = o.take_room; links = o.link_room; register = o.register_room }) (record { entries = room'; callers = callers'; observations = obs'; tracklets = tr'; takes = o'.take_room; links = o'.link_room; register = o'.register_room })
+used deed room room' callers callers' one caller obs obs' tr tr' o o' objects observations tracklets =
     record {
       entries = one.0;
-      callers = omega arith;
+      callers = caller.0;
       observations = observations;
       tracklets = tracklets;
       takes = objects.takes;
       links = objects.links;
       register = objects.register;
       no_more_entries = one.1;
-      no_more_callers = omega arith;
+      no_more_callers = caller.1;
     }

@@ -1,28 +1,43 @@
--- The roster in the order of enrolment, and with its newest caller first.
-use Rattle.std.proofs.Common.{◌≡◌, ℕ, ◌+◌, ◌-◌, ◌<◌, ◌≤◌, Bool, true, cond, List, [], ◌∷◌, length, get_or, take, Some, ap, sym, ◌∙◌, arith}
+-- The index of the roster's keys, with one caller more.
+use Rattle.std.proofs.Common.{◌≡◌, ℕ, ◌+◌, ◌++◌, Bool, true, false, cond, List, [], ◌∷◌, length, Option, Some, nat_cmp, refl, ap, sym, ◌∙◌}
 use Rattle.std.specs.Prelude.{reverse}
-use Rattle.std.proofs.lemmas.List.{take_more, reverse-append, length-reverse, length-take}
+use Rattle.std.specs.declared.cmp.Ordering.{Ordering}
+use Rattle.std.specs.Cmp.Lexicographic.{slice_cmp}
+use Rattle.std.specs.Ordering.{on}
+use Rattle.std.proofs.lemmas.Cmp.{nat_list_eq_equiv}
+use Rattle.std.proofs.lemmas.List.{reverse-append, length-reverse}
+use Rattle.std.proofs.lemmas.Map.Text.{is_eq-slice_cmp}
+use Rattle.ordered_list.specs.Orders.{ties, found}
 use Rattle.act_bodies.specs.declared.key.Key.{Key}
-use Rattle.act_bodies.specs.Keys.{same_key}
+use Rattle.act_bodies.specs.Keys.{key_text, same_key}
+use Rattle.act_model.specs.declared.roster.Caller.{Caller}
 use Rattle.act_model.specs.declared.roster.Member.{Member}
-use Rattle.act_model.specs.Roster.{next_caller, enrolled_as}
+use Rattle.act_model.specs.Roster.{enrolled_as}
+use Rattle.desk_core.specs.declared.known_key.KnownKey.{KnownKey}
+use Rattle.desk_core.specs.Roster.{key_item, known_caller, IsIndexed}
 
--- the newest of the first callers
-newest_of : (members : List Member) (place : ℕ) (m : Member) → place < length members → reverse (take (place + 1) members) ≡ get_or members place m ∷ reverse (take place members)
-newest_of members place m within = ap reverse (take_more members place m within) ∙ reverse-append (take place members) (get_or members place m ∷ [])
+abbrev by_text : KnownKey → KnownKey → Ordering
+by_text = on (λ k. key_text k.key) (slice_cmp nat_cmp)
 
-number_of : (members : List Member) (place : ℕ) → place < length members → next_caller (reverse (take place members)) ≡ place + 1
-number_of members place within = simp (length-reverse, length-take) (omega arith)
+-- a key finds an item that has it
+ties_are : (key : Key) (item : KnownKey) → ties by_text (key_item key) item ≡ same_key key item.key
+ties_are key item = is_eq-slice_cmp (key_text item.key) (key_text key) ∙ nat_list_eq_equiv.symm (key_text item.key) (key_text key)
 
--- the caller that was enrolled last of the first ones, and has the key
-pub enrolled_here : (members : List Member) (last : ℕ) (any : Member) (key : Key) → 0 < last → last ≤ length members → same_key key (get_or members (last - 1) any).key ≡ true
-    → enrolled_as (reverse (take last members)) key ≡ enrolled_as (reverse members) key → Some (record { number = last - 1 + 1; rank = (get_or members (last - 1) any).rank }) ≡ enrolled_as (reverse members) key
-enrolled_here members last any key some within is same =
-    let below : last - 1 < length members = omega arith in
-    let last_is : last ≡ (last - 1) + 1 = omega arith in
-    let member : Member = get_or members (last - 1) any in
-    let newest : reverse (take last members) ≡ member ∷ reverse (take (last - 1) members) =
-    ap (λ (k : ℕ). reverse (take k members)) last_is ∙ newest_of members (last - 1) any below in
-    ap (λ (n : ℕ). Some (record { number = n; rank = member.rank })) (sym (number_of members (last - 1) below))
-    ∙ sym (ap (λ (b : Bool). cond b (Some (record { number = next_caller (reverse (take (last - 1) members)); rank = member.rank })) (enrolled_as (reverse (take (last - 1) members)) key)) is)
-    ∙ sym (ap (λ (ms : List Member). enrolled_as ms key) newest) ∙ same
+caller_either : (here : Bool) (item : KnownKey) (other : Option KnownKey) (older : Option Caller) → known_caller other ≡ older
+    → known_caller (cond here (Some item) other) ≡ cond here (Some item.caller) older
+caller_either true item other older is = refl
+caller_either false item other older is = is
+
+module _ (members : List Member) (member : Member) (count : ℕ) where
+  abbrev newest : KnownKey
+  newest = record { key = member.key; caller = record { number = count + 1; rank = member.rank } }
+
+  pub one_more : (keys keys' : List KnownKey) → count ≡ length members → IsIndexed by_text keys members → ((key : KnownKey) → found by_text key keys' ≡ cond (ties by_text key newest) (Some newest) (found by_text key keys))
+      → IsIndexed by_text keys' (members ++ member ∷ [])
+  one_more keys keys' counted indexed finds key =
+      let older : Option Caller = enrolled_as (reverse members) key in
+      ap known_caller (finds (key_item key))
+      ∙ ap (λ (b : Bool). known_caller (cond b (Some newest) (found by_text (key_item key) keys))) (ties_are key newest)
+      ∙ caller_either (same_key key member.key) newest (found by_text (key_item key) keys) older (indexed key)
+      ∙ ap (λ (n : ℕ). cond (same_key key member.key) (Some (record { number = n + 1; rank = member.rank })) older) (counted ∙ sym (length-reverse members))
+      ∙ sym (ap (λ (ms : List Member). enrolled_as ms key) (reverse-append members (member ∷ [])))

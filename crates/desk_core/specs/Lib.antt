@@ -1,5 +1,6 @@
 pub mod Filed
 pub mod Book
+pub mod Roster
 pub mod Objects
 pub mod Office
 pub mod Holding

@@ -127,7 +127,7 @@ impl Core {
         ensures due { IsDue (enrols (members (deeds self.now.history)) key rank) result }
         ensures fits { IfOk result (Fits (deeds self.now.history)) }
     {
-        let refusal = enrol_refusal(self.members(), &key);
+        let refusal = enrol_refusal(self.roster(), &key);
         unless(refusal, Deed::Enrolled(Member { key, rank }))
     }
 

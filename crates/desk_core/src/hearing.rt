@@ -1,16 +1,15 @@
 //! The questions to a request that come before the history is asked.
 
-ghost use Rattle.std.specs.Prelude.{◌≡◌, ◌≤◌, ◌<◌, length, reverse, Ok, Err, IfOk, IfErr, IfNone};
+ghost use Rattle.std.specs.Prelude.{◌≡◌, ◌≤◌, length, reverse, Ok, Err, IfOk, IfErr, IfNone};
 ghost use Rattle.act_model.specs.declared.request.TheConstants.{BODY_BYTES};
-ghost use Rattle.act_model.specs.declared.roster.TheConstants.{CALLERS};
 ghost use Rattle.act_model.specs.Rows.{first_row, IsDue};
 ghost use Rattle.act_model.specs.Acts.{IsReadAsked};
 ghost use Rattle.act_model.specs.Hearing.{size_rows, bytes_in, is_number_of, number_in, asked_of, hear};
 
-use crate::roster::caller_of;
+use crate::roster::Roster;
 use act_model::{
-    BODY_BYTES, BODY_LINES, Body, Excess, Heard, Key, Member, Part, Refusal, Request, Verb,
-    line_feeds, read_asked,
+    BODY_BYTES, BODY_LINES, Body, Excess, Heard, Key, Part, Refusal, Request, Verb, line_feeds,
+    read_asked,
 };
 use std::alloc::Global;
 
@@ -86,13 +85,12 @@ fn number_in(verb: Verb, number: Option<u64>) -> Result<u64, Refusal>
 pub fn hear(
     alloc: Global,
     founder: &Key,
-    members: &[Member],
+    roster: &Roster,
     request: &Request,
     bytes: &[u8],
 ) -> Result<Heard, Refusal>
-    requires roster { length members.now < CALLERS }
     requires short { length bytes.now ≤ BODY_BYTES }
-    ensures due { IsDue (hear founder.now (reverse members.now) request.now bytes.now) result }
+    ensures due { IsDue (hear founder.now (reverse roster.now.items) request.now bytes.now) result }
     ensures verb { IfOk result (λ heard. heard.verb ≡ request.now.verb) }
     ensures asked { IfOk result (λ heard. asked_of heard.verb bytes.now ≡ Ok heard.asked) }
     ensures read { IfOk result (λ heard. IsReadAsked heard.asked) }
@@ -108,7 +106,7 @@ pub fn hear(
         Ok(asked) => asked,
         Err(refusal) => return Err(refusal),
     };
-    let Some(caller) = caller_of(founder, members, &request.key) else {
+    let Some(caller) = roster.caller_of(founder, &request.key) else {
         return Err(Refusal::UnknownKey);
     };
     Ok(Heard {

@@ -9,6 +9,7 @@ mod filed;
 mod hearing;
 mod holding;
 mod knowing;
+mod known_key;
 mod lending;
 mod limiting;
 mod objects;

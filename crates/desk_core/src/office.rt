@@ -23,7 +23,7 @@ use crate::holding::{added_by, hold};
 use crate::limiting::entry_size;
 use crate::objects::Objects;
 use crate::prepared::{Prep, Prepared};
-use crate::roster::enrol;
+use crate::roster::Roster;
 use act_model::{Body, Deed, Key, Member, Refusal, Reply, Request};
 use item_list::NoMemory;
 use obs_time::Instant;
@@ -41,7 +41,7 @@ use tracklet_file::TrackletFile;
 pub struct Core {
     founder: Key,
     filed: Book,
-    members: Vec<Member>,
+    roster: Roster,
     tables: Tables,
     file: TrackletFile,
     objects: Objects,
@@ -50,7 +50,7 @@ pub struct Core {
 }
 
 impl Model for Core {
-    ghost use Rattle.std.specs.Prelude.{◌≡◌, ◌-◌, ◌^◌, ◌<◌, min, vec_len, vec_capacity, reverse};
+    ghost use Rattle.std.specs.Prelude.{◌≡◌, ◌-◌, ◌^◌, ◌<◌, min, length, reverse};
     ghost use Rattle.act_model.specs.declared.roster.TheConstants.{CALLERS};
     ghost use Rattle.act_model.specs.Deeds.{deeds};
     ghost use Rattle.act_model.specs.Roster.{members as members_of};
@@ -68,7 +68,7 @@ impl Model for Core {
       history = history_of c.filed.items;
       spare = record {
         entries = c.filed.room;
-        callers = vec_capacity c.members - vec_len c.members;
+        callers = c.roster.room;
         observations = c.file.observation_room;
         tracklets = c.file.tracklet_room;
         takes = c.objects.take_room;
@@ -79,8 +79,8 @@ impl Model for Core {
 
     ghost invariant = { λ c.
         AreAnswered (reverse c.filed.items)
-        × (reverse c.members.items ≡ members_of (deeds (history_of c.filed.items)))
-        × (vec_len c.members < CALLERS)
+        × (reverse c.roster.items ≡ members_of (deeds (history_of c.filed.items)))
+        × (length c.roster.items < CALLERS)
         × (c.tables ≡ tables_of (deeds (history_of c.filed.items)))
         × (held_in c.file ≡ holdings (deeds (history_of c.filed.items)))
         × StandFor (deeds (history_of c.filed.items)) c.objects
@@ -102,7 +102,7 @@ impl Core {
         Ok(Core {
             founder,
             filed: Book::new(alloc)?,
-            members: Vec::new(alloc),
+            roster: Roster::new(alloc)?,
             tables: Tables::new(alloc)?,
             file: TrackletFile::new(alloc)?,
             objects: Objects::new(alloc)?,
@@ -176,7 +176,7 @@ impl Core {
         replace(&mut self.tables, tables);
         self.objects.note(&self.file, &deed);
         hold(&mut self.file, receipt, &deed);
-        enrol(&mut self.members, deed);
+        self.roster.enrol(deed);
         Reply::Done(answer)
     }
 
@@ -184,7 +184,7 @@ impl Core {
 
     /// The allocator that the office takes its memory from.
     pub(crate) fn allocator(&self) -> Global {
-        *self.members.allocator()
+        self.roster.allocator()
     }
 
     /// The founding officer's key.
@@ -210,12 +210,20 @@ impl Core {
         self.filed.as_slice()
     }
 
+    /// The callers that were enrolled.
+    pub(crate) fn roster(&self) -> &Roster
+        ensures roster { reverse result.now.items ≡ members (deeds self.now.history) }
+        ensures within { length result.now.items < CALLERS }
+    {
+        &self.roster
+    }
+
     /// The callers that were enrolled, in their order.
     pub(crate) fn members(&self) -> &[Member]
         ensures roster { reverse result.now ≡ members (deeds self.now.history) }
         ensures within { length result.now < CALLERS }
     {
-        self.members.as_slice()
+        self.roster.as_slice()
     }
 
     /// The tables.
@@ -261,7 +269,7 @@ impl Core {
         ensures founder { self.new.founder ≡ self.old.founder }
     {
         self.filed.reserve()?;
-        self.members.reserve(1)?;
+        self.roster.reserve()?;
         let Ok(more) = u32::try_from(added_by(deed)) else {
             return Err(AllocError);
         };

@@ -70,7 +70,7 @@ impl Core {
         ensures asked { IfOk result (λ heard. asked_of heard.verb bytes.now ≡ Ok heard.asked) }
         ensures read { IfOk result (λ heard. IsReadAsked heard.asked) }
     {
-        hear(alloc, self.founder(), self.members(), request, bytes)
+        hear(alloc, self.founder(), self.roster(), request, bytes)
     }
 
     /// What becomes of an act that was heard: the reply that is kept for its number, where it was used.

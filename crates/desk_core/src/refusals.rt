@@ -5,8 +5,8 @@ ghost use Rattle.act_model.specs.declared.roster.TheConstants.{CALLERS};
 ghost use Rattle.act_model.specs.Rows.{first_row, unless};
 ghost use Rattle.act_model.specs.Doing.{enrol_rows, row_rows, batch_rows, retract_rows};
 
-use crate::roster::enrolled_as;
-use act_model::{CALLERS, Deed, Key, Member, Refusal, Taken, Thing, accepted_in, faults_in};
+use crate::roster::Roster;
+use act_model::{CALLERS, Deed, Key, Refusal, Taken, Thing, accepted_in, faults_in};
 use item_list::NoMemory;
 use std::alloc::Global;
 use tracklet_file::TrackletFile;
@@ -27,14 +27,14 @@ pub fn unless(refusal: Option<Refusal>, deed: Deed) -> Result<Deed, Refusal>
 
 /// The refusal of an enrolment with this key. The founding officer's key is never tested, since no
 /// enrolment can name it.
-pub fn enrol_refusal(members: &[Member], key: &Key) -> Option<Refusal>
-    requires { length members.now < CALLERS }
-    ensures { result ≡ first_row (enrol_rows (reverse members.now) key.now) }
+pub fn enrol_refusal(roster: &Roster, key: &Key) -> Option<Refusal>
+    requires { length roster.now.items < CALLERS }
+    ensures { result ≡ first_row (enrol_rows (reverse roster.now.items) key.now) }
 {
-    if enrolled_as(members, key).is_some() {
+    if roster.enrolled_as(key).is_some() {
         return Some(Refusal::AlreadyThere);
     }
-    if members.len() as u64 + 1 >= CALLERS {
+    if roster.as_slice().len() as u64 + 1 >= CALLERS {
         return Some(Refusal::RosterFull);
     }
     None

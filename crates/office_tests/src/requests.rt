@@ -279,6 +279,138 @@ const CASES: [Case; 21] = [
     },
 ];
 
+const FIRST: &str = "{\"key\":\"mars-0002\",\"name\":\"Bea\",\"role\":\"officer\"}";
+
+const SECOND: &str = "{\"key\":\"venus-001\",\"name\":\"Cai\",\"role\":\"officer\"}";
+
+/// The key is the front of the first one.
+const THIRD: &str = "{\"key\":\"mars-000\",\"name\":\"Dan\",\"role\":\"officer\"}";
+
+const FOURTH: &str = "{\"key\":\"earth-00001\",\"name\":\"Eve\",\"role\":\"observer\"}";
+
+const MARS: &[u8] = b"mars-000";
+
+const MARS_2: &[u8] = b"mars-0002";
+
+const VENUS: &[u8] = b"venus-001";
+
+/// Each officer enrols the next one, in an order that is not that of their keys; then each asks for the answer to its
+/// own first act. Keys that are a little shorter or longer than one of the roster are nobody's.
+const ROSTER: &[Case] = &[
+    Case {
+        key: FOUNDER,
+        number: 1,
+        verb: Verb::Enrol,
+        body: Some(FIRST),
+        kind: Kind::Ready,
+        text: "receipt 1\ncaller 1\n",
+    },
+    Case {
+        key: MARS_2,
+        number: 1,
+        verb: Verb::Enrol,
+        body: Some(SECOND),
+        kind: Kind::Ready,
+        text: "receipt 2\ncaller 2\n",
+    },
+    Case {
+        key: VENUS,
+        number: 1,
+        verb: Verb::Enrol,
+        body: Some(THIRD),
+        kind: Kind::Ready,
+        text: "receipt 3\ncaller 3\n",
+    },
+    Case {
+        key: MARS,
+        number: 1,
+        verb: Verb::Enrol,
+        body: Some(FOURTH),
+        kind: Kind::Ready,
+        text: "receipt 4\ncaller 4\n",
+    },
+    Case {
+        key: FOUNDER,
+        number: 0,
+        verb: Verb::Receipt,
+        body: Some("1"),
+        kind: Kind::Refused,
+        text: "receipt 1\ncaller 1\n",
+    },
+    Case {
+        key: MARS_2,
+        number: 0,
+        verb: Verb::Receipt,
+        body: Some("1"),
+        kind: Kind::Refused,
+        text: "receipt 2\ncaller 2\n",
+    },
+    Case {
+        key: VENUS,
+        number: 0,
+        verb: Verb::Receipt,
+        body: Some("1"),
+        kind: Kind::Refused,
+        text: "receipt 3\ncaller 3\n",
+    },
+    Case {
+        key: MARS,
+        number: 0,
+        verb: Verb::Receipt,
+        body: Some("1"),
+        kind: Kind::Refused,
+        text: "receipt 4\ncaller 4\n",
+    },
+    Case {
+        key: b"earth-00001",
+        number: 0,
+        verb: Verb::Receipt,
+        body: Some("1"),
+        kind: Kind::Refused,
+        text: "refused 5 UnknownThing receipt 1\n",
+    },
+    Case {
+        key: b"earth-00001",
+        number: 1,
+        verb: Verb::Enrol,
+        body: Some(FIRST),
+        kind: Kind::Refused,
+        text: "refused 4 Role\n",
+    },
+    Case {
+        key: MARS,
+        number: 2,
+        verb: Verb::Enrol,
+        body: Some(FIRST),
+        kind: Kind::Refused,
+        text: "refused 13 AlreadyThere\n",
+    },
+    Case {
+        key: VENUS,
+        number: 2,
+        verb: Verb::Enrol,
+        body: Some(THIRD),
+        kind: Kind::Refused,
+        text: "refused 13 AlreadyThere\n",
+    },
+    Case {
+        key: b"mars-00",
+        number: 0,
+        verb: Verb::Receipt,
+        body: Some("1"),
+        kind: Kind::Refused,
+        text: "refused 2 UnknownKey\n",
+    },
+    Case {
+        key: b"mars-00002",
+        number: 0,
+        verb: Verb::Receipt,
+        body: Some("1"),
+        kind: Kind::Refused,
+        text: "refused 2 UnknownKey\n",
+    },
+];
+
 fn founder() -> Key
     ensures { IsFounder result }
 {
@@ -335,14 +467,19 @@ fn holds(alloc: Global, core: &mut Core, case: &Case) -> Option<bool> {
     Some(kind == case.kind && text.as_slice() == case.text.as_bytes())
 }
 
-/// The first case that is answered otherwise, counted from 0; None where there is none.
-fn wrong_case(alloc: Global, core: &mut Core) -> Option<usize> {
-    for (place, case) in CASES.iter().enumerate() {
+/// The first of these cases that is answered otherwise, counted from 0; None where there is none.
+fn wrong_of(alloc: Global, core: &mut Core, cases: &[Case]) -> Option<usize> {
+    for (place, case) in cases.iter().enumerate() {
         if holds(alloc, core, case) != Some(true) {
             return Some(place);
         }
     }
     None
+}
+
+/// The first case of an office's days that is answered otherwise.
+fn wrong_case(alloc: Global, core: &mut Core) -> Option<usize> {
+    wrong_of(alloc, core, &CASES)
 }
 
 /// The first case that a new office answers otherwise.
@@ -354,6 +491,18 @@ fn wrong_answer(alloc: Global) -> Option<Option<usize>> {
 #[test]
 fn answers_each_kind(rt: HostRuntime) {
     let wrong = wrong_answer(rt.alloc());
+    assert_eq!(rt; wrong, Some(None));
+}
+
+/// The first case of the roster that a new office answers otherwise.
+fn wrong_caller(alloc: Global) -> Option<Option<usize>> {
+    let mut core = office(alloc)?;
+    Some(wrong_of(alloc, &mut core, ROSTER))
+}
+
+#[test]
+fn hears_each_caller(rt: HostRuntime) {
+    let wrong = wrong_caller(rt.alloc());
     assert_eq!(rt; wrong, Some(None));
 }
 

@@ -1,5 +1,5 @@
-use Rattle.std.proofs.Common.{◌≡◌, ℕ, ◌+◌, ◌-◌, ◌≤◌, List, ◌∷◌, length, sym, ap, subst, ◌∙◌}
-use Rattle.std.specs.Prelude.{Option, reverse, unwrap_or, vec_len, vec_capacity}
+use Rattle.std.proofs.Common.{◌≡◌, ℕ, ◌+◌, ◌≤◌, List, ◌∷◌, sym, ap, subst, ◌∙◌}
+use Rattle.std.specs.Prelude.{Option, reverse, unwrap_or}
 use Rattle.act_model.specs.Places.{added_by}
 use Rattle.station_tables.specs.Rows.{TableRows}
 use Rattle.act_model.specs.declared.deed.Deed.{Deed}
@@ -24,15 +24,16 @@ invariant_of-self c =
     let at : IsReadyAt (history_of items) ready = subst (λ (h : List Entry). IsReadyAt h ready) back c.requires.ready in
     let e = c.into_parts-filed.ensures.entry in
     let a = c.into_parts-filed.ensures.kept in
-    let roster = c.enrol.ensures.roster ∙ ap (λ (d : Deed). with_enrolled d (reverse c.self.inside.members.items)) c.into_parts-filed.ensures.deed in
+    let roster = c.enrol.ensures.items ∙ ap (λ (d : Deed). with_enrolled d (reverse c.self.inside.roster.items)) c.into_parts-filed.ensures.deed in
+    let members = members_are items f ready at e a c.self.inside.roster.items c.enrol.new.self.items roster c.self.invariant.1 in
     let past = deeds (history_of items) in
     let deed : c.into_parts-filed.result.2 ≡ ready.deed = c.into_parts-filed.ensures.deed in
     let stands : StandFor (ready.deed ∷ past) c.note.new.self =
     subst (λ (d : Deed). StandFor (d ∷ past) c.note.new.self) deed (c.note.ensures.stand past c.self.invariant.4 c.self.invariant.5) in
     rw c.push.ensures.items (
       answered items f ready at e a c.self.invariant.0,
-      members_are items f ready at e a c.self.inside.members.items c.enrol.new.members.items roster c.self.invariant.1,
-      members_within items f ready at e a c.self.inside.members.items (vec_len c.enrol.new.members) (c.enrol.ensures.count ∙ ap (λ (d : Deed). length (with_enrolled d (reverse c.self.inside.members.items))) c.into_parts-filed.ensures.deed) c.self.invariant.1,
+      members,
+      members_within items f ready at e a c.enrol.new.self.items members,
       tables_are items f ready at e a c.self.inside.tables c.replace.new.tables (c.replace.ensures ∙ ap (λ (t : Option TableRows). unwrap_or t c.self.inside.tables) c.into_parts-filed.ensures.tables) c.self.invariant.3,
       held_are items f ready at e a c.next_receipt-receipt.result (held_in c.self.inside.file) (held_in c.hold.new.file)
           (c.hold.ensures.held ∙ ap (λ (d : Deed). with_deed c.next_receipt-receipt.result d (held_in c.self.inside.file)) c.into_parts-filed.ensures.deed)
@@ -49,17 +50,15 @@ returns-clause-used c =
     let held = c.hold.new.file in
     subst (λ (r : Room). UsesRoom c.args.prepared.deed r (record {
       entries = c.push.new.self.room;
-      callers = vec_capacity c.enrol.new.members - vec_len c.enrol.new.members;
+      callers = c.enrol.new.self.room;
       observations = held.observation_room;
       tracklets = held.tracklet_room;
       takes = c.note.new.self.take_room;
       links = c.note.new.self.link_room;
       register = c.note.new.self.register_room;
     })) (ap (λ (o : Office). o.spare) c.self.view_is)
-    (used c.args.prepared.deed c.self.inside.filed.room c.push.new.self.room c.push.ensures.room
-    (vec_capacity c.self.inside.members) (vec_capacity c.enrol.new.members) (vec_len c.self.inside.members) (vec_len c.enrol.new.members)
+    (used c.args.prepared.deed c.self.inside.filed.room c.push.new.self.room c.self.inside.roster.room c.enrol.new.self.room c.push.ensures.room c.enrol.ensures.room
     file.observation_room held.observation_room file.tracklet_room held.tracklet_room
     c.self.inside.objects c.note.new.self (subst (λ (d : Deed). UsesObjects d c.self.inside.objects c.note.new.self) deed c.note.ensures.used)
-    c.enrol.ensures.room c.enrol.ensures.no_fewer c.enrol.ensures.one_more
     (subst (λ (d : Deed). file.observation_room ≤ held.observation_room + added_by d) deed c.hold.ensures.observations)
     (subst (λ (d : Deed). file.tracklet_room ≤ held.tracklet_room + added_by d) deed c.hold.ensures.tracklets))
