@@ -8,7 +8,6 @@ mod groups;
 mod judging;
 mod keys;
 mod names;
-mod numbers;
 mod places;
 mod rules;
 mod rulings;
