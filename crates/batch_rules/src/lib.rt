@@ -5,6 +5,8 @@
 mod checking;
 mod earlier;
 mod groups;
+mod in_order;
+mod indexed;
 mod judging;
 mod keys;
 mod names;

@@ -6,8 +6,8 @@ use Rattle.batch_rules.proofs.Beside.{beside_rows}
 use Rattle.batch_rules.proofs.rules.line_fault.Goals as goal
 
 pub returns-in-Some : goal.returns-in-Some
-returns-in-Some g c =
+returns-in-Some g c earlier is =
     let office = g.V.Known.office c.args.known.now in
-    let told = beside_rows (stands_already office c.args.earlier.now c.args.s.now) (stands_elsewhere c.args.earlier.now c.args.s.now) c.broken_beside.result
-    (first_row ((is_of_two_objects office c.args.s.now, B9) ∷ [])) c.in-Some.rule c.broken_beside.ensures c.in-Some.is in
+    let told = beside_rows (stands_already office earlier c.args.s.now) (stands_elsewhere earlier c.args.s.now) c.broken_beside.result
+    (first_row ((is_of_two_objects office c.args.s.now, B9) ∷ [])) c.in-Some.rule (c.broken_beside.ensures earlier is) c.in-Some.is in
     first_of (search (rules, told), grind (arith, told))
