@@ -61,11 +61,7 @@ fn ruled(
 
 // The ruling on a line, which stands whatever lines come after it. The group of an accepted one is added to those that
 // have one.
-fn ruling(
-    groups: &Groups,
-    firsts: &mut IndexSet<GroupKey>,
-    line: &Line,
-) -> Result<Ruling, NoMemory>
+fn ruling(groups: &Groups, firsts: &mut IndexSet<GroupKey>, line: &Line) -> Result<Ruling, NoMemory>
     ensures keys { OnOk result ((later : List Line) →
         keys_after (λ (key : Key). get same_key groups.now key) firsts.new.keys later
         ≡ keys_after (λ (key : Key). get same_key groups.now key) firsts.old.keys (line.now ∷ later)) }

@@ -33,9 +33,9 @@ returns-clause-rulings g c =
     c.in_ok-checked.ensures ∙ ap (checked_lines office c.args.tables.now c.args.moment []) c.as_slice.ensures in
     let passed_is : c.in_ok-passed.passed.items ≡ passed_in checked = c.in_ok-passed.ensures ∙ ap passed_in c.as_slice-2.ensures.value in
     IfOk-weaker c.rulings.result _ _ (λ judged is.
-      is ∙ ap (λ (lines : List Line). map (ruling_by found (keys_after found [] lines)) lines) c.as_slice-4.ensures.value
-      ∙ rulings_told found checked (λ s. c.in_ok-summed.ensures s ∙ ap (λ (xs : List Sighting). group_fault xs s) (c.as_slice-3.ensures.value ∙ passed_is))
-      ∙ ap rulings_among checked_is) c.rulings.ensures.list
+    is ∙ ap (λ (lines : List Line). map (ruling_by found (keys_after found [] lines)) lines) c.as_slice-4.ensures.value
+    ∙ rulings_told found checked (λ s. c.in_ok-summed.ensures s ∙ ap (λ (xs : List Sighting). group_fault xs s) (c.as_slice-3.ensures.value ∙ passed_is))
+    ∙ ap rulings_among checked_is) c.rulings.ensures.list
 
 pub returns-clause-groups : goal.returns-clause-groups
 returns-clause-groups g c =
@@ -46,6 +46,6 @@ returns-clause-groups g c =
     c.in_ok-checked.ensures ∙ ap (checked_lines office c.args.tables.now c.args.moment []) c.as_slice.ensures in
     let passed_is : c.in_ok-passed.passed.items ≡ passed_in checked = c.in_ok-passed.ensures ∙ ap passed_in c.as_slice-2.ensures.value in
     IfOk-weaker c.rulings.result _ _ (λ judged is.
-      is ∙ ap (λ (lines : List Line). length (keys_after found [] lines)) c.as_slice-4.ensures.value
-      ∙ groups_told found checked (λ s. c.in_ok-summed.ensures s ∙ ap (λ (xs : List Sighting). group_fault xs s) (c.as_slice-3.ensures.value ∙ passed_is))
-      ∙ ap (λ (lines : List Line). length (firsts_of (passed_in lines))) checked_is) c.rulings.ensures.groups
+    is ∙ ap (λ (lines : List Line). length (keys_after found [] lines)) c.as_slice-4.ensures.value
+    ∙ groups_told found checked (λ s. c.in_ok-summed.ensures s ∙ ap (λ (xs : List Sighting). group_fault xs s) (c.as_slice-3.ensures.value ∙ passed_is))
+    ∙ ap (λ (lines : List Line). length (firsts_of (passed_in lines))) checked_is) c.rulings.ensures.groups

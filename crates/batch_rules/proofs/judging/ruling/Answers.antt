@@ -12,8 +12,8 @@ pub returns-clause-ruling : goal.returns-clause-ruling
 returns-clause-ruling c later =
     let found = λ (key : GroupKey). get same_key c.args.groups.now key in
     elim c.match-line.branch [
-      in-Ok+in_ok-ruled-in-Ok w ↦ ap (λ (told : Option RuleCode × ℕ). ruling c.args.line.now.number told.0 told.1) w.fault-is
-          ∙ ruling_more found c.args.firsts.now.keys c.match-line.firsts.keys c.args.line.now w.in-Ok.s later w.in_ok-ruled-in-Ok.field-0 w.in-Ok.is w.in_ok-ruled-in-Ok.ensures.fault
+      | in-Ok+in_ok-ruled-in-Ok w ↦ ap (λ (told : Option RuleCode × ℕ). ruling c.args.line.now.number told.0 told.1) w.fault-is
+          ∙ ruling_more found c.args.firsts.now.keys c.match-line.firsts.keys c.args.line.now w.in-Ok.s later (w.in_ok-ruled-in-Ok.fault, w.in_ok-ruled-in-Ok.group) w.in-Ok.is w.in_ok-ruled-in-Ok.ensures.fault
           (ap (λ firsts. firsts.keys) w.firsts-is ∙ w.in_ok-ruled-in-Ok.ensures.keys) w.in_ok-ruled-in-Ok.ensures.place
       | in-Err w ↦ ap (λ (told : Option RuleCode × ℕ). ruling c.args.line.now.number told.0 told.1) w.fault-is ∙ ruling_still found _ c.args.line.now w.in-Err.rule w.in-Err.is
     ]
