@@ -103,6 +103,13 @@ beside_rows true other broken rest rule told is = sym is ∙ told
 beside_rows false true broken rest rule told is = sym is ∙ told
 beside_rows false false broken rest rule told is = absurd (cc)
 
+-- where neither of the two is broken, the rules after them decide
+pub beside_none : (already other : Bool) (broken rest : Option RuleCode) → broken ≡ cond already (Some B4) (cond other (Some B5) None) → broken ≡ None
+    → rest ≡ cond already (Some B4) (cond other (Some B5) rest)
+beside_none true other broken rest told is = absurd cc
+beside_none false true broken rest told is = absurd cc
+beside_none false false broken rest told is = refl
+
 -- one more observation is found, or what was found before it
 pub more_told : (now same was here : Bool) → now ≡ cond same true was → was ≡ here → now ≡ same || here
 more_told now true was here told before = told

@@ -92,11 +92,7 @@ fn names_ungiven<V: Known>(known: &V, s: &Sighting) -> bool
 
 // The rule that an observation breaks beside a live one, or beside the earlier ones of its batch, by the one that it
 // breaks beside these.
-fn broken_beside<V: Known>(
-    known: &V,
-    beside: Option<RuleCode>,
-    s: &Sighting,
-) -> Option<RuleCode>
+fn broken_beside<V: Known>(known: &V, beside: Option<RuleCode>, s: &Sighting) -> Option<RuleCode>
     ensures { (earlier : List Sighting) → beside ≡ rule_beside earlier s.now → result ≡ first_row
         ((stands_already (V.office known.now) earlier s.now, B4) ∷ (stands_elsewhere earlier s.now, B5) ∷ []) }
 {

@@ -1,4 +1,4 @@
-use Rattle.std.proofs.Common.{◌≡◌, ◌<ℤ◌, subst, arith}
+use Rattle.std.proofs.Common.{◌<ℤ◌, subst, arith}
 use Rattle.std.proofs.lemmas.Int.{ints}
 use Rattle.batch_rules.specs.PlaceTests.{AreUpTo}
 use Rattle.batch_rules.proofs.Beside.{none_beside}

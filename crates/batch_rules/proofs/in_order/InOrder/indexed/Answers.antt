@@ -1,4 +1,4 @@
-use Rattle.std.proofs.Common.{◌≡◌, ◌+◌, ◌∷◌, List, take, ap, sym, ◌∙◌, arith}
+use Rattle.std.proofs.Common.{◌∷◌, List, take, ap, sym, ◌∙◌, arith}
 use Rattle.std.specs.Prelude.{reverse}
 use Rattle.std.proofs.lemmas.List.{take_all}
 use Rattle.obs_record.specs.declared.sighting.Sighting.{Sighting}
@@ -9,7 +9,7 @@ pub loop-s-preserved : goal.loop-s-preserved
 loop-s-preserved c =
     let xs = c.deref-s-items.result.now in
     let shape = turned_more xs c.loop-s.s-index c.s-item.result (omega arith) ∙ ap (λ (y : Sighting). y ∷ reverse (take c.loop-s.s-index xs)) (sym c.s-item.is) in
-    c.in_ok-with.ensures ∙ ap (λ (ys : List Sighting). c.s-item.result ∷ ys) c.loop-s.invariant ∙ sym shape
+    c.in_ok-indexed.ensures ∙ ap (λ (ys : List Sighting). c.s-item.result ∷ ys) c.loop-s.invariant ∙ sym shape
 
 pub returns : goal.returns
 returns c =
