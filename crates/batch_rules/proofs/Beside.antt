@@ -1,9 +1,11 @@
 -- Keys of places and of moments tell which rules an observation breaks beside earlier ones.
-use Rattle.std.proofs.Common.{◌≡◌, Bool, true, false, not, ◌&&◌, ◌||◌, cond, List, [], ◌∷◌, Option, Some, None, refl, ap, sym, ◌∙◌, true≢false}
+use Rattle.std.proofs.Common.{◌≡◌, ℤ, ◌≤ℤ◌, ◌<ℤ◌, Bool, true, false, not, ◌&&◌, ◌||◌, cond, List, [], ◌∷◌, Option, Some, None, refl, ap, sym, ◌∙◌, true≢false, arith}
 use Rattle.std.specs.Prelude.{◌==◌}
 use Rattle.std.specs.List.{list_any}
 use Rattle.std.specs.Str.{bytes_eq}
 use Rattle.std.specs.Ordering.{int_eq}
+use Rattle.std.proofs.lemmas.Int.{ints}
+use Rattle.std.proofs.lemmas.Bool.Decides.{Decides-int_eq}
 use Rattle.obs_record.specs.declared.sighting.Sighting.{Sighting}
 use Rattle.obs_record.specs.declared.rule.RuleCode.{RuleCode}
 use Rattle.obs_record.specs.declared.rule.RuleCode.TheVariants.{B4, B5}
@@ -11,7 +13,7 @@ use Rattle.tracklet_file.specs.Observations.{same_station, is_at}
 use Rattle.act_model.specs.Rows.{first_row}
 use Rattle.act_model.specs.BatchRules.{name_of, same_track, is_elsewhere, stands_elsewhere}
 use Rattle.batch_rules.specs.Places.{place_key, moment_key}
-use Rattle.batch_rules.specs.PlaceTests.{same_place, same_moment, has_place, has_moment}
+use Rattle.batch_rules.specs.PlaceTests.{same_place, same_moment, has_place, has_moment, AreUpTo, rule_beside}
 use Rattle.batch_rules.proofs.Any.{IsIn, each_in, any_same, none_in}
 use Rattle.batch_rules.proofs.KeyLemmas.{same_keys}
 
@@ -44,6 +46,46 @@ moments_told s earlier none = any_same (λ other. same_moment (moment_key other)
         ap (λ (b : Bool). b && int_eq other.time s.time) (same_keys other s)
         ∙ elsewhere (same_track (name_of other) (name_of s)) (same_station other.station s.station) (int_eq other.time s.time) ((other.ra == s.ra) && int_eq other.dec s.dec) (none_in (is_at s.station s.time s.ra s.dec) earlier none other there)
 
+-- ---- observations that come in the order of their times
+
+pub up_to_more : (time later : ℤ) (earlier : List Sighting) → time ≤ℤ later → AreUpTo time earlier → AreUpTo later earlier
+up_to_more time later [] more up = tt
+up_to_more time later (s ∷ earlier) more up = (omega (arith, ints, up.0), up_to_more time later earlier more up.1)
+
+module _ (time : ℤ) (s : Sighting) (later : time <ℤ s.time) where
+  other_time : (t : ℤ) → t ≤ℤ time → int_eq t s.time ≡ false
+  other_time t low = by (int_eq t s.time) refl
+    where
+      by : (b : Bool) → int_eq t s.time ≡ b → b ≡ false
+      by false is = refl
+      by true is =
+          let same : t ≡ s.time = (Decides-int_eq t s.time).0 is in
+          absurd (omega (arith, ints))
+
+  none_then : (p : Sighting → Bool) (earlier : List Sighting) → ((o : Sighting) → int_eq o.time s.time ≡ false → p o ≡ false) → AreUpTo time earlier → list_any p earlier ≡ false
+  none_then p [] fails up = refl
+  none_then p (o ∷ earlier) fails up = ap (λ (b : Bool). b || list_any p earlier) (fails o (other_time o.time up.0)) ∙ none_then p earlier fails up.1
+
+  not_both : (a b : Bool) → a && (false && b) ≡ false
+  not_both true b = refl
+  not_both false b = refl
+
+  -- one that is later than all others breaks no rule beside them
+  pub none_beside : (earlier : List Sighting) → AreUpTo time earlier → rule_beside earlier s ≡ None
+  none_beside earlier up =
+      ap (λ (b : Bool). cond b (Some B4) (cond (stands_elsewhere earlier s) (Some B5) None)) (none_then (is_at s.station s.time s.ra s.dec) earlier at up)
+      ∙ ap (λ (b : Bool). cond b (Some B5) None) (none_then (is_elsewhere s) earlier elsewhere_then up)
+    where
+      at : (o : Sighting) → int_eq o.time s.time ≡ false → is_at s.station s.time s.ra s.dec o ≡ false
+      at o differs =
+          ap (λ (b : Bool). same_station o.station s.station && (b && ((o.ra == s.ra) && int_eq o.dec s.dec))) differs
+          ∙ not_both (same_station o.station s.station) ((o.ra == s.ra) && int_eq o.dec s.dec)
+
+      elsewhere_then : (o : Sighting) → int_eq o.time s.time ≡ false → is_elsewhere s o ≡ false
+      elsewhere_then o differs =
+          ap (λ (b : Bool). same_station o.station s.station && (b && (same_track (name_of o) (name_of s) && not ((o.ra == s.ra) && int_eq o.dec s.dec)))) differs
+          ∙ not_both (same_station o.station s.station) (same_track (name_of o) (name_of s) && not ((o.ra == s.ra) && int_eq o.dec s.dec))
+
 -- the rules that are broken, by the keys
 pub broken_told : (s : Sighting) (earlier : List Sighting) (place moment : Bool) → place ≡ has_place earlier s → moment ≡ has_moment earlier s
     → first_row ((place, B4) ∷ (moment, B5) ∷ []) ≡ first_row ((list_any (is_at s.station s.time s.ra s.dec) earlier, B4) ∷ (stands_elsewhere earlier s, B5) ∷ [])
@@ -60,6 +102,13 @@ pub beside_rows : (already other : Bool) (broken rest : Option RuleCode) (rule :
 beside_rows true other broken rest rule told is = sym is ∙ told
 beside_rows false true broken rest rule told is = sym is ∙ told
 beside_rows false false broken rest rule told is = absurd (cc)
+
+-- where neither of the two is broken, the rules after them decide
+pub beside_none : (already other : Bool) (broken rest : Option RuleCode) → broken ≡ cond already (Some B4) (cond other (Some B5) None) → broken ≡ None
+    → rest ≡ cond already (Some B4) (cond other (Some B5) rest)
+beside_none true other broken rest told is = absurd cc
+beside_none false true broken rest told is = absurd cc
+beside_none false false broken rest told is = refl
 
 -- one more observation is found, or what was found before it
 pub more_told : (now same was here : Bool) → now ≡ cond same true was → was ≡ here → now ≡ same || here

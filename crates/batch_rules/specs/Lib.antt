@@ -2,6 +2,7 @@ pub mod Groups
 pub mod KeyTests
 pub mod Places
 pub mod PlaceTests
+pub mod Earlier
 pub mod Numbers
 pub mod Rulings
 pub mod Memory

@@ -1,13 +1,19 @@
 -- Rulings by what was found of groups.
-use Rattle.std.specs.Prelude.{ℕ, List, Option, None, unwrap_or, position, Result, Ok}
+use Rattle.std.specs.Prelude.{ℕ, List, map, Option, None, unwrap_or, position, Result, Ok}
+use Rattle.indexmap.specs.IndexSet.{insert_all}
 use Rattle.obs_record.specs.declared.line.Line.{Line}
 use Rattle.obs_record.specs.declared.sighting.Sighting.{Sighting}
 use Rattle.obs_record.specs.declared.rule.RuleCode.{RuleCode}
 use Rattle.act_model.specs.declared.ruling.Ruling.{Ruling}
+use Rattle.act_model.specs.BatchRules.{passed_in}
 use Rattle.batch_rules.specs.declared.keys.GroupKey.{GroupKey}
 use Rattle.batch_rules.specs.declared.groups.Summary.{Summary}
 use Rattle.batch_rules.specs.KeyTests.{same_key}
-use Rattle.batch_rules.specs.Groups.{group_key, reading_by}
+use Rattle.batch_rules.specs.Groups.{group_key, reading_by, accepted_by}
+
+-- these keys of groups, and after them those of the accepted ones of these lines, each once
+abbrev pub keys_after : (GroupKey → Option Summary) → List GroupKey → List Line → List GroupKey
+keys_after found keys lines = insert_all same_key keys (map group_key (accepted_by found (passed_in lines)))
 
 -- the place of an accepted observation's group among the keys of groups
 abbrev pub number_by : List GroupKey → Option RuleCode → Result Sighting RuleCode → ℕ

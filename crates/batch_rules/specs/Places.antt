@@ -6,7 +6,14 @@ use Rattle.batch_rules.specs.Groups.{group_key}
 
 -- the key of an observation's station, time and position
 abbrev pub place_key : Sighting → PlaceKey
-place_key s = record { len = s.station.len; bytes = record { bytes = s.station.bytes }; time = s.time; ra = s.ra; dec = s.dec }
+place_key s =
+    record {
+      len = s.station.len;
+      bytes = record { bytes = s.station.bytes };
+      time = s.time;
+      ra = s.ra;
+      dec = s.dec;
+    }
 
 -- the key of an observation's group and time
 abbrev pub moment_key : Sighting → MomentKey

@@ -3,6 +3,7 @@
 ghost use Rattle.std.specs.Prelude.{◌≡◌, [], ◌++◌, IfOk, OnOk, option_to_list};
 ghost use Rattle.std.specs.Result.{result_ok};
 ghost use Rattle.act_model.specs.BatchRules.{checked_reading, with_passed, checked_lines, passed_in, unless_broken};
+ghost use Rattle.batch_rules.specs.Earlier.{earlier_of};
 
 use crate::earlier::Earlier;
 use crate::rules::line_fault;
@@ -13,38 +14,42 @@ use obs_time::Instant;
 use station_tables::Tables;
 use std::alloc::Global;
 
-// The observation, or the rule that it breaks.
-fn unless_broken(s: Sighting, fault: Option<RuleCode>) -> Result<Sighting, RuleCode>
-    ensures { result ≡ unless_broken s fault }
-{
-    match fault {
-        None => Ok(s),
-        Some(rule) => Err(rule),
-    }
-}
-
+// A line's reading, or the rule that it breaks by itself or beside the earlier ones; and the earlier ones of the lines
+// after it.
 #[tactic(auto, unfolding(act_model::specs::BatchRules::checked_reading))]
 fn checked_reading<V: Known>(
     tables: &Tables,
     known: &V,
     moment: Instant,
-    earlier: &Earlier,
+    earlier: Earlier,
     read: &Result<Sighting, RuleCode>,
-) -> Result<Sighting, RuleCode>
-    ensures { result ≡ checked_reading (V.office known.now) tables.now moment earlier.now read.now }
+) -> Result<(Result<Sighting, RuleCode>, Earlier), NoMemory>
+    ensures read { IfOk result (λ checked.
+        checked.0 ≡ checked_reading (V.office known.now) tables.now moment (earlier_of earlier) read.now) }
+    ensures earlier { IfOk result (λ checked. earlier_of checked.1 ≡ with_passed checked.0 (earlier_of earlier)) }
 {
     match read {
-        Ok(s) => unless_broken(*s, line_fault(tables, known, moment, earlier, s)),
-        Err(rule) => Err(*rule),
+        Ok(s) => {
+            let (beside, earlier) = earlier.beside(s)?;
+            let fault = line_fault(tables, known, moment, beside, s);
+            with_fault(earlier, s, fault)
+        }
+        Err(rule) => Ok((Err(*rule), earlier)),
     }
 }
 
-fn with_passed(earlier: Earlier, read: &Result<Sighting, RuleCode>) -> Result<Earlier, NoMemory>
-    ensures { IfOk result (λ more. more ≡ with_passed read.now earlier) }
+// The observation, or the rule that it breaks; and the earlier ones of the lines after it.
+fn with_fault(
+    earlier: Earlier,
+    s: &Sighting,
+    fault: Option<RuleCode>,
+) -> Result<(Result<Sighting, RuleCode>, Earlier), NoMemory>
+    ensures read { IfOk result (λ checked. checked.0 ≡ unless_broken s.now fault) }
+    ensures earlier { IfOk result (λ checked. earlier_of checked.1 ≡ with_passed checked.0 (earlier_of earlier)) }
 {
-    match read {
-        Ok(s) => earlier.with(*s),
-        Err(_) => Ok(earlier),
+    match fault {
+        None => Ok((Ok(*s), earlier.with(*s)?)),
+        Some(rule) => Ok((Err(rule), earlier)),
     }
 }
 
@@ -62,8 +67,8 @@ pub(crate) fn checked_lines<V: Known>(
     let mut earlier = Earlier::new(alloc);
     let mut checked = Vec::with_capacity(alloc, lines.len())?;
     for line in lines {
-        let read = checked_reading(tables, known, moment, &earlier, &line.read);
-        earlier = with_passed(earlier, &read)?;
+        let (read, more) = checked_reading(tables, known, moment, earlier, &line.read)?;
+        earlier = more;
         checked.push(Line {
             number: line.number,
             read,

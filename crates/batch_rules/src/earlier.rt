@@ -1,88 +1,63 @@
 //! The earlier lines of a batch that a line is judged beside.
 
 ghost use Rattle.std.specs.Prelude.{◌≡◌, ◌∷◌, [], IfOk};
-ghost use Rattle.std.specs.List.{list_any};
-ghost use Rattle.obs_record.specs.declared.rule.RuleCode.TheVariants.{B4, B5};
-ghost use Rattle.tracklet_file.specs.Observations.{is_at};
-ghost use Rattle.act_model.specs.Rows.{first_row};
-ghost use Rattle.act_model.specs.BatchRules.{stands_elsewhere};
+ghost use Rattle.batch_rules.specs.PlaceTests.{rule_beside};
+ghost use Rattle.batch_rules.specs.Earlier.{earlier_of};
 
-use crate::places::{MomentKey, PlaceKey, moment_key, place_key};
-use indexmap::IndexSet;
+use crate::in_order::InOrder;
+use crate::indexed::Indexed;
 use item_list::NoMemory;
 use obs_record::{RuleCode, Sighting};
 use std::alloc::Global;
-use std::marker::Model;
 
-/// Observations of earlier lines, the newest first, found by their places and by their groups and times.
+/// Observations of earlier lines, the newest first. They are indexed when the first line comes that isn't later than all
+/// of them, so that lines in the order of their times are never searched.
 #[derive(Drop)]
-pub(crate) struct Earlier {
-    passed: Vec<Sighting>,
-    places: IndexSet<PlaceKey>,
-    moments: IndexSet<MomentKey>,
+pub(crate) enum Earlier {
+    InOrder(InOrder),
+    Indexed(Indexed),
 }
 
-impl Model for Earlier {
-    ghost use Rattle.std.specs.Prelude.{◌≡◌, List, reverse};
-    ghost use Rattle.indexmap.specs.IndexSet.{contains};
-    ghost use Rattle.obs_record.specs.declared.sighting.Sighting.{Sighting};
-    ghost use Rattle.batch_rules.specs.Places.{place_key, moment_key};
-    ghost use Rattle.batch_rules.specs.PlaceTests.{same_place, same_moment, has_place, has_moment};
-
-    ghost Value = { List Sighting };
-
-    ghost view = { λ e. reverse e.passed.items };
-
-    ghost invariant = { λ e.
-        ((s : Sighting) → contains same_place e.places (place_key s) ≡ has_place (reverse e.passed.items) s)
-        × ((s : Sighting) → contains same_moment e.moments (moment_key s) ≡ has_moment (reverse e.passed.items) s) };
+// The rule that an observation breaks beside indexed ones, and these.
+fn searched(earlier: Indexed, s: &Sighting) -> (Option<RuleCode>, Earlier)
+    ensures rule { result.0 ≡ rule_beside earlier s.now }
+    ensures same { earlier_of result.1 ≡ earlier }
+{
+    (earlier.broken_by(s), Earlier::Indexed(earlier))
 }
 
 impl Earlier {
     /// None yet.
     pub(crate) fn new(alloc: Global) -> Earlier
-        ensures { result ≡ [] }
+        ensures { earlier_of result ≡ [] }
     {
-        Earlier {
-            passed: Vec::new(alloc),
-            places: IndexSet::new(alloc),
-            moments: IndexSet::new(alloc),
-        }
+        Earlier::InOrder(InOrder::new(alloc))
     }
 
-    /// The rule that an observation breaks beside them: B4 where one of them has its station, time and position, B5
-    /// where one of them has its station, time and name, and another position.
-    pub(crate) fn broken_by(&self, s: &Sighting) -> Option<RuleCode>
-        ensures { result ≡ first_row
-            ((list_any (is_at s.now.station s.now.time s.now.ra s.now.dec) self.now, B4)
-            ∷ (stands_elsewhere self.now s.now, B5) ∷ []) }
+    /// The rule that an observation breaks beside them, and these, which are indexed where it isn't later than all of
+    /// them.
+    pub(crate) fn beside(self, s: &Sighting) -> Result<(Option<RuleCode>, Earlier), NoMemory>
+        ensures rule { IfOk result (λ told. told.0 ≡ rule_beside (earlier_of self) s.now) }
+        ensures same { IfOk result (λ told. earlier_of told.1 ≡ earlier_of self) }
     {
-        if self.places.contains(&place_key(s)) {
-            return Some(RuleCode::B4);
+        match self {
+            Earlier::Indexed(earlier) => Ok(searched(earlier, s)),
+            Earlier::InOrder(earlier) => {
+                if earlier.are_before(s) {
+                    return Ok((None, Earlier::InOrder(earlier)));
+                }
+                Ok(searched(earlier.indexed()?, s))
+            }
         }
-        // None of them has its position, so that one of its name at its time has another one.
-        if self.moments.contains(&moment_key(s)) {
-            return Some(RuleCode::B5);
-        }
-        None
     }
 
     /// One more, the newest.
     pub(crate) fn with(self, s: Sighting) -> Result<Earlier, NoMemory>
-        ensures { IfOk result (λ more. more ≡ s ∷ self) }
+        ensures { IfOk result (λ more. earlier_of more ≡ s ∷ earlier_of self) }
     {
-        let Earlier {
-            mut passed,
-            mut places,
-            mut moments,
-        } = self;
-        places.insert(place_key(&s))?;
-        moments.insert(moment_key(&s))?;
-        passed.push(s)?;
-        Ok(Earlier {
-            passed,
-            places,
-            moments,
-        })
+        match self {
+            Earlier::InOrder(earlier) => Ok(Earlier::InOrder(earlier.with(s)?)),
+            Earlier::Indexed(earlier) => Ok(Earlier::Indexed(earlier.with(s)?)),
+        }
     }
 }

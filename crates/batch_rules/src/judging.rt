@@ -1,17 +1,19 @@
 //! The rulings on the lines of a batch.
 
-ghost use Rattle.std.specs.Prelude.{◌≡◌, ◌++◌, ◌∷◌, [], if◌then◌else◌, is_none, map, length, IfOk, OnOk};
+ghost use Rattle.std.specs.Prelude.{◌≡◌, ◌∷◌, [], List, if◌then◌else◌, is_none, map, length, IfOk, OnOk};
+ghost use Rattle.std.specs.List.{position_or_len};
 ghost use Rattle.indexmap.specs.IndexMap.{get};
+ghost use Rattle.indexmap.specs.IndexSet.{insert_key};
+ghost use Rattle.obs_record.specs.declared.line.Line.{Line as Line};
 ghost use Rattle.batch_rules.specs.declared.keys.GroupKey.{GroupKey as Key};
 ghost use Rattle.batch_rules.specs.KeyTests.{same_key};
-ghost use Rattle.batch_rules.specs.Groups.{group_key, fault_by, reading_by, accepted_by};
-ghost use Rattle.batch_rules.specs.Numbers.{number_by, ruling_by};
+ghost use Rattle.batch_rules.specs.Groups.{group_key, fault_by};
+ghost use Rattle.batch_rules.specs.Numbers.{keys_after, ruling_by};
 ghost use Rattle.act_model.specs.BatchRules.{batch_rulings, groups_of};
 
 use crate::checking::{checked_lines, passed_in};
 use crate::groups::{Summary, fault_by, summaries};
 use crate::keys::{GroupKey, group_key};
-use crate::numbers::firsts;
 use crate::rulings::Rulings;
 use act_model::{Known, Ruling};
 use indexmap::{IndexMap, IndexSet};
@@ -24,100 +26,58 @@ use std::alloc::{AllocError, Global};
 /// The summaries of groups.
 type Groups = IndexMap<GroupKey, Summary>;
 
-// The rule that an observation breaks with its group.
-fn fault_in(groups: &Groups, s: &Sighting) -> Option<RuleCode>
-    ensures { result ≡ fault_by (get same_key groups.now (group_key s.now)) s.now }
+// The place of a group among those that have an accepted line, to which it is added where it is new. More places than a
+// number has are a want of memory: no memory holds so many.
+fn placed(firsts: &mut IndexSet<GroupKey>, key: GroupKey) -> Result<u32, NoMemory>
+    ensures keys { OnOk result (firsts.new.keys ≡ insert_key same_key firsts.old.keys key) }
+    ensures place { IfOk result (λ place. place ≡ position_or_len (same_key key) firsts.old.keys) }
 {
-    fault_by(groups.get(&group_key(s)).copied(), s)
-}
-
-// The first rule that a line breaks.
-fn reading_fault(groups: &Groups, read: &Result<Sighting, RuleCode>) -> Option<RuleCode>
-    ensures { result ≡ reading_by (λ (key : Key). get same_key groups.now key) read.now }
-{
-    match read {
-        Ok(s) => fault_in(groups, s),
-        Err(rule) => Some(*rule),
+    let (place, _is_new) = firsts.insert_full(key)?;
+    if place > u32::MAX as usize {
+        return Err(AllocError);
     }
+    Ok(place as u32)
 }
 
-fn push_if(
-    accepted: &mut Vec<Sighting>,
-    s: &Sighting,
-    fault: Option<RuleCode>,
-) -> Result<(), NoMemory>
-    ensures { OnOk result (accepted.new.items ≡ accepted.old.items ++ (if is_none fault then s.now ∷ [] else [])) }
-{
-    match fault {
-        None => {
-            accepted.push(*s)?;
-            Ok(())
-        }
-        Some(_) => Ok(()),
-    }
-}
-
-// The observations that break no rule.
-fn accepted_among(
-    alloc: Global,
+// The rule that an observation breaks with its group, and the group's place where it breaks none.
+fn ruled(
     groups: &Groups,
-    passed: &[Sighting],
-) -> Result<Vec<Sighting>, NoMemory>
-    ensures { IfOk result (λ accepted.
-        accepted.items ≡ accepted_by (λ (key : Key). get same_key groups.now key) passed.now) }
+    firsts: &mut IndexSet<GroupKey>,
+    s: &Sighting,
+) -> Result<(Option<RuleCode>, u32), NoMemory>
+    ensures fault { IfOk result (λ ruled. ruled.0 ≡ fault_by (get same_key groups.now (group_key s.now)) s.now) }
+    ensures keys { IfOk result (λ ruled. firsts.new.keys ≡
+        (if is_none ruled.0 then insert_key same_key firsts.old.keys (group_key s.now) else firsts.old.keys)) }
+    ensures place { IfOk result (λ ruled. ruled.1 ≡
+        (if is_none ruled.0 then position_or_len (same_key (group_key s.now)) firsts.old.keys else 0)) }
 {
-    let mut accepted = Vec::new(alloc);
-    for s in passed {
-        push_if(&mut accepted, s, fault_in(groups, s))?;
-    }
-    Ok(accepted)
-}
-
-// The place of an accepted line's group. More places than a number has are a want of memory: no memory holds so many.
-fn number(
-    firsts: &IndexSet<GroupKey>,
-    fault: Option<RuleCode>,
-    read: &Result<Sighting, RuleCode>,
-) -> Result<u32, NoMemory>
-    ensures { IfOk result (λ number. number ≡ number_by firsts.now.keys fault read.now) }
-{
-    match (fault, read) {
-        (None, Ok(s)) => match firsts.get_index_of(&group_key(s)) {
-            None => Ok(0),
-            Some(place) if place <= u32::MAX as usize => Ok(place as u32),
-            Some(_) => Err(AllocError),
-        },
-        _ => Ok(0),
+    let key = group_key(s);
+    let fault = fault_by(groups.get(&key).copied(), s);
+    match fault {
+        None => Ok((None, placed(firsts, key)?)),
+        Some(rule) => Ok((Some(rule), 0)),
     }
 }
 
-fn ruling(groups: &Groups, firsts: &IndexSet<GroupKey>, line: &Line) -> Result<Ruling, NoMemory>
-    ensures { IfOk result (λ ruling.
-        ruling ≡ ruling_by (λ (key : Key). get same_key groups.now key) firsts.now.keys line.now) }
+// The ruling on a line, which stands whatever lines come after it. The group of an accepted one is added to those that
+// have one.
+fn ruling(groups: &Groups, firsts: &mut IndexSet<GroupKey>, line: &Line) -> Result<Ruling, NoMemory>
+    ensures keys { OnOk result ((later : List Line) →
+        keys_after (λ (key : Key). get same_key groups.now key) firsts.new.keys later
+        ≡ keys_after (λ (key : Key). get same_key groups.now key) firsts.old.keys (line.now ∷ later)) }
+    ensures ruling { IfOk result (λ ruling. (later : List Line) →
+        ruling ≡ ruling_by (λ (key : Key). get same_key groups.now key)
+        (keys_after (λ (key : Key). get same_key groups.now key) firsts.new.keys later) line.now) }
 {
-    let fault = reading_fault(groups, &line.read);
-    let group = number(firsts, fault, &line.read)?;
+    let (fault, group) = match &line.read {
+        Ok(s) => ruled(groups, firsts, s)?,
+        Err(rule) => (Some(*rule), 0),
+    };
     Ok(Ruling {
         line: line.number,
         fault,
         group,
     })
-}
-
-fn rulings(
-    alloc: Global,
-    groups: &Groups,
-    firsts: &IndexSet<GroupKey>,
-    checked: &[Line],
-) -> Result<ItemList<Ruling>, NoMemory>
-    ensures { IfOk result (λ list.
-        list ≡ map (ruling_by (λ (key : Key). get same_key groups.now key) firsts.now.keys) checked.now) }
-{
-    let mut list = ItemList::with_capacity(alloc, checked.len())?;
-    for line in checked {
-        list.push(ruling(groups, firsts, line)?)?;
-    }
-    Ok(list)
 }
 
 // How many groups there are. More than a number has are a want of memory: no memory holds so many.
@@ -129,6 +89,22 @@ fn count(firsts: &IndexSet<GroupKey>) -> Result<u32, NoMemory>
         return Err(AllocError);
     }
     Ok(count as u32)
+}
+
+// The rulings on all lines, by the summaries of their groups.
+fn rulings(alloc: Global, groups: &Groups, checked: &[Line]) -> Result<Rulings, NoMemory>
+    ensures list { IfOk result (λ judged. judged.list ≡ map (ruling_by (λ (key : Key). get same_key groups.now key)
+        (keys_after (λ (key : Key). get same_key groups.now key) [] checked.now)) checked.now) }
+    ensures groups { IfOk result (λ judged.
+        judged.groups ≡ length (keys_after (λ (key : Key). get same_key groups.now key) [] checked.now)) }
+{
+    let mut firsts = IndexSet::new(alloc);
+    let mut list = ItemList::with_capacity(alloc, checked.len())?;
+    for line in checked {
+        list.push(ruling(groups, &mut firsts, line)?)?;
+    }
+    let groups = count(&firsts)?;
+    Ok(Rulings { list, groups })
 }
 
 /// The rulings on the lines of a batch that comes at this moment, by the office's tables and what the office knows: the
@@ -152,9 +128,5 @@ pub fn judge<V: Known>(
     let checked = checked_lines(alloc, tables, known, moment, batch.as_slice())?;
     let passed = passed_in(alloc, checked.as_slice())?;
     let summed = summaries(alloc, passed.as_slice())?;
-    let accepted = accepted_among(alloc, &summed, passed.as_slice())?;
-    let firsts = firsts(alloc, accepted.as_slice())?;
-    let groups = count(&firsts)?;
-    let list = rulings(alloc, &summed, &firsts, checked.as_slice())?;
-    Ok(Rulings { list, groups })
+    rulings(alloc, &summed, checked.as_slice())
 }

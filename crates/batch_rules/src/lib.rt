@@ -5,10 +5,11 @@
 mod checking;
 mod earlier;
 mod groups;
+mod in_order;
+mod indexed;
 mod judging;
 mod keys;
 mod names;
-mod numbers;
 mod places;
 mod rules;
 mod rulings;

@@ -1,15 +1,16 @@
 //! The rules that a line may break by itself, and beside earlier lines.
 
-ghost use Rattle.std.specs.Prelude.{◌≡◌, ◌∷◌, [], not};
+ghost use Rattle.std.specs.Prelude.{◌≡◌, List, ◌∷◌, [], not};
 ghost use Rattle.obs_record.specs.declared.rule.RuleCode.TheVariants.{B4, B5};
+ghost use Rattle.obs_record.specs.declared.sighting.Sighting.{Sighting as Sighting};
 ghost use Rattle.obs_time.specs.Dates.{day_of};
 ghost use Rattle.obs_time.specs.Calendar.{year_of};
 ghost use Rattle.act_model.specs.Rows.{first_row};
 ghost use Rattle.act_model.specs.Ruling.{is_in_row, station_serving};
 ghost use Rattle.act_model.specs.BatchRules.{is_in_years, is_ungiven, names_ungiven, stands_already, stands_elsewhere};
 ghost use Rattle.act_model.specs.BatchRules.{object_of, are_two, is_of_two_objects, line_rules};
+ghost use Rattle.batch_rules.specs.PlaceTests.{rule_beside};
 
-use crate::earlier::Earlier;
 use crate::names::{designation_of, number_of, same_designation};
 use act_model::Known;
 use obs_record::{Coded, RuleCode, Sighting};
@@ -89,15 +90,16 @@ fn names_ungiven<V: Known>(known: &V, s: &Sighting) -> bool
     is_ungiven(known, number_of(s)) || is_ungiven(known, designation_of(s))
 }
 
-// The rule that an observation breaks beside a live one, or beside the earlier ones of its batch.
-fn broken_beside<V: Known>(known: &V, earlier: &Earlier, s: &Sighting) -> Option<RuleCode>
-    ensures { result ≡ first_row
-        ((stands_already (V.office known.now) earlier.now s.now, B4) ∷ (stands_elsewhere earlier.now s.now, B5) ∷ []) }
+// The rule that an observation breaks beside a live one, or beside the earlier ones of its batch, by the one that it
+// breaks beside these.
+fn broken_beside<V: Known>(known: &V, beside: Option<RuleCode>, s: &Sighting) -> Option<RuleCode>
+    ensures { (earlier : List Sighting) → beside ≡ rule_beside earlier s.now → result ≡ first_row
+        ((stands_already (V.office known.now) earlier s.now, B4) ∷ (stands_elsewhere earlier s.now, B5) ∷ []) }
 {
     if known.has_live(s.station, s.time, s.ra, s.dec) {
         return Some(RuleCode::B4);
     }
-    earlier.broken_by(s)
+    beside
 }
 
 fn is_of_two_objects<V: Known>(known: &V, s: &Sighting) -> bool
@@ -109,15 +111,17 @@ fn is_of_two_objects<V: Known>(known: &V, s: &Sighting) -> bool
     )
 }
 
-/// The first rule that an observation breaks by itself, or beside the earlier ones of its batch.
+/// The first rule that an observation breaks by itself, or beside the earlier ones of its batch, by the one that it
+/// breaks beside these.
 pub(crate) fn line_fault<V: Known>(
     tables: &Tables,
     known: &V,
     moment: Instant,
-    earlier: &Earlier,
+    beside: Option<RuleCode>,
     s: &Sighting,
 ) -> Option<RuleCode>
-    ensures { result ≡ first_row (line_rules (V.office known.now) tables.now moment earlier.now s.now) }
+    ensures { (earlier : List Sighting) → beside ≡ rule_beside earlier s.now →
+        result ≡ first_row (line_rules (V.office known.now) tables.now moment earlier s.now) }
 {
     match station_serving(tables, s) {
         Serving::Unknown => return Some(RuleCode::T1),
@@ -142,7 +146,7 @@ pub(crate) fn line_fault<V: Known>(
     if names_ungiven(known, s) {
         return Some(RuleCode::B3);
     }
-    if let Some(rule) = broken_beside(known, earlier, s) {
+    if let Some(rule) = broken_beside(known, beside, s) {
         return Some(rule);
     }
     if is_of_two_objects(known, s) {

@@ -268,6 +268,57 @@ const BATCHES: &[&[Row]] = &[
         (B, S703, NIGHT, 0, Some(RuleCode::B6)),
         (B, S703, NIGHT, 1, Some(RuleCode::B5)),
     ],
+    // In the order of their times, and in order but for the last line.
+    &[
+        (A, S703, NIGHT, 0, None),
+        (B, S703, NIGHT + 1, 0, None),
+        (A, S703, NIGHT + HOUR, 0, None),
+        (B, S703, NIGHT + HOUR + 1, 0, None),
+    ],
+    &[
+        (A, S703, NIGHT + 1, 0, None),
+        (A, S703, NIGHT + 2, 0, None),
+        (A, S703, NIGHT, 0, None),
+    ],
+    // Back in time: to the place of the first line, to its moment at another position, and to neither.
+    &[
+        (Who::Order(1), S703, NIGHT, 0, None),
+        (Who::Order(2), S703, NIGHT + HOUR, 0, None),
+        (Who::Order(2), S703, NIGHT, 0, Some(RuleCode::B4)),
+    ],
+    &[
+        (Who::Order(1), S703, NIGHT, 0, None),
+        (Who::Order(2), S703, NIGHT + HOUR, 0, None),
+        (Who::Order(1), S703, NIGHT, 1, Some(RuleCode::B5)),
+    ],
+    &[
+        (Who::Order(1), S703, NIGHT, 0, None),
+        (Who::Order(2), S703, NIGHT + HOUR, 0, None),
+        (Who::Order(1), S703, NIGHT + 1, 0, None),
+        (Who::Order(1), S703, NIGHT + DAY, 0, None),
+        (Who::Order(2), S703, NIGHT + DAY, 0, Some(RuleCode::B4)),
+    ],
+    // One time at two stations, and at two positions.
+    &[
+        (Who::Order(1), S703, NIGHT, 0, None),
+        (Who::Order(1), W84, NIGHT, 0, None),
+    ],
+    &[
+        (Who::Order(1), S703, NIGHT, 0, None),
+        (Who::Order(2), S703, NIGHT, 1, None),
+    ],
+    // A group that is met again after another one.
+    &[
+        (A, S703, NIGHT, 0, None),
+        (B, S703, NIGHT + 1, 0, Some(RuleCode::B6)),
+        (A, S703, NIGHT + 2, 0, None),
+    ],
+    &[
+        (A, S703, NIGHT, 0, Some(RuleCode::B8)),
+        (B, S703, NIGHT + HOUR, 0, None),
+        (B, S703, NIGHT + 2 * HOUR, 0, None),
+        (A, S703, NIGHT + DAY, THIRTY + 1, Some(RuleCode::B8)),
+    ],
     // A station without a row.
     &[(A, b"W85", NIGHT, 0, Some(RuleCode::T1))],
 ];
@@ -319,25 +370,54 @@ fn first_groups(rulings: &[Ruling]) -> [Option<u32>; 4] {
     ]
 }
 
-// How many groups those lines have, and the group of each.
-fn groups_over(tables: &Tables, alloc: Global, moment: Instant) -> Option<(u32, [Option<u32>; 4])> {
-    match rulings_on(alloc, tables, moment, &ALTERNATING) {
+// How many groups these lines have, and the group of each.
+fn groups_over(
+    tables: &Tables,
+    alloc: Global,
+    moment: Instant,
+    rows: &[Row],
+) -> Option<(u32, [Option<u32>; 4])> {
+    match rulings_on(alloc, tables, moment, rows) {
         Some(rulings) => Some((rulings.groups(), first_groups(rulings.as_slice()))),
         None => None,
     }
 }
 
 // The same over tables with two stations; None where memory was refused.
-fn groups(alloc: Global) -> Option<(u32, [Option<u32>; 4])> {
+fn groups(alloc: Global, rows: &[Row]) -> Option<(u32, [Option<u32>; 4])> {
     let moment = Instant::new(FROM_2100)?;
     match tables(alloc) {
-        Some(tables) => groups_over(&tables, alloc, moment),
+        Some(tables) => groups_over(&tables, alloc, moment, rows),
         None => None,
     }
 }
 
 #[test]
 fn groups_by_their_first_accepted_lines(rt: HostRuntime) {
-    let found = groups(rt.alloc());
+    let found = groups(rt.alloc(), &ALTERNATING);
     assert_eq!(rt; found, Some((2, [Some(0), Some(0), Some(1), Some(0)])));
+}
+
+// The first line of a group is too late, so that another group has an accepted line before it.
+const LATE_FIRST: [Row; 4] = [
+    (A, S703, NIGHT + DAY + HOUR, 0, Some(RuleCode::B7)),
+    (Who::Order(2), S703, NIGHT + 1, 1, None),
+    (A, S703, NIGHT + 2, 0, None),
+    (A, S703, NIGHT + HOUR, 0, None),
+];
+
+// A group that is too fast has no accepted line, and takes no number.
+const FAST_FIRST: [Row; 4] = [
+    (A, S703, NIGHT, 0, Some(RuleCode::B8)),
+    (Who::Order(2), S703, NIGHT + 1, 0, None),
+    (A, S703, NIGHT + 2, 400, Some(RuleCode::B8)),
+    (Who::Order(1), S703, NIGHT + 3, 0, None),
+];
+
+#[test]
+fn groups_after_refused_lines(rt: HostRuntime) {
+    let late = groups(rt.alloc(), &LATE_FIRST);
+    assert_eq!(rt; late, Some((2, [Some(0), Some(0), Some(1), Some(1)])));
+    let fast = groups(rt.alloc(), &FAST_FIRST);
+    assert_eq!(rt; fast, Some((2, [Some(0), Some(0), Some(0), Some(1)])));
 }

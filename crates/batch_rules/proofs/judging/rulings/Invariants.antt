@@ -1,11 +1,15 @@
-use Rattle.std.proofs.Common.{◌≡◌, ◌++◌, map, drop}
+use Rattle.std.proofs.Common.{◌≡◌, ◌++◌, [], map, drop}
 use Rattle.indexmap.specs.IndexMap.{get}
 use Rattle.batch_rules.specs.declared.keys.GroupKey.{GroupKey}
 use Rattle.batch_rules.specs.KeyTests.{same_key}
-use Rattle.batch_rules.specs.Numbers.{ruling_by}
+use Rattle.batch_rules.specs.Numbers.{keys_after, ruling_by}
 use Rattle.batch_rules.proofs.judging.rulings.Given as goal
 
--- the rulings so far and those on what is left are those on all lines
+-- the keys so far and those of what is left are all, and so are the rulings by all keys
 abbrev pub invariant-loop-line : goal.invariant-loop-line
 invariant-loop-line l =
-    l.list ++ map (ruling_by (λ (key : GroupKey). get same_key l.groups key) l.firsts.keys) (drop l.line-index l.checked) ≡ map (ruling_by (λ (key : GroupKey). get same_key l.groups key) l.firsts.keys) l.checked
+    let found = λ (key : GroupKey). get same_key l.groups key in
+    let all = keys_after found [] l.checked in record {
+      keys : keys_after found l.firsts.keys (drop l.line-index l.checked) ≡ all;
+      list : l.list ++ map (ruling_by found all) (drop l.line-index l.checked) ≡ map (ruling_by found all) l.checked;
+    }

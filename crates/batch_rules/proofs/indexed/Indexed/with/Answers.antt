@@ -8,7 +8,7 @@ use Rattle.batch_rules.specs.declared.places.MomentKey.{MomentKey}
 use Rattle.batch_rules.specs.Places.{place_key, moment_key}
 use Rattle.batch_rules.specs.PlaceTests.{same_place, same_moment, has_place, has_moment}
 use Rattle.batch_rules.proofs.Beside.{more_told}
-use Rattle.batch_rules.proofs.earlier.Earlier.with.Goals as goal
+use Rattle.batch_rules.proofs.indexed.Indexed.with.Goals as goal
 
 pub invariant_of-result : goal.invariant_of-result
 invariant_of-result c =

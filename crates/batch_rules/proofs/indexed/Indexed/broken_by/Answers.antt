@@ -5,7 +5,7 @@ use Rattle.batch_rules.specs.declared.places.PlaceKey.{PlaceKey}
 use Rattle.batch_rules.specs.declared.places.MomentKey.{MomentKey}
 use Rattle.batch_rules.specs.PlaceTests.{same_place, same_moment, has_place, has_moment}
 use Rattle.batch_rules.proofs.Beside.{broken_told}
-use Rattle.batch_rules.proofs.earlier.Earlier.broken_by.Goals as goal
+use Rattle.batch_rules.proofs.indexed.Indexed.broken_by.Goals as goal
 
 pub returns-then-contains-2 : goal.returns-then-contains-2
 returns-then-contains-2 c =
