@@ -10,8 +10,8 @@ use item_list::NoMemory;
 use obs_record::{RuleCode, Sighting};
 use std::alloc::Global;
 
-/// Observations of earlier lines, the newest first. They are indexed when the first line comes that isn't later than all
-/// of them, so that lines in the order of their times are never searched.
+/// Observations of earlier lines, the newest first. They are indexed when the first line comes that isn't later than
+/// all of them, so that lines in the order of their times are never searched.
 #[derive(Drop)]
 pub(crate) enum Earlier {
     InOrder(InOrder),
