@@ -15,7 +15,7 @@ pub(super) fn said(alloc: Global, body: &[u8]) -> Result<Lines, PsvFault> {
     read_psv(alloc, body)
 }
 
-/// These parts, one behind the other.
+/// These parts, one after the other.
 fn joined(alloc: Global, parts: &[&[u8]]) -> Option<Vec<u8>> {
     let mut body = Vec::new(alloc);
     for part in parts {

@@ -39,7 +39,7 @@ fn names() -> [(&'static [u8], Result<TrackName, RuleCode>); 16] {
     ]
 }
 
-/// The columns of names, and the fields behind these.
+/// The columns of names, and the fields after these.
 const NAME_COLUMNS: &[u8] = b"permID|provID|trkSub|mode|stn|obsTime|ra|dec|astCat\n";
 
 const BEHIND_NAMES: &[u8] = b"|CCD|703|2024-03-15T23:59:59.999Z|150.0|-5.5|Gaia3";

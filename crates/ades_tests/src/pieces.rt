@@ -131,7 +131,7 @@ fn rule_cut_apart(alloc: Global, end: &[u8], last: usize) -> Option<(u32, Option
     Some((line.number, line.read.err()))
 }
 
-/// Whether that is so wherever the end is cut: before its last two bytes, its last byte, or behind it.
+/// Whether that is so wherever the end is cut: before its last two bytes, its last byte, or after it.
 fn is_ending(alloc: Global, end: &[u8], wanted: Option<(u32, Option<RuleCode>)>) -> bool {
     for last in 0..3 {
         if rule_cut_apart(alloc, end, last) != wanted {
@@ -156,7 +156,7 @@ fn cuts_a_line_end_apart(rt: HostRuntime) {
     expect_none_wrong(&rt, wrong);
 }
 
-/// The faults that a new reader tells at the end of a text, at whose front nothing was wrong, and at a piece behind it.
+/// The faults that a new reader tells at the end of a text, at whose front nothing was wrong, and at a piece after it.
 fn tell(reader: &mut PsvReader, front: &[u8], end: &[u8]) -> [Option<PsvFault>; 2]
     requires new { reader.old ≡ unfed }
     requires front { length front.now < 100 }

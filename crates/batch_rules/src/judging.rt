@@ -27,7 +27,7 @@ use std::alloc::{AllocError, Global};
 type Groups = IndexMap<GroupKey, Summary>;
 
 // The place of a group among those that have an accepted line, to which it is added where it is new. More places than a
-// number has are a want of memory: no memory holds so many.
+// number has count as out of memory: no memory holds so many.
 fn placed(firsts: &mut IndexSet<GroupKey>, key: GroupKey) -> Result<u32, NoMemory>
     ensures keys { OnOk result (firsts.new.keys ≡ insert_key same_key firsts.old.keys key) }
     ensures place { IfOk result (λ place. place ≡ position_or_len (same_key key) firsts.old.keys) }
@@ -80,7 +80,7 @@ fn ruling(groups: &Groups, firsts: &mut IndexSet<GroupKey>, line: &Line) -> Resu
     })
 }
 
-// How many groups there are. More than a number has are a want of memory: no memory holds so many.
+// How many groups there are. More than a number has count as out of memory: no memory holds so many.
 fn count(firsts: &IndexSet<GroupKey>) -> Result<u32, NoMemory>
     ensures { IfOk result (λ count. count ≡ length firsts.now.keys) }
 {

@@ -33,7 +33,7 @@ stays_at filed f place k within at =
       before = at.before ∙ ap history_of (sym (take-append-le place filed (f ∷ []) (omega arith)));
     }
 
--- the entry that is kept for a number stands behind as many as there were before it
+-- the entry that is kept for a number stands after as many as there were before it
 pub record IsPlaced (filed : List Filed) (k : Kept) : Type 0 where
   pub within : length k.before < length filed
   pub at : IsFiledAt filed (length k.before) k

@@ -94,7 +94,7 @@ told_as o due (Err r) is (inr wants) = inr wants
 pub prepared_as : (limit : Option ℕ) (past : List Entry) (o o' : Outcome) (spare : Room) (result : Result Prep Refusal) → o' ≡ o → IsPrepared limit past o spare result → IsPrepared limit past o' spare result
 prepared_as limit past o o' spare result same is = subst (λ (x : Outcome). IsPrepared limit past x spare result) (sym same) is
 
--- where there was no room for the body, it is refused with want of memory
+-- where there was no room for the body, it is refused as out of memory
 pub no_room_prep : (limit : Option ℕ) (past : List Entry) (due : Outcome) (spare : Room) (p : Prep) → due ≡ Refuses NoMemory → Prepares limit past due spare p → p ≡ prep.Refused NoMemory
 no_room_prep limit past due spare (prep.Kept reply) none is = absurd cc
 no_room_prep limit past due spare (prep.Refused r) none (inl is) = let same = sym none ∙ is in cc

@@ -150,7 +150,7 @@ fn three_bodies(alloc: Global, source: &mut MemSource) -> Option<[Told; 3]> {
     Some([first, second, next_body(source, &mut reader)])
 }
 
-// A frame with this head that takes so many bytes, and behind it a frame without a body.
+// A frame with this head that takes so many bytes, and after it a frame without a body.
 fn long_session(alloc: Global, head: &str, size: usize) -> Result<Vec<u8>, Fail> {
     let mut bytes = Vec::from_slice(alloc, head.as_bytes())?;
     bytes.resize(size, b'x')?;

@@ -373,7 +373,7 @@ const STREAMED: &[Want] = &[
     Want::End,
 ];
 
-// A line end behind the last body is a part of a further message.
+// A line end after the last body is a part of a further message.
 const LINE_END_BEHIND: &str = "POST /v1/act/7/submit80 HTTP/1.1\r\nContent-Length: 2\r\n\r\nab\r\n";
 
 const MESSAGE_AND_FAULT: &[Want] = &[
@@ -553,7 +553,7 @@ fn first_length<R: Abort>(rt: &R, alloc: Global, source: &mut MemSource) -> (u64
     (length, hears(&mut wire, source, ASKS))
 }
 
-// Bodies of 1,048,576 bytes, behind 61 bytes, and of one byte more.
+// Bodies of 1,048,576 bytes, after 61 bytes, and of one byte more.
 const LONG_BODIES: [(Long, u64); 2] = [
     (
         Long {

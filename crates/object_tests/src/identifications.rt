@@ -90,7 +90,7 @@ fn done(links: &mut Links, plain: &mut Plain, call: Call) -> bool {
     }
 }
 
-// The orders behind those that these digits have.
+// The orders after those that these digits have.
 fn with_digit(digits: u32, d: Designation) -> u32 {
     match d {
         Designation::Provisional(given) => digits.wrapping_mul(10).wrapping_add(given.order),

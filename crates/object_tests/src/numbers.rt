@@ -156,7 +156,7 @@ fn right_numbers(register: &mut Register, plain: &mut Plain) -> usize {
     count
 }
 
-// What stands behind the last number, and what the last designation and the last number stand for.
+// What stands after the last number, and what the last designation and the last number stand for.
 fn newest(register: &Register) -> (Option<u32>, Option<Number>, Option<Designation>) {
     (
         register.next(),

@@ -61,7 +61,7 @@ const LINES: &str = concat!(
     "     P10abcd  C2024 03 15.13345 06 12 34.56 +23 45 01.2          19.5 V      703\n",
 );
 
-/// What stands before and behind the decimals of the day in a line of 80 columns.
+/// What stands before and after the decimals of the day in a line of 80 columns.
 const BEFORE: &str = "     P10abce  C2024 03 15.";
 
 const BEHIND: &str = " 06 12 34.56 +23 45 01.2          19.5 V      703\n";
@@ -548,7 +548,7 @@ fn long_answer(alloc: Global, core: &mut Core) -> Option<Text> {
     Some(text)
 }
 
-/// Whether all 1,001 lines were accepted, behind the two that stand.
+/// Whether all 1,001 lines were accepted, after the two that stand.
 fn is_long(text: &[u8]) -> bool {
     line_feeds(text) == 1_003
         && text.starts_with(b"receipt 8\naccepted 1001 refused 0\nline 1 obs 3 track 2\n")

@@ -22,7 +22,7 @@ pub(super) fn put_number<R: Abort>(rt: &R, alloc: Global, bytes: &mut Vec<u8>, n
     put(rt, bytes, text.as_str());
 }
 
-/// A reply with this status and text behind other replies.
+/// A reply with this status and text after other replies.
 pub(super) fn put_reply<R: Abort>(
     rt: &R,
     alloc: Global,

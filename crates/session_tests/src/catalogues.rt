@@ -280,7 +280,7 @@ const MADE_3: &str = concat!(
     "     W00003b   2024 01 01.5058  00 00 16.332+34 44 50.33                     703\n",
 );
 
-/// The answer to a batch of which both lines are taken, behind so many header lines.
+/// The answer to a batch of which both lines are taken, after so many header lines.
 const TWO_80: &str =
     "receipt 6\naccepted 2 refused 0\nline 1 obs 1 track 1\nline 2 obs 2 track 1\n";
 

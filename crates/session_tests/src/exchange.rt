@@ -1,6 +1,6 @@
 //! A frame and its answer.
 
-/// A frame, the answer to it, and how many entries the history has behind it.
+/// A frame, the answer to it, and how many entries the history has after it.
 #[derive(Clone, Copy)]
 pub(super) struct Exchange {
     pub(super) head: &'static str,

@@ -8,7 +8,7 @@ use desk_io::MemSink;
 use std::alloc::Global;
 use std::process::Abort;
 
-/// The founder's first request, and behind it a length with a leading zero.
+/// The founder's first request, and after it a length with a leading zero.
 const SECOND_IS_BAD: &str = concat!(
     "+founder-1 1 station 70\n",
     "{\"code\":\"703\",\"from\":\"1998-01-01\",\"name\":\"Catalina\",\"to\":\"2199-12-31\"}",

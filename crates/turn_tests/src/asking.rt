@@ -62,7 +62,7 @@ pub(super) fn take_turn<V: Clerk, R: Wait>(
     answer_one(rt, alloc, lock, pass, request, clock)
 }
 
-/// The number behind the first word of a text's first line.
+/// The number after the first word of a text's first line.
 pub(super) fn number_in(text: &[u8]) -> u64 {
     let mut number = 0u64;
     for byte in text {

@@ -102,7 +102,7 @@ const UNREAD: &[&[u8]] = &[
     b"{'key':'observer-1','name':'Ann','role':'observer'}",
     b"{\"key\":\"observer-1\",\"name\":\"A\xffn\",\"role\":\"observer\"}",
     b"\xff{\"key\":\"observer-1\",\"name\":\"Ann\",\"role\":\"observer\"}",
-    // Text behind the object.
+    // Text after the object.
     b"{\"key\":\"observer-1\",\"name\":\"Ann\",\"role\":\"observer\"}.",
     b"{\"key\":\"observer-1\",\"name\":\"Ann\",\"role\":\"observer\"}{}",
     // Keys of 7 and 33 characters, and of others than letters, digits and dashes.

@@ -107,7 +107,7 @@ impl Sink for HeldSink {
     }
 }
 
-/// A door that gives such links, and is shut behind the last of them.
+/// A door that gives such links, and is shut after the last of them.
 #[derive(Drop)]
 pub(super) struct HeldDoor {
     links: VecDeque<(HeldSource, HeldSink)>,
