@@ -35,6 +35,22 @@ never_rose a b rise never rose = by rise rose
     by zero rose = refl
     by (suc n) rose = absurd (never (rises_by a b (suc n) (omega arith) rose))
 
+-- ---- why serving stopped
+
+-- where serving stopped since the source failed, the end says so
+pub read_failed : {D : Type 0} (on : DiskWords D) (old new : DeskState D) (why : Stop) (status : Status) → Finishes on old why status new → why ≡ stop.ReadFailed → status ≡ ReadFault
+read_failed on old new stop.Over status ends is = absurd cc
+read_failed on old new (stop.NoFrameAt offset) status ends is = absurd cc
+read_failed on old new stop.ReadFailed status ends is = ends.0
+read_failed on old new stop.WriteFailed status ends is = absurd cc
+
+-- where it stopped since the sink failed, the end says so
+pub write_failed : {D : Type 0} (on : DiskWords D) (old new : DeskState D) (why : Stop) (status : Status) → Finishes on old why status new → why ≡ stop.WriteFailed → status ≡ WriteFault
+write_failed on old new stop.Over status ends is = absurd cc
+write_failed on old new (stop.NoFrameAt offset) status ends is = absurd cc
+write_failed on old new stop.ReadFailed status ends is = absurd cc
+write_failed on old new stop.WriteFailed status ends is = ends.0
+
 -- ---- what was in doubt
 
 pub nothing_mended : (past : List Entry) (doubt : Option Entry) → Mends past doubt past

@@ -1,7 +1,7 @@
 use Rattle.std.proofs.Common.{◌≡◌, ◌-◌, length, refl, arith}
 use Rattle.command_ends.specs.Disks.{disk_words}
 use Rattle.frame_desk.proofs.Laws.{OfficeLaws}
-use Rattle.frame_desk.proofs.Closings.{finish_mends}
+use Rattle.frame_desk.proofs.Closings.{finish_mends, read_failed, write_failed}
 use Rattle.frame_desk.proofs.RunLemmas.{fewer_before, served_ends, nothing_served}
 use Rattle.frame_desk.proofs.running.run_all.Goals as goal
 
@@ -58,3 +58,13 @@ returns-clause-ends g c =
       served_ends laws on c.args.founder c.args.disk c.in-Ok-open_desk.desk c.serve-stop.new.desk s.1 c.in-Ok-open_desk.ensures.opens s.5 _ _ s.0 _ c.finish-status.new.desk c.close.result (c.entries.result - c.entries-before.result) c.close.ensures counted
           c.serve-stop.result c.finish-status.result s.4 c.finish-status.ensures,
     )
+
+pub returns-clause-read_faultless : goal.returns-clause-read_faultless
+returns-clause-read_faultless g c = λ never.
+    let on = (disk_words g.D.Disk.reads g.D.Disk.leaves g.D.Disk.moment g.D.Disk.since g.D.Disk.faults) in
+    c.serve-stop.ensures.read_faultless (λ is. never (read_failed on c.serve-stop.new.desk c.finish-status.new.desk c.serve-stop.result c.finish-status.result c.finish-status.ensures is))
+
+pub returns-clause-write_faultless : goal.returns-clause-write_faultless
+returns-clause-write_faultless g c = λ never.
+    let on = (disk_words g.D.Disk.reads g.D.Disk.leaves g.D.Disk.moment g.D.Disk.since g.D.Disk.faults) in
+    c.serve-stop.ensures.write_faultless (λ is. never (write_failed on c.serve-stop.new.desk c.finish-status.new.desk c.serve-stop.result c.finish-status.result c.finish-status.ensures is))
