@@ -1521,7 +1521,7 @@ def compare(program, seed, first, again):
 def main():
     if len(sys.argv) not in (2, 3):
         sys.exit(__doc__)
-    program, seed, bad, count = sys.argv[1], int(sys.argv[2]) if len(sys.argv) == 3 else 1, 0, 0
+    program, seed, bad, count = os.path.abspath(sys.argv[1]), int(sys.argv[2]) if len(sys.argv) == 3 else 1, 0, 0
     for i, first in enumerate((99_998, 619_998, 15_396_333)):
         found, lines = compare(program, 3 * seed + i, first, i == 0)
         bad, count = bad + found, count + lines
