@@ -5,7 +5,7 @@ use text_lines::cutting::cut;
 use text_lines::lines::{next_complete, next_line};
 use text_lines::pieces::line_end;
 
-/// A text, what stands before its first bar, and what behind it.
+/// A text, what stands before its first bar, and what after it.
 const CUT: &[(&[u8], &[u8], Option<&[u8]>)] = &[
     (b"a|b|c", b"a", Some(b"b|c")),
     (b"|", b"", Some(b"")),
@@ -68,7 +68,7 @@ fn ends_lines_at_line_feeds(rt: HostRuntime) {
     expect_none_wrong(&rt, wrong_line());
 }
 
-/// A piece of a text, which is cut behind the end of a line.
+/// A piece of a text, which is cut after the end of a line.
 const ENDS: &[(&[u8], FirstLine)] = &[
     (b"\nab", Some((b"\n", b"ab"))),
     (b"a\r\nb\n", Some((b"a\r\n", b"b\n"))),

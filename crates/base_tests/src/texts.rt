@@ -35,7 +35,7 @@ fn digits() -> [Option<u64>; 5] {
     ]
 }
 
-/// A text, the count and the value of the decimals at its front, and how many bytes stand behind them.
+/// A text, the count and the value of the decimals at its front, and how many bytes stand after them.
 const DECIMALS: &[(&[u8], Option<(usize, u64, usize)>)] = &[
     (b".567", Some((3, 567, 0))),
     (b"   ", Some((0, 0, 3))),
@@ -61,7 +61,7 @@ fn wrong_decimals() -> Option<usize> {
     None
 }
 
-/// A text, how many decimals of at most nine are taken at its front, and how many bytes stand behind all its decimals.
+/// A text, how many decimals of at most nine are taken at its front, and how many bytes stand after all its decimals.
 const FEW_DECIMALS: &[(&[u8], Option<(Option<usize>, usize)>)] = &[
     (b".123456Z", Some((Some(6), 1))),
     (b".0000000000000000000001Z", Some((None, 1))),
@@ -142,7 +142,7 @@ fn reads_decimal_numbers(rt: HostRuntime) {
     expect_none_wrong(&rt, wrong_decimal_number());
 }
 
-/// Three digits, two decimals, a blank, a number and four digits to the base 62, one behind the other.
+/// Three digits, two decimals, a blank, a number and four digits to the base 62, one after the other.
 #[tactic(auto, using(crate::proofs::Lengths::length_decimal_u64))]
 fn written() -> ArrayVec<u8, 40> {
     let mut out = ArrayVec::<u8, 40>::new();

@@ -67,6 +67,10 @@ pub fn key_at(bytes: &[u8]) -> Result<(&[u8], &[u8]), Unread>
 }
 
 /// The verb at the front, before its blank, and the bytes after it.
+///
+/// # Errors
+///
+/// What the bytes are instead of a verb and its blank.
 pub fn verb_at(bytes: &[u8]) -> Result<(&[u8], &[u8]), Unread>
     ensures { Reads IsVerb (stopped 32) (λ x. (x.0.now, x.1.now)) bytes.now result }
 {

@@ -52,7 +52,7 @@ rising_insert y (x ∷ links) absent up =
           subst R (sym place) ((less, behind_all y x links less up.0), up)
     ]
 
--- a link that stands behind another one comes after it
+-- a link that stands after another one comes after it
 at_behind : (one : Link) (links : List Link) → AreBehind one links → (j : ℕ) (x : Link) → j < length links → link_cmp one (get_or links j x) ≡ Less
 at_behind one [] behind j x low = absurd (omega (arith, low))
 at_behind one (other ∷ links) behind zero x low = behind.0
@@ -145,7 +145,7 @@ place_removed y (x ∷ links) (suc k) up low = by (is_lt (link_cmp x y)) (place_
 
 -- ---- a link that is moved
 
--- the first of so many links comes behind the others
+-- the first of so many links comes after the others
 to_last : (x y : Link) (links : List Link) (k : ℕ) → k ≤ length links → set ((take k links ++ x ∷ []) ++ drop k links) k y ≡ insert links k y
 to_last x y links zero low = refl
 to_last x y [] (suc k) low = absurd (omega (arith, low))

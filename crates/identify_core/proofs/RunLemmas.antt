@@ -54,7 +54,7 @@ first_less Greater q h = absurd (cc)
 not_after : (d e : Designation) → designation_cmp d e ≡ Less → designation_cmp e d ≡ Greater
 not_after d e less = designation_total.antisymm e d ∙ ap ordering_reverse less
 
--- a link behind one whose principal comes after p isn't of p
+-- a link after one whose principal comes after p isn't of p
 passed : (p : Designation) (one other : Link) → link_cmp one other ≡ Less → designation_cmp p one.principal ≡ Less → has_principal p other ≡ false
 passed p one other behind less =
     false_from_ne_true (has_principal p other)
@@ -162,7 +162,7 @@ among d p (link ∷ links) some =
 pub tail_once : (d : Designation) (link : Link) (links : List Link) → count_by (has_member d) (link ∷ links) ≤ 1 → count_by (has_member d) links ≤ 1
 tail_once d link links once = let more = count-more d link links in omega (arith, once, more)
 
--- a link that is found behind another one has another member
+-- a link that is found after another one has another member
 pub behind_first : (d p : Designation) (link : Link) (links : List Link) → count_by (has_member d) (link ∷ links) ≤ 1 → principal_of links d ≡ Some p → principal_of (link ∷ links) d ≡ Some p
 behind_first d p link links once rest =
     elim (cases_Bool (has_member d link)) [

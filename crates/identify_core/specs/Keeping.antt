@@ -30,7 +30,7 @@ link_cmp one other =
 abbrev pub place_in : Link → List Link → ℕ
 place_in link links = prefix_len (λ other. is_lt (link_cmp other link)) links
 
--- the links behind those of earlier principals, as long as they are of the principal
+-- the links after those of earlier principals, as long as they are of the principal
 abbrev pub run_of : Designation → List Link → List Link
 run_of p links = take_while (has_principal p) (drop (prefix_len (is_below p) links) links)
 

@@ -112,6 +112,10 @@ impl<T: Drop> ItemList<T> {
 
 impl<T: Copy> ItemList<T> {
     /// Puts copies of the items at the end, in their order. Where memory is refused the list is as it was.
+    ///
+    /// # Errors
+    ///
+    /// Memory was refused.
     pub fn extend_from_slice(&mut self, items: &[T]) -> Result<(), NoMemory>
         ensures ok { OnOk result (self.new ≡ self.old ++ items.now) }
         ensures err { OnErr result (self.new ≡ self.old) }

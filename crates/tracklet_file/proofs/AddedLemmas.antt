@@ -56,7 +56,7 @@ read_as_brought read same (AddTrack name station home ∷ past) k = read_as_brou
 read_as_brought read same (SetHome t home ∷ past) k = read_as_brought read same past k
 read_as_brought read same (Retract other ∷ past) k = read_unchanged read (λ (o : Observation). record o { live = false }) same (observations_after past) other k ∙ read_as_brought read same past k
 
--- one observation more behind those of a tracklet
+-- one observation more after those of a tracklet
 abbrev with_newest : ℕ → ℕ → ℕ → List ℕ → ℕ → List ℕ
 with_newest track t after rest count = rest ++ cond ((track == t) && nat_lt after (count + 1)) ((count + 1) ∷ []) []
 
