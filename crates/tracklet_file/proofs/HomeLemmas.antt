@@ -21,7 +21,6 @@ use Rattle.tracklet_file.specs.Numbering.{next_number, numbered}
 use Rattle.tracklet_file.specs.Tracklets.{IsTracklet, home_of, with_home, is_home, later_at, next_at}
 use Rattle.tracklet_file.specs.Homes.{home_entry, is_entry, KeptHomes, IsHomed, isolated_tracks_in, number_at}
 use Rattle.tracklet_file.proofs.NumberingLemmas.{numbered_within}
-use Rattle.tracklet_file.proofs.PositionLemmas.{both_tie, numbers_tie}
 use Rattle.tracklet_file.proofs.CountLemmas.{count_changed, count_some, home_of_given, home_of_others}
 
 abbrev pub cmp : HomeEntry → HomeEntry → Ordering
@@ -144,6 +143,14 @@ isolated_some tracklets homes t was there was_is none homed = subst (λ (n : ℕ
         (ap (λ (o : Option Tracklet). is_none (option_and_then (λ (t : Tracklet). t.home) o)) (sym at) ∙ ap is_none (sym was_is) ∙ ap not none)
 
 -- ---- the order of entries
+
+both_tie : (a b : Ordering) → is_eq (ordering_then a b) ≡ is_eq a && is_eq b
+both_tie Less b = refl
+both_tie Equal b = refl
+both_tie Greater b = refl
+
+numbers_tie : (a b : ℕ) → is_eq (nat_cmp a b) ≡ (a == b)
+numbers_tie a b = grind (arith, nat_tests)
 
 module _ (laws : OrderLaws) where
   order_is : (one other : HomeEntry) → cmp one other ≡ ordering_then (designation_cmp one.home other.home) (nat_cmp one.track other.track)

@@ -1,31 +1,25 @@
 -- What the file keeps, as its lists change, and what is read from it.
 use Rattle.std.proofs.Common.{◌≡◌, ℕ, ◌+◌, ◌-◌, ◌<◌, ◌≤◌, Bool, true, false, cond, List, [], ◌∷◌, ◌++◌, length, get_or, set, Option, Some, None, zero, suc, inl, inr, refl, ap, sym, subst, ◌∙◌, arith}
-use Rattle.std.specs.Prelude.{◌==◌, ◌&&◌, nat_lt, count_by, unwrap_or, slice_get, not, is_none, IsSome, is_some, IfSome, if◌then◌else◌, reverse}
+use Rattle.std.specs.Prelude.{◌==◌, ◌&&◌, nat_lt, count_by, unwrap_or, slice_get, not, is_none, IsSome, is_some, IfSome, reverse}
 use Rattle.std.specs.Option.{option_map, option_and_then}
-use Rattle.std.specs.declared.cmp.Ordering.{Ordering}
 use Rattle.std.proofs.lemmas.Bool.{eq-eqb, ne_eqb, false≢true, eqb-false, cases_lt}
 use Rattle.std.proofs.lemmas.List.{length-reverse}
 use Rattle.std.proofs.lemmas.List.Sums.{sum_by-cons}
 use Rattle.std.proofs.lemmas.Option.{none-some, same_Some}
 use Rattle.packed_names.specs.declared.name.Designation.{Designation}
-use Rattle.obs_record.specs.declared.sighting.Sighting.{Sighting}
-use Rattle.ordered_list.specs.Orders.{ties, found}
 use Rattle.tracklet_file.specs.declared.observation.Observation.{Observation}
 use Rattle.tracklet_file.specs.declared.tracklet.Tracklet.{Tracklet}
 use Rattle.tracklet_file.specs.declared.chain.Chain.{Chain}
-use Rattle.tracklet_file.specs.declared.position.Position.{Position}
 use Rattle.tracklet_file.specs.Numbering.{next_number, numbered}
 use Rattle.tracklet_file.specs.Observations.{track_of, later_of_track, first_of, next_of, IsFollowedBy, with_retraction}
 use Rattle.tracklet_file.specs.Tracklets.{IsTracklet, home_of, with_home, is_isolated, is_retracted}
 use Rattle.tracklet_file.specs.Contents.{AreInTracklets}
 use Rattle.tracklet_file.specs.Chains.{is_live_of, chain_of, AreChained, extended, linked}
-use Rattle.tracklet_file.specs.Positions.{position_of, live_in, counts_at}
 use Rattle.tracklet_file.specs.Keeping.{Kept, IsKept}
 use Rattle.tracklet_file.proofs.NumberingLemmas.{numbered_within, numbered_at, length-changed_at}
 use Rattle.tracklet_file.proofs.TrackLemmas.{first_is}
 use Rattle.tracklet_file.proofs.CountLemmas.{counted_more, counted_retracted, counted_rehomed, count_some, tracklet_at}
 use Rattle.tracklet_file.proofs.ChainLemmas.{chained_more, chained_tracklet, chained_retracted}
-use Rattle.tracklet_file.proofs.PositionLemmas.{ReadsKeys, indexed_more, indexed_less}
 
 -- ---- what stands at a number
 
@@ -106,67 +100,32 @@ pub found_next : (observations : List Observation) (k : ℕ) (found : Option ℕ
 found_next observations k None is = tt
 found_next observations k (Some next) is = next_is observations k next (sym is)
 
--- an entry at the same position, with another count, is found where one is
-pub there_some : (cmp : Position → Position → Ordering) (entries : List Position) (item probe : Position) (s : Sighting) (live : ℕ) → item ≡ position_of s live → probe ≡ position_of s 0
-    → ((key : Position) (s : Sighting) (live : ℕ) → ties cmp key (position_of s live) ≡ ties cmp key (position_of s 0))
-    → ((key other : Position) (entries : List Position) → ties cmp key other ≡ true → found cmp key entries ≡ found cmp other entries) → ((p : Position) → ties cmp p p ≡ true)
-    → 0 < live_in (found cmp probe entries) → IsSome (found cmp item entries)
-there_some cmp entries item probe s live item_is probe_is plain alike itself some =
-    subst (λ (o : Option Position). IsSome o) same (by (found cmp probe entries) some)
-  where
-    tie : ties cmp probe item ≡ true
-    tie = ap (λ (p : Position). ties cmp p item) probe_is ∙ ap (ties cmp (position_of s 0)) item_is ∙ plain (position_of s 0) s live ∙ itself (position_of s 0)
-
-    same : found cmp probe entries ≡ found cmp item entries
-    same = alike probe item entries tie
-
-    by : (o : Option Position) → 0 < live_in o → IsSome o
-    by None some = absurd (omega arith)
-    by (Some entry) some = refl
-
-pub found_some : (cmp : Position → Position → Ordering) (entries : List Position) (item probe : Position) (s : Sighting) (live : ℕ) → item ≡ position_of s live → probe ≡ position_of s 0
-    → ((key : Position) (s : Sighting) (live : ℕ) → ties cmp key (position_of s live) ≡ ties cmp key (position_of s 0))
-    → ((key other : Position) (entries : List Position) → ties cmp key other ≡ true → found cmp key entries ≡ found cmp other entries) → ((p : Position) → ties cmp p p ≡ true)
-    → 0 < live_in (found cmp probe entries) → found cmp item entries ≡ None → ⊥
-found_some cmp entries item probe s live item_is probe_is plain alike itself some none =
-    false≢true (sym (ap is_some none) ∙ there_some cmp entries item probe s live item_is probe_is plain alike itself some)
-
-pub less : (n m : ℕ) → 0 < m → n ≡ m → n - 1 + 1 ≡ m
-less n m some same = omega arith
-
 -- ---- changes
 
-module _ (cmp : Position → Position → Ordering) (tracklets : List Tracklet) (observations : List Observation) (kept : Kept)
-    (was : IsKept cmp tracklets observations kept) where
+module _ (tracklets : List Tracklet) (observations : List Observation) (kept : Kept) (was : IsKept tracklets observations kept) where
   pub kept_tracklet : (newest : Tracklet) (tracklets' : List Tracklet) (chains' : List Chain) → tracklets' ≡ newest ∷ tracklets → chains' ≡ kept.chains ++ record { first = 0; last = 0; live = 0 } ∷ []
-      → IsKept cmp tracklets' observations (record kept { chains = chains' })
+      → IsKept tracklets' observations (record kept { chains = chains' })
   kept_tracklet newest tracklets' chains' tracklets_are chains_are =
-      subst (λ (ts : List Tracklet). IsKept cmp ts observations (record kept { chains = chains' })) (sym tracklets_are)
-      (subst (λ (cs : List Chain). IsKept cmp (newest ∷ tracklets) observations (record kept { chains = cs })) (sym chains_are)
+      subst (λ (ts : List Tracklet). IsKept ts observations (record kept { chains = chains' })) (sym tracklets_are)
+      (subst (λ (cs : List Chain). IsKept (newest ∷ tracklets) observations (record kept { chains = cs })) (sym chains_are)
       record {
         counted = counted_more newest tracklets observations was.counted;
         chained = subst (λ (n : ℕ). AreChained n observations (kept.chains ++ record { first = 0; last = 0; live = 0 } ∷ []) kept.links) (omega arith)
             (chained_tracklet tracklets observations kept.chains kept.links was.counted.in_tracklets was.chained);
-        indexed = was.indexed;
       })
 
-  pub kept_added : (newest : Observation) (chain : Chain) (observations' : List Observation) (chains' : List Chain) (links' : List ℕ) (after : List Position) (isolated' live : ℕ) (item probe : Position) → ReadsKeys cmp
+  pub kept_added : (newest : Observation) (chain : Chain) (observations' : List Observation) (chains' : List Chain) (links' : List ℕ) (isolated' : ℕ)
       → IsTracklet tracklets newest.track → newest.live ≡ true → chain ≡ get_or kept.chains (newest.track - 1) chain
       → observations' ≡ newest ∷ observations → chains' ≡ set kept.chains (newest.track - 1) (extended chain (next_number observations)) → links' ≡ linked kept.links chain.last (next_number observations)
       → isolated' ≡ kept.isolated + cond (is_none (home_of tracklets newest.track)) 1 0
-      → item ≡ position_of newest.sighting (live + 1) → probe ≡ position_of newest.sighting 0
-      → ((key : Position) → found cmp key after ≡ (if ties cmp key item then Some item else found cmp key kept.positions)) → live ≡ live_in (found cmp probe kept.positions)
-      → IsKept cmp tracklets observations' (record { isolated = isolated'; retracted = kept.retracted; chains = chains'; links = links'; positions = after })
-  kept_added newest chain observations' chains' links' after isolated' live item probe keys there alive read observations_are chains_are links_are isolated_is item_is probe_is finds had =
-      subst (λ (os : List Observation). IsKept cmp tracklets os (record { isolated = isolated'; retracted = kept.retracted; chains = chains'; links = links'; positions = after })) (sym observations_are)
-      (subst (λ (cs : List Chain). IsKept cmp tracklets (newest ∷ observations) (record { isolated = isolated'; retracted = kept.retracted; chains = cs; links = links'; positions = after })) (sym chains_are)
-      (subst (λ (ls : List ℕ). IsKept cmp tracklets (newest ∷ observations) (record { isolated = isolated'; retracted = kept.retracted; chains = set kept.chains (newest.track - 1) (extended chain (next_number observations)); links = ls; positions = after })) (sym links_are)
+      → IsKept tracklets observations' (record { isolated = isolated'; retracted = kept.retracted; chains = chains'; links = links' })
+  kept_added newest chain observations' chains' links' isolated' there alive read observations_are chains_are links_are isolated_is =
+      subst (λ (os : List Observation). IsKept tracklets os (record { isolated = isolated'; retracted = kept.retracted; chains = chains'; links = links' })) (sym observations_are)
+      (subst (λ (cs : List Chain). IsKept tracklets (newest ∷ observations) (record { isolated = isolated'; retracted = kept.retracted; chains = cs; links = links' })) (sym chains_are)
+      (subst (λ (ls : List ℕ). IsKept tracklets (newest ∷ observations) (record { isolated = isolated'; retracted = kept.retracted; chains = set kept.chains (newest.track - 1) (extended chain (next_number observations)); links = ls })) (sym links_are)
       record {
         counted = record { in_tracklets = (there, was.counted.in_tracklets); isolated_are = isolated_are; retracted_are = retracted_are };
         chained = chained_more (length tracklets) newest observations kept.chains kept.links chain was.chained inside.0 inside.1 alive read;
-        indexed = indexed_more cmp keys kept.positions after observations was.indexed newest.sighting (live + 1)
-            (subst (λ (p : Position). (key : Position) → found cmp key after ≡ cond (ties cmp key p) (Some p) (found cmp key kept.positions)) item_is finds) newest refl alive
-            (ap (λ (n : ℕ). n + 1) (had ∙ ap (λ (p : Position). live_in (found cmp p kept.positions)) probe_is));
       }))
     where
       inside : (0 < newest.track) × (newest.track ≤ length tracklets)
@@ -185,23 +144,18 @@ module _ (cmp : Position → Position → Ordering) (tracklets : List Tracklet) 
           let own : ◌≡◌ {A = ℕ} (cond (is_retracted newest) 1 0) 0 = ap (λ (b : Bool). cond (not b) 1 0) alive in
           omega (arith, was.counted.retracted_are)
 
-  pub kept_retracted : (k : ℕ) (o : Observation) (chain : Chain) (observations' : List Observation) (chains' : List Chain) (after : List Position) (isolated' retracted' fewer live : ℕ) (item probe : Position) → ReadsKeys cmp
+  pub kept_retracted : (k : ℕ) (o : Observation) (chain : Chain) (observations' : List Observation) (chains' : List Chain) (isolated' retracted' fewer : ℕ)
       → numbered observations k ≡ Some o → o.live ≡ true → chain ≡ get_or kept.chains (o.track - 1) chain → fewer + 1 ≡ chain.live
       → observations' ≡ with_retraction observations k → chains' ≡ set kept.chains (o.track - 1) (record chain { live = fewer }) → retracted' ≡ kept.retracted + 1
       → isolated' + cond (is_none (home_of tracklets o.track)) 1 0 ≡ kept.isolated
-      → item ≡ position_of o.sighting live → probe ≡ position_of o.sighting 0
-      → ((key : Position) → found cmp key after ≡ (if ties cmp key item then Some item else found cmp key kept.positions)) → live + 1 ≡ live_in (found cmp probe kept.positions)
-      → IsKept cmp tracklets observations' (record { isolated = isolated'; retracted = retracted'; chains = chains'; links = kept.links; positions = after })
-  kept_retracted k o chain observations' chains' after isolated' retracted' fewer live item probe keys at alive read less observations_are chains_are retracted_is isolated_is item_is probe_is finds rest =
-      subst (λ (os : List Observation). IsKept cmp tracklets os (record { isolated = isolated'; retracted = retracted'; chains = chains'; links = kept.links; positions = after })) (sym observations_are)
-      (subst (λ (cs : List Chain). IsKept cmp tracklets (with_retraction observations k) (record { isolated = isolated'; retracted = retracted'; chains = cs; links = kept.links; positions = after })) (sym chains_are)
-      (subst (λ (n : ℕ). IsKept cmp tracklets (with_retraction observations k) (record { isolated = isolated'; retracted = n; chains = set kept.chains (o.track - 1) (record chain { live = fewer }); links = kept.links; positions = after })) (sym retracted_is)
+      → IsKept tracklets observations' (record { isolated = isolated'; retracted = retracted'; chains = chains'; links = kept.links })
+  kept_retracted k o chain observations' chains' isolated' retracted' fewer at alive read less observations_are chains_are retracted_is isolated_is =
+      subst (λ (os : List Observation). IsKept tracklets os (record { isolated = isolated'; retracted = retracted'; chains = chains'; links = kept.links })) (sym observations_are)
+      (subst (λ (cs : List Chain). IsKept tracklets (with_retraction observations k) (record { isolated = isolated'; retracted = retracted'; chains = cs; links = kept.links })) (sym chains_are)
+      (subst (λ (n : ℕ). IsKept tracklets (with_retraction observations k) (record { isolated = isolated'; retracted = n; chains = set kept.chains (o.track - 1) (record chain { live = fewer }); links = kept.links })) (sym retracted_is)
       record {
         counted = counted_retracted tracklets observations k o at alive was.counted isolated' isolated_is;
         chained = chained_retracted (length tracklets) observations k o kept.chains kept.links chain fewer was.chained at alive inside.0 inside.1 read less;
-        indexed = indexed_less cmp keys kept.positions after observations was.indexed o.sighting live
-            (subst (λ (p : Position). (key : Position) → found cmp key after ≡ cond (ties cmp key p) (Some p) (found cmp key kept.positions)) item_is finds) k o at refl alive
-            (rest ∙ ap (λ (p : Position). live_in (found cmp p kept.positions)) probe_is);
       }))
     where
       inside : (0 < o.track) × (o.track ≤ length tracklets)
@@ -209,13 +163,12 @@ module _ (cmp : Position → Position → Ordering) (tracklets : List Tracklet) 
 
   pub kept_rehomed : (t : ℕ) (home : Option Designation) (tracklets' : List Tracklet) (isolated' : ℕ) → IsTracklet tracklets t → tracklets' ≡ with_home tracklets t home
       → isolated' + cond (is_none (home_of tracklets t)) (count_by (is_live_of t) observations) 0 ≡ kept.isolated + cond (is_none home) (count_by (is_live_of t) observations) 0
-      → IsKept cmp tracklets' observations (record kept { isolated = isolated' })
+      → IsKept tracklets' observations (record kept { isolated = isolated' })
   kept_rehomed t home tracklets' isolated' there tracklets_are after_is =
-      subst (λ (ts : List Tracklet). IsKept cmp ts observations (record kept { isolated = isolated' })) (sym tracklets_are)
+      subst (λ (ts : List Tracklet). IsKept ts observations (record kept { isolated = isolated' })) (sym tracklets_are)
       record {
         counted = counted_rehomed tracklets observations t home there was.counted isolated' after_is;
         chained = subst (λ (n : ℕ). AreChained n observations kept.chains kept.links) (sym (length-changed_at (λ (tracklet : Tracklet). record tracklet { home = home }) tracklets t)) was.chained;
-        indexed = was.indexed;
       }
 
   -- ---- what is read
@@ -228,20 +181,12 @@ module _ (cmp : Position → Position → Ordering) (tracklets : List Tracklet) 
       let back : t - 1 + 1 ≡ t = omega arith in
       (within, read ∙ was.chained.chain_is (t - 1) chain within ∙ ap (chain_of observations) back)
 
-  -- a live observation is counted in its tracklet's chain, and found in the index
-  module _ (k : ℕ) (o : Observation) (at : numbered observations k ≡ Some o) (alive : o.live ≡ true) where
-    pub chain_some : (chain : Chain) → chain ≡ get_or kept.chains (o.track - 1) chain → 0 < chain.live
-    chain_some chain read =
-        let is = (chain_read o.track chain (tracklet_at tracklets observations k o was.counted.in_tracklets at) read).1 in
-        subst (λ (n : ℕ). 0 < n) (sym (ap (λ (c : Chain). c.live) is))
-        (count_some (is_live_of o.track) observations k o at (ap (λ (b : Bool). b && (o.track == o.track)) alive ∙ eq-eqb o.track o.track refl))
-
-    pub index_some : (probe : Position) → probe ≡ position_of o.sighting 0 → ((p : Position) → ties cmp p p ≡ true) → 0 < live_in (found cmp probe kept.positions)
-    index_some probe is itself =
-        subst (λ (p : Position). 0 < live_in (found cmp p kept.positions)) (sym is)
-        (subst (λ (n : ℕ). 0 < n) (sym (was.indexed (position_of o.sighting 0)))
-        (count_some (counts_at cmp (position_of o.sighting 0)) observations k o at
-        (ap (λ (b : Bool). b && ties cmp (position_of o.sighting 0) (position_of o.sighting 0)) alive ∙ itself (position_of o.sighting 0))))
+  -- a live observation is counted in its tracklet's chain
+  pub chain_some : (k : ℕ) (o : Observation) → numbered observations k ≡ Some o → o.live ≡ true → (chain : Chain) → chain ≡ get_or kept.chains (o.track - 1) chain → 0 < chain.live
+  chain_some k o at alive chain read =
+      let is = (chain_read o.track chain (tracklet_at tracklets observations k o was.counted.in_tracklets at) read).1 in
+      subst (λ (n : ℕ). 0 < n) (sym (ap (λ (c : Chain). c.live) is))
+      (count_some (is_live_of o.track) observations k o at (ap (λ (b : Bool). b && (o.track == o.track)) alive ∙ eq-eqb o.track o.track refl))
 
   -- a tracklet that is there has a chain, and an observation a link
   pub first_there : (t : ℕ) (chain : Chain) → numbered (reverse kept.chains) t ≡ Some chain → cond (chain.first == 0) None (Some chain.first) ≡ first_of observations t

@@ -4,6 +4,6 @@ mod CountLemmas
 mod ChangeLemmas
 mod AddedLemmas
 mod ChainLemmas
-mod PositionLemmas
+mod PlaceLemmas
 mod KeepingLemmas
 mod HomeLemmas

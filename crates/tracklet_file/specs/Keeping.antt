@@ -4,30 +4,27 @@ use Rattle.std.specs.declared.cmp.Ordering.{Ordering}
 use Rattle.tracklet_file.specs.declared.observation.Observation.{Observation}
 use Rattle.tracklet_file.specs.declared.tracklet.Tracklet.{Tracklet}
 use Rattle.tracklet_file.specs.declared.chain.Chain.{Chain}
-use Rattle.tracklet_file.specs.declared.position.Position.{Position}
 use Rattle.tracklet_file.specs.declared.homes.HomeEntry.{HomeEntry}
 use Rattle.tracklet_file.specs.Contents.{IsCounted}
 use Rattle.tracklet_file.specs.Chains.{AreChained}
-use Rattle.tracklet_file.specs.Positions.{IsIndexed}
+use Rattle.tracklet_file.specs.Places.{KeptPlaces, IsIndexed}
 use Rattle.tracklet_file.specs.Homes.{KeptHomes, IsHomed}
 
--- the counts of isolated and of retracted observations, the chains and their links, and the index of positions
+-- the counts of isolated and of retracted observations, and the chains and their links
 pub record Kept : Type 0 where
   pub isolated : ℕ
   pub retracted : ℕ
   pub chains : List Chain
   pub links : List ℕ
-  pub positions : List Position
 
 -- they are those of the plain lists
-pub record IsKept (cmp : Position → Position → Ordering) (tracklets : List Tracklet) (observations : List Observation)
-    (kept : Kept) : Type 0 where
+pub record IsKept (tracklets : List Tracklet) (observations : List Observation) (kept : Kept) : Type 0 where
   pub counted : IsCounted tracklets observations kept.isolated kept.retracted
   pub chained : AreChained (length tracklets) observations kept.chains kept.links
-  pub indexed : IsIndexed cmp kept.positions observations
 
--- beside them, the index of homes is that of the tracklets
-pub record IsFiled (cmp : Position → Position → Ordering) (home_cmp : HomeEntry → HomeEntry → Ordering)
-    (tracklets : List Tracklet) (observations : List Observation) (held : Kept) (homes : KeptHomes) : Type 0 where
-  pub kept : IsKept cmp tracklets observations held
-  pub homed : IsHomed home_cmp tracklets homes
+-- beside them, the index of homes is that of the tracklets, and the index of places that of the observations
+pub record IsFiled (cmp : HomeEntry → HomeEntry → Ordering) (tracklets : List Tracklet)
+    (observations : List Observation) (held : Kept) (homes : KeptHomes) (places : KeptPlaces) : Type 0 where
+  pub kept : IsKept tracklets observations held
+  pub homed : IsHomed cmp tracklets homes
+  pub indexed : IsIndexed observations places

@@ -3,7 +3,7 @@ pub mod Observations
 pub mod Tracklets
 pub mod Contents
 pub mod Chains
-pub mod Positions
+pub mod Places
 pub mod Homes
 pub mod Keeping
 pub mod Changes

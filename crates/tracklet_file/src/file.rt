@@ -14,17 +14,18 @@ use crate::chain::{Chain, extend, link, some_number};
 use crate::counting::{isolated_after, with_one, without_one};
 use crate::homes::{HomeEntry, enter, number_at, rehome, room_for};
 use crate::observation::Observation;
-use crate::position::{Position, at_position, live_at, position_of};
+use crate::places::{count_one, live_at, uncount_one};
 use crate::searches::numbered;
 use crate::tracklet::Tracklet;
 use angle_fixed::{Dec, Ra};
+use indexmap::IndexMap;
 use item_list::NoMemory;
 use obs_record::{Short, Sighting, TrackName};
 use obs_time::Instant;
 use ordered_list::OrderedList;
-use ordered_list::laws::{ties_find_alike, ties_itself};
 use packed_names::Designation;
 use packed_names::laws::orders;
+use place_keys::{PlaceKey, key_at, place_key};
 use std::alloc::Global;
 use std::marker::Model;
 
@@ -38,7 +39,10 @@ pub struct TrackletFile {
     links: Vec<u64>,
     tracklets: Vec<Tracklet>,
     chains: Vec<Chain>,
-    index: OrderedList<Position>,
+    // How many live observations have each place. A place that has none any more keeps its entry.
+    index: IndexMap<PlaceKey, u64>,
+    // For so many more places there is room in the index, or for more.
+    index_room: u64,
     homes: OrderedList<HomeEntry>,
     isolated: u64,
     retracted: u64,
@@ -49,6 +53,8 @@ pub struct TrackletFile {
 impl Model for TrackletFile {
     ghost use Rattle.std.specs.Prelude.{◌-◌, min, reverse, vec_len, vec_capacity};
     ghost use Rattle.tracklet_file.specs.Contents.{Contents};
+    ghost use Rattle.indexmap.specs.IndexMap.{spare};
+    ghost use Rattle.tracklet_file.specs.Places.{live_at};
     ghost use Rattle.tracklet_file.specs.Keeping.{Kept, IsFiled};
 
     ghost Value = { Contents };
@@ -57,23 +63,25 @@ impl Model for TrackletFile {
       observations = reverse f.observations.items;
       tracklets = reverse f.tracklets.items;
       observation_room = min (vec_capacity f.observations - vec_len f.observations)
-          (min (vec_capacity f.links - vec_len f.links) f.index.room);
+          (min (vec_capacity f.links - vec_len f.links) f.index_room);
       tracklet_room = min (vec_capacity f.tracklets - vec_len f.tracklets)
           (min (vec_capacity f.chains - vec_len f.chains) (f.homes.room - f.isolated_tracks));
     } };
 
     ghost invariant = { λ f.
-        IsFiled ⟦<Position as Ord>⟧.cmp ⟦<HomeEntry as Ord>⟧.cmp (reverse f.tracklets.items)
-        (reverse f.observations.items) (record {
+        IsFiled ⟦<HomeEntry as Ord>⟧.cmp (reverse f.tracklets.items) (reverse f.observations.items) (record {
           isolated = f.isolated;
           retracted = f.retracted;
           chains = f.chains.items;
           links = f.links.items;
-          positions = f.index.items;
         }) (record {
           entries = f.homes.items;
           room = f.homes.room;
           isolated = f.isolated_tracks;
+        }) (record {
+          live = live_at f.index;
+          room = f.index_room;
+          spare = spare f.index;
         }) };
 }
 
@@ -92,7 +100,8 @@ impl TrackletFile {
             links: Vec::with_capacity(alloc, FIRST_ROOM)?,
             tracklets: Vec::with_capacity(alloc, FIRST_ROOM)?,
             chains: Vec::with_capacity(alloc, FIRST_ROOM)?,
-            index: OrderedList::new(alloc)?,
+            index: IndexMap::new(alloc),
+            index_room: 0,
             homes: OrderedList::new(alloc)?,
             isolated: 0,
             retracted: 0,
@@ -115,7 +124,8 @@ impl TrackletFile {
     {
         self.observations.reserve(sightings as usize)?;
         self.links.reserve(sightings as usize)?;
-        self.index.reserve(sightings)?;
+        self.index.reserve(sightings as usize)?;
+        self.index_room = self.index_room.max(sightings as u64);
         self.tracklets.reserve(tracks as usize)?;
         self.chains.reserve(tracks as usize)?;
         self.homes.reserve(room_for(self.isolated_tracks, tracks)?)?;
@@ -159,12 +169,11 @@ impl TrackletFile {
         ensures observation_room { UsesOne self.old.observation_room self.new.observation_room }
         ensures tracklet_room { self.new.tracklet_room ≡ self.old.tracklet_room }
     {
-        ties_find_alike::<Position>();
         let number = self.observations.len() as u64 + 1;
         let isolated = self.home(track).is_none();
         self.isolated = with_one(self.isolated, isolated);
-        let live = live_at(&self.index, &position_of(&s, 0));
-        self.index.insert(position_of(&s, live + 1));
+        count_one(&mut self.index, place_key(&s));
+        self.index_room -= 1;
         let chain = self.chains[(track - 1) as usize];
         self.chains[(track - 1) as usize] = extend(chain, number);
         link(&mut self.links, chain.last, number);
@@ -184,15 +193,12 @@ impl TrackletFile {
         ensures tracklets { self.new.tracklets ≡ self.old.tracklets }
         ensures room_stays { KeepsRoom self.old self.new }
     {
-        ties_find_alike::<Position>();
-        ties_itself::<Position>();
         let place = (k - 1) as usize;
         let o = self.observations[place];
         let isolated = self.home(o.track).is_none();
         self.isolated = without_one(self.isolated, isolated);
         self.retracted += 1;
-        let live = live_at(&self.index, &position_of(&o.sighting, 0));
-        self.index.insert(position_of(&o.sighting, live - 1));
+        uncount_one(&mut self.index, &place_key(&o.sighting));
         self.chains[(o.track - 1) as usize].live -= 1;
         self.observations[place] = Observation { live: false, ..o };
     }
@@ -233,7 +239,7 @@ impl TrackletFile {
     pub fn has_live(&self, station: Short, time: Instant, ra: Ra, dec: Dec) -> bool
         ensures { result ≡ has_live self.now.observations station time ra dec }
     {
-        live_at(&self.index, &at_position(station, time, ra, dec, 0)) > 0
+        live_at(&self.index, &key_at(&station, time, ra, dec)) > 0
     }
 
     /// What was observed; None exactly for what isn't there.

@@ -15,7 +15,7 @@ mod file;
 mod homes;
 pub mod laws;
 mod observation;
-mod position;
+mod places;
 mod searches;
 mod tracklet;
 

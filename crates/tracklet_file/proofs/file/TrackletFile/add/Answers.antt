@@ -1,15 +1,19 @@
-use Rattle.std.proofs.Common.{◌≡◌, ◌+◌, ◌-◌, Bool, cond, set, true, refl, ap, sym, subst, ◌∙◌, arith}
+use Rattle.std.proofs.Common.{◌≡◌, ◌+◌, ◌-◌, Bool, cond, List, ◌∷◌, set, true, refl, ap, sym, subst, ◌∙◌, arith}
 use Rattle.std.specs.Prelude.{reverse, is_none}
 use Rattle.std.proofs.lemmas.List.{length-reverse}
+use Rattle.indexmap.specs.IndexMap.{spare}
 use Rattle.tracklet_file.specs.declared.chain.Chain.{Chain}
+use Rattle.tracklet_file.specs.declared.observation.Observation.{Observation}
 use Rattle.tracklet_file.specs.Numbering.{next_number}
 use Rattle.tracklet_file.specs.Tracklets.{IsTracklet, home_of}
 use Rattle.tracklet_file.specs.Chains.{is_live_of, extended, linked}
 use Rattle.tracklet_file.specs.Contents.{Contents}
+use Rattle.tracklet_file.specs.Places.{live_at, counts_at, KeptPlaces, IsIndexed}
 use Rattle.tracklet_file.proofs.NumberingLemmas.{numbered_within, place_within, reverse_push}
 use Rattle.tracklet_file.proofs.CountLemmas.{none_told, count_low}
 use Rattle.tracklet_file.proofs.ChainLemmas.{last_low}
 use Rattle.tracklet_file.proofs.KeepingLemmas.{chain_read, kept_added}
+use Rattle.tracklet_file.proofs.PlaceLemmas.{indexed_more}
 use Rattle.tracklet_file.proofs.file.TrackletFile.add.Goals as goal
 
 pub overflow_sub-track : goal.overflow_sub-track
@@ -25,7 +29,7 @@ pub extend-requires : goal.extend-requires
 extend-requires c =
     let observations = reverse c.self.inside.observations.items in
     let there : IsTracklet (reverse c.self.inside.tracklets.items) c.args.track = subst (λ (v : Contents). IsTracklet v.tracklets c.args.track) (sym c.self.view_is) c.requires.there in
-    let chain = (chain_read _ _ _ _ c.self.invariant.kept c.args.track c.index-chain.result.now there c.index-chain.ensures).1 in
+    let chain = (chain_read _ _ _ c.self.invariant.kept c.args.track c.index-chain.result.now there c.index-chain.ensures).1 in
     let live = count_low (is_live_of c.args.track) observations in
     omega (arith, live, length-reverse c.self.inside.observations.items, ap (λ (chain : Chain). chain.live) chain)
 
@@ -42,8 +46,20 @@ pub link-requires-clause-there : goal.link-requires-clause-there
 link-requires-clause-there c =
     let observations = reverse c.self.inside.observations.items in
     let there : IsTracklet (reverse c.self.inside.tracklets.items) c.args.track = subst (λ (v : Contents). IsTracklet v.tracklets c.args.track) (sym c.self.view_is) c.requires.there in
-    let chain = (chain_read _ _ _ _ c.self.invariant.kept c.args.track c.index-chain.result.now there c.index-chain.ensures).1 in
+    let chain = (chain_read _ _ _ c.self.invariant.kept c.args.track c.index-chain.result.now there c.index-chain.ensures).1 in
     omega (arith, last_low observations c.args.track, ap (λ (chain : Chain). chain.last) chain, c.self.invariant.kept.chained.as_many_links)
+
+pub count_one-requires-clause-room : goal.count_one-requires-clause-room
+count_one-requires-clause-room c =
+    omega (arith, c.requires.room, ap (λ (v : Contents). v.observation_room) c.self.view_is, c.self.invariant.indexed.enough)
+
+pub count_one-requires-clause-fits : goal.count_one-requires-clause-fits
+count_one-requires-clause-fits c =
+    let observations = reverse c.self.inside.observations.items in
+    omega (arith, c.self.invariant.indexed.live_are c.place_key.result, count_low (counts_at c.place_key.result) observations, length-reverse c.self.inside.observations.items)
+
+pub overflow_sub-self : goal.overflow_sub-self
+overflow_sub-self c = omega (arith, c.requires.room, ap (λ (v : Contents). v.observation_room) c.self.view_is)
 
 pub invariant_of-self : goal.invariant_of-self
 invariant_of-self c =
@@ -53,14 +69,19 @@ invariant_of-self c =
     let number : c.len.result + 1 ≡ next_number observations = omega (arith, length-reverse c.self.inside.observations.items) in
     let home : c.home.result ≡ home_of tracklets c.args.track = c.home.ensures ∙ sym (ap (λ (v : Contents). home_of v.tracklets c.args.track) c.self.view_is) in
     let isolated : c.is_none-isolated.result ≡ is_none (home_of tracklets c.args.track) = none_told c.home.result c.is_none-isolated.result c.is_none-isolated.ensures ∙ ap is_none home in
+    let newest : Observation = record { track = c.args.track; sighting = c.args.s; entry = c.args.entry; live = true } in
+    let pushed : reverse c.push_reserved.new.self.items ≡ newest ∷ observations = ap reverse c.push_reserved.ensures.items ∙ reverse_push c.self.inside.observations.items _ in
+    let before : KeptPlaces = record { live = live_at c.self.inside.index; room = c.self.inside.index_room; spare = spare c.self.inside.index } in
+    let after : KeptPlaces = record { live = live_at c.count_one.new.index; room = c.self.inside.index_room - 1; spare = spare c.count_one.new.index } in
     record {
       homed = c.self.invariant.homed;
+      indexed = subst (λ (os : List Observation). IsIndexed os after) (sym pushed)
+          (indexed_more observations before after c.place_key.result newest c.place_key.ensures refl c.self.invariant.indexed c.count_one.ensures.live
+          (omega (arith, c.count_one.ensures.room, c.self.invariant.indexed.enough)));
       kept =
-          kept_added _ _ _ _ c.self.invariant.kept (record { track = c.args.track; sighting = c.args.s; entry = c.args.entry; live = true }) c.index-chain.result.now _ _ _ _
-          c.with_one-self-inside.result c.live_at-live.result c.position_of-2.result c.position_of.result (record { alike = c.ties_find_alike.ensures; plain = λ key s live. refl }) there refl c.index-chain.ensures
-          (ap reverse c.push_reserved.ensures.items ∙ reverse_push c.self.inside.observations.items _)
+          kept_added _ _ _ c.self.invariant.kept newest c.index-chain.result.now _ _ _ c.with_one-self-inside.result there refl c.index-chain.ensures
+          pushed
           (ap (set c.self.inside.chains.items (c.args.track - 1)) (c.extend.ensures ∙ ap (extended c.index-chain.result.now) number))
           (c.link.ensures.links ∙ ap (linked c.self.inside.links.items c.index-chain.result.now.last) number)
-          (c.with_one-self-inside.ensures ∙ ap (λ (b : Bool). c.self.inside.isolated + cond b 1 0) isolated)
-          c.position_of-2.ensures c.position_of.ensures c.insert.ensures.finds c.live_at-live.ensures;
+          (c.with_one-self-inside.ensures ∙ ap (λ (b : Bool). c.self.inside.isolated + cond b 1 0) isolated);
     }

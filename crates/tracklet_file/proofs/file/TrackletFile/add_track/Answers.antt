@@ -12,7 +12,8 @@ pub invariant_of-self : goal.invariant_of-self
 invariant_of-self c =
     let tracklets_are = ap reverse c.push_reserved.ensures.items ∙ reverse_push c.self.inside.tracklets.items _ in
     record {
-      kept = kept_tracklet _ _ _ _ c.self.invariant.kept _ _ _ tracklets_are c.push_reserved-2.ensures.items;
+      indexed = c.self.invariant.indexed;
+      kept = kept_tracklet _ _ _ c.self.invariant.kept _ _ _ tracklets_are c.push_reserved-2.ensures.items;
       homed = homed_more c.orders.ensures _ (reverse c.self.inside.tracklets.items) _ _ _ _ c.self.invariant.homed
           (omega (arith, length-reverse c.self.inside.tracklets.items)) tracklets_are c.enter.ensures.finds
           (c.with_one-self-inside.ensures ∙ ap (λ (b : Bool). c.self.inside.isolated_tracks + cond b 1 0) (none_told c.args.home c.is_none.result c.is_none.ensures))

@@ -12,7 +12,7 @@ use Rattle.tracklet_file.proofs.file.TrackletFile.first_of.Goals as goal
 pub returns-in-Some-clause-first : goal.returns-in-Some-clause-first
 returns-in-Some-clause-first c =
     let at = sym (c.in-Some.ensures ∙ ap (λ (chains : List Chain). numbered (reverse chains) c.args.t) c.as_slice.ensures.value) in
-    c.some_number.ensures ∙ first_there _ _ _ _ c.self.invariant.kept c.args.t c.in-Some.chain.now at ∙ ap (λ (v : Contents). first_of v.observations c.args.t) c.self.view_is
+    c.some_number.ensures ∙ first_there _ _ _ c.self.invariant.kept c.args.t c.in-Some.chain.now at ∙ ap (λ (v : Contents). first_of v.observations c.args.t) c.self.view_is
 
 pub returns-in-Some-clause-own : goal.returns-in-Some-clause-own
 returns-in-Some-clause-own c =
@@ -25,4 +25,4 @@ returns-in-Some-clause-rest c =
 pub returns-in-None-clause-first : goal.returns-in-None-clause-first
 returns-in-None-clause-first c =
     let absent = sym (c.in-None.ensures ∙ ap (λ (chains : List Chain). numbered (reverse chains) c.args.t) c.as_slice.ensures.value) in
-    sym (first_absent _ _ _ _ c.self.invariant.kept c.args.t absent) ∙ ap (λ (v : Contents). first_of v.observations c.args.t) c.self.view_is
+    sym (first_absent _ _ _ c.self.invariant.kept c.args.t absent) ∙ ap (λ (v : Contents). first_of v.observations c.args.t) c.self.view_is

@@ -10,7 +10,7 @@ use Rattle.tracklet_file.proofs.file.TrackletFile.next_of.Goals as goal
 pub returns-in-Some-clause-next : goal.returns-in-Some-clause-next
 returns-in-Some-clause-next c =
     let at = sym (c.in-Some.ensures ∙ ap (λ (links : List ℕ). numbered (reverse links) c.args.k) c.as_slice.ensures.value) in
-    c.some_number.ensures ∙ next_there _ _ _ _ c.self.invariant.kept c.args.k c.in-Some.next.now at ∙ ap (λ (v : Contents). next_of v.observations c.args.k) c.self.view_is
+    c.some_number.ensures ∙ next_there _ _ _ c.self.invariant.kept c.args.k c.in-Some.next.now at ∙ ap (λ (v : Contents). next_of v.observations c.args.k) c.self.view_is
 
 pub returns-in-Some-clause-later : goal.returns-in-Some-clause-later
 returns-in-Some-clause-later c =
@@ -27,4 +27,4 @@ returns-in-Some-clause-rest c =
 pub returns-in-None-clause-next : goal.returns-in-None-clause-next
 returns-in-None-clause-next c =
     let absent = sym (c.in-None.ensures ∙ ap (λ (links : List ℕ). numbered (reverse links) c.args.k) c.as_slice.ensures.value) in
-    sym (next_absent _ _ _ _ c.self.invariant.kept c.args.k absent) ∙ ap (λ (v : Contents). next_of v.observations c.args.k) c.self.view_is
+    sym (next_absent _ _ _ c.self.invariant.kept c.args.k absent) ∙ ap (λ (v : Contents). next_of v.observations c.args.k) c.self.view_is

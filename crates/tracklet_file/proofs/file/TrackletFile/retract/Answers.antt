@@ -1,13 +1,16 @@
-use Rattle.std.proofs.Common.{◌≡◌, ℕ, ◌+◌, ◌-◌, ◌<◌, true, false, Bool, cond, length, refl, ap, subst, sym, ◌∙◌, arith}
+use Rattle.std.proofs.Common.{◌≡◌, ℕ, ◌+◌, ◌-◌, ◌<◌, true, false, Bool, cond, List, length, refl, ap, subst, sym, ◌∙◌, arith}
 use Rattle.std.specs.Prelude.{reverse, is_none}
 use Rattle.std.proofs.lemmas.List.{length-reverse}
+use Rattle.indexmap.specs.IndexMap.{spare}
 use Rattle.tracklet_file.specs.declared.observation.Observation.{Observation}
 use Rattle.tracklet_file.specs.Observations.{is_live, with_retraction}
 use Rattle.tracklet_file.specs.Tracklets.{IsTracklet, home_of}
 use Rattle.tracklet_file.specs.Contents.{Contents}
 use Rattle.tracklet_file.proofs.NumberingLemmas.{numbered_within, place_within, read_at, changed_in_place}
 use Rattle.tracklet_file.proofs.CountLemmas.{tracklet_at, none_told, live_there, live_at, some_isolated}
-use Rattle.tracklet_file.proofs.KeepingLemmas.{chain_some, index_some, found_some, there_some, less, kept_retracted}
+use Rattle.tracklet_file.specs.Places.{live_at as live_by, KeptPlaces, IsIndexed}
+use Rattle.tracklet_file.proofs.PlaceLemmas.{live_some, indexed_less}
+use Rattle.tracklet_file.proofs.KeepingLemmas.{chain_some, kept_retracted}
 use Rattle.tracklet_file.proofs.file.TrackletFile.retract.Goals as goal
 
 pub overflow_sub-place : goal.overflow_sub-place
@@ -40,23 +43,14 @@ without_one-self-inside-requires c none =
     ap (λ (v : Contents). is_none (home_of v.tracklets c.index.result.now.track)) c.self.view_is ∙ ap is_none (sym c.home.ensures) ∙ sym (none_told c.home.result c.is_none-isolated.result c.is_none-isolated.ensures) ∙ none in
     subst (λ (n : ℕ). 0 < n) (sym c.self.invariant.kept.counted.isolated_are) (some_isolated tracklets observations c.args.k c.index.result.now at alive alone)
 
-pub overflow_sub-live : goal.overflow_sub-live
-overflow_sub-live c =
+pub uncount_one-requires : goal.uncount_one-requires
+uncount_one-requires c =
     let observations = reverse c.self.inside.observations.items in
     let live : is_live observations c.args.k ≡ true = ap (λ (v : Contents). is_live v.observations c.args.k) c.self.view_is ∙ c.requires in
     let at = read_at c.self.inside.observations.items c.args.k c.index.result.now (live_there observations c.args.k live) c.index.ensures in
     let alive = live_at observations c.args.k c.index.result.now at live in
-    let some = index_some _ _ _ _ c.self.invariant.kept c.args.k c.index.result.now at alive c.position_of.result c.position_of.ensures c.ties_itself.ensures in
-    omega (arith, some, c.live_at-live.ensures)
-
-pub insert-requires : goal.insert-requires
-insert-requires c none =
-    let observations = reverse c.self.inside.observations.items in
-    let live : is_live observations c.args.k ≡ true = ap (λ (v : Contents). is_live v.observations c.args.k) c.self.view_is ∙ c.requires in
-    let at = read_at c.self.inside.observations.items c.args.k c.index.result.now (live_there observations c.args.k live) c.index.ensures in
-    let alive = live_at observations c.args.k c.index.result.now at live in
-    let some = index_some _ _ _ _ c.self.invariant.kept c.args.k c.index.result.now at alive c.position_of.result c.position_of.ensures c.ties_itself.ensures in
-    absurd (found_some _ c.self.inside.index.items c.position_of-2.result c.position_of.result c.index.result.now.sighting (c.live_at-live.result - 1) c.position_of-2.ensures c.position_of.ensures (λ key s live. refl) c.ties_find_alike.ensures c.ties_itself.ensures some none)
+    let places : KeptPlaces = record { live = live_by c.self.inside.index; room = c.self.inside.index_room; spare = spare c.self.inside.index } in
+    live_some observations places places c.place_key.result c.index.result.now c.place_key.ensures alive c.self.invariant.indexed c.args.k at
 
 pub overflow_sub-o : goal.overflow_sub-o
 overflow_sub-o c =
@@ -80,7 +74,7 @@ overflow_sub-index_mut c =
     let live : is_live observations c.args.k ≡ true = ap (λ (v : Contents). is_live v.observations c.args.k) c.self.view_is ∙ c.requires in
     let at = read_at c.self.inside.observations.items c.args.k c.index.result.now (live_there observations c.args.k live) c.index.ensures in
     let alive = live_at observations c.args.k c.index.result.now at live in
-    chain_some _ _ _ _ c.self.invariant.kept c.args.k c.index.result.now at alive c.index_mut.result.now c.index_mut.ensures.value
+    chain_some _ _ _ c.self.invariant.kept c.args.k c.index.result.now at alive c.index_mut.result.now c.index_mut.ensures.value
 
 pub index_mut-requires-2 : goal.index_mut-requires-2
 index_mut-requires-2 c =
@@ -95,21 +89,24 @@ invariant_of-self c =
     let live : is_live observations c.args.k ≡ true = ap (λ (v : Contents). is_live v.observations c.args.k) c.self.view_is ∙ c.requires in
     let at = read_at c.self.inside.observations.items c.args.k c.index.result.now (live_there observations c.args.k live) c.index.ensures in
     let alive = live_at observations c.args.k c.index.result.now at live in
-    let some = index_some _ _ _ _ c.self.invariant.kept c.args.k c.index.result.now at alive c.position_of.result c.position_of.ensures c.ties_itself.ensures in
     let tracklets = reverse c.self.inside.tracklets.items in
     let there = live_there observations c.args.k live in
     let home : c.home.result ≡ home_of tracklets c.index.result.now.track = c.home.ensures ∙ sym (ap (λ (v : Contents). home_of v.tracklets c.index.result.now.track) c.self.view_is) in
     let isolated : c.is_none-isolated.result ≡ is_none (home_of tracklets c.index.result.now.track) = none_told c.home.result c.is_none-isolated.result c.is_none-isolated.ensures ∙ ap is_none home in
-    let chain = chain_some _ _ _ _ c.self.invariant.kept c.args.k c.index.result.now at alive c.index_mut.result.now c.index_mut.ensures.value in
+    let chain = chain_some _ _ _ c.self.invariant.kept c.args.k c.index.result.now at alive c.index_mut.result.now c.index_mut.ensures.value in
+    let changed = changed_in_place (λ (o : Observation). record o { live = false }) c.self.inside.observations.items c.args.k c.index.result.now there c.index.ensures in
+    let before : KeptPlaces = record { live = live_by c.self.inside.index; room = c.self.inside.index_room; spare = spare c.self.inside.index } in
+    let after : KeptPlaces = record { live = live_by c.uncount_one.new.index; room = c.self.inside.index_room; spare = spare c.uncount_one.new.index } in
     record {
       homed = c.self.invariant.homed;
+      indexed = subst (λ (os : List Observation). IsIndexed os after) changed
+          (indexed_less observations before after c.place_key.result c.index.result.now c.place_key.ensures alive c.self.invariant.indexed c.args.k at c.uncount_one.ensures.live
+          (omega (arith, c.uncount_one.ensures.room, c.self.invariant.indexed.enough)));
       kept =
-          kept_retracted _ _ _ _ c.self.invariant.kept c.args.k c.index.result.now c.index_mut.result.now _ _ _ c.without_one-self-inside.result (c.self.inside.retracted + 1)
-          (c.index_mut.result.now.live - 1) (c.live_at-live.result - 1) c.position_of-2.result c.position_of.result (record { alike = c.ties_find_alike.ensures; plain = λ key s live. refl })
-          at alive c.index_mut.ensures.value (omega (arith, chain))
-          (sym (changed_in_place (λ (o : Observation). record o { live = false }) c.self.inside.observations.items c.args.k c.index.result.now there c.index.ensures)) refl refl
-          (ap (λ (b : Bool). c.without_one-self-inside.result + cond b 1 0) (sym isolated) ∙ c.without_one-self-inside.ensures)
-          c.position_of-2.ensures c.position_of.ensures c.insert.ensures.finds (less c.live_at-live.result _ some c.live_at-live.ensures);
+          kept_retracted _ _ _ c.self.invariant.kept c.args.k c.index.result.now c.index_mut.result.now _ _ c.without_one-self-inside.result (c.self.inside.retracted + 1)
+          (c.index_mut.result.now.live - 1) at alive c.index_mut.ensures.value (omega (arith, chain))
+          (sym changed) refl refl
+          (ap (λ (b : Bool). c.without_one-self-inside.result + cond b 1 0) (sym isolated) ∙ c.without_one-self-inside.ensures);
     }
 
 pub returns-clause-retracted : goal.returns-clause-retracted
@@ -118,17 +115,3 @@ returns-clause-retracted c =
     let live : is_live observations c.args.k ≡ true = ap (λ (v : Contents). is_live v.observations c.args.k) c.self.view_is ∙ c.requires in
     sym (changed_in_place (λ (o : Observation). record o { live = false }) c.self.inside.observations.items c.args.k c.index.result.now (live_there observations c.args.k live) c.index.ensures)
     ∙ ap (λ (v : Contents). with_retraction v.observations c.args.k) c.self.view_is
-
-pub returns-clause-room_stays : goal.returns-clause-room_stays
-returns-clause-room_stays c =
-    let observations = reverse c.self.inside.observations.items in
-    let live : is_live observations c.args.k ≡ true = ap (λ (v : Contents). is_live v.observations c.args.k) c.self.view_is ∙ c.requires in
-    let at = read_at c.self.inside.observations.items c.args.k c.index.result.now (live_there observations c.args.k live) c.index.ensures in
-    let alive = live_at observations c.args.k c.index.result.now at live in
-    let some = index_some _ _ _ _ c.self.invariant.kept c.args.k c.index.result.now at alive c.position_of.result c.position_of.ensures c.ties_itself.ensures in
-    let there = there_some _ c.self.inside.index.items c.position_of-2.result c.position_of.result c.index.result.now.sighting (c.live_at-live.result - 1) c.position_of-2.ensures c.position_of.ensures (λ key s live. refl) c.ties_find_alike.ensures c.ties_itself.ensures some in
-    let stays = c.insert.ensures.replaces there in
-    record {
-      observations = omega (arith, stays, ap (λ (v : Contents). v.observation_room) c.self.view_is);
-      tracklets = omega (arith, ap (λ (v : Contents). v.tracklet_room) c.self.view_is);
-    }

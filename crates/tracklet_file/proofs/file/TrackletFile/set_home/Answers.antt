@@ -29,7 +29,7 @@ isolated_after-self-inside-requires-clause-counted c none =
     let there : IsTracklet tracklets c.args.t = subst (λ (v : Contents). IsTracklet v.tracklets c.args.t) (sym c.self.view_is) c.requires in
     let alone : is_none (home_of tracklets c.args.t) ≡ true =
     ap (λ (v : Contents). is_none (home_of v.tracklets c.args.t)) c.self.view_is ∙ ap is_none (sym c.home-was.ensures) ∙ ap not none in
-    let chain = (chain_read _ _ _ _ c.self.invariant.kept c.args.t c.index.result.now there c.index.ensures).1 in
+    let chain = (chain_read _ _ _ c.self.invariant.kept c.args.t c.index.result.now there c.index.ensures).1 in
     let among = live_are_isolated tracklets c.args.t alone observations in
     omega (arith, among, ap (λ (chain : Chain). chain.live) chain, c.self.invariant.kept.counted.isolated_are)
 
@@ -37,7 +37,7 @@ pub isolated_after-self-inside-requires-clause-fits : goal.isolated_after-self-i
 isolated_after-self-inside-requires-clause-fits c =
     let observations = reverse c.self.inside.observations.items in
     let there : IsTracklet (reverse c.self.inside.tracklets.items) c.args.t = subst (λ (v : Contents). IsTracklet v.tracklets c.args.t) (sym c.self.view_is) c.requires in
-    let chain = (chain_read _ _ _ _ c.self.invariant.kept c.args.t c.index.result.now there c.index.ensures).1 in
+    let chain = (chain_read _ _ _ c.self.invariant.kept c.args.t c.index.result.now there c.index.ensures).1 in
     let live = count_low (is_live_of c.args.t) observations in
     let isolated = count_low (is_isolated (reverse c.self.inside.tracklets.items)) observations in
     omega (arith, live, isolated, length-reverse c.self.inside.observations.items, ap (λ (chain : Chain). chain.live) chain, c.self.invariant.kept.counted.isolated_are)
@@ -75,13 +75,14 @@ invariant_of-self c =
     let tracklets = reverse c.self.inside.tracklets.items in
     let observations = reverse c.self.inside.observations.items in
     let there : IsTracklet tracklets c.args.t = subst (λ (v : Contents). IsTracklet v.tracklets c.args.t) (sym c.self.view_is) c.requires in
-    let chain = (chain_read _ _ _ _ c.self.invariant.kept c.args.t c.index.result.now there c.index.ensures).1 in
+    let chain = (chain_read _ _ _ c.self.invariant.kept c.args.t c.index.result.now there c.index.ensures).1 in
     let live : c.index.result.now.live ≡ count_by (is_live_of c.args.t) observations = ap (λ (chain : Chain). chain.live) chain in
     let was : c.home-was.result ≡ home_of tracklets c.args.t = c.home-was.ensures ∙ sym (ap (λ (v : Contents). home_of v.tracklets c.args.t) c.self.view_is) in
     let tracklets_are = sym (changed_in_place (λ (tracklet : Tracklet). record tracklet { home = c.args.home }) c.self.inside.tracklets.items c.args.t c.index_mut.result.now there c.index_mut.ensures.value) in
     record {
+      indexed = c.self.invariant.indexed;
       homed = homed_changed c.orders.ensures c.args.t c.home-was.result c.args.home tracklets _ _ _ there was tracklets_are c.rehome.ensures.finds c.isolated_after-self-inside-2.ensures c.rehome.ensures.room c.self.invariant.homed;
-      kept = kept_rehomed _ _ _ _ c.self.invariant.kept c.args.t c.args.home _ c.isolated_after-self-inside.result there
+      kept = kept_rehomed _ _ _ c.self.invariant.kept c.args.t c.args.home _ c.isolated_after-self-inside.result there
           tracklets_are
           (ap (λ (h : Option Designation). c.isolated_after-self-inside.result + cond (is_none h) (count_by (is_live_of c.args.t) observations) 0) (sym was)
           ∙ ap (λ (n : ℕ). c.isolated_after-self-inside.result + cond (is_none c.home-was.result) n 0) (sym live)
