@@ -8,5 +8,8 @@ mod Sorting
 mod Apart
 mod Firsts
 mod Rows
+mod Passed
+mod Puts
+mod Standing
 mod Beside
 mod TextWords

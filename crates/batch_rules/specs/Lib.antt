@@ -1,4 +1,5 @@
 pub mod Groups
+pub mod Tables
 pub mod KeyTests
 pub mod Places
 pub mod PlaceTests

@@ -1,5 +1,6 @@
 -- Rulings by what was found of groups.
-use Rattle.std.specs.Prelude.{ℕ, List, map, Option, None, unwrap_or, position, Result, Ok}
+use Rattle.std.specs.Prelude.{◌≡◌, ℕ, true, List, map, Option, None, unwrap_or, position, Result, Ok}
+use Rattle.std.specs.List.{list_any, position_or_len}
 use Rattle.indexmap.specs.IndexSet.{insert_all}
 use Rattle.obs_record.specs.declared.line.Line.{Line}
 use Rattle.obs_record.specs.declared.sighting.Sighting.{Sighting}
@@ -10,6 +11,10 @@ use Rattle.batch_rules.specs.declared.keys.GroupKey.{GroupKey}
 use Rattle.batch_rules.specs.declared.groups.Summary.{Summary}
 use Rattle.batch_rules.specs.KeyTests.{same_key}
 use Rattle.batch_rules.specs.Groups.{group_key, reading_by, accepted_by}
+
+-- the group with a key is among these, and this is its place
+abbrev pub StandsIn : GroupKey → ℕ → List GroupKey → Type 0
+StandsIn key place keys = (list_any (same_key key) keys ≡ true) × (place ≡ position_or_len (same_key key) keys)
 
 -- these keys of groups, and after them those of the accepted ones of these lines, each once
 abbrev pub keys_after : (GroupKey → Option Summary) → List GroupKey → List Line → List GroupKey

@@ -1,7 +1,6 @@
 //! Each line by itself, and beside the earlier ones.
 
-ghost use Rattle.std.specs.Prelude.{◌≡◌, [], ◌++◌, IfOk, OnOk, option_to_list};
-ghost use Rattle.std.specs.Result.{result_ok};
+ghost use Rattle.std.specs.Prelude.{◌≡◌, [], IfOk};
 ghost use Rattle.act_model.specs.BatchRules.{checked_reading, with_passed, checked_lines, passed_in, unless_broken};
 ghost use Rattle.batch_rules.specs.Earlier.{earlier_of};
 
@@ -53,18 +52,20 @@ fn with_fault(
     }
 }
 
-/// Each line with its observation, or with the first rule that it breaks by itself or beside the earlier ones.
+/// Each line with its observation, or with the first rule that it breaks by itself or beside the earlier ones; and the
+/// observations that the lines then have, in their order.
 pub(crate) fn checked_lines<V: Known>(
     alloc: Global,
     tables: &Tables,
     known: &V,
     moment: Instant,
     lines: &[Line],
-) -> Result<Vec<Line>, NoMemory>
-    ensures { IfOk result (λ checked.
-        checked.items ≡ checked_lines (V.office known.now) tables.now moment [] lines.now) }
+) -> Result<(Vec<Line>, Vec<Sighting>), NoMemory>
+    ensures lines { IfOk result (λ checked.
+        checked.0.items ≡ checked_lines (V.office known.now) tables.now moment [] lines.now) }
+    ensures passed { IfOk result (λ checked. checked.1.items ≡ passed_in checked.0.items) }
 {
-    let mut earlier = Earlier::new(alloc);
+    let mut earlier = Earlier::with_capacity(alloc, lines.len())?;
     let mut checked = Vec::with_capacity(alloc, lines.len())?;
     for line in lines {
         let (read, more) = checked_reading(tables, known, moment, earlier, &line.read)?;
@@ -74,28 +75,5 @@ pub(crate) fn checked_lines<V: Known>(
             read,
         })?;
     }
-    Ok(checked)
-}
-
-fn push_read(passed: &mut Vec<Sighting>, read: &Result<Sighting, RuleCode>) -> Result<(), NoMemory>
-    ensures { OnOk result (passed.new.items ≡ passed.old.items ++ option_to_list (result_ok read.now)) }
-{
-    match read {
-        Ok(s) => {
-            passed.push(*s)?;
-            Ok(())
-        }
-        Err(_) => Ok(()),
-    }
-}
-
-/// The observations that lines have, in their order.
-pub(crate) fn passed_in(alloc: Global, lines: &[Line]) -> Result<Vec<Sighting>, NoMemory>
-    ensures { IfOk result (λ passed. passed.items ≡ passed_in lines.now) }
-{
-    let mut passed = Vec::with_capacity(alloc, lines.len())?;
-    for line in lines {
-        push_read(&mut passed, &line.read)?;
-    }
-    Ok(passed)
+    Ok((checked, earlier.passed()))
 }

@@ -1,6 +1,6 @@
 //! The earlier lines of a batch that a line is judged beside.
 
-ghost use Rattle.std.specs.Prelude.{◌≡◌, ◌∷◌, [], IfOk};
+ghost use Rattle.std.specs.Prelude.{◌≡◌, ◌∷◌, [], reverse, IfOk};
 ghost use Rattle.batch_rules.specs.PlaceTests.{rule_beside};
 ghost use Rattle.batch_rules.specs.Earlier.{earlier_of};
 
@@ -27,11 +27,11 @@ fn searched(earlier: Indexed, s: &Sighting) -> (Option<RuleCode>, Earlier)
 }
 
 impl Earlier {
-    /// None yet.
-    pub(crate) fn new(alloc: Global) -> Earlier
-        ensures { earlier_of result ≡ [] }
+    /// None yet, with room for so many.
+    pub(crate) fn with_capacity(alloc: Global, capacity: usize) -> Result<Earlier, NoMemory>
+        ensures { IfOk result (λ earlier. earlier_of earlier ≡ []) }
     {
-        Earlier::InOrder(InOrder::new(alloc))
+        Ok(Earlier::InOrder(InOrder::with_capacity(alloc, capacity)?))
     }
 
     /// The rule that an observation breaks beside them, and these, which are indexed where it isn't later than all of
@@ -58,6 +58,16 @@ impl Earlier {
         match self {
             Earlier::InOrder(earlier) => Ok(Earlier::InOrder(earlier.with(s)?)),
             Earlier::Indexed(earlier) => Ok(Earlier::Indexed(earlier.with(s)?)),
+        }
+    }
+
+    /// The observations, the oldest first.
+    pub(crate) fn passed(self) -> Vec<Sighting>
+        ensures { result.items ≡ reverse (earlier_of self) }
+    {
+        match self {
+            Earlier::InOrder(earlier) => earlier.passed(),
+            Earlier::Indexed(earlier) => earlier.passed(),
         }
     }
 }

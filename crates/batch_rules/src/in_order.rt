@@ -1,6 +1,6 @@
 //! Earlier lines of a batch that came in the order of their times.
 
-ghost use Rattle.std.specs.Prelude.{◌≡◌, ◌∷◌, [], reverse, take, true, None, IfOk};
+ghost use Rattle.std.specs.Prelude.{◌≡◌, ◌∷◌, [], reverse, true, None, IfOk};
 ghost use Rattle.batch_rules.specs.PlaceTests.{rule_beside};
 
 use crate::indexed::Indexed;
@@ -30,15 +30,16 @@ impl Model for InOrder {
 }
 
 impl InOrder {
-    /// None yet.
-    pub(crate) fn new(alloc: Global) -> InOrder
-        ensures { result ≡ [] }
+    /// None yet, with room for so many.
+    pub(crate) fn with_capacity(alloc: Global, capacity: usize) -> Result<InOrder, NoMemory>
+        ensures { IfOk result (λ earlier. earlier ≡ []) }
     {
-        InOrder {
-            passed: Vec::new(alloc),
+        let passed = Vec::with_capacity(alloc, capacity)?;
+        Ok(InOrder {
+            passed,
             latest: i64::MIN,
             alloc,
-        }
+        })
     }
 
     /// Whether an observation is later than all of them, so that none of them stands beside it.
@@ -76,5 +77,13 @@ impl InOrder {
             indexed = indexed.with(*s)?;
         }
         Ok(indexed)
+    }
+
+    /// The observations, the oldest first.
+    pub(crate) fn passed(self) -> Vec<Sighting>
+        ensures { result.items ≡ reverse self }
+    {
+        let InOrder { passed, .. } = self;
+        passed
     }
 }

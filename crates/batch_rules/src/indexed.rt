@@ -1,6 +1,6 @@
 //! Earlier lines of a batch, found by their places and moments.
 
-ghost use Rattle.std.specs.Prelude.{◌≡◌, ◌∷◌, [], IfOk};
+ghost use Rattle.std.specs.Prelude.{◌≡◌, ◌∷◌, [], reverse, IfOk};
 ghost use Rattle.batch_rules.specs.PlaceTests.{rule_beside};
 
 use crate::places::{MomentKey, PlaceKey, moment_key, place_key};
@@ -78,5 +78,13 @@ impl Indexed {
             places,
             moments,
         })
+    }
+
+    /// The observations, the oldest first.
+    pub(crate) fn passed(self) -> Vec<Sighting>
+        ensures { result.items ≡ reverse self }
+    {
+        let Indexed { passed, .. } = self;
+        passed
     }
 }

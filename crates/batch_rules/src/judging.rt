@@ -1,6 +1,6 @@
 //! The rulings on the lines of a batch.
 
-ghost use Rattle.std.specs.Prelude.{◌≡◌, ◌∷◌, [], List, if◌then◌else◌, is_none, map, length, IfOk, OnOk};
+ghost use Rattle.std.specs.Prelude.{◌≡◌, ◌∷◌, [], List, true, if◌then◌else◌, is_none, map, length, IfOk, OnOk};
 ghost use Rattle.std.specs.List.{position_or_len};
 ghost use Rattle.indexmap.specs.IndexMap.{get};
 ghost use Rattle.indexmap.specs.IndexSet.{insert_key};
@@ -8,34 +8,57 @@ ghost use Rattle.obs_record.specs.declared.line.Line.{Line as Line};
 ghost use Rattle.batch_rules.specs.declared.keys.GroupKey.{GroupKey as Key};
 ghost use Rattle.batch_rules.specs.KeyTests.{same_key};
 ghost use Rattle.batch_rules.specs.Groups.{group_key, fault_by};
-ghost use Rattle.batch_rules.specs.Numbers.{keys_after, ruling_by};
+ghost use Rattle.batch_rules.specs.Numbers.{StandsIn, keys_after, ruling_by};
 ghost use Rattle.act_model.specs.BatchRules.{batch_rulings, groups_of};
 
-use crate::checking::{checked_lines, passed_in};
-use crate::groups::{Summary, fault_by, summaries};
+use crate::checking::checked_lines;
+use crate::groups::{Groups, fault_by, summaries, summary_of};
 use crate::keys::{GroupKey, group_key};
 use crate::rulings::Rulings;
 use act_model::{Known, Ruling};
-use indexmap::{IndexMap, IndexSet};
+use indexmap::IndexSet;
 use item_list::{ItemList, NoMemory};
 use obs_record::{Line, Lines, RuleCode, Sighting};
 use obs_time::Instant;
 use station_tables::Tables;
 use std::alloc::{AllocError, Global};
 
-/// The summaries of groups.
-type Groups = IndexMap<GroupKey, Summary>;
+/// Where the group of the line before is: among all groups, and among those that have an accepted line.
+#[derive(Drop)]
+struct Last {
+    group: usize,
+    first: u32,
+}
 
-// The place of a group among those that have an accepted line, to which it is added where it is new. More places than a
-// number has count as out of memory: no memory holds so many.
-fn placed(firsts: &mut IndexSet<GroupKey>, key: GroupKey) -> Result<u32, NoMemory>
+// Whether the group with this key is at a place among those that have an accepted line.
+fn is_at(firsts: &IndexSet<GroupKey>, place: u32, key: &GroupKey) -> bool
+    ensures { result ≡ true → StandsIn key.now place firsts.now.keys }
+{
+    let place = place as usize;
+    if place >= firsts.len() {
+        return false;
+    }
+    match firsts.get_index(place) {
+        Some(own) => *own == *key,
+        None => false,
+    }
+}
+
+// The place of a group among those that have an accepted line, to which it is added where it is new. It is searched for
+// only where it isn't at the place of the last one, which is kept. More places than a number has count as out of
+// memory: no memory holds so many.
+fn placed(firsts: &mut IndexSet<GroupKey>, last: &mut u32, key: GroupKey) -> Result<u32, NoMemory>
     ensures keys { OnOk result (firsts.new.keys ≡ insert_key same_key firsts.old.keys key) }
     ensures place { IfOk result (λ place. place ≡ position_or_len (same_key key) firsts.old.keys) }
 {
+    if is_at(firsts, *last, &key) {
+        return Ok(*last);
+    }
     let (place, _is_new) = firsts.insert_full(key)?;
     if place > u32::MAX as usize {
         return Err(AllocError);
     }
+    *last = place as u32;
     Ok(place as u32)
 }
 
@@ -43,6 +66,7 @@ fn placed(firsts: &mut IndexSet<GroupKey>, key: GroupKey) -> Result<u32, NoMemor
 fn ruled(
     groups: &Groups,
     firsts: &mut IndexSet<GroupKey>,
+    last: &mut Last,
     s: &Sighting,
 ) -> Result<(Option<RuleCode>, u32), NoMemory>
     ensures fault { IfOk result (λ ruled. ruled.0 ≡ fault_by (get same_key groups.now (group_key s.now)) s.now) }
@@ -52,16 +76,21 @@ fn ruled(
         (if is_none ruled.0 then position_or_len (same_key (group_key s.now)) firsts.old.keys else 0)) }
 {
     let key = group_key(s);
-    let fault = fault_by(groups.get(&key).copied(), s);
+    let fault = fault_by(summary_of(groups, &mut last.group, &key), s);
     match fault {
-        None => Ok((None, placed(firsts, key)?)),
+        None => Ok((None, placed(firsts, &mut last.first, key)?)),
         Some(rule) => Ok((Some(rule), 0)),
     }
 }
 
 // The ruling on a line, which stands whatever lines come after it. The group of an accepted one is added to those that
 // have one.
-fn ruling(groups: &Groups, firsts: &mut IndexSet<GroupKey>, line: &Line) -> Result<Ruling, NoMemory>
+fn ruling(
+    groups: &Groups,
+    firsts: &mut IndexSet<GroupKey>,
+    last: &mut Last,
+    line: &Line,
+) -> Result<Ruling, NoMemory>
     ensures keys { OnOk result ((later : List Line) →
         keys_after (λ (key : Key). get same_key groups.now key) firsts.new.keys later
         ≡ keys_after (λ (key : Key). get same_key groups.now key) firsts.old.keys (line.now ∷ later)) }
@@ -70,7 +99,7 @@ fn ruling(groups: &Groups, firsts: &mut IndexSet<GroupKey>, line: &Line) -> Resu
         (keys_after (λ (key : Key). get same_key groups.now key) firsts.new.keys later) line.now) }
 {
     let (fault, group) = match &line.read {
-        Ok(s) => ruled(groups, firsts, s)?,
+        Ok(s) => ruled(groups, firsts, last, s)?,
         Err(rule) => (Some(*rule), 0),
     };
     Ok(Ruling {
@@ -99,9 +128,10 @@ fn rulings(alloc: Global, groups: &Groups, checked: &[Line]) -> Result<Rulings, 
         judged.groups ≡ length (keys_after (λ (key : Key). get same_key groups.now key) [] checked.now)) }
 {
     let mut firsts = IndexSet::new(alloc);
+    let mut last = Last { group: 0, first: 0 };
     let mut list = ItemList::with_capacity(alloc, checked.len())?;
     for line in checked {
-        list.push(ruling(groups, &mut firsts, line)?)?;
+        list.push(ruling(groups, &mut firsts, &mut last, line)?)?;
     }
     let groups = count(&firsts)?;
     Ok(Rulings { list, groups })
@@ -125,8 +155,7 @@ pub fn judge<V: Known>(
     ensures groups { IfOk result (λ judged.
         judged.groups ≡ groups_of (V.office known.now) tables.now moment batch.now) }
 {
-    let checked = checked_lines(alloc, tables, known, moment, batch.as_slice())?;
-    let passed = passed_in(alloc, checked.as_slice())?;
-    let summed = summaries(alloc, passed.as_slice())?;
+    let (checked, passed) = checked_lines(alloc, tables, known, moment, batch.as_slice())?;
+    let summed = summaries(alloc, passed)?;
     rulings(alloc, &summed, checked.as_slice())
 }

@@ -16,10 +16,8 @@ use Rattle.batch_rules.proofs.judging.judge.Goals as goal
 pub summaries-requires : goal.summaries-requires
 summaries-requires g c =
     let office = g.V.Known.office c.args.known.now in
-    let checked_is : c.in_ok-checked.checked.items ≡ checked_lines office c.args.tables.now c.args.moment [] c.args.batch.now =
-    c.in_ok-checked.ensures ∙ ap (checked_lines office c.args.tables.now c.args.moment []) c.as_slice.ensures in
-    let passed_is : c.as_slice-3.result.now ≡ passed_in (checked_lines office c.args.tables.now c.args.moment [] c.args.batch.now) =
-    c.as_slice-3.ensures.value ∙ c.in_ok-passed.ensures ∙ ap passed_in (c.as_slice-2.ensures.value ∙ checked_is) in
+    let passed_is : c.in_ok-checked.passed.items ≡ passed_in (checked_lines office c.args.tables.now c.args.moment [] c.args.batch.now) =
+    c.in_ok-checked.ensures.passed ∙ ap passed_in (c.in_ok-checked.ensures.lines ∙ ap (checked_lines office c.args.tables.now c.args.moment []) c.as_slice.ensures) in
     subst AreApart (sym passed_is) (passed_apart office c.args.tables.now c.args.moment c.args.batch.now)
 
 -- what was passed, and the summaries that were found, are those of the lines that were checked
@@ -29,23 +27,17 @@ returns-clause-rulings g c =
     let office = g.V.Known.office c.args.known.now in
     let found : GroupKey → Option Summary = λ (key : GroupKey). get same_key c.in_ok-summed.summed key in
     let checked = c.in_ok-checked.checked.items in
-    let checked_is : checked ≡ checked_lines office c.args.tables.now c.args.moment [] c.args.batch.now =
-    c.in_ok-checked.ensures ∙ ap (checked_lines office c.args.tables.now c.args.moment []) c.as_slice.ensures in
-    let passed_is : c.in_ok-passed.passed.items ≡ passed_in checked = c.in_ok-passed.ensures ∙ ap passed_in c.as_slice-2.ensures.value in
     IfOk-weaker c.rulings.result _ _ (λ judged is.
-    is ∙ ap (λ (lines : List Line). map (ruling_by found (keys_after found [] lines)) lines) c.as_slice-4.ensures.value
-    ∙ rulings_told found checked (λ s. c.in_ok-summed.ensures s ∙ ap (λ (xs : List Sighting). group_fault xs s) (c.as_slice-3.ensures.value ∙ passed_is))
-    ∙ ap rulings_among checked_is) c.rulings.ensures.list
+    is ∙ ap (λ (lines : List Line). map (ruling_by found (keys_after found [] lines)) lines) c.as_slice-2.ensures.value
+    ∙ rulings_told found checked (λ s. c.in_ok-summed.ensures s ∙ ap (λ (xs : List Sighting). group_fault xs s) c.in_ok-checked.ensures.passed)
+    ∙ ap rulings_among (c.in_ok-checked.ensures.lines ∙ ap (checked_lines office c.args.tables.now c.args.moment []) c.as_slice.ensures)) c.rulings.ensures.list
 
 pub returns-clause-groups : goal.returns-clause-groups
 returns-clause-groups g c =
     let office = g.V.Known.office c.args.known.now in
     let found : GroupKey → Option Summary = λ (key : GroupKey). get same_key c.in_ok-summed.summed key in
     let checked = c.in_ok-checked.checked.items in
-    let checked_is : checked ≡ checked_lines office c.args.tables.now c.args.moment [] c.args.batch.now =
-    c.in_ok-checked.ensures ∙ ap (checked_lines office c.args.tables.now c.args.moment []) c.as_slice.ensures in
-    let passed_is : c.in_ok-passed.passed.items ≡ passed_in checked = c.in_ok-passed.ensures ∙ ap passed_in c.as_slice-2.ensures.value in
     IfOk-weaker c.rulings.result _ _ (λ judged is.
-    is ∙ ap (λ (lines : List Line). length (keys_after found [] lines)) c.as_slice-4.ensures.value
-    ∙ groups_told found checked (λ s. c.in_ok-summed.ensures s ∙ ap (λ (xs : List Sighting). group_fault xs s) (c.as_slice-3.ensures.value ∙ passed_is))
-    ∙ ap (λ (lines : List Line). length (firsts_of (passed_in lines))) checked_is) c.rulings.ensures.groups
+    is ∙ ap (λ (lines : List Line). length (keys_after found [] lines)) c.as_slice-2.ensures.value
+    ∙ groups_told found checked (λ s. c.in_ok-summed.ensures s ∙ ap (λ (xs : List Sighting). group_fault xs s) c.in_ok-checked.ensures.passed)
+    ∙ ap (λ (lines : List Line). length (firsts_of (passed_in lines))) (c.in_ok-checked.ensures.lines ∙ ap (checked_lines office c.args.tables.now c.args.moment []) c.as_slice.ensures)) c.rulings.ensures.groups
