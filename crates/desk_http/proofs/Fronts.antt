@@ -1,10 +1,10 @@
 -- A head that was parsed.
-use Rattle.std.proofs.Common.{◌≡◌, ℕ, ◌+◌, ◌<◌, ◌≤◌, List, [], ◌∷◌, ◌++◌, map, length, take, drop, Option, Some, None, refl, sym, ap, ◌∙◌, subst, arith}
-use Rattle.std.proofs.lemmas.List.{append-nil, length-append, length-map, length-take}
+use Rattle.std.proofs.Common.{◌≡◌, ℕ, ◌<◌, ◌≤◌, List, [], ◌∷◌, ◌++◌, map, length, take, drop, Option, Some, None, sym, ap, ◌∙◌, arith}
+use Rattle.std.proofs.lemmas.List.{length-append, length-map, length-take}
 use Rattle.httparse.specs.declared.spans.HeaderSpan.{HeaderSpan}
 use Rattle.httparse.specs.declared.spans.RequestSpans.{RequestSpans}
 use Rattle.httparse.specs.Grammar.{RequestHead, IsRequestHead, print_blank, print_request, print_version, print_end, print_section}
-use Rattle.httparse.specs.Spans.{IsRequestAt, IsRequestOf, header_bytes, span_bytes, name_and_value}
+use Rattle.httparse.specs.Spans.{IsRequestOf, header_bytes, span_bytes, name_and_value}
 use Rattle.httparse.proofs.GrammarLemmas.{print_request-append}
 use Rattle.desk_http.specs.declared.TheConstants.{HEAD_BYTES, HEAD_FIELDS}
 use Rattle.desk_http.specs.declared.head.HeadParts.{HeadParts}

@@ -3,7 +3,6 @@ pub mod Fields
 pub mod Messages
 pub mod Scans
 pub mod Fronts
-pub mod Buffers
 pub mod Pieces
 pub mod Wholes
 pub mod Written

@@ -1,12 +1,11 @@
 -- Heads and messages at the front of bytes: there is one at most, whatever may follow.
-use Rattle.std.proofs.Common.{◌≡◌, ℕ, ◌+◌, ◌<◌, ◌≤◌, Bool, true, false, List, [], ◌∷◌, ◌++◌, length, take, drop, Option, Some, None, inl, inr, refl, sym, ap, ◌∙◌, subst, append_assoc, arith}
+use Rattle.std.proofs.Common.{◌≡◌, ℕ, ◌<◌, ◌≤◌, Bool, true, false, List, [], ◌∷◌, ◌++◌, length, take, drop, Option, Some, None, refl, sym, ap, ◌∙◌, subst, append_assoc, arith}
 use Rattle.std.proofs.lemmas.List.{append-nil, length-append, take_at, drop_at, take-append-drop, take-append-le}
 use Rattle.std.specs.Prelude.{IsTrue, codes, slice_index}
 use Rattle.std.proofs.Common.{zero, suc, lit<, lit≤}
 use Rattle.std.proofs.lemmas.List.Elements.{All-from_recursion, All-nil}
 use Rattle.std.proofs.lemmas.Str.{IsUtf8-from_ascii}
-use Rattle.httparse.specs.Ascii.{space}
-use Rattle.httparse.specs.Grammar.{is_token_byte, is_uri_byte, print_blank, print_version, print_end, print_section, crlf, IsField, IsRequestHead, RequestHead, print_request, ReadsRequest, HasNoRequest}
+use Rattle.httparse.specs.Grammar.{is_token_byte, is_uri_byte, crlf, IsField, IsRequestHead, RequestHead, print_request, ReadsRequest, HasNoRequest}
 use Rattle.act_bodies.specs.Keys.{key_of}
 use Rattle.httparse.specs.Spans.{RequestOverflows}
 use Rattle.httparse.proofs.GrammarLemmas.{request_unique, request_prefix_free, ReadsRequest-append}

@@ -1,16 +1,17 @@
 -- A message whose head is read first, and then its body.
-use Rattle.std.proofs.Common.{◌≡◌, ℕ, ◌+◌, ◌<◌, inl, inr, List, [], ◌++◌, length, Option, refl, sym, ap, ◌∙◌, subst, append_assoc, arith}
-use Rattle.std.proofs.lemmas.List.{append-nil, length-append}
+use Rattle.std.proofs.Common.{◌≡◌, ℕ, ◌<◌, inl, inr, List, ◌++◌, length, Option, sym, ap, subst, append_assoc, arith}
+use Rattle.std.proofs.lemmas.List.{length-append}
 use Rattle.desk_io.specs.Reads.{Passes, Comes, Comes-weaker, Comes-trans}
 use Rattle.act_model.specs.declared.request.Body.{Body}
 use Rattle.httparse.specs.Grammar.{print_request}
 use Rattle.desk_http.specs.declared.head.HeadParts.{HeadParts}
 use Rattle.desk_http.specs.declared.heard.Ending.{Ending}
-use Rattle.desk_http.specs.declared.heard.Ending.TheVariants as endings
-use Rattle.desk_http.specs.declared.heard.Whole.{Whole}
 use Rattle.desk_http.specs.Heads.{IsHead, NoMessage}
 use Rattle.desk_http.specs.Reading.{AwaitsMessage, LacksText}
-use Rattle.desk_http.specs.Answers.{Ends, IfKept, IsWholeRead, IsTextRead, IsCut}
+use Rattle.read_ahead.specs.declared.cut.Cut.{Cut}
+use Rattle.read_ahead.specs.declared.cut.Cut.TheVariants as cuts
+use Rattle.read_ahead.specs.Reading.{IsTextRead, IsCut}
+use Rattle.desk_http.specs.Answers.{Ends, IfKept, IsWholeRead, ending_of}
 use Rattle.desk_http.proofs.Messages.{head_grows, body_missing}
 use Rattle.desk_http.proofs.Fronts.{some_bytes}
 
@@ -50,23 +51,23 @@ module _ {S : Type 0} (left : S → Option (List ℕ)) (gives : Passes S) where
         record {
           text = read.text;
           stands = record { head = subst (IsHead front parts) read.stands (behind_head start first.0 second.0 middle parts first.2); long = read.long };
-          kept = read.said;
+          kept = read.told;
         },
       )
 
-  why_none : (front rest : List ℕ) (at : Option (List ℕ)) (ending : Ending) → NoMessage front → 0 < length front → IsCut at ending → Ends front rest at ending
-  why_none front rest at endings.End none begun cut = absurd cut
-  why_none front rest at endings.Unread none begun cut = inr (none, begun, cut)
-  why_none front rest at endings.ReadFault none begun cut = none
+  why_none : (front rest : List ℕ) (at : Option (List ℕ)) (cut : Cut) → NoMessage front → 0 < length front → IsCut at cut → Ends front rest at (ending_of cut)
+  why_none front rest at cuts.Ended none begun is = inr (none, begun, is)
+  why_none front rest at cuts.Failed none begun is = none
 
   pub whole_cut : (a b c : S) (start middle rest : List ℕ) (parts : HeadParts) (ending : Ending)
       → (first : List ℕ) × Comes left gives (AwaitsMessage start) a b first × IsHead (start ++ first) parts middle
-      → (second : List ℕ) × Comes left gives (LacksText middle parts.length) b c second × ((length (middle ++ second) < parts.length) × IsCut (left c) ending)
+      → (second : List ℕ) × Comes left gives (LacksText middle parts.length) b c second × ((length (middle ++ second) < parts.length) × ((cut : Cut) × (ending ≡ ending_of cut) × IsCut (left c) cut))
       → (piece : List ℕ) × Comes left gives (AwaitsMessage start) a c piece × Ends (start ++ piece) rest (left c) ending
   whole_cut a b c start middle rest parts ending first second =
       let front : List ℕ = start ++ (first.0 ++ second.0) in
       let is : IsHead front parts (middle ++ second.0) = behind_head start first.0 second.0 middle parts first.2 in (
         first.0 ++ second.0,
         both_come a b c start first.0 middle second.0 parts first.2 first.1 second.1,
-        why_none front rest (left c) ending (body_missing front parts (middle ++ second.0) is second.2.0) (begun front parts (middle ++ second.0) is) second.2.1,
+        subst (Ends front rest (left c)) (sym second.2.1.1)
+            (why_none front rest (left c) second.2.1.0 (body_missing front parts (middle ++ second.0) is second.2.0) (begun front parts (middle ++ second.0) is) second.2.1.2),
       )

@@ -1,6 +1,6 @@
 -- Requests that are read out of a source: what each answer says of the bytes that were read ahead and those that came
 -- after them.
-use Rattle.std.specs.Prelude.{◌≡◌, ℕ, Bool, ◌<◌, ◌≤◌, ◌⊎◌, List, [], ◌++◌, length, drop, Result, Ok, Err, IfSome}
+use Rattle.std.specs.Prelude.{◌≡◌, ℕ, Bool, ◌<◌, ◌≤◌, ◌⊎◌, List, [], length, Result, Ok, Err}
 use Rattle.std.specs.declared.option.Option.{Option}
 use Rattle.std.specs.Io.KnownBytes.{IsAtEnd}
 use Rattle.desk_io.specs.Outside.{Rises}
@@ -14,6 +14,9 @@ use Rattle.desk_http.specs.declared.heard.Ending.{Ending}
 use Rattle.desk_http.specs.declared.heard.Ending.TheVariants as endings
 use Rattle.desk_http.specs.declared.heard.Whole.{Whole}
 use Rattle.desk_http.specs.declared.head.HeadParts.{HeadParts}
+use Rattle.read_ahead.specs.declared.cut.Cut.{Cut}
+use Rattle.read_ahead.specs.declared.cut.Cut.TheVariants as cuts
+use Rattle.read_ahead.specs.Reading.{IsTextRead, IsCut}
 use Rattle.desk_http.specs.Heads.{IsHead, Message, IsMessage, NoMessage, NeverMessage}
 
 -- ---- requests
@@ -85,28 +88,16 @@ abbrev pub ReadsHead : List ℕ → List ℕ → Option (List ℕ) → Result He
 ReadsHead front rest left (Ok parts) = IsHead front parts rest
 ReadsHead front rest left (Err ending) = Ends front rest left ending
 
--- a text of so many bytes stands at the front, before this rest, and was read; what is said of it is true
-pub record IsTextRead (front : List ℕ) (size : ℕ) (IsSaid : List ℕ → Type 0) (rest : List ℕ) : Type 0 where
-  pub text : List ℕ
-  pub stands : front ≡ text ++ rest
-  pub long : length text ≡ size
-  pub said : IsSaid text
+-- why no message comes where its body isn't read whole
+abbrev pub ending_of : Cut → Ending
+ending_of cuts.Ended = endings.Unread
+ending_of cuts.Failed = endings.ReadFault
 
--- what was kept of a text is all of it
-abbrev pub IsAllOf : Option (List ℕ) → List ℕ → Type 0
-IsAllOf kept text = IfSome kept (λ bytes. bytes ≡ text)
-
--- why a text isn't read whole
-abbrev pub IsCut : Option (List ℕ) → Ending → Type 0
-IsCut left endings.End = ⊥
-IsCut left endings.Unread = IsAtEnd left
-IsCut left endings.ReadFault = Unit {0}
-
--- a text was read, of which an answer says something, or fewer bytes have come than it has
-abbrev pub ReadsText : {X : Type 0} → (X → List ℕ → Type 0) → List ℕ → ℕ → List ℕ → Option (List ℕ) → Result X Ending
-    → Type 0
-ReadsText IsSaid front size rest left (Ok x) = IsTextRead front size (IsSaid x) rest
-ReadsText IsSaid front size rest left (Err ending) = (length front < size) × IsCut left ending
+-- a body was read, and what is said of it is true, or fewer bytes have come than it has
+abbrev pub ReadsBody : List ℕ → ℕ → List ℕ → Option (List ℕ) → Result Body Ending → Type 0
+ReadsBody front size rest left (Ok body) = IsTextRead front size (IfKept body) rest
+ReadsBody front size rest left (Err ending) =
+    (length front < size) × ((cut : Cut) × (ending ≡ ending_of cut) × IsCut left cut)
 
 -- a head and a body were read
 pub record IsWholeRead (front : List ℕ) (whole : Whole) (rest : List ℕ) : Type 0 where

@@ -2,7 +2,7 @@
 
 use crate::head::HeadParts;
 use act_model::{Body, Request};
-use desk_io::Failed;
+use read_ahead::Cut;
 
 /// What a wire hears next.
 #[derive(Debug, Drop)]
@@ -34,14 +34,17 @@ pub enum Ending {
     ReadFault,
 }
 
-impl From<Failed> for Ending {
+impl From<Cut> for Ending {
     ghost use Rattle.std.specs.Prelude.{◌≡◌};
-    ghost use Rattle.desk_http.specs.declared.heard.Ending.TheVariants as endings;
+    ghost use Rattle.desk_http.specs.Answers.{ending_of};
 
-    ghost from_gives = { λ _ ending. ending ≡ endings.ReadFault };
+    ghost from_gives = { λ cut ending. ending ≡ ending_of cut };
 
-    fn from(_: Failed) -> Ending {
-        Ending::ReadFault
+    fn from(cut: Cut) -> Ending {
+        match cut {
+            Cut::Ended => Ending::Unread,
+            Cut::Failed => Ending::ReadFault,
+        }
     }
 }
 

@@ -30,6 +30,3 @@ pub const LENGTH_DIGITS: usize = 10;
 
 /// The most digits that the number of an act has.
 pub const NUMBER_DIGITS: usize = 18;
-
-/// How many bytes are read ahead at most: the size of a wire's buffer.
-pub const BUFFER_BYTES: usize = 65_536;

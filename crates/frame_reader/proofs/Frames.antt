@@ -1,15 +1,17 @@
 -- A frame whose head is read first, and then its body.
-use Rattle.std.proofs.Common.{◌≡◌, ℕ, ◌+◌, ◌<◌, inr, List, [], ◌++◌, length, Option, refl, sym, ap, ◌∙◌, append_assoc, arith}
+use Rattle.std.proofs.Common.{◌≡◌, ℕ, ◌+◌, ◌<◌, inr, List, [], ◌++◌, length, Option, refl, sym, ap, subst, ◌∙◌, append_assoc, arith}
 use Rattle.std.proofs.lemmas.List.{append-nil, length-append}
 use Rattle.desk_io.specs.Reads.{Passes, Comes, Comes-weaker, Comes-trans}
 use Rattle.desk_frames.specs.Frames.{IsFrame, framed, frame_of, NoFrame, NeverFrame, NoHead, HeadParts, IsHead, headed}
 use Rattle.frame_reader.specs.declared.frame.Ending.{Ending}
-use Rattle.frame_reader.specs.declared.frame.Ending.TheVariants as endings
 use Rattle.frame_reader.specs.declared.frame.FrameBody.{FrameBody}
 use Rattle.frame_reader.specs.declared.frame.ReadFrame.{ReadFrame}
 use Rattle.frame_reader.specs.declared.head.HeldHead.{HeldHead}
 use Rattle.frame_reader.specs.Reading.{AwaitsFrame, LacksText}
-use Rattle.frame_reader.specs.Frames.{parts_of, Ends, IfKept, IsFrameRead, IsHeadRead, IsTextRead, IsCut}
+use Rattle.read_ahead.specs.declared.cut.Cut.{Cut}
+use Rattle.read_ahead.specs.declared.cut.Cut.TheVariants as cuts
+use Rattle.read_ahead.specs.Reading.{IsTextRead, IsCut}
+use Rattle.frame_reader.specs.Frames.{parts_of, Ends, IfKept, IsFrameRead, IsHeadRead, ending_of}
 
 -- the frame that a head and a body make
 abbrev pub whole : HeldHead → FrameBody → ReadFrame
@@ -67,14 +69,13 @@ module _ {S : Type 0} (left : S → Option (List ℕ)) (gives : Passes S) (goes_
         )
 
   module _ (some : (h : HeadParts) (rest : List ℕ) → 0 < length (headed h rest)) where
-    why_none : (front rest : List ℕ) (at : Option (List ℕ)) (ending : Ending) → NoFrame front → 0 < length front → IsCut at ending → Ends front rest at ending
-    why_none front rest at endings.End none begun cut = absurd cut
-    why_none front rest at endings.Bad none begun cut = inr (none, begun, cut)
-    why_none front rest at endings.Failed none begun cut = none
+    why_none : (front rest : List ℕ) (at : Option (List ℕ)) (cut : Cut) → NoFrame front → 0 < length front → IsCut at cut → Ends front rest at (ending_of cut)
+    why_none front rest at cuts.Ended none begun is = inr (none, begun, is)
+    why_none front rest at cuts.Failed none begun is = none
 
     pub frame_cut : (a b c : S) (start middle rest : List ℕ) (head : HeldHead) (ending : Ending)
         → (first : List ℕ) × Comes left gives (AwaitsFrame start) a b first × IsHeadRead (start ++ first) head middle
-        → (second : List ℕ) × Comes left gives (LacksText middle head.length) b c second × ((length (middle ++ second) < head.length) × IsCut (left c) ending)
+        → (second : List ℕ) × Comes left gives (LacksText middle head.length) b c second × ((length (middle ++ second) < head.length) × ((cut : Cut) × (ending ≡ ending_of cut) × IsCut (left c) cut))
         → (piece : List ℕ) × Comes left gives (AwaitsFrame start) a c piece × Ends (start ++ piece) rest (left c) ending
     frame_cut a b c start middle rest head ending first second =
         let h = parts_of head in
@@ -84,5 +85,5 @@ module _ {S : Type 0} (left : S → Option (List ℕ)) (gives : Passes S) (goes_
         let begun : 0 < length front = omega (arith, ap length is, some h (middle ++ second.0)) in (
           first.0 ++ second.0,
           both_come a b c start first.0 middle second.0 h first.2.good first.2.stands first.1 second.1,
-          why_none front rest (left c) ending none begun second.2.1,
+          subst (Ends front rest (left c)) (sym second.2.1.1) (why_none front rest (left c) second.2.1.0 none begun second.2.1.2),
         )

@@ -1,4 +1,3 @@
-pub mod Buffers
 pub mod Pieces
 pub mod Frames
 pub mod Written

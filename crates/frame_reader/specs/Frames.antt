@@ -1,11 +1,14 @@
 -- Frames that are read out of a source: what each answer says of the bytes that were read ahead and those that came
 -- after them.
-use Rattle.std.specs.Prelude.{◌≡◌, ℕ, ◌<◌, ◌≤◌, ◌⊎◌, List, [], ◌++◌, length, drop, Result, Ok, Err, IfSome}
+use Rattle.std.specs.Prelude.{◌≡◌, ℕ, ◌<◌, ◌≤◌, ◌⊎◌, List, [], length, drop, Result, Ok, Err}
 use Rattle.std.specs.declared.option.Option.{Option}
 use Rattle.std.specs.Io.KnownBytes.{IsAtEnd}
 use Rattle.desk_io.specs.Outside.{Rises}
 use Rattle.desk_frames.specs.declared.TheConstants.{HEAD_BYTES}
 use Rattle.desk_frames.specs.Frames.{Frame, IsFrame, framed, NoFrame, NeverFrame, HeadParts, IsHead, headed}
+use Rattle.read_ahead.specs.declared.cut.Cut.{Cut}
+use Rattle.read_ahead.specs.declared.cut.Cut.TheVariants as cuts
+use Rattle.read_ahead.specs.Reading.{IsTextRead, IsCut}
 use Rattle.frame_reader.specs.Reading.{IsAwaited}
 use Rattle.frame_reader.specs.declared.TheConstants.{BODY_BYTES}
 use Rattle.frame_reader.specs.declared.frame.FrameBody.{FrameBody}
@@ -106,28 +109,16 @@ abbrev pub ReadsHead : List ℕ → List ℕ → Option (List ℕ) → Result He
 ReadsHead front rest left (Ok head) = IsHeadRead front head rest
 ReadsHead front rest left (Err ending) = Ends front rest left ending
 
--- a text of so many bytes stands at the front, before this rest, and was read; what is told of it is true
-pub record IsTextRead (front : List ℕ) (size : ℕ) (IsTold : List ℕ → Type 0) (rest : List ℕ) : Type 0 where
-  pub text : List ℕ
-  pub stands : front ≡ text ++ rest
-  pub long : length text ≡ size
-  pub told : IsTold text
+-- why no frame comes where its body isn't read whole
+abbrev pub ending_of : Cut → Ending
+ending_of cuts.Ended = endings.Bad
+ending_of cuts.Failed = endings.Failed
 
--- what was kept of a text is all of it
-abbrev pub IsAllOf : Option (List ℕ) → List ℕ → Type 0
-IsAllOf kept text = IfSome kept (λ bytes. bytes ≡ text)
-
--- why a text isn't read whole
-abbrev pub IsCut : Option (List ℕ) → Ending → Type 0
-IsCut left endings.End = ⊥
-IsCut left endings.Bad = IsAtEnd left
-IsCut left endings.Failed = Unit {0}
-
--- a text was read, of which an answer tells something, or fewer bytes have come than it has
-abbrev pub ReadsText : {X : Type 0} → (X → List ℕ → Type 0) → List ℕ → ℕ → List ℕ → Option (List ℕ) → Result X Ending
-    → Type 0
-ReadsText IsTold front size rest left (Ok x) = IsTextRead front size (IsTold x) rest
-ReadsText IsTold front size rest left (Err ending) = (length front < size) × IsCut left ending
+-- a body was read, and what is told of it is true, or fewer bytes have come than it has
+abbrev pub ReadsBody : List ℕ → ℕ → List ℕ → Option (List ℕ) → Result FrameBody Ending → Type 0
+ReadsBody front size rest left (Ok body) = IsTextRead front size (IfKept body) rest
+ReadsBody front size rest left (Err ending) =
+    (length front < size) × ((cut : Cut) × (ending ≡ ending_of cut) × IsCut left cut)
 
 -- head and body were read, or it is said why no frame is
 abbrev pub ReadsWhole : List ℕ → List ℕ → Option (List ℕ) → Result ReadFrame Ending → Type 0

@@ -2,8 +2,8 @@
 
 use arrayvec::ArrayVec;
 use desk_frames::{KEY_BYTES, VERB_BYTES};
-use desk_io::Failed;
 use item_list::Bytes;
+use read_ahead::Cut;
 
 /// The body of a frame that was read.
 #[derive(Debug, Drop)]
@@ -55,13 +55,16 @@ pub enum Ending {
     Failed,
 }
 
-impl From<Failed> for Ending {
+impl From<Cut> for Ending {
     ghost use Rattle.std.specs.Prelude.{◌≡◌};
-    ghost use Rattle.frame_reader.specs.declared.frame.Ending.TheVariants as endings;
+    ghost use Rattle.frame_reader.specs.Frames.{ending_of};
 
-    ghost from_gives = { λ _ ending. ending ≡ endings.Failed };
+    ghost from_gives = { λ cut ending. ending ≡ ending_of cut };
 
-    fn from(_: Failed) -> Ending {
-        Ending::Failed
+    fn from(cut: Cut) -> Ending {
+        match cut {
+            Cut::Ended => Ending::Bad,
+            Cut::Failed => Ending::Failed,
+        }
     }
 }

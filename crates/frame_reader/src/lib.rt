@@ -13,8 +13,5 @@ pub use frame::{FrameBody, NextFrame, ReadFrame};
 pub use reader::FrameReader;
 pub use replies::write_reply_frame;
 
-/// How many bytes are read ahead at most: the size of a reader's buffer.
-pub const BUFFER_BYTES: usize = 65_536;
-
 /// The longest body that is kept, in bytes. A longer one is read to its end and thrown away.
 pub const BODY_BYTES: u64 = 1_048_576;

@@ -1,4 +1,4 @@
-use Rattle.std.proofs.Common.{rules, sym, ◌∙◌, arith}
+use Rattle.std.proofs.Common.{rules}
 use Rattle.desk_http.proofs.Scans.{not_ended}
 use Rattle.desk_http.proofs.head.next_front.Goals as goal
 

@@ -1,4 +1,4 @@
-use Rattle.std.proofs.Common.{List, ℕ, ◌≡◌, [], ◌∷◌, ◌++◌, codes, decimal, ap, ◌∙◌}
+use Rattle.std.proofs.Common.{◌≡◌, [], ◌∷◌, ◌++◌, codes, decimal, ap, ◌∙◌}
 use Rattle.desk_http.specs.ReplyTexts.{line_end, answer_head}
 use Rattle.desk_http.proofs.Written.{nine_put}
 use Rattle.desk_http.proofs.replies.answer_head.Goals as goal

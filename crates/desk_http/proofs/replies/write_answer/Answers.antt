@@ -1,4 +1,4 @@
-use Rattle.std.proofs.Common.{List, ℕ, ◌≡◌, ◌++◌, length, sym, ap, ◌∙◌}
+use Rattle.std.proofs.Common.{List, ℕ, ◌++◌, sym, ap, ◌∙◌}
 use Rattle.std.proofs.lemmas.Result.{MatchResult-from_err, on_err_weaker}
 use Rattle.desk_http.specs.ReplyTexts.{answer_text}
 use Rattle.desk_http.proofs.Written.{part_of_head, part_behind_head}

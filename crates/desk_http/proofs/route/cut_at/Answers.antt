@@ -1,6 +1,5 @@
-use Rattle.std.proofs.Common.{rules, sym, ap, ◌∙◌, ◌≡◌, option_map, Some, add-one, suc, List, ℕ, take, drop, length, ◌-◌, ◌+◌}
+use Rattle.std.proofs.Common.{rules, sym, ap, ◌∙◌, ◌≡◌, option_map, Some, add-one, suc, take, drop, length, ◌-◌}
 use Rattle.std.proofs.lemmas.List.{take_rest, drop-drop}
-use Rattle.desk_http.specs.Heads.{cut_at}
 use Rattle.desk_http.proofs.Cuts.{cut_found, cut_nowhere}
 use Rattle.desk_http.proofs.route.cut_at.Goals as goal
 
