@@ -99,7 +99,7 @@ pub(crate) fn digits_front(most: usize, text: &[u8]) -> (Decimals, &[u8])
 }
 
 /// All the decimal digits at the front, and the text after them; `None` where none stands there.
-#[tactic(auto, unfolding(crate::specs::Reading::run_at))]
+#[tactic(auto, using(crate::proofs::NumberTexts::run_is, crate::proofs::NumberTexts::run_end), unfolding(crate::specs::Reading::run_at))]
 fn run_front(text: &[u8]) -> Option<(Decimals, &[u8])>
     requires { length text.now ≤ 18 }
     ensures exact { option_map (λ x. ((x.0.count, x.0.value), x.1.now)) result ≡ run_at text.now }
@@ -167,7 +167,7 @@ pub fn decimals_within(most: usize, text: &[u8]) -> Option<(Option<Decimals>, &[
 
 /// The number at the front, without leading zeros, and the text after it: all the decimal digits that stand there.
 /// `None` where none stands there, where they are more than `most`, or where a zero leads others. `most` is at most 18.
-#[tactic(auto, unfolding(crate::specs::Reading::number_at))]
+#[tactic(auto, using(crate::proofs::DigitTexts::ten_power), unfolding(crate::specs::Reading::number_at))]
 pub fn number_at(most: usize, text: &[u8]) -> Option<(u64, &[u8])>
     requires { most ≤ 18 }
     ensures exact { option_map (λ x. (x.0, x.1.now)) result ≡ number_at most text.now }

@@ -51,7 +51,7 @@ pub fn put_decimal<const N: usize>(out: &mut ArrayVec<u8, N>, n: u64)
 }
 
 /// Writes decimals: nothing where there are none, else a point and their digits.
-#[tactic(auto, unfolding(crate::specs::Digits::decimals_text))]
+#[tactic(auto, using(crate::proofs::DigitTexts::ten_power), unfolding(crate::specs::Digits::decimals_text))]
 pub fn put_decimals<const N: usize>(out: &mut ArrayVec<u8, N>, decimals: Decimals)
     requires room { array_vec_len out.old + decimals_width decimals.count ≤ N }
     requires within { decimals.count ≤ 18 }

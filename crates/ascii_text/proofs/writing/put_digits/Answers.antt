@@ -2,7 +2,7 @@ use Rattle.std.proofs.Common.{◌-◌, ◌∙◌, ◌^◌, sym, arith}
 use Rattle.std.proofs.lemmas.List.{length_push}
 use Rattle.std.proofs.lemmas.Nat.{mod_below}
 use Rattle.ascii_text.specs.Digits.{base}
-use Rattle.ascii_text.proofs.Steps.{power_within, power_positive, few_digits, digits_text_more, digits_text_none}
+use Rattle.ascii_text.proofs.DigitTexts.{power_within, power_positive, few_digits, digits_text_more, digits_text_none}
 use Rattle.ascii_text.proofs.writing.put_digits.Goals as goal
 
 pub overflow_cast-place : goal.overflow_cast-place
