@@ -1,5 +1,5 @@
 -- Texts of blanks, and blanks at the ends of a text.
-use Rattle.std.proofs.Common.{◌≡◌, ◌≢◌, ℕ, zero, suc, ◌+◌, ◌-◌, ◌<◌, Bool, true, false, cond, eqb, List, [], ◌∷◌, ◌++◌, length, get_or, reverse, replicate, Some, None, refl, sym, ap, ◌∙◌, add-one, arith}
+use Rattle.std.proofs.Common.{◌≡◌, ◌≢◌, ℕ, zero, suc, ◌-◌, ◌<◌, Bool, true, false, cond, eqb, List, [], ◌∷◌, ◌++◌, length, get_or, reverse, replicate, Some, None, refl, sym, ap, ◌∙◌, add-one, arith}
 use Rattle.std.proofs.lemmas.Bool.{eqb-true, ne_eqb, and_parts}
 use Rattle.std.proofs.lemmas.Bool.Decides.{nat_tests}
 use Rattle.std.proofs.lemmas.List.{nil_from_length, length-replicate, replicate_more, get_or_push, length_push, append-nil, reverse-append, reverse-reverse}
@@ -158,3 +158,5 @@ pub trimmed_only : (text middle : List ℕ) → IsTrimmed text middle → trimme
 unfolding trimmed
 trimmed_only text middle is =
     ap trimmed is.parts ∙ ap trimmed_end (trimmed_front-blanks is.before (middle ++ blanks is.after)) ∙ middle_kept middle is.after is.first is.last
+
+pub ruleset blank_laws = (digit_run-nil, digit_run-other, digit_run-blanks, behind-cons, behind_takes, length-blanks, are_blanks-blanks, are_blanks_takes, no_point-blanks, trimmed_is, trimmed_only, trimmed_end-blanks, trimmed_end-other)

@@ -1,13 +1,11 @@
 -- Numbers with a fixed number of digits: what is written is read, and what is read is written; also digit by digit, as
 -- a loop does.
-use Rattle.std.proofs.Common.{◌≡◌, ℕ, zero, suc, ◌+◌, ◌-◌, ◌*◌, ◌/◌, ◌%◌, ◌^◌, ◌<◌, ◌≤◌, List, [], ◌∷◌, ◌++◌, length, append_assoc, decimal, Some, None, lit<, refl, ap, subst, ◌∙◌, inl, inr, arith}
+use Rattle.std.proofs.Common.{◌≡◌, ℕ, zero, suc, ◌+◌, ◌-◌, ◌*◌, ◌/◌, ◌%◌, ◌^◌, ◌<◌, ◌≤◌, List, [], ◌∷◌, ◌++◌, length, append_assoc, Some, lit<, refl, ap, subst, ◌∙◌, inl, inr, arith}
 use Rattle.std.proofs.Math.Dec.{eqb-suc-zero}
 use Rattle.std.proofs.Math.Nat.{pow-zero, pow-suc, mul_comm, div-lt_iff_lt-mul, one-le-pow, pow-le-pow_right}
 use Rattle.std.proofs.lemmas.Bool.{cases_lt}
 use Rattle.std.proofs.lemmas.Bool.Decides.{nat_tests}
-use Rattle.std.proofs.lemmas.Fmt.{length-decimal-le}
 use Rattle.std.proofs.lemmas.Grind.{pow_more}
-use Rattle.std.proofs.lemmas.List.{append-nil}
 use Rattle.std.proofs.lemmas.Option.{same_Some}
 use Rattle.std.proofs.lemmas.Nat.{mul-add-lt, div-mul-add, mod-mul-add, mod_below, div-add-mod'}
 use Rattle.ascii_text.specs.declared.digits.Radix.{Radix}
@@ -22,10 +20,6 @@ pub more_digits-first : (radix : Radix) (value digit more : ℕ) (text after : L
     → more_digits radix (value * base radix + digit) more after ≡ more_digits radix value (suc more) text
 unfolding more_digits
 more_digits-first radix value digit more text after is = rw (← is) refl
-
-pub more_digits-none : (radix : Radix) (value more : ℕ) (text : List ℕ) → None ≡ digit_at radix text → None ≡ more_digits radix value (suc more) text
-unfolding more_digits
-more_digits-none radix value more text is = rw (← is) refl
 
 wide_base : (radix : Radix) → 2 ^ 63 < base radix ^ 64
 wide_base Ten = lit< tt
@@ -68,28 +62,13 @@ digits_text_more radix zero left front more = absurd (omega arith)
 digits_text_more radix (suc place) left front more =
     let k : suc place - 1 ≡ place = omega arith in rw (k, append_assoc) refl
 
-pub digits_text_none : (radix : Radix) (place left : ℕ) (front : List ℕ) → place ≤ 0 → front ++ digits_text radix place left ≡ front
-unfolding digits_text
-digits_text_none radix zero left front none = append-nil front
-digits_text_none radix (suc place) left front none = absurd (omega arith)
-
 pub power_positive : (radix : Radix) (count : ℕ) → 0 < base radix ^ count
 power_positive radix count = omega (arith, one-le-pow count (base radix) (base_positive radix))
 
--- a number below 2 ^ 64 has at most twenty digits
-pub length_decimal_u64 : (n : ℕ) → n < 2 ^ 64 → length (decimal n) ≤ 20
-length_decimal_u64 n fits = length-decimal-le 20 n (omega arith) (omega arith) fits
-
 -- ---- one digit
-
-pub some_first : {A B : Type 0} (a : A) (b : B) (x : A × B) → Some (a, b) ≡ Some x → a ≡ x.0
-some_first {A = A} {B = B} a b x e = ap (λ (p : A × B). p.0) (same_Some (a, b) x e)
 
 place_sum : (value base unit d n whole : ℕ) → whole ≡ unit * base → (value * base + d) * unit + n ≡ value * whole + (d * unit + n)
 place_sum value base unit d n whole is = rw is (omega arith)
-
-place_value : (value base unit n whole : ℕ) → whole ≡ unit * base → (value * base + n / unit) * unit + n % unit ≡ value * whole + n
-place_value value base unit n whole is = place_sum value base unit (n / unit) (n % unit) whole is ∙ ap (λ (k : ℕ). value * whole + k) (div-add-mod' n unit)
 
 pub digit_value-digit_byte : (radix : Radix) (d : ℕ) → d < base radix → digit_value radix (digit_byte radix d) ≡ Some d
 unfolding digit_value sixty_two_value
@@ -126,7 +105,7 @@ more_digits-digits_text radix (suc count) value n rest below =
     let first : n / base radix ^ count < base radix = (div-lt_iff_lt-mul unit).1 (omega (arith, below, pow-suc (base radix) count, mul_comm (base radix) (base radix ^ count))) in
     rw (digit_at-cons radix (n / base radix ^ count) (digits_text radix count (n % base radix ^ count) ++ rest) first)
     (more_digits-digits_text radix count (value * base radix + n / base radix ^ count) (n % base radix ^ count) rest (mod_below n _ unit)
-    ∙ ap (λ (v : ℕ). Some (v, rest)) (place_value value (base radix) (base radix ^ count) n (base radix ^ suc count) (pow-suc (base radix) count)))
+    ∙ ap (λ (v : ℕ). Some (v, rest)) (place_sum value (base radix) (base radix ^ count) (n / base radix ^ count) (n % base radix ^ count) (base radix ^ suc count) (pow-suc (base radix) count) ∙ ap (λ (k : ℕ). value * base radix ^ suc count + k) (div-add-mod' n (base radix ^ count))))
 
 -- what digits after others spell
 record Spelled (radix : Radix) (value count : ℕ) (text : List ℕ) (x : ℕ × List ℕ) (n : ℕ) : Type 0 where
@@ -138,7 +117,7 @@ more_digits_take : (radix : Radix) (count value : ℕ) (text : List ℕ) (x : �
     → (n : ℕ) × Spelled radix value count text x n
 unfolding more_digits digits_text
 more_digits_take radix zero value text x e =
-    (0, record { below = rw pow-zero (omega arith); whole = rw pow-zero (omega (arith, some_first value text x e)); text_is = ap (λ (p : ℕ × List ℕ). p.1) (same_Some (value, text) x e) })
+    (0, record { below = rw pow-zero (omega arith); whole = rw pow-zero (omega (arith, ap (λ (p : ℕ × List ℕ). p.0) (same_Some (value, text) x e))); text_is = ap (λ (p : ℕ × List ℕ). p.1) (same_Some (value, text) x e) })
 more_digits_take radix (suc count) value text x e =
     let first = bind_some (digit_at radix text) (λ first. more_digits radix (value * base radix + first.0) count first.1) x e in
     let taken = digit_at_takes radix text first.0 first.1 in
@@ -178,3 +157,5 @@ pub length-decimals_text : (count value : ℕ) → length (decimals_text count v
 unfolding decimals_text
 length-decimals_text zero value = refl
 length-decimals_text (suc count) value = rw eqb-suc-zero (omega (arith, length-digits_text Ten (suc count) value))
+
+pub ruleset digit_laws = (digits_again, digits_takes, length-digits_text, length-decimals_text)

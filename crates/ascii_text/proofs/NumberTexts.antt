@@ -21,7 +21,7 @@ use Rattle.ascii_text.specs.DecimalNumbers.{NumberParts, IsSpelledNumber, number
 use Rattle.ascii_text.specs.Written.{number_within}
 use Rattle.ascii_text.specs.Laws.{TakesRun, TakesDecimals, TakesDecimalsWithin, TakesNumber}
 use Rattle.ascii_text.proofs.BlankTexts.{digit_run-nil, digit_run-other, behind-cons, behind_takes}
-use Rattle.ascii_text.proofs.DigitTexts.{power_positive, power_within, some_first, digit_at-cons, digits_again, digits_takes, length-digits_text}
+use Rattle.ascii_text.proofs.DigitTexts.{power_positive, power_within, digit_at-cons, digits_again, digits_takes, length-digits_text}
 
 -- ---- a run of digits
 
@@ -73,7 +73,7 @@ run_value-digits_text : (count n : ℕ) → n < 10 ^ count → run_value 0 (digi
 run_value-digits_text count n below =
     let read : digits_at Ten count (digits_text Ten count n ++ []) ≡ Some (run_value 0 (digits_text Ten count n), []) =
     ap (λ (k : ℕ). digits_at Ten k (digits_text Ten count n ++ [])) (sym (length-digits_text Ten count n)) ∙ digits_at-run (digits_text Ten count n) [] (all_digits-digits_text count n below) in
-    some_first (run_value 0 (digits_text Ten count n)) [] (n, []) (sym read ∙ digits_again Ten count n [] below)
+    ap (λ (p : ℕ × List ℕ). p.0) (same_Some (run_value 0 (digits_text Ten count n), []) (n, []) (sym read ∙ digits_again Ten count n [] below))
 
 pub digit_run-digits_text : (count n : ℕ) (rest : List ℕ) → n < 10 ^ count → digit_run (digits_text Ten count n ++ rest) ≡ count + digit_run rest
 digit_run-digits_text count n rest below =
@@ -88,8 +88,7 @@ run_is text rest count value run some is = rw (run, ne_eqb count 0 (λ e. omega 
 
 pub run_again : (count n : ℕ) (rest : List ℕ) → 0 < count → n < 10 ^ count → digit_run rest ≡ 0 → run_at (digits_text Ten count n ++ rest) ≡ Some ((count, n), rest)
 run_again count n rest some below ends =
-    let run : digit_run (digits_text Ten count n ++ rest) ≡ count = omega (arith, digit_run-digits_text count n rest below, ends) in
-    sym (run_is _ rest count n run some (sym (digits_again Ten count n rest below)))
+    sym (run_is (digits_text Ten count n ++ rest) rest count n (omega (arith, digit_run-digits_text count n rest below, ends)) some (sym (digits_again Ten count n rest below)))
 
 -- a test that let its text through
 pub let_through : {A : Type 0} (b : Bool) (o : Option A) (x : A) → cond b None o ≡ Some x → (b ≡ false) × (o ≡ Some x)
@@ -246,10 +245,9 @@ number_takes most text x le e =
     let first : get_or text 0 0 ≡ get_or (digits_text Ten (digit_run text) x.0) 0 0 = ap (λ (t : List ℕ). get_or t 0 0) taken.0 ∙ get_or_append_left (digits_text Ten (digit_run text) x.0) x.1 0 0 (omega (arith, wide, kept.some)) in
     let spelled : decimal (run_value 0 (digits_text Ten (digit_run text) x.0)) ≡ digits_text Ten (digit_run text) x.0 =
     decimal-digits_value numerals (digits_text Ten (digit_run text) x.0) all (omega (arith, wide, kept.some)) (λ z. wide ∙ kept.other (first ∙ z)) (omega (arith, value, eighteen (digit_run text) x.0 (omega (arith, kept.within)) taken.1)) in
-    let is : decimal x.0 ≡ digits_text Ten (digit_run text) x.0 = ap decimal (sym value) ∙ spelled in
     record {
       below = omega (arith, taken.1, power_within Ten (digit_run text) most kept.within);
-      text_is = taken.0 ∙ ap (λ (t : List ℕ). t ++ x.1) (sym is);
+      text_is = taken.0 ∙ ap (λ (t : List ℕ). t ++ x.1) (sym spelled ∙ ap decimal value);
       ends = omega (arith, digit_run-digits_text (digit_run text) x.0 x.1 taken.1, ap digit_run taken.0);
     }
 
@@ -264,17 +262,8 @@ ends_run (suc count) value = digit_run-other 46 _ refl
 whole_again : (most : ℕ) (p : NumberParts) (text : List ℕ) → IsSpelledNumber most p text → whole_at most text ≡ Some ((p.digits, p.whole), decimals_text p.count p.value)
 unfolding whole_at number_spelling
 whole_again most p text is =
-    let rest : List ℕ = decimals_text p.count p.value in
-    let run : digit_run (digits_text Ten p.digits p.whole ++ rest) ≡ p.digits = omega (arith, digit_run-digits_text p.digits p.whole rest is.whole, ends_run p.count p.value) in
-    ap (whole_at most) is.text_is ∙ rw (run, le-ltb most p.digits is.within) (run_again p.digits p.whole rest is.some is.whole (ends_run p.count p.value))
-
-all_decimals : (count value : ℕ) → value < 10 ^ count → decimals_at (decimals_text count value) ≡ Some ((count, value), [])
-all_decimals count value below =
-    ap decimals_at (sym (append-nil (decimals_text count value))) ∙ decimals_again count value [] below digit_run-nil (λ e. omega (arith, e))
-
-pub number_parts_again : (most : ℕ) (p : NumberParts) (text : List ℕ) → IsSpelledNumber most p text → number_parts_at most text ≡ Some p
-unfolding number_parts_at
-number_parts_again most p text is = rw (whole_again most p text is, all_decimals p.count p.value is.value) refl
+    let run : digit_run (digits_text Ten p.digits p.whole ++ decimals_text p.count p.value) ≡ p.digits = omega (arith, digit_run-digits_text p.digits p.whole (decimals_text p.count p.value) is.whole, ends_run p.count p.value) in
+    ap (whole_at most) is.text_is ∙ rw (run, le-ltb most p.digits is.within) (run_again p.digits p.whole (decimals_text p.count p.value) is.some is.whole (ends_run p.count p.value))
 
 abbrev behind_decimals : ℕ × ℕ → (ℕ × ℕ) × List ℕ → Option NumberParts
 behind_decimals whole decimals = cond (eqb (length decimals.1) 0) (Some (made_number whole decimals.0)) None
@@ -288,18 +277,23 @@ number_parts_take most text p e =
     let few = let_through (ltb most (digit_run text)) (run_at text) whole.0 whole.1 in
     let run = run_takes text whole.0 few.1 in
     let taken = decimals_takes whole.0.1 decimals.0 decimals.1 in
-    let after : decimals.0.1 ≡ [] = nil_from_length decimals.0.1 (eqb-true (length decimals.0.1) 0 ended.0) in
     let counted : digit_run text ≡ whole.0.0.0 = omega (arith, ap digit_run run.text_is, digit_run-digits_text whole.0.0.0 whole.0.0.1 whole.0.1 run.below, run.ends) in
     subst (λ (q : NumberParts). IsSpelledNumber most q text) ended.1 (record {
       some = run.some;
       within = omega (arith, counted, ltb-false most (digit_run text) few.0);
       whole = run.below;
       value = taken.below;
-      text_is = run.text_is ∙ ap (λ (t : List ℕ). digits_text Ten whole.0.0.0 whole.0.0.1 ++ t) (taken.text_is ∙ rw (after, append-nil (decimals_text decimals.0.0.0 decimals.0.0.1)) refl);
+      text_is = run.text_is ∙ ap (λ (t : List ℕ). digits_text Ten whole.0.0.0 whole.0.0.1 ++ t) (taken.text_is ∙ rw (nil_from_length decimals.0.1 (eqb-true (length decimals.0.1) 0 ended.0), append-nil (decimals_text decimals.0.0.0 decimals.0.0.1)) refl);
     })
 
 pub reads_number : (most : ℕ) → IsReader (IsSpelledNumber most) (number_parts_at most)
-reads_number most = record { again = number_parts_again most; takes = number_parts_take most }
+unfolding number_parts_at
+reads_number most = record {
+  again = λ p text is.
+      let decimals = rw append-nil at (decimals_again p.count p.value [] is.value digit_run-nil (λ e. omega (arith, e))) in
+      rw (whole_again most p text is, decimals) refl;
+  takes = number_parts_take most;
+}
 
 -- ---- decimals that are passed over where they are too many
 
@@ -321,3 +315,5 @@ whole_found few (Some whole) = found_decimals few whole.0 (decimals_at whole.1)
 pub number_within_is : (most few : ℕ) (text : List ℕ) → number_within most few text ≡ option_map (λ p. within few p) (number_parts_at most text)
 unfolding number_within number_parts_at decimals_within
 number_within_is most few text = whole_found few (whole_at most text)
+
+pub ruleset number_laws = (digit_run-all, digit_run-digits_text, run_again, run_takes, decimals_again, decimals_takes, decimals_within_again, decimals_within_takes, number_again, number_takes, reads_number)

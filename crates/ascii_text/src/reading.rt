@@ -27,6 +27,7 @@ fn digit_front(radix: Radix, text: &[u8]) -> Option<(u64, &[u8])>
 /// The number that the first `count` bytes spell as digits of the radix, and the text after them; `None` where fewer
 /// bytes stand there, or one of them is no digit. The radix to the power of `count` is at most 2^63: at most 18 digits
 /// of the radix ten.
+#[tactic(auto, using(crate::proofs::DigitTexts::digits_fit))]
 pub fn digits_at(radix: Radix, count: usize, text: &[u8]) -> Option<(u64, &[u8])>
     requires { base radix ^ count ≤ 2 ^ 63 }
     ensures exact { option_map (λ x. (x.0, x.1.now)) result ≡ digits_at radix count text.now }
@@ -99,7 +100,9 @@ pub(crate) fn digits_front(most: usize, text: &[u8]) -> (Decimals, &[u8])
 }
 
 /// All the decimal digits at the front, and the text after them; `None` where none stands there.
-#[tactic(auto, using(crate::proofs::NumberTexts::run_is, crate::proofs::NumberTexts::run_end), unfolding(crate::specs::Reading::run_at))]
+#[tactic(auto, using(crate::proofs::NumberTexts::run_is, crate::proofs::NumberTexts::run_end),
+// where no digit stands at the front, the definition itself gives nothing
+unfolding(crate::specs::Reading::run_at))]
 fn run_front(text: &[u8]) -> Option<(Decimals, &[u8])>
     requires { length text.now ≤ 18 }
     ensures exact { option_map (λ x. ((x.0.count, x.0.value), x.1.now)) result ≡ run_at text.now }

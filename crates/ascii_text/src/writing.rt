@@ -10,6 +10,7 @@ use crate::reading::Decimals;
 use arrayvec::ArrayVec;
 
 /// Writes the number with `count` digits, the greatest first.
+#[tactic(auto, using(crate::proofs::DigitTexts::few_digits))]
 pub fn put_digits<const N: usize>(out: &mut ArrayVec<u8, N>, radix: Radix, count: usize, n: u64)
     requires room { array_vec_len out.old + count ≤ N }
     requires within { base radix ^ count ≤ 2 ^ 63 }

@@ -1,29 +1,21 @@
-use Rattle.std.proofs.Common.{ℕ, suc, ◌+◌, ◌-◌, ap, arith, ◌∙◌}
+use Rattle.std.proofs.Common.{◌≡◌, ℕ, suc, ◌+◌, ◌-◌, None, refl, ap, arith, ◌∙◌}
 use Rattle.std.proofs.Math.Nat.{pow-zero}
 use Rattle.ascii_text.specs.Reading.{more_digits, digits_at}
-use Rattle.ascii_text.proofs.DigitTexts.{more_digits-first, more_digits-none, digits_below, digits_fit}
+use Rattle.ascii_text.proofs.DigitTexts.{more_digits-first, digits_below}
 use Rattle.ascii_text.proofs.reading.digits_at.Goals as goal
 
 pub loop-init : goal.loop-init
 unfolding digits_at
-loop-init c = record {
-  exact = λ more whole e. ap (λ (count : ℕ). more_digits c.args.radix 0 count c.args.text.now) (omega (arith, e));
-  below = rw pow-zero (omega arith);
-  left = omega arith;
-}
+loop-init c =
+    let exact = λ (more whole : ℕ) (e : 0 + more ≡ whole). ap (λ (count : ℕ). more_digits c.args.radix 0 count c.args.text.now) (let same : more ≡ whole = omega (arith, e) in same) in
+    record { exact = exact; below = rw pow-zero (omega arith); left = omega arith }
 
 pub returns-in_err-digit-clause-exact : goal.returns-in_err-digit-clause-exact
+unfolding more_digits
 returns-in_err-digit-clause-exact c =
     let left = c.args.count - (c.loop.counter + 1) in
-    rw c.from_residual.ensures (more_digits-none c.args.radix c.loop.value left c.loop.rest.now c.in_err-digit.ensures.exact ∙ c.loop.invariant.exact (suc left) c.args.count (omega (arith, c.loop-test.true)))
-
-pub overflow_mul-value : goal.overflow_mul-value
-overflow_mul-value c =
-    rw c.base_of.ensures (omega (arith, digits_fit c.args.radix c.loop.value c.loop.counter c.args.count c.in_ok-digit.digit c.loop-test.true c.requires c.loop.invariant.below c.in_ok-digit.ensures.below))
-
-pub overflow_add-value : goal.overflow_add-value
-overflow_add-value c =
-    rw c.base_of.ensures (omega (arith, digits_fit c.args.radix c.loop.value c.loop.counter c.args.count c.in_ok-digit.digit c.loop-test.true c.requires c.loop.invariant.below c.in_ok-digit.ensures.below))
+    let none : None ≡ more_digits c.args.radix c.loop.value (suc left) c.loop.rest.now = rw (← c.in_err-digit.ensures.exact) refl in
+    rw c.from_residual.ensures (none ∙ c.loop.invariant.exact (suc left) c.args.count (omega (arith, c.loop-test.true)))
 
 pub loop-preserved : goal.loop-preserved
 loop-preserved c =

@@ -1,4 +1,4 @@
-use Rattle.std.proofs.Common.{ℕ, suc, ◌+◌, ◌*◌, ◌^◌, ◌<◌, refl, sym, ap, ◌∙◌, arith, drop}
+use Rattle.std.proofs.Common.{◌≡◌, ℕ, suc, ◌+◌, refl, sym, ap, ◌∙◌, arith, drop}
 use Rattle.std.proofs.lemmas.List.{drop-drop}
 use Rattle.ascii_text.specs.declared.digits.Radix.TheVariants.{Ten}
 use Rattle.ascii_text.specs.Reading.{more_digits, digits_at, digit_run}
@@ -8,13 +8,9 @@ use Rattle.ascii_text.proofs.reading.digits_front.Goals as goal
 
 pub digits-init : goal.digits-init
 unfolding digits_at
-digits-init c = record {
-  value = λ more whole e. ap (λ (count : ℕ). more_digits Ten 0 count c.args.text.now) (omega (arith, e));
-  below = omega arith;
-  run = omega arith;
-  rest = refl;
-  left = omega arith;
-}
+digits-init c =
+    let value = λ (more whole : ℕ) (e : 0 + more ≡ whole). ap (λ (count : ℕ). more_digits Ten 0 count c.args.text.now) (let same : more ≡ whole = omega (arith, e) in same) in
+    record { value = value; below = omega arith; run = omega arith; rest = refl; left = omega arith }
 
 pub returns-in_default-clause-value : goal.returns-in_default-clause-value
 unfolding more_digits
@@ -23,15 +19,11 @@ returns-in_default-clause-value c = c.digits.invariant.value 0 c.digits.count (o
 pub returns-in_default-clause-all : goal.returns-in_default-clause-all
 returns-in_default-clause-all c = λ _. no_more c.digits.rest.now c.in_default.ensures.exact
 
-within : (c : goal.In-Some) → c.digits.value * 10 + c.in-Some.digit < 2 ^ 63
-within c =
-    digits_fit Ten c.digits.value c.digits.count 18 c.in-Some.digit (omega (arith, c.digits-test.true)) (omega arith) c.digits.invariant.below c.in-Some.ensures.below
-
 pub overflow_mul-value : goal.overflow_mul-value
-overflow_mul-value c = omega (arith, within c)
+overflow_mul-value c = omega (arith, digits_fit Ten c.digits.value c.digits.count 18 c.in-Some.digit (omega (arith, c.digits-test.true)) (omega arith) c.digits.invariant.below c.in-Some.ensures.below)
 
 pub overflow_add-value : goal.overflow_add-value
-overflow_add-value c = omega (arith, within c)
+overflow_add-value c = omega (arith, digits_fit Ten c.digits.value c.digits.count 18 c.in-Some.digit (omega (arith, c.digits-test.true)) (omega arith) c.digits.invariant.below c.in-Some.ensures.below)
 
 pub digits-preserved : goal.digits-preserved
 digits-preserved c =
