@@ -1,108 +1,84 @@
 -- The right answers by cases are the answers that are worked out.
-use Rattle.std.proofs.Common.{◌≡◌, ℕ, Bool, true, false, cond, ltb, ◌||◌, List, Option, Some, None, Result, Ok, Err, ℤ, refl, sym, ap, ◌∙◌, arith}
-use Rattle.std.proofs.lemmas.Bool.{ltb-true, ltb-false, lt-ltb, le-ltb, true_from_ne_false}
+use Rattle.std.proofs.Common.{◌≡◌, ◌<◌, ◌≤◌, Bool, cond, ltb, leb, ◌||◌, List, ℕ, Option, Some, None, Result, Err, refl, arith}
+use Rattle.std.proofs.lemmas.Bool.{ltb-true, ltb-false, leb-true, leb-false}
 use Rattle.std.proofs.lemmas.Bool.Decides.{nat_tests}
-use Rattle.std.proofs.lemmas.Option.{none-some}
 use Rattle.ascii_text.specs.Judged.{answer_of}
+use Rattle.std.specs.Option.{option_map}
+use Rattle.ascii_text.specs.Reading.{◌>>=◌}
+use Rattle.ascii_text.specs.DecimalNumbers.{NumberParts, IsSpelledNumber, number_parts_at, within}
+use Rattle.ascii_text.specs.Laws.{TextLaws}
 use Rattle.angle_fixed.specs.declared.fault.AngleFault.{AngleFault}
-use Rattle.angle_fixed.specs.declared.fault.AngleFault.TheVariants.{Spelling, Range, Decimals}
-use Rattle.angle_fixed.specs.Angles.{Parts, IsSpelled, IsSpelledSigned, time_units, arc_units, quarter, signed}
+use Rattle.angle_fixed.specs.declared.fault.AngleFault.TheVariants.{Spelling, Decimals}
+use Rattle.angle_fixed.specs.Angles.{Parts, IsSpelled, IsSpelledSigned, time_units, arc_units, circle, quarter, signed}
 use Rattle.angle_fixed.specs.Answer.{IsOnClock, IsWithinQuarter, ReadsTime, ReadsArc}
 use Rattle.angle_fixed.specs.Reading.{parts_at, signed_parts_at, past_sixty, time_answer, arc_answer}
-use Rattle.angle_fixed.proofs.Readers.{reads_parts, reads_signed_parts}
-use Rattle.ascii_text.specs.Laws.{TextLaws}
+use Rattle.angle_fixed.specs.Degrees.{IsSpelledSignedDegrees, degree_units, past_sign, signed_degrees_at, ra_within, dec_within, ra_degrees_answer, dec_degrees_answer, ra_degrees_of, dec_degrees_of, ReadsRaDegrees, ReadsDecDegrees}
+use Rattle.angle_fixed.specs.WrittenDegrees.{found_answer}
+use Rattle.angle_fixed.proofs.Judging.{IsTest, IsOneAnswer, reads_right}
+use Rattle.angle_fixed.proofs.Readers.{reads_parts, reads_signed_parts, reads_signed_degrees}
 
--- ---- right ascensions
+clock_test : IsTest {P = Parts} (λ p. ltb 23 p.whole || past_sixty p) IsOnClock (λ p. IsOnClock p → ⊥)
+clock_test = record {
+  within = λ p e. record { hour = grind (arith, nat_tests); minute = grind (arith, nat_tests); second = grind (arith, nat_tests) };
+  beyond = λ p e is. grind (arith, nat_tests);
+  apart = λ p is other. other is;
+}
 
-on_clock : (p : Parts) → (ltb 23 p.whole || past_sixty p) ≡ false → IsOnClock p
-on_clock p e = record { hour = grind (arith, nat_tests); minute = grind (arith, nat_tests); second = grind (arith, nat_tests) }
+quarter_test : IsTest {P = Bool × Parts} (λ p. past_sixty p.1 || ltb quarter (arc_units p.1)) (λ p. IsWithinQuarter p.1) (λ p. IsWithinQuarter p.1 → ⊥)
+quarter_test = record {
+  within = λ p e. record { minute = grind (arith, nat_tests); second = grind (arith, nat_tests); units = grind (arith, nat_tests) };
+  beyond = λ p e is. grind (arith, nat_tests);
+  apart = λ p is other. other is;
+}
 
-off_clock : (p : Parts) → (ltb 23 p.whole || past_sixty p) ≡ true → IsOnClock p → ⊥
-off_clock p e is = grind (arith, nat_tests)
+ra_test : IsTest {P = NumberParts} (λ p. leb circle (degree_units p)) (λ p. degree_units p < circle) (λ p. circle ≤ degree_units p)
+ra_test = record { within = λ p. leb-false circle (degree_units p); beyond = λ p. leb-true circle (degree_units p); apart = λ p below above. omega (arith, below, above) }
 
-on_clock_test : (p : Parts) → IsOnClock p → (ltb 23 p.whole || past_sixty p) ≡ false
-on_clock_test p is = grind (arith, nat_tests)
-
-off_clock_test : (p : Parts) → (IsOnClock p → ⊥) → (ltb 23 p.whole || past_sixty p) ≡ true
-off_clock_test p other = true_from_ne_false (ltb 23 p.whole || past_sixty p) (λ e. other (on_clock p e))
-
-time_by_tests : (many off : Bool) (p : Parts) (text : List ℕ) → ltb 3 p.count ≡ many → (ltb 23 p.whole || past_sixty p) ≡ off → IsSpelled p text
-    → ReadsTime text (cond many (Err Decimals) (cond off (Err Range) (Ok (time_units p, p.count))))
-time_by_tests true off p text count clock spelled = (p, spelled, ltb-true 3 p.count count)
-time_by_tests false true p text count clock spelled = (p, spelled, ltb-false 3 p.count count, off_clock p clock)
-time_by_tests false false p text count clock spelled = (p, spelled, ltb-false 3 p.count count, on_clock p clock, refl)
-
--- ---- declinations
-
-within : (p : Parts) → (past_sixty p || ltb quarter (arc_units p)) ≡ false → IsWithinQuarter p
-within p e = record { minute = grind (arith, nat_tests); second = grind (arith, nat_tests); units = grind (arith, nat_tests) }
-
-beyond : (p : Parts) → (past_sixty p || ltb quarter (arc_units p)) ≡ true → IsWithinQuarter p → ⊥
-beyond p e is = grind (arith, nat_tests)
-
-within_test : (p : Parts) → IsWithinQuarter p → (past_sixty p || ltb quarter (arc_units p)) ≡ false
-within_test p is = grind (arith, nat_tests)
-
-beyond_test : (p : Parts) → (IsWithinQuarter p → ⊥) → (past_sixty p || ltb quarter (arc_units p)) ≡ true
-beyond_test p other = true_from_ne_false (past_sixty p || ltb quarter (arc_units p)) (λ e. other (within p e))
-
-arc_by_tests : (many off : Bool) (p : Bool × Parts) (text : List ℕ) → ltb 2 p.1.count ≡ many → (past_sixty p.1 || ltb quarter (arc_units p.1)) ≡ off → IsSpelledSigned p text
-    → ReadsArc text (cond many (Err Decimals) (cond off (Err Range) (Ok (signed p.0 (arc_units p.1), p.1.count, p.0))))
-arc_by_tests true off p text count range spelled = (p, spelled, ltb-true 2 p.1.count count)
-arc_by_tests false true p text count range spelled = (p, spelled, ltb-false 2 p.1.count count, beyond p.1 range)
-arc_by_tests false false p text count range spelled = (p, spelled, ltb-false 2 p.1.count count, within p.1 range, refl)
+dec_test : IsTest {P = Bool × NumberParts} (λ p. ltb quarter (degree_units p.1)) (λ p. degree_units p.1 ≤ quarter) (λ p. quarter < degree_units p.1)
+dec_test = record { within = λ p. ltb-false quarter (degree_units p.1); beyond = λ p. ltb-true quarter (degree_units p.1); apart = λ p below above. omega (arith, below, above) }
 
 module _ (texts : TextLaws) where
-  time_by_cases : (text : List ℕ) (found : Option Parts) → parts_at text ≡ found → ReadsTime text (answer_of time_answer Spelling found)
-  unfolding answer_of time_answer
-  time_by_cases text None e = λ p spelled. none-some p (sym e ∙ (reads_parts texts).again p text spelled)
-  time_by_cases text (Some p) e = time_by_tests (ltb 3 p.count) (ltb 23 p.whole || past_sixty p) p text refl refl ((reads_parts texts).takes text p e)
+  open texts use {reads_number}
 
-  -- What is worked out is right.
-  pub time_reads : (text : List ℕ) → ReadsTime text (answer_of time_answer Spelling (parts_at text))
-  time_reads text = time_by_cases text (parts_at text) refl
-
-  time_found : (p : Parts) (text : List ℕ) → IsSpelled p text → answer_of time_answer Spelling (parts_at text) ≡ time_answer p
-  unfolding answer_of
-  time_found p text spelled = rw ((reads_parts texts).again p text spelled) refl
-
-  time_spells_nothing : (text : List ℕ) (found : Option Parts) → parts_at text ≡ found → ((p : Parts) → IsSpelled p text → ⊥) → answer_of time_answer Spelling found ≡ Err Spelling
-  unfolding answer_of
-  time_spells_nothing text None e nothing = refl
-  time_spells_nothing text (Some p) e nothing = absurd (nothing p ((reads_parts texts).takes text p e))
-
-  -- What is right is worked out.
-  pub time_only : (text : List ℕ) (other : Result (ℕ × ℕ) AngleFault) → ReadsTime text other → answer_of time_answer Spelling (parts_at text) ≡ other
+  pub time_one : IsOneAnswer ReadsTime (λ text. answer_of time_answer Spelling (parts_at text))
   unfolding time_answer
-  time_only text (Ok x) right =
-      time_found right.0 text right.1 ∙ rw (le-ltb 3 right.0.count right.2, on_clock_test right.0 right.3) (ap (λ (y : ℕ × ℕ). Ok y) (sym right.4))
-  time_only text (Err Spelling) right = time_spells_nothing text (parts_at text) refl right
-  time_only text (Err Decimals) right = time_found right.0 text right.1 ∙ rw (lt-ltb 3 right.0.count right.2) refl
-  time_only text (Err Range) right = time_found right.0 text right.1 ∙ rw (le-ltb 3 right.0.count right.2, off_clock_test right.0 right.3) refl
+  time_one = reads_right IsSpelled 3 (λ p. p.count) _ _ _ (λ p. (time_units p, p.count)) clock_test parts_at (reads_parts texts)
 
-  arc_by_cases : (text : List ℕ) (found : Option (Bool × Parts)) → signed_parts_at text ≡ found → ReadsArc text (answer_of arc_answer Spelling found)
-  unfolding answer_of arc_answer
-  arc_by_cases text None e = λ p spelled. none-some p (sym e ∙ (reads_signed_parts texts).again p text spelled)
-  arc_by_cases text (Some p) e = arc_by_tests (ltb 2 p.1.count) (past_sixty p.1 || ltb quarter (arc_units p.1)) p text refl refl ((reads_signed_parts texts).takes text p e)
-
-  -- What is worked out is right.
-  pub arc_reads : (text : List ℕ) → ReadsArc text (answer_of arc_answer Spelling (signed_parts_at text))
-  arc_reads text = arc_by_cases text (signed_parts_at text) refl
-
-  arc_found : (p : Bool × Parts) (text : List ℕ) → IsSpelledSigned p text → answer_of arc_answer Spelling (signed_parts_at text) ≡ arc_answer p
-  unfolding answer_of
-  arc_found p text spelled = rw ((reads_signed_parts texts).again p text spelled) refl
-
-  arc_spells_nothing : (text : List ℕ) (found : Option (Bool × Parts)) → signed_parts_at text ≡ found → ((p : Bool × Parts) → IsSpelledSigned p text → ⊥) → answer_of arc_answer Spelling found ≡ Err Spelling
-  unfolding answer_of
-  arc_spells_nothing text None e nothing = refl
-  arc_spells_nothing text (Some p) e nothing = absurd (nothing p ((reads_signed_parts texts).takes text p e))
-
-  -- What is right is worked out.
-  pub arc_only : (text : List ℕ) (other : Result (ℤ × ℕ × Bool) AngleFault) → ReadsArc text other → answer_of arc_answer Spelling (signed_parts_at text) ≡ other
+  pub arc_one : IsOneAnswer ReadsArc (λ text. answer_of arc_answer Spelling (signed_parts_at text))
   unfolding arc_answer
-  arc_only text (Ok x) right =
-      arc_found right.0 text right.1 ∙ rw (le-ltb 2 right.0.1.count right.2, within_test right.0.1 right.3) (ap (λ (y : ℤ × ℕ × Bool). Ok y) (sym right.4))
-  arc_only text (Err Spelling) right = arc_spells_nothing text (signed_parts_at text) refl right
-  arc_only text (Err Decimals) right = arc_found right.0 text right.1 ∙ rw (lt-ltb 2 right.0.1.count right.2) refl
-  arc_only text (Err Range) right = arc_found right.0 text right.1 ∙ rw (le-ltb 2 right.0.1.count right.2, beyond_test right.0.1 right.3) refl
+  arc_one = reads_right IsSpelledSigned 2 (λ p. p.1.count) _ _ _ (λ p. (signed p.0 (arc_units p.1), p.1.count, p.0)) quarter_test signed_parts_at (reads_signed_parts texts)
+
+  pub ra_degrees_one : IsOneAnswer ReadsRaDegrees ra_degrees_of
+  unfolding ra_degrees_of ra_degrees_answer
+  ra_degrees_one = reads_right (IsSpelledNumber 3) 12 (λ p. p.count) _ _ _ degree_units ra_test (number_parts_at 3) (reads_number 3)
+
+  pub dec_degrees_one : IsOneAnswer ReadsDecDegrees dec_degrees_of
+  unfolding dec_degrees_of dec_degrees_answer
+  dec_degrees_one = reads_right (IsSpelledSignedDegrees 2) 12 (λ p. p.1.count) _ _ _ (λ p. signed p.0 (degree_units p.1)) dec_test (signed_degrees_at 2) (reads_signed_degrees texts 2)
+
+-- ---- what the code finds of degrees, with the decimals passed over where they are too many
+
+-- parts with at most twelve decimals are judged
+abbrev judged : {V : Type 0} → (NumberParts → Result V AngleFault) → NumberParts → Result V AngleFault
+judged judge p = cond (ltb 12 p.count) (Err Decimals) (judge p)
+
+-- What was found, with too many decimals passed over, is answered as what the text spells.
+answer_found : {V : Type 0} (judge : NumberParts → Result V AngleFault) (found : Option NumberParts)
+    → answer_of (judged judge) Spelling found ≡ found_answer judge (option_map (λ p. within 12 p) found)
+unfolding answer_of
+answer_found judge None = refl
+answer_found judge (Some p) = grind (arith, nat_tests)
+
+pub ra_found : (text : List ℕ) → found_answer (λ p. ra_within p) (option_map (λ p. within 12 p) (number_parts_at 3 text)) ≡ ra_degrees_of text
+unfolding ra_degrees_of ra_degrees_answer
+ra_found text = rw (← answer_found (λ p. ra_within p) (number_parts_at 3 text)) refl
+
+signed_answer : (minus : Bool) (found : Option NumberParts)
+    → answer_of (judged (λ p. dec_within (minus, p))) Spelling found ≡ answer_of dec_degrees_answer Spelling (found >>= λ p. Some (minus, p))
+unfolding answer_of dec_degrees_answer
+signed_answer minus None = refl
+signed_answer minus (Some p) = refl
+
+pub dec_found : (text : List ℕ) → found_answer (λ p. dec_within ((past_sign text).0, p)) (option_map (λ p. within 12 p) (number_parts_at 2 (past_sign text).1)) ≡ dec_degrees_of text
+unfolding dec_degrees_of signed_degrees_at
+dec_found text = rw (← answer_found (λ p. dec_within ((past_sign text).0, p)) (number_parts_at 2 (past_sign text).1)) (signed_answer (past_sign text).0 (number_parts_at 2 (past_sign text).1))

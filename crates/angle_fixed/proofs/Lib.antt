@@ -1,10 +1,7 @@
 pub mod Readers
+pub mod Judging
 pub mod Cases
-pub mod Texts
 pub mod Rounding
 pub mod Written
-pub mod DegreesFound
-pub mod DegreeReaders
-pub mod DegreeCases
 pub mod DegreesWritten
 pub mod Ranges

@@ -1,30 +1,23 @@
 -- What is read from a text is a right ascension below the circle, or a declination of at most 90 degrees either way.
-use Rattle.std.proofs.Common.{◌≡◌, ℕ, zero, suc, ◌+◌, ◌*◌, ◌/◌, ◌^◌, ◌<◌, ◌≤◌, Bool, true, false, ℤ, pos, neg_ℤ, ◌≤ℤ◌, List, Ok, sym, ap, subst, arith}
+use Rattle.std.proofs.Common.{◌≡◌, ℕ, ◌+◌, ◌*◌, ◌/◌, ◌^◌, ◌<◌, ◌≤◌, Bool, true, false, ℤ, pos, neg_ℤ, ◌≤ℤ◌, List, Ok, sym, ap, subst, arith}
+use Rattle.std.proofs.Math.Nat.{mul-lt-mul_of_pos_right}
 use Rattle.std.proofs.lemmas.Int.{ints}
-use Rattle.angle_fixed.specs.Angles.{Parts, IsSpelled, hour, minute_of_time, second_of_time, circle, quarter, signed, time_units, arc_units}
+use Rattle.angle_fixed.specs.Angles.{Parts, IsSpelled, second_of_time, circle, quarter, signed, time_units, arc_units}
 use Rattle.angle_fixed.specs.Answer.{IsOnClock, ReadsTime, ReadsArc}
 use Rattle.angle_fixed.specs.Degrees.{ReadsRaDegrees, ReadsDecDegrees}
+use Rattle.angle_fixed.proofs.Rounding.{unit_of_time, whole_units, steps_of, steps_below, time_units-steps}
 
 -- a time of the day with up to three decimals is less than a day
-time_below : (whole minute second count value : ℕ) → count ≤ 3 → whole ≤ 23 → minute ≤ 59 → second ≤ 59 → value < 10 ^ count
-    → whole * hour + minute * minute_of_time + second * second_of_time + value * (second_of_time / 10 ^ count) < circle
-time_below whole minute second zero value few h m s below = omega (arith, below)
-time_below whole minute second (suc zero) value few h m s below = omega (arith, below)
-time_below whole minute second (suc (suc zero)) value few h m s below = omega (arith, below)
-time_below whole minute second (suc (suc (suc zero))) value few h m s below = omega (arith, below)
-time_below whole minute second (suc (suc (suc (suc count)))) value few h m s below = absurd (omega arith)
-
 units_below : (p : Parts) (text : List ℕ) → IsSpelled p text → p.count ≤ 3 → IsOnClock p → time_units p < circle
-unfolding time_units
-units_below p text spelled few clock = time_below p.whole p.minute p.second p.count p.value few clock.hour clock.minute clock.second spelled.value
+units_below p text spelled few clock =
+    let unit = unit_of_time p.count few in
+    let steps : steps_of p < 86400 * 10 ^ p.count = steps_below p 86400 (omega (arith, clock.hour, clock.minute, clock.second)) spelled.value in
+    omega (arith, time_units-steps p few, mul-lt-mul_of_pos_right steps unit.some, whole_units 86400 second_of_time p.count unit)
 
 -- a number of at most so much, with its sign
-signed_within : (minus : Bool) (n : ℕ) → n ≤ quarter → (neg_ℤ (pos quarter) ≤ℤ signed minus n) × (signed minus n ≤ℤ pos quarter)
-signed_within false n within = (omega (arith, ints), omega (arith, ints))
-signed_within true n within = (omega (arith, ints), omega (arith, ints))
-
-signed_so : (minus : Bool) (n : ℕ) (dec : ℤ) → n ≤ quarter → dec ≡ signed minus n → (neg_ℤ (pos quarter) ≤ℤ dec) × (dec ≤ℤ pos quarter)
-signed_so minus n dec within is = subst (λ (z : ℤ). (neg_ℤ (pos quarter) ≤ℤ z) × (z ≤ℤ pos quarter)) (sym is) (signed_within minus n within)
+signed_within : (minus : Bool) (n : ℕ) (dec : ℤ) → n ≤ quarter → dec ≡ signed minus n → (neg_ℤ (pos quarter) ≤ℤ dec) × (dec ≤ℤ pos quarter)
+signed_within false n dec within is = rw is (omega (arith, ints), omega (arith, ints))
+signed_within true n dec within is = rw is (omega (arith, ints), omega (arith, ints))
 
 pub time_within : (text : List ℕ) (ra count : ℕ) → ReadsTime text (Ok (ra, count)) → ra < circle
 time_within text ra count is =
@@ -33,11 +26,10 @@ time_within text ra count is =
 pub arc_within : (text : List ℕ) (dec : ℤ) (count : ℕ) (minus : Bool) → ReadsArc text (Ok (dec, count, minus))
     → (neg_ℤ (pos quarter) ≤ℤ dec) × (dec ≤ℤ pos quarter)
 arc_within text dec count minus is =
-    let quartered = is.3 in
-    signed_so is.0.0 (arc_units is.0.1) dec quartered.units (ap (λ (x : ℤ × ℕ × Bool). x.0) is.4)
+    let quartered = is.3 in signed_within is.0.0 (arc_units is.0.1) dec quartered.units (ap (λ (x : ℤ × ℕ × Bool). x.0) is.4)
 
 pub ra_degrees_within : (text : List ℕ) (ra : ℕ) → ReadsRaDegrees text (Ok ra) → ra < circle
 ra_degrees_within text ra is = subst (λ (n : ℕ). n < circle) (sym is.4) is.3
 
 pub dec_degrees_within : (text : List ℕ) (dec : ℤ) → ReadsDecDegrees text (Ok dec) → (neg_ℤ (pos quarter) ≤ℤ dec) × (dec ≤ℤ pos quarter)
-dec_degrees_within text dec is = signed_so is.0.0 _ dec is.3 is.4
+dec_degrees_within text dec is = signed_within is.0.0 _ dec is.3 is.4

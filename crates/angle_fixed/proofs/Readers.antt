@@ -1,38 +1,18 @@
 -- What is spelled is read, and what is read is spelled.
-use Rattle.std.proofs.Common.{◌≡◌, ℕ, Bool, true, false, cond, eqb, List, [], ◌∷◌, ◌++◌, Option, Some, None, refl, ap, subst, ◌∙◌, length}
+use Rattle.std.proofs.Common.{◌≡◌, ℕ, zero, suc, ◌+◌, ◌/◌, ◌%◌, ◌^◌, ◌≤◌, Bool, true, false, cond, eqb, ◌⊎◌, inl, inr, List, [], ◌∷◌, ◌++◌, length, Some, None, refl, sym, ap, subst, ◌∙◌, arith}
 use Rattle.std.proofs.lemmas.Bool.{eqb-true}
+use Rattle.std.proofs.lemmas.Bool.Decides.{nat_tests}
 use Rattle.std.proofs.lemmas.Option.{cond_some, same_Some}
 use Rattle.ascii_text.specs.declared.digits.Radix.TheVariants.{Ten}
 use Rattle.ascii_text.specs.Digits.{digits_text, decimals_text}
 use Rattle.ascii_text.specs.Blanks.{blanks, are_blanks}
 use Rattle.ascii_text.specs.Judged.{IsReader}
-use Rattle.ascii_text.specs.Reading.{◌>>=◌, bind_some, digits_at, behind, decimals_at}
-use Rattle.angle_fixed.specs.Angles.{Parts, IsSpelled, IsSpelledSigned, sign_byte, spelling}
-use Rattle.angle_fixed.specs.Reading.{parts_at, sign_at, signed_parts_at}
+use Rattle.ascii_text.specs.Reading.{bind_some, digits_at, behind, decimals_at}
+use Rattle.ascii_text.specs.DecimalNumbers.{NumberParts, IsSpelledNumber, number_spelling, number_parts_at}
 use Rattle.ascii_text.specs.Laws.{TextLaws}
-
--- the steps after each number
-abbrev made : ℕ → ℕ → ℕ → ℕ × ℕ → Parts
-made whole minute second decimals = record { whole = whole; minute = minute; second = second; count = decimals.0; value = decimals.1 }
-
-abbrev behind_decimals : ℕ → ℕ → ℕ → (ℕ × ℕ) × List ℕ → Option Parts
-behind_decimals whole minute second decimals = cond (are_blanks decimals.1) (Some (made whole minute second decimals.0)) None
-
-abbrev behind_second : ℕ → ℕ → ℕ × List ℕ → Option Parts
-behind_second whole minute second = decimals_at second.1 >>= behind_decimals whole minute second.0
-
-abbrev behind_minute : ℕ → ℕ × List ℕ → Option Parts
-behind_minute whole minute = behind 32 minute.1 >>= λ seconds. digits_at Ten 2 seconds >>= behind_second whole minute.0
-
-abbrev behind_whole : ℕ × List ℕ → Option Parts
-behind_whole whole = behind 32 whole.1 >>= λ minutes. digits_at Ten 2 minutes >>= behind_minute whole.0
-
-joined : (text whole a b minute c d second e decimals f space : List ℕ) → text ≡ whole ++ a → a ≡ 32 ∷ b → b ≡ minute ++ c → c ≡ 32 ∷ d → d ≡ second ++ e → e ≡ decimals ++ f → f ≡ space
-    → text ≡ whole ++ (32 ∷ (minute ++ (32 ∷ (second ++ (decimals ++ space)))))
-joined text whole a b minute c d second e decimals f space is_whole is_a is_minute is_c is_second is_decimals is_space = cc
-
-spelled_same : (p q : Parts) (text : List ℕ) → p ≡ q → IsSpelled p text → IsSpelled q text
-spelled_same p q text same spelled = subst (λ (r : Parts). IsSpelled r text) same spelled
+use Rattle.angle_fixed.specs.Angles.{Parts, IsSpelled, IsSpelledSigned, sign_byte, spelling}
+use Rattle.angle_fixed.specs.Degrees.{IsSpelledSignedDegrees, past_sign, signed_degrees_at}
+use Rattle.angle_fixed.specs.Reading.{parts_at, sign_at, signed_parts_at}
 
 pub sign_again : (minus : Bool) (text : List ℕ) → sign_at (sign_byte minus ∷ text) ≡ Some (minus, text)
 unfolding sign_at
@@ -50,8 +30,51 @@ unfolding sign_at
 sign_takes [] x e = absurd cc
 sign_takes (byte ∷ text) x e = sign_found (eqb byte 43) (eqb byte 45) byte text x refl refl e
 
+-- ---- the sign before degrees
+
+past_sign-sign : (minus : Bool) (text : List ℕ) → past_sign (sign_byte minus ∷ text) ≡ (minus, text)
+unfolding past_sign
+past_sign-sign false text = refl
+past_sign-sign true text = refl
+
+past_sign-digit : (d : ℕ) (text : List ℕ) → past_sign ((48 + d) ∷ text) ≡ (false, (48 + d) ∷ text)
+unfolding past_sign
+past_sign-digit d text = grind (arith, nat_tests)
+
+-- digits begin with no sign
+past_sign-digits : (digits whole : ℕ) (rest : List ℕ) → 1 ≤ digits → past_sign (digits_text Ten digits whole ++ rest) ≡ (false, digits_text Ten digits whole ++ rest)
+unfolding digits_text
+past_sign-digits zero whole rest some = absurd (omega arith)
+past_sign-digits (suc digits) whole rest some = past_sign-digit (whole / 10 ^ digits) (digits_text Ten digits (whole % 10 ^ digits) ++ rest)
+
+past_sign-spelled : (most : ℕ) (p : NumberParts) (text : List ℕ) → IsSpelledNumber most p text → past_sign text ≡ (false, text)
+unfolding number_spelling
+past_sign-spelled most p text is =
+    ap past_sign is.text_is ∙ past_sign-digits p.digits p.whole (decimals_text p.count p.value) is.some ∙ ap (λ (t : List ℕ). (false, t)) (sym is.text_is)
+
+read_past : (most : ℕ) (minus : Bool) (p : NumberParts) (text rest : List ℕ) → past_sign text ≡ (minus, rest) → number_parts_at most rest ≡ Some p → signed_degrees_at most text ≡ Some (minus, p)
+unfolding signed_degrees_at
+read_past most minus p text rest sign read = rw (sign, read) refl
+
+-- what stands in front of the degrees: a sign, or nothing
+past_sign_found : (b c : Bool) (byte : ℕ) (text : List ℕ) → eqb byte 43 ≡ b → eqb byte 45 ≡ c
+    → let x = cond {A = Bool × List ℕ} b (false, text) (cond c (true, text) (false, byte ∷ text)) in (byte ∷ text ≡ sign_byte x.0 ∷ x.1) ⊎ (x ≡ (false, byte ∷ text))
+past_sign_found true c byte text plus minus = inl (ap (λ (k : ℕ). k ∷ text) (eqb-true byte 43 plus))
+past_sign_found false true byte text plus minus = inl (ap (λ (k : ℕ). k ∷ text) (eqb-true byte 45 minus))
+past_sign_found false false byte text plus minus = inr refl
+
+sign_front : (text : List ℕ) → (text ≡ sign_byte (past_sign text).0 ∷ (past_sign text).1) ⊎ (past_sign text ≡ (false, text))
+unfolding past_sign
+sign_front [] = inr refl
+sign_front (byte ∷ text) = past_sign_found (eqb byte 43) (eqb byte 45) byte text refl refl
+
+signed_by : (most : ℕ) (text : List ℕ) (sign : Bool × List ℕ) (p : NumberParts) → (text ≡ sign_byte sign.0 ∷ sign.1) ⊎ (sign ≡ (false, text)) → IsSpelledNumber most p sign.1 → IsSpelledSignedDegrees most (sign.0, p) text
+signed_by most text sign p (inl is) spelled = inl (sign.1, is, spelled)
+signed_by most text sign p (inr is) spelled =
+    inr (ap (λ (x : Bool × List ℕ). x.0) is, subst (λ (t : List ℕ). IsSpelledNumber most p t) (ap (λ (x : Bool × List ℕ). x.1) is) spelled)
+
 module _ (texts : TextLaws) where
-  open texts use {are_blanks-blanks, are_blanks_takes, digit_run-blanks, no_point-blanks, digits_again, digits_takes, behind-cons, behind_takes, decimals_again, decimals_takes}
+  open texts use {are_blanks-blanks, are_blanks_takes, digit_run-blanks, no_point-blanks, digits_again, digits_takes, behind-cons, behind_takes, decimals_again, decimals_takes, reads_number}
 
   pub parts_again : (p : Parts) (text : List ℕ) → IsSpelled p text → parts_at text ≡ Some p
   unfolding parts_at spelling
@@ -63,26 +86,27 @@ module _ (texts : TextLaws) where
   pub parts_take : (text : List ℕ) (p : Parts) → parts_at text ≡ Some p → IsSpelled p text
   unfolding parts_at spelling
   parts_take text p e =
-      let whole = bind_some (digits_at Ten 2 text) behind_whole p e in
-      let first_blank = bind_some (behind 32 whole.0.1) (λ minutes. digits_at Ten 2 minutes >>= behind_minute whole.0.0) p whole.2 in
-      let minute = bind_some (digits_at Ten 2 first_blank.0) (behind_minute whole.0.0) p first_blank.2 in
-      let second_blank = bind_some (behind 32 minute.0.1) (λ seconds. digits_at Ten 2 seconds >>= behind_second whole.0.0 minute.0.0) p minute.2 in
-      let second = bind_some (digits_at Ten 2 second_blank.0) (behind_second whole.0.0 minute.0.0) p second_blank.2 in
-      let decimals = bind_some (decimals_at second.0.1) (behind_decimals whole.0.0 minute.0.0 second.0.0) p second.2 in
-      let ended = cond_some (are_blanks decimals.0.1) (made whole.0.0 minute.0.0 second.0.0 decimals.0.0) p decimals.2 in
+      let whole = bind_some (digits_at Ten 2 text) _ p e in
+      let first_blank = bind_some (behind 32 whole.0.1) _ p whole.2 in
+      let minute = bind_some (digits_at Ten 2 first_blank.0) _ p first_blank.2 in
+      let second_blank = bind_some (behind 32 minute.0.1) _ p minute.2 in
+      let second = bind_some (digits_at Ten 2 second_blank.0) _ p second_blank.2 in
+      let decimals = bind_some (decimals_at second.0.1) _ p second.2 in
+      let ended = cond_some (are_blanks decimals.0.1) _ p decimals.2 in
       let whole_is = digits_takes Ten 2 text whole.0.0 whole.0.1 whole.1 in
       let minute_is = digits_takes Ten 2 first_blank.0 minute.0.0 minute.0.1 minute.1 in
       let second_is = digits_takes Ten 2 second_blank.0 second.0.0 second.0.1 second.1 in
       let decimals_is = decimals_takes second.0.1 decimals.0 decimals.1 in
-      let spelled : IsSpelled (made whole.0.0 minute.0.0 second.0.0 decimals.0.0) text = record {
+      let seconds = second_is.0 ∙ ap (λ (t : List ℕ). digits_text Ten 2 second.0.0 ++ t) (decimals_is.text_is ∙ ap (λ (t : List ℕ). decimals_text decimals.0.0.0 decimals.0.0.1 ++ t) (are_blanks_takes decimals.0.1 ended.0)) in
+      let minutes = minute_is.0 ∙ ap (λ (t : List ℕ). digits_text Ten 2 minute.0.0 ++ t) (behind_takes 32 minute.0.1 second_blank.0 second_blank.1 ∙ ap (λ (t : List ℕ). 32 ∷ t) seconds) in
+      subst (λ (q : Parts). IsSpelled q text) ended.1 (record {
         whole = whole_is.1;
         minute = minute_is.1;
         second = second_is.1;
         value = decimals_is.below;
         space = length decimals.0.1;
-        text_is = joined text (digits_text Ten 2 whole.0.0) whole.0.1 first_blank.0 (digits_text Ten 2 minute.0.0) minute.0.1 second_blank.0 (digits_text Ten 2 second.0.0) second.0.1 (decimals_text decimals.0.0.0 decimals.0.0.1) decimals.0.1 (blanks (length decimals.0.1)) whole_is.0 (behind_takes 32 whole.0.1 first_blank.0 first_blank.1) minute_is.0 (behind_takes 32 minute.0.1 second_blank.0 second_blank.1) second_is.0 decimals_is.text_is (are_blanks_takes decimals.0.1 ended.0);
-      } in
-      spelled_same (made whole.0.0 minute.0.0 second.0.0 decimals.0.0) p text ended.1 spelled
+        text_is = whole_is.0 ∙ ap (λ (t : List ℕ). digits_text Ten 2 whole.0.0 ++ t) (behind_takes 32 whole.0.1 first_blank.0 first_blank.1 ∙ ap (λ (t : List ℕ). 32 ∷ t) minutes);
+      })
 
   signed_again : (p : Bool × Parts) (text : List ℕ) → IsSpelledSigned p text → signed_parts_at text ≡ Some p
   unfolding signed_parts_at
@@ -91,13 +115,27 @@ module _ (texts : TextLaws) where
   signed_take : (text : List ℕ) (p : Bool × Parts) → signed_parts_at text ≡ Some p → IsSpelledSigned p text
   unfolding signed_parts_at
   signed_take text p e =
-      let sign = bind_some (sign_at text) (λ sign. parts_at sign.1 >>= λ parts. Some (sign.0, parts)) p e in
-      let parts = bind_some (parts_at sign.0.1) (λ parts. Some (sign.0.0, parts)) p sign.2 in
-      let made_is : (sign.0.0, parts.0) ≡ p = same_Some (sign.0.0, parts.0) p parts.2 in
-      subst (λ (q : Bool × Parts). IsSpelledSigned q text) made_is (sign.0.1, sign_takes text sign.0 sign.1, parts_take sign.0.1 parts.0 parts.1)
+      let sign = bind_some _ _ p e in
+      let parts = bind_some _ _ p sign.2 in
+      subst (λ (q : Bool × Parts). IsSpelledSigned q text) (same_Some _ p parts.2) (sign.0.1, sign_takes text sign.0 sign.1, parts_take sign.0.1 parts.0 parts.1)
 
   pub reads_parts : IsReader IsSpelled parts_at
   reads_parts = record { again = parts_again; takes = parts_take }
 
   pub reads_signed_parts : IsReader IsSpelledSigned signed_parts_at
   reads_signed_parts = record { again = signed_again; takes = signed_take }
+
+  degrees_again : (most : ℕ) (p : Bool × NumberParts) (text : List ℕ) → IsSpelledSignedDegrees most p text → signed_degrees_at most text ≡ Some p
+  degrees_again most p text (inl signed) =
+      read_past most p.0 p.1 text signed.0 (ap past_sign signed.1 ∙ past_sign-sign p.0 signed.0) ((reads_number most).again p.1 signed.0 signed.2)
+  degrees_again most p text (inr plain) =
+      read_past most p.0 p.1 text text (past_sign-spelled most p.1 text plain.1 ∙ ap (λ (b : Bool). (b, text)) (sym plain.0)) ((reads_number most).again p.1 text plain.1)
+
+  degrees_take : (most : ℕ) (text : List ℕ) (p : Bool × NumberParts) → signed_degrees_at most text ≡ Some p → IsSpelledSignedDegrees most p text
+  unfolding signed_degrees_at
+  degrees_take most text p e =
+      let parts = bind_some _ _ p e in
+      subst (λ (q : Bool × NumberParts). IsSpelledSignedDegrees most q text) (same_Some _ p parts.2) (signed_by most text (past_sign text) parts.0 (sign_front text) ((reads_number most).takes (past_sign text).1 parts.0 parts.1))
+
+  pub reads_signed_degrees : (most : ℕ) → IsReader (IsSpelledSignedDegrees most) (signed_degrees_at most)
+  reads_signed_degrees most = record { again = degrees_again most; takes = degrees_take most }

@@ -11,7 +11,7 @@ ghost use Rattle.angle_fixed.specs.Degrees.{plain_digits, ra_steps, twelfth_deci
 ghost use Rattle.angle_fixed.specs.Degrees.{dec_degrees_text, ra_degrees_text, rounded_dec_degrees, rounded_ra_degrees};
 ghost use Rattle.ascii_text.specs.DecimalNumbers.{NumberParts, IsSpelledNumber, number_spelling};
 ghost use Rattle.ascii_text.specs.Written.{number_parts};
-ghost use Rattle.angle_fixed.specs.WrittenDegrees.{IsPlaced};
+ghost use Rattle.angle_fixed.specs.WrittenDegrees.{IsBoundedDegrees};
 ghost use Rattle.angle_fixed.specs.Writing.{is_negative, nearest};
 
 use crate::angle::{Dec, Ra};
@@ -47,7 +47,8 @@ fn twelve_decimals(digits: usize, steps: u64) -> DecimalNumber
     requires few { digits ≤ 3 }
     requires below { steps / 10 ^ 12 < 10 ^ digits }
     ensures parts { number_parts result ≡ twelve_decimals digits steps }
-    ensures placed { IsPlaced result }
+    ensures bounded { IsBoundedDegrees result }
+    ensures twelve { result.decimals.count ≡ 12 }
 {
     DecimalNumber {
         digits,
@@ -63,7 +64,8 @@ fn twelve_decimals(digits: usize, steps: u64) -> DecimalNumber
 #[tactic(auto, unfolding(ascii_text::specs::DecimalNumbers::number_spelling))]
 fn put_degrees(out: &mut ArrayVec<u8, 16>, d: DecimalNumber)
     requires room { array_vec_len out.old + d.digits ≤ 3 }
-    requires placed { IsPlaced d }
+    requires bounded { IsBoundedDegrees d }
+    requires twelve { d.decimals.count ≡ 12 }
     ensures text { out.new.items ≡ out.old.items ++ number_spelling (number_parts d) }
     ensures len { array_vec_len out.new ≡ array_vec_len out.old + d.digits + 13 }
 {

@@ -103,6 +103,7 @@ fn time_steps(units: u64, decimals: u8) -> u64
 }
 
 // The units of the last decimal that are nearest to an angle.
+#[tactic(auto, using(crate::proofs::Rounding::nearest_arc_within))]
 fn arc_steps(units: u64, decimals: u8) -> u64
     requires few { decimals ≤ 2 }
     requires within { units ≤ quarter }
@@ -138,7 +139,7 @@ fn time_text(ra: Ra, decimals: u8) -> [u8; 12]
     twelve(&out)
 }
 
-#[tactic(auto, unfolding(crate::specs::Writing::arc_text))]
+#[tactic(auto, using(crate::proofs::Rounding::power_of_ten_positive), unfolding(crate::specs::Writing::arc_text))]
 fn arc_text(dec: Dec, decimals: u8, minus: bool) -> [u8; 12]
     requires { decimals ≤ 2 }
     ensures text { result ≡ arc_text dec decimals minus }

@@ -9,20 +9,9 @@ blank = 32
 abbrev pub point : ℕ
 point = 46
 
--- the signs before a number
-abbrev pub plus_sign : ℕ
-plus_sign = 43
-
-abbrev pub minus_sign : ℕ
-minus_sign = 45
-
 -- the end of a line, LF
 abbrev pub line_feed : ℕ
 line_feed = 10
-
--- CR, which may stand before a line feed and then belongs to the line's end
-abbrev pub carriage_return : ℕ
-carriage_return = 13
 
 -- the bar between the fields of a line
 abbrev pub vertical_bar : ℕ

@@ -13,6 +13,7 @@ pub fn are_blanks(text: &[u8]) -> bool
     text.iter().all(|byte| *byte == b' ')
 }
 
+#[tactic(auto, using(crate::proofs::BlankTexts::trimmed_front_goes_on, crate::proofs::BlankTexts::trimmed_front_ends))]
 fn trimmed_front(text: &[u8]) -> &[u8]
     ensures exact { result.now ≡ trimmed_front text.now }
     ensures within { length result.now ≤ length text.now }
@@ -25,6 +26,7 @@ fn trimmed_front(text: &[u8]) -> &[u8]
 }
 
 // The text before the blank at its end; `None` where no blank stands there.
+#[tactic(auto, using(crate::proofs::BlankTexts::trimmed_end_kept, crate::proofs::BlankTexts::trimmed_end_empty))]
 fn before_blank(text: &[u8]) -> Option<&[u8]>
     ensures some { IfSome result (λ before. text.now ≡ before.now ++ 32 ∷ []) }
     ensures none { IfNone result (trimmed_end text.now ≡ text.now) }
@@ -47,7 +49,7 @@ fn trimmed_end(text: &[u8]) -> &[u8]
 }
 
 /// The text without the blanks at both its ends.
-#[tactic(auto, unfolding(crate::specs::Blanks::trimmed))]
+#[tactic(auto, using(crate::proofs::BlankTexts::trimmed_is), unfolding(crate::specs::Blanks::trimmed))]
 pub fn trimmed(text: &[u8]) -> &[u8]
     ensures exact { result.now ≡ trimmed text.now }
     ensures between { IsTrimmed text.now result.now }

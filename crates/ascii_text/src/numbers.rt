@@ -61,6 +61,7 @@ fn number_within(most: usize, few: usize, text: &[u8]) -> Option<Option<DecimalN
 /// The decimal number that the whole text is: 1 to `most` digits, then a point and one decimal or more, or nothing.
 /// None where the text has another shape; `None` in the number's place where it has more than `few` decimals. Both are
 /// at most 18.
+#[tactic(auto, using(crate::proofs::NumberTexts::number_within_is))]
 pub fn decimal_number(most: usize, few: usize, text: &[u8]) -> Option<Option<DecimalNumber>>
     requires most { most ≤ 18 }
     requires few { few ≤ 18 }

@@ -27,6 +27,7 @@ fn digit_front(radix: Radix, text: &[u8]) -> Option<(u64, &[u8])>
 /// The number that the first `count` bytes spell as digits of the radix, and the text after them; `None` where fewer
 /// bytes stand there, or one of them is no digit. The radix to the power of `count` is at most 2^63: at most 18 digits
 /// of the radix ten.
+#[tactic(auto, using(crate::proofs::DigitTexts::digits_fit))]
 pub fn digits_at(radix: Radix, count: usize, text: &[u8]) -> Option<(u64, &[u8])>
     requires { base radix ^ count ≤ 2 ^ 63 }
     ensures exact { option_map (λ x. (x.0, x.1.now)) result ≡ digits_at radix count text.now }
@@ -99,7 +100,9 @@ pub(crate) fn digits_front(most: usize, text: &[u8]) -> (Decimals, &[u8])
 }
 
 /// All the decimal digits at the front, and the text after them; `None` where none stands there.
-#[tactic(auto, unfolding(crate::specs::Reading::run_at))]
+#[tactic(auto, using(crate::proofs::NumberTexts::run_is, crate::proofs::NumberTexts::run_end),
+// where no digit stands at the front, the definition itself gives nothing
+unfolding(crate::specs::Reading::run_at))]
 fn run_front(text: &[u8]) -> Option<(Decimals, &[u8])>
     requires { length text.now ≤ 18 }
     ensures exact { option_map (λ x. ((x.0.count, x.0.value), x.1.now)) result ≡ run_at text.now }
@@ -167,7 +170,7 @@ pub fn decimals_within(most: usize, text: &[u8]) -> Option<(Option<Decimals>, &[
 
 /// The number at the front, without leading zeros, and the text after it: all the decimal digits that stand there.
 /// `None` where none stands there, where they are more than `most`, or where a zero leads others. `most` is at most 18.
-#[tactic(auto, unfolding(crate::specs::Reading::number_at))]
+#[tactic(auto, using(crate::proofs::DigitTexts::ten_power), unfolding(crate::specs::Reading::number_at))]
 pub fn number_at(most: usize, text: &[u8]) -> Option<(u64, &[u8])>
     requires { most ≤ 18 }
     ensures exact { option_map (λ x. (x.0, x.1.now)) result ≡ number_at most text.now }

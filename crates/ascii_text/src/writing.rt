@@ -10,6 +10,7 @@ use crate::reading::Decimals;
 use arrayvec::ArrayVec;
 
 /// Writes the number with `count` digits, the greatest first.
+#[tactic(auto, using(crate::proofs::DigitTexts::few_digits))]
 pub fn put_digits<const N: usize>(out: &mut ArrayVec<u8, N>, radix: Radix, count: usize, n: u64)
     requires room { array_vec_len out.old + count ≤ N }
     requires within { base radix ^ count ≤ 2 ^ 63 }
@@ -51,7 +52,7 @@ pub fn put_decimal<const N: usize>(out: &mut ArrayVec<u8, N>, n: u64)
 }
 
 /// Writes decimals: nothing where there are none, else a point and their digits.
-#[tactic(auto, unfolding(crate::specs::Digits::decimals_text))]
+#[tactic(auto, using(crate::proofs::DigitTexts::ten_power), unfolding(crate::specs::Digits::decimals_text))]
 pub fn put_decimals<const N: usize>(out: &mut ArrayVec<u8, N>, decimals: Decimals)
     requires room { array_vec_len out.old + decimals_width decimals.count ≤ N }
     requires within { decimals.count ≤ 18 }

@@ -6,7 +6,7 @@ use Rattle.text_lines.specs.Steps.{◌>>=◌, or_breaks}
 use Rattle.text_lines.specs.Rules.{KeepsEach, IsFirstBroken, Judges}
 
 -- one of the rules at most is the first broken one
-pub one_broken : {R : Type 0} (Keeps : R → Type 0) (rules : List R) (one other : R)
+one_broken : {R : Type 0} (Keeps : R → Type 0) (rules : List R) (one other : R)
     → IsFirstBroken Keeps rules one → IsFirstBroken Keeps rules other → one ≡ other
 one_broken Keeps [] one other first second = absurd first
 one_broken Keeps (rule ∷ more) one other (inl first) (inl second) = first.1 ∙ sym second.1
@@ -15,16 +15,11 @@ one_broken Keeps (rule ∷ more) one other (inr first) (inl second) = absurd (se
 one_broken Keeps (rule ∷ more) one other (inr first) (inr second) = one_broken Keeps more one other first.1 second.1
 
 -- where each rule is kept, none is broken
-pub none_broken : {R : Type 0} (Keeps : R → Type 0) (rules : List R) (rule : R) → KeepsEach Keeps rules
+none_broken : {R : Type 0} (Keeps : R → Type 0) (rules : List R) (rule : R) → KeepsEach Keeps rules
     → IsFirstBroken Keeps rules rule → ⊥
 none_broken Keeps [] rule kept broken = broken
 none_broken Keeps (next ∷ more) rule kept (inl broken) = broken.0 kept.0
 none_broken Keeps (next ∷ more) rule kept (inr later) = none_broken Keeps more rule kept.1 later.1
-
-kept_join : {R : Type 0} (Keeps : R → Type 0) (rules more : List R) → KeepsEach Keeps rules → KeepsEach Keeps more
-    → KeepsEach Keeps (rules ++ more)
-kept_join Keeps [] more kept others = others
-kept_join Keeps (rule ∷ rules) more kept others = (kept.0, kept_join Keeps rules more kept.1 others)
 
 broken_join : {R : Type 0} (Keeps : R → Type 0) (rules more : List R) (rule : R) → IsFirstBroken Keeps rules rule
     → IsFirstBroken Keeps (rules ++ more) rule
@@ -32,16 +27,17 @@ broken_join Keeps [] more rule broken = absurd broken
 broken_join Keeps (next ∷ rules) more rule (inl broken) = inl broken
 broken_join Keeps (next ∷ rules) more rule (inr later) = inr (later.0, broken_join Keeps rules more rule later.1)
 
-behind_kept : {R : Type 0} (Keeps : R → Type 0) (rules more : List R) (rule : R) → KeepsEach Keeps rules
-    → IsFirstBroken Keeps more rule → IsFirstBroken Keeps (rules ++ more) rule
-behind_kept Keeps [] more rule kept broken = broken
-behind_kept Keeps (next ∷ rules) more rule kept broken = inr (kept.0, behind_kept Keeps rules more rule kept.1 broken)
+-- a rule that is kept, and then rules that are, before those that are judged
+behind_one : {R A : Type 0} (Keeps : R → Type 0) (rule : R) (more : List R) (IsRight : A → Type 0) (r : Result A R)
+    → Keeps rule → Judges Keeps more IsRight r → Judges Keeps (rule ∷ more) IsRight r
+behind_one Keeps rule more IsRight (Ok x) kept judged = ((kept, judged.0), judged.1)
+behind_one Keeps rule more IsRight (Err broken) kept judged = inr (kept, judged)
 
--- rules that are kept, and a step that judges the rules after them
-pub judged_behind : {R A : Type 0} (Keeps : R → Type 0) (rules more : List R) (IsRight : A → Type 0) (r : Result A R)
+judged_behind : {R A : Type 0} (Keeps : R → Type 0) (rules more : List R) (IsRight : A → Type 0) (r : Result A R)
     → KeepsEach Keeps rules → Judges Keeps more IsRight r → Judges Keeps (rules ++ more) IsRight r
-judged_behind Keeps rules more IsRight (Ok x) kept judged = (kept_join Keeps rules more kept judged.0, judged.1)
-judged_behind Keeps rules more IsRight (Err rule) kept judged = behind_kept Keeps rules more rule kept judged
+judged_behind Keeps [] more IsRight r kept judged = judged
+judged_behind Keeps (rule ∷ rules) more IsRight r kept judged =
+    behind_one Keeps rule (rules ++ more) IsRight r kept.0 (judged_behind Keeps rules more IsRight r kept.1 judged)
 
 -- one step after another
 pub judged_on : {R A B : Type 0} (Keeps : R → Type 0) (rules more : List R) (IsRight : A → Type 0)
@@ -59,7 +55,7 @@ pub judged_test : {R A : Type 0} (Keeps : R → Type 0) (rule : R) (more : List 
     → Judges Keeps (rule ∷ more) IsRight (if broken then Err rule else r)
 judged_test Keeps rule more IsRight true r breaks keeps rest = inl (breaks refl, refl)
 judged_test Keeps rule more IsRight false r breaks keeps rest =
-    judged_behind Keeps (rule ∷ []) more IsRight r (keeps refl, tt) (rest refl)
+    behind_one Keeps rule more IsRight r (keeps refl) (rest refl)
 
 -- a part that one rule is of: what is read is right, the rule is kept exactly where something is read, and the part
 -- breaks no other rule

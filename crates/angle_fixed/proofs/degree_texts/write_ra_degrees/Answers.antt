@@ -1,17 +1,15 @@
-use Rattle.std.proofs.Common.{◌∙◌, Ok}
-use Rattle.ascii_text.specs.Blanks.{trimmed_end}
-use Rattle.angle_fixed.specs.Degrees.{ra_degrees_text, rounded_ra_degrees}
-use Rattle.angle_fixed.proofs.DegreeCases.{ra_degrees_only}
+use Rattle.std.proofs.Common.{◌∙◌}
+use Rattle.angle_fixed.proofs.Cases.{ra_degrees_one}
 use Rattle.angle_fixed.proofs.DegreesWritten.{ra_degrees_text_reads, ra_degrees_text_again}
 use Rattle.angle_fixed.proofs.degree_texts.write_ra_degrees.Goals as goal
 
-pub returns-clause-read : goal.returns-clause-read
-returns-clause-read c = rw c.ra_text.ensures.text (ra_degrees_text_reads c.texts.ensures c.args.ra)
-
-pub returns-clause-value : goal.returns-clause-value
-returns-clause-value c =
-    rw c.ra_text.ensures.text (ra_degrees_only c.texts.ensures (trimmed_end (ra_degrees_text c.args.ra)) (Ok (rounded_ra_degrees c.args.ra)) (ra_degrees_text_reads c.texts.ensures c.args.ra))
-
-pub returns-clause-again : goal.returns-clause-again
-returns-clause-again c = λ p text spelled twelve plain value.
-    c.ra_text.ensures.text ∙ ra_degrees_text_again c.texts.ensures p text c.args.ra spelled twelve plain value c.ra_text.ensures.within
+pub returns : goal.returns
+returns c =
+    let text = c.ra_text.ensures.text in
+    let read = ra_degrees_text_reads c.texts.ensures c.args.ra in
+    record {
+      exact = text;
+      read = rw text read;
+      value = rw text ((ra_degrees_one c.texts.ensures).only _ _ read);
+      again = λ p spelled_text spelled twelve plain value. text ∙ ra_degrees_text_again c.texts.ensures p spelled_text c.args.ra spelled twelve plain value c.ra_text.ensures.within;
+    }

@@ -1,5 +1,7 @@
-use Rattle.ascii_text.proofs.TextLaws.{text_laws}
+use Rattle.ascii_text.proofs.BlankTexts.{blank_laws}
+use Rattle.ascii_text.proofs.DigitTexts.{digit_laws}
+use Rattle.ascii_text.proofs.NumberTexts.{number_laws}
 use Rattle.ascii_text.proofs.laws.texts.Goals as goal
 
 pub returns : goal.returns
-returns c = text_laws
+returns c = assumption (blank_laws, digit_laws, number_laws)

@@ -5,7 +5,7 @@ use Rattle.ascii_text.proofs.reading.digits_front.Given as goal
 
 abbrev pub invariant-digits : goal.invariant-digits
 invariant-digits l = record {
-  value : (more : ℕ) → more_digits Ten l.value more l.rest ≡ digits_at Ten (l.count + more) l.text;
+  value : (more whole : ℕ) → l.count + more ≡ whole → more_digits Ten l.value more l.rest ≡ digits_at Ten whole l.text;
   below : l.value < 10 ^ l.count;
   run : digit_run l.text ≡ l.count + digit_run l.rest;
   rest : l.rest ≡ drop l.count l.text;

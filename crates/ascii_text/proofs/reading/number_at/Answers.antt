@@ -1,11 +1,8 @@
 use Rattle.std.proofs.Common.{◌≤◌, ◌^◌, arith}
 use Rattle.std.proofs.lemmas.Option.{IfSome_then}
 use Rattle.ascii_text.specs.declared.digits.Radix.TheVariants.{Ten}
-use Rattle.ascii_text.proofs.Steps.{ten_power, power_within}
+use Rattle.ascii_text.proofs.DigitTexts.{power_within}
 use Rattle.ascii_text.proofs.reading.number_at.Goals as goal
-
-pub digits_at-requires : goal.digits_at-requires
-digits_at-requires c = ten_power c.digit_run-count.result (omega arith)
 
 pub returns-clause-below : goal.returns-clause-below
 returns-clause-below c =

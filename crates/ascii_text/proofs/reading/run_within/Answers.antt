@@ -1,5 +1,5 @@
 use Rattle.std.proofs.Common.{arith}
-use Rattle.ascii_text.proofs.DigitRuns.{past_all}
+use Rattle.ascii_text.proofs.NumberTexts.{past_all}
 use Rattle.ascii_text.proofs.reading.run_within.Goals as goal
 
 pub returns-then-more-gt0-clause-exact : goal.returns-then-more-gt0-clause-exact

@@ -1,12 +1,9 @@
-use Rattle.std.proofs.Common.{◌-◌, ◌∙◌, ◌^◌, sym, arith}
-use Rattle.std.proofs.lemmas.List.{length_push}
+use Rattle.std.proofs.Common.{◌≡◌, ◌-◌, ◌∙◌, ◌^◌, sym, arith}
+use Rattle.std.proofs.lemmas.List.{append-nil, length_push}
 use Rattle.std.proofs.lemmas.Nat.{mod_below}
-use Rattle.ascii_text.specs.Digits.{base}
-use Rattle.ascii_text.proofs.Steps.{power_within, power_positive, few_digits, digits_text_more, digits_text_none}
+use Rattle.ascii_text.specs.Digits.{base, digits_text}
+use Rattle.ascii_text.proofs.DigitTexts.{power_within, power_positive, digits_text_more}
 use Rattle.ascii_text.proofs.writing.put_digits.Goals as goal
-
-pub overflow_cast-place : goal.overflow_cast-place
-overflow_cast-place g c = omega (arith, few_digits c.args.radix c.args.count c.requires.within)
 
 pub pow-unit-requires : goal.pow-unit-requires
 pow-unit-requires g c = rw c.base_of.ensures (omega (arith, power_within c.args.radix (c.loop-place.place - 1) c.args.count (omega arith)))
@@ -20,5 +17,7 @@ loop-place-preserved g c =
     })
 
 pub returns-clause-text : goal.returns-clause-text
+unfolding digits_text
 returns-clause-text g c =
-    sym (digits_text_none c.args.radix c.loop-place.place c.loop-place.left c.loop-place.out.items c.loop-place-test.false) ∙ c.loop-place.invariant.text
+    let none : c.loop-place.place ≡ 0 = omega arith in
+    sym (append-nil c.loop-place.out.items) ∙ (rw none at c.loop-place.invariant.text)
