@@ -1,10 +1,9 @@
 -- Letters and indices stand for each other.
-use Rattle.std.proofs.Common.{◌≡◌, ℕ, ◌<◌, ◌≤◌, true, cond, ltb, List, [], ◌∷◌, Some, None, refl, sym, ap, subst, arith}
-use Rattle.std.proofs.lemmas.Option.{cond_some}
+use Rattle.std.proofs.Common.{◌≡◌, ℕ, ◌<◌, ◌≤◌, true, ltb, List, [], ◌∷◌, Some, None, refl, sym, ap, arith}
 use Rattle.std.proofs.lemmas.Bool.{ltb-true}
 use Rattle.std.proofs.lemmas.Bool.Decides.{nat_tests}
-use Rattle.ascii_text.specs.Reading.{bind_some}
 use Rattle.packed_names.specs.Letters.{letter_of, index_of, letter_at}
+use Rattle.packed_names.proofs.Chains.{each, tested}
 
 pub index_of-letter_of : (index : ℕ) → index < 25 → index_of (letter_of index) ≡ Some index
 unfolding index_of
@@ -26,7 +25,5 @@ pub letter_at_takes : (count : ℕ) (text : List ℕ) (x : ℕ × List ℕ) → 
 unfolding letter_at
 letter_at_takes count [] x read = absurd cc
 letter_at_takes count (letter ∷ text) x read =
-    let step = bind_some (index_of letter) (λ index. cond (ltb index count) (Some (index, text)) None) x read in
-    let kept = cond_some (ltb step.0 count) (step.0, text) x step.2 in
-    let same : letter_of step.0 ≡ letter = letter_of-index_of letter step.0 step.1 in
-    subst (λ (y : ℕ × List ℕ). (letter ∷ text ≡ letter_of y.0 ∷ y.1) × (y.0 < count)) kept.1 (ap (λ (l : ℕ). l ∷ text) (sym same), ltb-true _ _ kept.0)
+    each (index_of letter) _ (λ (y : ℕ × List ℕ). (letter ∷ text ≡ letter_of y.0 ∷ y.1) × (y.0 < count)) (λ index a. tested (ltb index count) (index, text) _ (λ b.
+    (ap (λ (l : ℕ). l ∷ text) (sym (letter_of-index_of letter index a)), ltb-true _ _ b))) x read

@@ -1,15 +1,14 @@
 -- Packed numbers: what is written is read, and what is read was written.
-use Rattle.std.proofs.Common.{◌≡◌, ℕ, ◌+◌, ◌-◌, ◌*◌, ◌/◌, ◌%◌, ◌<◌, ◌≤◌, List, ◌∷◌, length, suc, Some, None, refl, ap, ◌∙◌, subst, arith, inl, inr}
+use Rattle.std.proofs.Common.{◌≡◌, ℕ, ◌+◌, ◌-◌, ◌*◌, ◌/◌, ◌%◌, ◌<◌, ◌≤◌, List, ◌∷◌, length, suc, Some, None, refl, ap, ◌∙◌, arith, inl, inr}
 use Rattle.std.proofs.lemmas.Bool.{cases_lt}
 use Rattle.std.proofs.lemmas.Bool.Decides.{nat_tests}
 use Rattle.std.proofs.lemmas.List.{append-nil}
 use Rattle.ascii_text.specs.declared.digits.Radix.TheVariants.{Ten, SixtyTwo}
 use Rattle.ascii_text.specs.Digits.{digit_byte, digits_text}
-use Rattle.ascii_text.specs.Reading.{bind_some, ◌>>=◌, sixty_two_value, digit_value, digit_at, more_digits, digits_at, behind}
-use Rattle.packed_names.specs.Ends.{whole}
+use Rattle.ascii_text.specs.Reading.{sixty_two_value, digit_value, digit_at, more_digits, digits_at, behind}
 use Rattle.packed_names.specs.Packed.{number_text}
 use Rattle.packed_names.specs.PackedReading.{small_number_in, large_number_in, number_in}
-use Rattle.packed_names.proofs.Chains.{whole_some, first_of_some}
+use Rattle.packed_names.proofs.Chains.{each, ended, chosen}
 use Rattle.packed_names.proofs.DigitLaws.{digits_again_whole, digit_again, digit_takes}
 use Rattle.ascii_text.specs.Laws.{TextLaws}
 
@@ -67,37 +66,24 @@ module _ (texts : TextLaws) where
 
   small_takes : (text : List ℕ) (number : ℕ) → small_number_in text ≡ Some number → (text ≡ number_text number) × (number ≤ 15396335)
   unfolding small_number_in
-  small_takes text number read =
-      let a = bind_some (digits_at SixtyTwo 1 text) (λ front. digits_at Ten 4 front.1 >>= λ units. whole (10000 * front.0 + units.0) units.1) number read in
-      let b = bind_some (digits_at Ten 4 a.0.1) (λ units. whole (10000 * a.0.0 + units.0) units.1) number a.2 in
-      let end = whole_some (10000 * a.0.0 + b.0.0) b.0.1 number b.2 in
-      let front = digit_takes texts SixtyTwo text a.0 a.1 in
-      let units = digits_takes Ten 4 a.0.1 b.0.0 b.0.1 b.1 in
-      let parts = number_text-parts a.0.0 b.0.0 front.1 units.1 in
-      let text_is : text ≡ number_text (10000 * a.0.0 + b.0.0) = cc (front.0, units.0, end.0, append-nil (digits_text Ten 4 b.0.0), parts) in
-      let small : 10000 * a.0.0 + b.0.0 ≤ 15396335 = omega (arith, front.1, units.1) in
-      subst (λ (n : ℕ). (text ≡ number_text n) × (n ≤ 15396335)) end.1 (text_is, small)
+  small_takes text =
+      each (digits_at SixtyTwo 1 text) _ _ (λ front a. each (digits_at Ten 4 front.1) _ _ (λ units b. ended _ units.1 _ (λ end.
+      let front_is = digit_takes texts SixtyTwo text front a in
+      let units_is = digits_takes Ten 4 front.1 units.0 units.1 b in
+      let parts = number_text-parts front.0 units.0 front_is.1 units_is.1 in
+      (cc (front_is.0, units_is.0, end, append-nil (digits_text Ten 4 units.0), parts), omega (arith, front_is.1, units_is.1)))))
 
   large_takes : (text : List ℕ) (number : ℕ) → large_number_in text ≡ Some number → (text ≡ number_text number) × (number ≤ 15396335)
   unfolding large_number_in
-  large_takes text number read =
-      let a = bind_some (behind 126 text) (λ digits. digits_at SixtyTwo 4 digits >>= λ number. whole (620000 + number.0) number.1) number read in
-      let b = bind_some (digits_at SixtyTwo 4 a.0) (λ number. whole (620000 + number.0) number.1) number a.2 in
-      let end = whole_some (620000 + b.0.0) b.0.1 number b.2 in
-      let mark = behind_takes 126 text a.0 a.1 in
-      let digits = digits_takes SixtyTwo 4 a.0 b.0.0 b.0.1 b.1 in
-      let parts = number_text-behind b.0.0 in
-      let text_is : text ≡ number_text (620000 + b.0.0) = cc (mark, digits.0, end.0, append-nil (digits_text SixtyTwo 4 b.0.0), parts) in
-      let small : 620000 + b.0.0 ≤ 15396335 = omega (arith, digits.1) in
-      subst (λ (n : ℕ). (text ≡ number_text n) × (n ≤ 15396335)) end.1 (text_is, small)
+  large_takes text =
+      each (behind 126 text) _ _ (λ digits a. each (digits_at SixtyTwo 4 digits) _ _ (λ number b. ended _ number.1 _ (λ end.
+      let digits_is = digits_takes SixtyTwo 4 digits number.0 number.1 b in
+      let text_is : text ≡ number_text (620000 + number.0) = cc (behind_takes 126 text digits a, digits_is.0, end, append-nil (digits_text SixtyTwo 4 number.0), number_text-behind number.0) in
+      (text_is, omega (arith, digits_is.1)))))
 
   pub number_takes : (text : List ℕ) (number : ℕ) → number_in text ≡ Some number → (text ≡ number_text number) × (number ≤ 15396335)
   unfolding number_in
-  number_takes text number read =
-      elim (first_of_some (small_number_in text) (large_number_in text) number read) [
-        | inl small ↦ small_takes text number small
-        | inr large ↦ large_takes text number large.1
-      ]
+  number_takes text = chosen (small_number_in text) (large_number_in text) _ (small_takes text) (large_takes text)
 
   pub length-number_text : (number : ℕ) → length (number_text number) ≡ 5
   length-number_text number =

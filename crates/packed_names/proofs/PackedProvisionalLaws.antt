@@ -1,20 +1,18 @@
 -- Packed provisional designations: what is written is read, and what is read was written.
-use Rattle.std.proofs.Common.{◌≡◌, ◌⊎◌, ℕ, ◌+◌, ◌-◌, ◌*◌, ◌/◌, ◌%◌, ◌<◌, ◌≤◌, true, false, leb, List, [], ◌∷◌, ◌++◌, length, Some, None, refl, sym, ap, ◌∙◌, subst, arith, inl, inr}
+use Rattle.std.proofs.Common.{◌≡◌, ◌⊎◌, ℕ, ◌+◌, ◌-◌, ◌*◌, ◌/◌, ◌%◌, ◌<◌, ◌≤◌, true, false, ◌&&◌, leb, List, [], ◌∷◌, ◌++◌, length, Some, None, refl, sym, ap, ◌∙◌, arith, inl, inr}
 use Rattle.std.proofs.lemmas.Bool.{cases_lt}
 use Rattle.std.proofs.lemmas.Bool.Decides.{nat_tests}
 use Rattle.std.proofs.lemmas.List.{append-nil, length-append}
-use Rattle.std.proofs.lemmas.Option.{cond_some}
 use Rattle.ascii_text.specs.declared.digits.Radix.TheVariants.{Ten, SixtyTwo}
 use Rattle.ascii_text.specs.Digits.{digit_byte, digits_text}
-use Rattle.ascii_text.specs.Reading.{bind_some, ◌>>=◌, digits_at, behind}
+use Rattle.ascii_text.specs.Reading.{digits_at, behind}
 use Rattle.packed_names.specs.declared.half_month.HalfMonth.{HalfMonth}
 use Rattle.packed_names.specs.declared.provisional.Provisional.{Provisional}
-use Rattle.packed_names.specs.Ends.{whole}
 use Rattle.packed_names.specs.Letters.{letter_of, letter_at}
 use Rattle.packed_names.specs.Orders.{letter_index, cycle_of, order_of}
 use Rattle.packed_names.specs.Packed.{century_text, extended_text, provisional_text, HasCenturyShape, HasExtendedShape}
 use Rattle.packed_names.specs.PackedReading.{century_at, century_half_at, century_order_in, century_form_in, extended_form_in, provisional_in}
-use Rattle.packed_names.proofs.Chains.{whole_some, first_of_some, Some_injective}
+use Rattle.packed_names.proofs.Chains.{each, made, tested, ended, chosen}
 use Rattle.packed_names.proofs.DigitLaws.{digits_again_whole, digit_again, digit_takes}
 use Rattle.packed_names.proofs.LetterLaws.{letter_at-letter_of, letter_at_takes}
 use Rattle.packed_names.proofs.OrderLaws.{letter_index-order_of, cycle_of-order_of, letter_index-lt}
@@ -30,10 +28,10 @@ century_at_takes : (text : List ℕ) (x : ℕ × List ℕ) → century_at text �
 unfolding century_at
 century_at_takes [] x read = absurd cc
 century_at_takes (letter ∷ text) x read =
-    let kept = cond_some _ (letter - 55, text) x read in
-    let bounds : (73 ≤ letter) × (letter ≤ 75) = grind (arith, nat_tests, kept.0) in
+    tested (leb 73 letter && leb letter 75) (letter - 55, text) (λ (y : ℕ × List ℕ). (letter ∷ text ≡ (55 + y.0) ∷ y.1) × (18 ≤ y.0) × (y.0 ≤ 20)) (λ test.
+    let bounds : (73 ≤ letter) × (letter ≤ 75) = grind (arith, nat_tests, test) in
     let same : 55 + (letter - 55) ≡ letter = omega (arith, bounds.0) in
-    subst (λ (y : ℕ × List ℕ). (letter ∷ text ≡ (55 + y.0) ∷ y.1) × (18 ≤ y.0) × (y.0 ≤ 20)) kept.1 (ap (λ (l : ℕ). l ∷ text) (sym same), omega (arith, bounds.0), omega (arith, bounds.1))
+    (ap (λ (l : ℕ). l ∷ text) (sym same), omega (arith, bounds.0), omega (arith, bounds.1))) x read
 
 -- the half-month in the form with a century letter
 century_half_text : HalfMonth → List ℕ → List ℕ
@@ -71,22 +69,15 @@ module _ (texts : TextLaws) where
 
   half_takes : (text : List ℕ) (x : HalfMonth × List ℕ) → century_half_at text ≡ Some x → (text ≡ century_half_text x.0 x.1) × (1800 ≤ x.0.year) × (x.0.year ≤ 2099) × (x.0.index < 24)
   unfolding century_half_at century_half_text
-  half_takes text x read =
-      let a = bind_some (century_at text) (λ century. digits_at Ten 2 century.1 >>= λ year. letter_at 24 year.1 >>= λ half. Some (record { year = 100 * century.0 + year.0; index = half.0 }, half.1)) x read in
-      let b = bind_some (digits_at Ten 2 a.0.1) (λ year. letter_at 24 year.1 >>= λ half. Some (record { year = 100 * a.0.0 + year.0; index = half.0 }, half.1)) x a.2 in
-      let c = bind_some (letter_at 24 b.0.1) (λ half. Some (record { year = 100 * a.0.0 + b.0.0; index = half.0 }, half.1)) x b.2 in
-      let century = century_at_takes text a.0 a.1 in
-      let year = digits_takes Ten 2 a.0.1 b.0.0 b.0.1 b.1 in
-      let letter = letter_at_takes 24 b.0.1 c.0 c.1 in
-      let quotient : (100 * a.0.0 + b.0.0) / 100 ≡ a.0.0 = omega (arith, year.1) in
-      let remainder : (100 * a.0.0 + b.0.0) % 100 ≡ b.0.0 = omega (arith, year.1) in
-      let made : HalfMonth × List ℕ = (record { year = 100 * a.0.0 + b.0.0; index = c.0.0 }, c.0.1) in
-      let text_is : text ≡ (55 + a.0.0) ∷ (digits_text Ten 2 b.0.0 ++ (letter_of c.0.0 ∷ c.0.1)) = cc (century.0, year.0, letter.0) in
-      let spelled : text ≡ (55 + (100 * a.0.0 + b.0.0) / 100) ∷ (digits_text Ten 2 ((100 * a.0.0 + b.0.0) % 100) ++ (letter_of c.0.0 ∷ c.0.1)) = rw (quotient, remainder) text_is in
-      let from : 1800 ≤ 100 * a.0.0 + b.0.0 = omega (arith, century.1) in
-      let to : 100 * a.0.0 + b.0.0 ≤ 2099 = omega (arith, century.2, year.1) in
-      let same : made ≡ x = Some_injective made x c.2 in
-      subst (λ (y : HalfMonth × List ℕ). (text ≡ (55 + y.0.year / 100) ∷ (digits_text Ten 2 (y.0.year % 100) ++ (letter_of y.0.index ∷ y.1))) × (1800 ≤ y.0.year) × (y.0.year ≤ 2099) × (y.0.index < 24)) same (spelled, from, to, letter.1)
+  half_takes text =
+      each (century_at text) _ _ (λ century a. each (digits_at Ten 2 century.1) _ _ (λ year b. each (letter_at 24 year.1) _ _ (λ half c.
+      let century_is = century_at_takes text century a in
+      let year_is = digits_takes Ten 2 century.1 year.0 year.1 b in
+      let letter_is = letter_at_takes 24 year.1 half c in
+      let quotient : (100 * century.0 + year.0) / 100 ≡ century.0 = omega (arith, year_is.1) in
+      let remainder : (100 * century.0 + year.0) % 100 ≡ year.0 = omega (arith, year_is.1) in
+      let text_is : text ≡ (55 + century.0) ∷ (digits_text Ten 2 year.0 ++ (letter_of half.0 ∷ half.1)) = cc (century_is.0, year_is.0, letter_is.0) in
+      made _ _ (rw (quotient, remainder) text_is, omega (arith, century_is.1), omega (arith, century_is.2, year_is.1), letter_is.1))))
 
   order_again : (order : ℕ) → 1 ≤ order → order ≤ 15500 → century_order_in (century_order_text order) ≡ Some order
   unfolding century_order_in century_order_text
@@ -99,22 +90,18 @@ module _ (texts : TextLaws) where
 
   order_takes : (text : List ℕ) (order : ℕ) → century_order_in text ≡ Some order → (text ≡ century_order_text order) × (1 ≤ order) × (order ≤ 15500)
   unfolding century_order_in century_order_text
-  order_takes text order read =
-      let a = bind_some (digits_at SixtyTwo 1 text) (λ tens. digits_at Ten 1 tens.1 >>= λ units. letter_at 25 units.1 >>= λ letter. whole (order_of (10 * tens.0 + units.0) letter.0) letter.1) order read in
-      let b = bind_some (digits_at Ten 1 a.0.1) (λ units. letter_at 25 units.1 >>= λ letter. whole (order_of (10 * a.0.0 + units.0) letter.0) letter.1) order a.2 in
-      let c = bind_some (letter_at 25 b.0.1) (λ letter. whole (order_of (10 * a.0.0 + b.0.0) letter.0) letter.1) order b.2 in
-      let end = whole_some (order_of (10 * a.0.0 + b.0.0) c.0.0) c.0.1 order c.2 in
-      let tens = digit_takes texts SixtyTwo text a.0 a.1 in
-      let units = digit_takes texts Ten a.0.1 b.0 b.1 in
-      let letter = letter_at_takes 25 b.0.1 c.0 c.1 in
-      let cycle : cycle_of order ≡ 10 * a.0.0 + b.0.0 = ap cycle_of (sym end.1) ∙ cycle_of-order_of (10 * a.0.0 + b.0.0) c.0.0 letter.1 in
-      let index : letter_index order ≡ c.0.0 = ap letter_index (sym end.1) ∙ letter_index-order_of (10 * a.0.0 + b.0.0) c.0.0 letter.1 in
-      let quotient : cycle_of order / 10 ≡ a.0.0 = omega (arith, cycle, units.1) in
-      let remainder : cycle_of order % 10 ≡ b.0.0 = omega (arith, cycle, units.1) in
-      let text_is : text ≡ digit_byte SixtyTwo a.0.0 ∷ digit_byte Ten b.0.0 ∷ letter_of c.0.0 ∷ [] = cc (tens.0, units.0, letter.0, end.0) in
-      let from : 1 ≤ order = omega (arith, end.1) in
-      let to : order ≤ 15500 = omega (arith, end.1, tens.1, units.1, letter.1) in
-      (rw (quotient, remainder, index) text_is, from, to)
+  order_takes text =
+      each (digits_at SixtyTwo 1 text) _ _ (λ tens a. each (digits_at Ten 1 tens.1) _ _ (λ units b. each (letter_at 25 units.1) _ _ (λ letter c. ended _ letter.1 _ (λ end.
+      let tens_is = digit_takes texts SixtyTwo text tens a in
+      let units_is = digit_takes texts Ten tens.1 units b in
+      let letter_is = letter_at_takes 25 units.1 letter c in
+      let cycle = 10 * tens.0 + units.0 in
+      let order = order_of cycle letter.0 in
+      let quotient : cycle_of order / 10 ≡ tens.0 = omega (arith, cycle_of-order_of cycle letter.0 letter_is.1, units_is.1) in
+      let remainder : cycle_of order % 10 ≡ units.0 = omega (arith, cycle_of-order_of cycle letter.0 letter_is.1, units_is.1) in
+      let index : letter_index order ≡ letter.0 = letter_index-order_of cycle letter.0 letter_is.1 in
+      let text_is : text ≡ digit_byte SixtyTwo tens.0 ∷ digit_byte Ten units.0 ∷ letter_of letter.0 ∷ [] = cc (tens_is.0, units_is.0, letter_is.0, end) in
+      (rw (quotient, remainder, index) text_is, omega arith, omega (arith, tens_is.1, units_is.1, letter_is.1))))))
 
   century_again : (provisional : Provisional) → HasCenturyShape provisional → century_form_in (century_text provisional) ≡ Some provisional
   unfolding century_form_in century_text century_half_text century_order_text
@@ -125,15 +112,11 @@ module _ (texts : TextLaws) where
 
   century_takes : (text : List ℕ) (provisional : Provisional) → century_form_in text ≡ Some provisional → (text ≡ century_text provisional) × HasCenturyShape provisional
   unfolding century_form_in century_text century_half_text century_order_text
-  century_takes text provisional read =
-      let a = bind_some (century_half_at text) (λ half. century_order_in half.1 >>= λ order. Some (record { half = half.0; order = order })) provisional read in
-      let b = bind_some (century_order_in a.0.1) (λ order. Some (record { half = a.0.0; order = order })) provisional a.2 in
-      let half = half_takes text a.0 a.1 in
-      let order = order_takes a.0.1 b.0 b.1 in
-      let made : Provisional = record { half = a.0.0; order = b.0 } in
-      let text_is : text ≡ century_text made = half.0 ∙ ap (century_half_text a.0.0) order.0 in
-      let shape : HasCenturyShape made = record { year_from = half.1; year_to = half.2; index = half.3; order_from = order.1; order_to = order.2 } in
-      subst (λ (p : Provisional). (text ≡ century_text p) × HasCenturyShape p) (Some_injective made provisional b.2) (text_is, shape)
+  century_takes text =
+      each (century_half_at text) _ _ (λ half a. each (century_order_in half.1) _ _ (λ order b.
+      let half_is = half_takes text half a in
+      let order_is = order_takes half.1 order b in
+      made _ _ (half_is.0 ∙ ap (century_half_text half.0) order_is.0, record { year_from = half_is.1; year_to = half_is.2; index = half_is.3; order_from = order_is.1; order_to = order_is.2 })))
 
   -- ---- the form that begins with `_`
 
@@ -149,23 +132,17 @@ module _ (texts : TextLaws) where
 
   extended_takes : (text : List ℕ) (provisional : Provisional) → extended_form_in text ≡ Some provisional → (text ≡ extended_text provisional) × HasExtendedShape provisional
   unfolding extended_form_in extended_text
-  extended_takes text provisional read =
-      let a = bind_some (behind 95 text) (λ mark. digits_at SixtyTwo 1 mark >>= λ year. letter_at 24 year.1 >>= λ half. digits_at SixtyTwo 4 half.1 >>= λ order. whole (record { half = record { year = 2000 + year.0; index = half.0 }; order = 15501 + order.0 }) order.1) provisional read in
-      let b = bind_some (digits_at SixtyTwo 1 a.0) (λ year. letter_at 24 year.1 >>= λ half. digits_at SixtyTwo 4 half.1 >>= λ order. whole (record { half = record { year = 2000 + year.0; index = half.0 }; order = 15501 + order.0 }) order.1) provisional a.2 in
-      let c = bind_some (letter_at 24 b.0.1) (λ half. digits_at SixtyTwo 4 half.1 >>= λ order. whole (record { half = record { year = 2000 + b.0.0; index = half.0 }; order = 15501 + order.0 }) order.1) provisional b.2 in
-      let d = bind_some (digits_at SixtyTwo 4 c.0.1) (λ order. whole (record { half = record { year = 2000 + b.0.0; index = c.0.0 }; order = 15501 + order.0 }) order.1) provisional c.2 in
-      let made : Provisional = record { half = record { year = 2000 + b.0.0; index = c.0.0 }; order = 15501 + d.0.0 } in
-      let end = whole_some made d.0.1 provisional d.2 in
-      let mark = behind_takes 95 text a.0 a.1 in
-      let year = digit_takes texts SixtyTwo a.0 b.0 b.1 in
-      let letter = letter_at_takes 24 b.0.1 c.0 c.1 in
-      let digits = digits_takes SixtyTwo 4 c.0.1 d.0.0 d.0.1 d.1 in
-      let year_is : 2000 + b.0.0 - 2000 ≡ b.0.0 = omega arith in
-      let order_is : 15501 + d.0.0 - 15501 ≡ d.0.0 = omega arith in
-      let text_is : text ≡ 95 ∷ digit_byte SixtyTwo b.0.0 ∷ letter_of c.0.0 ∷ digits_text SixtyTwo 4 d.0.0 = cc (mark, year.0, letter.0, digits.0, end.0, append-nil (digits_text SixtyTwo 4 d.0.0)) in
-      let spelled : text ≡ extended_text made = rw (year_is, order_is) text_is in
-      let shape : HasExtendedShape made = record { year_from = omega arith; year_to = omega (arith, year.1); index = letter.1; order_from = omega arith; order_to = omega (arith, digits.1) } in
-      subst (λ (p : Provisional). (text ≡ extended_text p) × HasExtendedShape p) end.1 (spelled, shape)
+  extended_takes text =
+      each (behind 95 text) _ _ (λ mark a. each (digits_at SixtyTwo 1 mark) _ _ (λ year b. each (letter_at 24 year.1) _ _ (λ half c.
+      each (digits_at SixtyTwo 4 half.1) _ _ (λ order d. ended _ order.1 _ (λ end.
+      let year_is = digit_takes texts SixtyTwo mark year b in
+      let letter_is = letter_at_takes 24 year.1 half c in
+      let digits_is = digits_takes SixtyTwo 4 half.1 order.0 order.1 d in
+      let year_back : 2000 + year.0 - 2000 ≡ year.0 = omega arith in
+      let order_back : 15501 + order.0 - 15501 ≡ order.0 = omega arith in
+      let text_is : text ≡ 95 ∷ digit_byte SixtyTwo year.0 ∷ letter_of half.0 ∷ digits_text SixtyTwo 4 order.0
+      = cc (behind_takes 95 text mark a, year_is.0, letter_is.0, digits_is.0, end, append-nil (digits_text SixtyTwo 4 order.0)) in
+      (rw (year_back, order_back) text_is, record { year_from = omega arith; year_to = omega (arith, year_is.1); index = letter_is.1; order_from = omega arith; order_to = omega (arith, digits_is.1) }))))))
 
   pub provisional_again : (provisional : Provisional) → HasCenturyShape provisional ⊎ HasExtendedShape provisional → provisional_in (provisional_text provisional) ≡ Some provisional
   unfolding provisional_in
@@ -174,15 +151,10 @@ module _ (texts : TextLaws) where
 
   pub provisional_takes : (text : List ℕ) (provisional : Provisional) → provisional_in text ≡ Some provisional → (text ≡ provisional_text provisional) × (HasCenturyShape provisional ⊎ HasExtendedShape provisional)
   unfolding provisional_in
-  provisional_takes text provisional read =
-      elim (first_of_some (century_form_in text) (extended_form_in text) provisional read) [
-        | inl century ↦
-            let took = century_takes text provisional century in
-            (took.0 ∙ sym (provisional_text-century provisional took.1), inl took.1)
-        | inr extended ↦
-            let took = extended_takes text provisional extended.1 in
-            (took.0 ∙ sym (provisional_text-extended provisional took.1), inr took.1)
-      ]
+  provisional_takes text =
+      chosen (century_form_in text) (extended_form_in text) _
+      (λ provisional century. let took = century_takes text provisional century in (took.0 ∙ sym (provisional_text-century provisional took.1), inl took.1))
+      (λ provisional extended. let took = extended_takes text provisional extended in (took.0 ∙ sym (provisional_text-extended provisional took.1), inr took.1))
 
   pub length-provisional_text : (provisional : Provisional) → length (provisional_text provisional) ≡ 7
   unfolding provisional_text century_text extended_text

@@ -1,5 +1,5 @@
 -- Printed numbers, cycles and survey designations: what is written is read, and what is read was written.
-use Rattle.std.proofs.Common.{◌≡◌, ℕ, zero, suc, ◌^◌, ◌<◌, ◌≤◌, Bool, true, false, cond, eqb, List, [], ◌∷◌, ◌++◌, length, drop, Option, Some, None, refl, sym, ap, ◌∙◌, subst, arith}
+use Rattle.std.proofs.Common.{◌≡◌, ℕ, zero, suc, ◌^◌, ◌<◌, ◌≤◌, Bool, true, false, cond, eqb, List, [], ◌∷◌, ◌++◌, length, drop, Option, Some, None, refl, sym, ap, ◌∙◌, arith}
 use Rattle.std.specs.Fmt.{decimal}
 use Rattle.std.specs.Str.Parse.{AllDigits}
 use Rattle.std.proofs.lemmas.Bool.{ne_eqb}
@@ -14,7 +14,7 @@ use Rattle.packed_names.specs.declared.survey.Survey.TheVariants.{PalomarLeiden,
 use Rattle.packed_names.specs.Ends.{whole}
 use Rattle.packed_names.specs.Printed.{cycle_text, suffix, survey_text}
 use Rattle.packed_names.specs.PrintedReading.{number_in, cycle_in, suffix_of, suffix_in, survey_in}
-use Rattle.packed_names.proofs.Chains.{whole_some, Some_injective, none_from}
+use Rattle.packed_names.proofs.Chains.{each, made, ended, none_from}
 use Rattle.ascii_text.specs.Laws.{TextLaws}
 
 -- a number at the end of a text is read to the end
@@ -58,9 +58,7 @@ not_none false other y e = (refl, e)
 suffix_in-suffix : (survey : Survey) → suffix_in (suffix survey) ≡ Some survey
 unfolding suffix_in suffix_of suffix
 suffix_in-suffix PalomarLeiden = refl
-suffix_in-suffix T1 = refl
-suffix_in-suffix T2 = refl
-suffix_in-suffix T3 = refl
+suffix_in-suffix survey = refl
 
 suffix-suffix_of : (first second third : ℕ) (survey : Survey) → suffix_of first second third ≡ Some survey → first ∷ second ∷ third ∷ [] ≡ suffix survey
 unfolding suffix_of suffix
@@ -68,11 +66,8 @@ suffix-suffix_of first second third survey read = grind (arith, nat_tests)
 
 suffix_takes : (text : List ℕ) (survey : Survey) → suffix_in text ≡ Some survey → text ≡ suffix survey
 unfolding suffix_in
-suffix_takes [] survey read = absurd cc
-suffix_takes (first ∷ []) survey read = absurd cc
-suffix_takes (first ∷ second ∷ []) survey read = absurd cc
 suffix_takes (first ∷ second ∷ third ∷ []) survey read = suffix-suffix_of first second third survey read
-suffix_takes (first ∷ second ∷ third ∷ fourth ∷ text) survey read = absurd cc
+suffix_takes text survey read = absurd cc
 
 module _ (texts : TextLaws) where
   open texts use {digit_run-all, length-digits_text, behind-cons, behind_takes, digit_run-digits_text, number_again, number_takes}
@@ -94,12 +89,10 @@ module _ (texts : TextLaws) where
 
   pub number_in_takes : (text : List ℕ) (number : ℕ) → number_in text ≡ Some number → (text ≡ decimal number) × (number < 10 ^ 10)
   unfolding number_in
-  number_in_takes text number read =
-      let a = bind_some (number_at 10 text) (λ number. whole number.0 number.1) number read in
-      let end = whole_some a.0.0 a.0.1 number a.2 in
-      let took = number_takes 10 text a.0 (omega arith) a.1 in
-      let text_is : text ≡ decimal a.0.0 = cc (took.text_is, end.0, append-nil (decimal a.0.0)) in
-      subst (λ (n : ℕ). (text ≡ decimal n) × (n < 10 ^ 10)) end.1 (text_is, took.below)
+  number_in_takes text =
+      each (number_at 10 text) _ _ (λ number a. ended _ number.1 _ (λ end.
+      let took = number_takes 10 text number (omega arith) a in
+      (cc (took.text_is, end, append-nil (decimal number.0)), took.below)))
 
   pub digit_run-year : (year : ℕ) (rest : List ℕ) → year < 10 ^ 4 → digit_run (digits_text Ten 4 year ++ (32 ∷ rest)) ≡ length (digits_text Ten 4 year)
   digit_run-year year rest below = omega (arith, digit_run-digits_text 4 year (32 ∷ rest) below, length-digits_text Ten 4 year, blank_ends rest)
@@ -122,15 +115,14 @@ module _ (texts : TextLaws) where
 
   pub cycle_takes : (text : List ℕ) (cycle : ℕ) → cycle_in text ≡ Some cycle → (text ≡ cycle_text cycle) × (cycle < 10 ^ 7)
   unfolding cycle_in cycle_text
-  cycle_takes [] cycle read = subst (λ (c : ℕ). ([] ≡ cycle_text c) × (c < 10 ^ 7)) (Some_injective 0 cycle read) (refl, omega arith)
+  cycle_takes [] cycle read = made 0 (λ (c : ℕ). ([] ≡ cycle_text c) × (c < 10 ^ 7)) (refl, omega arith) cycle read
   cycle_takes (first ∷ text) cycle read =
       let a = bind_some (number_at 7 (first ∷ text)) (λ cycle. cond (eqb cycle.0 0) None (whole cycle.0 cycle.1)) cycle read in
       let kept = not_none (eqb a.0.0 0) (whole a.0.0 a.0.1) cycle a.2 in
-      let end = whole_some a.0.0 a.0.1 cycle kept.1 in
+      ended a.0.0 a.0.1 (λ (c : ℕ). (first ∷ text ≡ cycle_text c) × (c < 10 ^ 7)) (λ end.
       let took = number_takes 7 (first ∷ text) a.0 (omega arith) a.1 in
       let some : a.0.0 ≡ 0 → ⊥ = λ zero_is. (let test = kept.0 in grind (arith, nat_tests)) in
-      let text_is : first ∷ text ≡ cycle_text a.0.0 = cc (took.text_is, end.0, append-nil (decimal a.0.0), cycle_text-some a.0.0 some) in
-      subst (λ (c : ℕ). (first ∷ text ≡ cycle_text c) × (c < 10 ^ 7)) end.1 (text_is, took.below)
+      (cc (took.text_is, end, append-nil (decimal a.0.0), cycle_text-some a.0.0 some), took.below)) cycle kept.1
 
   pub survey_again : (survey : Survey) (number : ℕ) → number < 10 ^ 5 → survey_in (survey_text survey number) ≡ Some (survey, number)
   unfolding survey_in survey_text
@@ -140,13 +132,7 @@ module _ (texts : TextLaws) where
 
   pub survey_takes : (text : List ℕ) (x : Survey × ℕ) → survey_in text ≡ Some x → (text ≡ survey_text x.0 x.1) × (x.1 < 10 ^ 5)
   unfolding survey_in survey_text
-  survey_takes text x read =
-      let a = bind_some (number_at 5 text) (λ number. behind 32 number.1 >>= λ letters. suffix_in letters >>= λ survey. Some (survey, number.0)) x read in
-      let b = bind_some (behind 32 a.0.1) (λ letters. suffix_in letters >>= λ survey. Some (survey, a.0.0)) x a.2 in
-      let c = bind_some (suffix_in b.0) (λ survey. Some (survey, a.0.0)) x b.2 in
-      let number = number_takes 5 text a.0 (omega arith) a.1 in
-      let blank = behind_takes 32 a.0.1 b.0 b.1 in
-      let letters = suffix_takes b.0 c.0 c.1 in
-      let made : Survey × ℕ = (c.0, a.0.0) in
-      let text_is : text ≡ decimal a.0.0 ++ (32 ∷ suffix c.0) = cc (number.text_is, blank, letters) in
-      subst (λ (y : Survey × ℕ). (text ≡ decimal y.1 ++ (32 ∷ suffix y.0)) × (y.1 < 10 ^ 5)) (Some_injective made x c.2) (text_is, number.below)
+  survey_takes text =
+      each (number_at 5 text) _ _ (λ number a. each (behind 32 number.1) _ _ (λ letters b. each (suffix_in letters) _ _ (λ survey c.
+      let number_is = number_takes 5 text number (omega arith) a in
+      made _ _ (cc (number_is.text_is, behind_takes 32 number.1 letters b, suffix_takes letters survey c), number_is.below))))

@@ -1,24 +1,23 @@
 -- Printed half-months and provisional designations: what is written is read, and what is read was written.
-use Rattle.std.proofs.Common.{◌≡◌, ℕ, ◌^◌, ◌<◌, ◌≤◌, List, [], ◌∷◌, ◌++◌, Some, None, refl, sym, ap, ◌∙◌, subst, arith}
+use Rattle.std.proofs.Common.{◌≡◌, ℕ, ◌^◌, ◌<◌, ◌≤◌, List, [], ◌∷◌, ◌++◌, Some, None, refl, sym, ap, ◌∙◌, arith}
 use Rattle.std.specs.Fmt.{decimal}
 use Rattle.std.proofs.lemmas.Bool.Decides.{nat_tests}
 use Rattle.ascii_text.specs.declared.digits.Radix.TheVariants.{Ten}
 use Rattle.ascii_text.specs.Digits.{digits_text}
 use Rattle.ascii_text.specs.Judged.{IsReader}
-use Rattle.ascii_text.specs.Reading.{bind_some, ◌>>=◌, digits_at, behind}
+use Rattle.ascii_text.specs.Reading.{digits_at, behind}
 use Rattle.packed_names.specs.declared.half_month.HalfMonth.{HalfMonth}
 use Rattle.packed_names.specs.declared.provisional.Provisional.{Provisional}
 use Rattle.packed_names.specs.declared.survey.Survey.{Survey}
-use Rattle.packed_names.specs.declared.survey.Survey.TheVariants.{PalomarLeiden, T1, T2, T3}
+use Rattle.packed_names.specs.declared.survey.Survey.TheVariants.{PalomarLeiden}
 use Rattle.packed_names.specs.declared.name.Designation.TheVariants as designations
 use Rattle.packed_names.specs.declared.name.Name.TheVariants as names
 use Rattle.packed_names.specs.Spellings.{Spells}
-use Rattle.packed_names.specs.Ends.{whole}
 use Rattle.packed_names.specs.Letters.{letter_of, letter_at}
 use Rattle.packed_names.specs.Orders.{letter_index, cycle_of, order_of}
 use Rattle.packed_names.specs.Printed.{half_text, cycle_text, provisional_text, suffix, survey_text, FitsPrintedHalf, FitsPrinted}
 use Rattle.packed_names.specs.PrintedReading.{number_in, half_at, half_in, cycle_in, provisional_in}
-use Rattle.packed_names.proofs.Chains.{whole_some, Some_injective, none_from}
+use Rattle.packed_names.proofs.Chains.{each, made, ended, none_from}
 use Rattle.packed_names.proofs.LetterLaws.{letter_at-letter_of, letter_at_takes}
 use Rattle.packed_names.proofs.OrderLaws.{letter_index-order_of, cycle_of-order_of, order_of-cycle_of, letter_index-lt}
 use Rattle.packed_names.proofs.PrintedNumberLaws.{cycle_again, cycle_takes, behind_blank, digit_run-decimal, digit_run-year, no_number}
@@ -34,9 +33,7 @@ half_front half rest = digits_text Ten 4 half.year ++ (32 ∷ letter_of half.ind
 not_suffix : (survey : Survey) (half order : ℕ) (rest : List ℕ) → 65 ≤ order → 32 ∷ half ∷ order ∷ rest ≡ 32 ∷ suffix survey → ⊥
 unfolding suffix
 not_suffix PalomarLeiden half order rest letter same = (let dash : order ≡ 45 = cc in omega arith)
-not_suffix T1 half order rest letter same = (let dash : order ≡ 45 = cc in omega arith)
-not_suffix T2 half order rest letter same = (let dash : order ≡ 45 = cc in omega arith)
-not_suffix T3 half order rest letter same = (let dash : order ≡ 45 = cc in omega arith)
+not_suffix survey half order rest letter same = (let dash : order ≡ 45 = cc in omega arith)
 
 letter_of-ge : (index : ℕ) → 65 ≤ letter_of index
 letter_of-ge index = grind (arith, nat_tests)
@@ -53,16 +50,11 @@ module _ (texts : TextLaws) where
 
   half_takes : (text : List ℕ) (x : HalfMonth × List ℕ) → half_at text ≡ Some x → (text ≡ half_front x.0 x.1) × FitsPrintedHalf x.0
   unfolding half_at half_front
-  half_takes text x read =
-      let a = bind_some (digits_at Ten 4 text) (λ year. behind 32 year.1 >>= λ letter. letter_at 24 letter >>= λ half. Some (record { year = year.0; index = half.0 }, half.1)) x read in
-      let b = bind_some (behind 32 a.0.1) (λ letter. letter_at 24 letter >>= λ half. Some (record { year = a.0.0; index = half.0 }, half.1)) x a.2 in
-      let c = bind_some (letter_at 24 b.0) (λ half. Some (record { year = a.0.0; index = half.0 }, half.1)) x b.2 in
-      let year = digits_takes Ten 4 text a.0.0 a.0.1 a.1 in
-      let blank = behind_takes 32 a.0.1 b.0 b.1 in
-      let letter = letter_at_takes 24 b.0 c.0 c.1 in
-      let made : HalfMonth × List ℕ = (record { year = a.0.0; index = c.0.0 }, c.0.1) in
-      let text_is : text ≡ half_front made.0 made.1 = cc (year.0, blank, letter.0) in
-      subst (λ (y : HalfMonth × List ℕ). (text ≡ half_front y.0 y.1) × FitsPrintedHalf y.0) (Some_injective made x c.2) (text_is, (year.1, letter.1))
+  half_takes text =
+      each (digits_at Ten 4 text) _ _ (λ year a. each (behind 32 year.1) _ _ (λ blank b. each (letter_at 24 blank) _ _ (λ half c.
+      let year_is = digits_takes Ten 4 text year.0 year.1 a in
+      let letter_is = letter_at_takes 24 blank half c in
+      made _ _ (cc (year_is.0, behind_takes 32 year.1 blank b, letter_is.0), (year_is.1, letter_is.1)))))
 
   half_in_again : (half : HalfMonth) → FitsPrintedHalf half → half_in (half_text half) ≡ Some half
   unfolding half_in half_text half_front
@@ -70,12 +62,10 @@ module _ (texts : TextLaws) where
 
   half_in_takes : (text : List ℕ) (half : HalfMonth) → half_in text ≡ Some half → Spells FitsPrintedHalf half_text half text
   unfolding half_in half_text half_front
-  half_in_takes text half read =
-      let a = bind_some (half_at text) (λ half. whole half.0 half.1) half read in
-      let end = whole_some a.0.0 a.0.1 half a.2 in
-      let took = half_takes text a.0 a.1 in
-      let text_is : text ≡ half_text a.0.0 = took.0 ∙ ap (half_front a.0.0) end.0 in
-      subst (λ (h : HalfMonth). Spells FitsPrintedHalf half_text h text) end.1 (record { within = took.1; text_is = text_is })
+  half_in_takes text =
+      each (half_at text) _ _ (λ half a. ended half.0 half.1 _ (λ end.
+      let took = half_takes text half a in
+      record { within = took.1; text_is = took.0 ∙ ap (half_front half.0) end }))
 
   pub half_reader : IsReader (Spells FitsPrintedHalf half_text) half_in
   half_reader = record {
@@ -96,22 +86,16 @@ module _ (texts : TextLaws) where
 
   pub provisional_takes : (text : List ℕ) (provisional : Provisional) → provisional_in text ≡ Some provisional → (text ≡ provisional_text provisional) × FitsPrinted (names.Designation (designations.Provisional provisional))
   unfolding provisional_in provisional_text half_front
-  provisional_takes text provisional read =
-      let a = bind_some (half_at text) (λ half. letter_at 25 half.1 >>= λ letter. cycle_in letter.1 >>= λ cycle. Some (record { half = half.0; order = order_of cycle letter.0 })) provisional read in
-      let b = bind_some (letter_at 25 a.0.1) (λ letter. cycle_in letter.1 >>= λ cycle. Some (record { half = a.0.0; order = order_of cycle letter.0 })) provisional a.2 in
-      let c = bind_some (cycle_in b.0.1) (λ cycle. Some (record { half = a.0.0; order = order_of cycle b.0.0 })) provisional b.2 in
-      let half = half_takes text a.0 a.1 in
-      let letter = letter_at_takes 25 a.0.1 b.0 b.1 in
-      let cycle = cycle_takes texts b.0.1 c.0 c.1 in
-      let made : Provisional = record { half = a.0.0; order = order_of c.0 b.0.0 } in
-      let cycle_is : cycle_of (order_of c.0 b.0.0) ≡ c.0 = cycle_of-order_of c.0 b.0.0 letter.1 in
-      let letter_is : letter_index (order_of c.0 b.0.0) ≡ b.0.0 = letter_index-order_of c.0 b.0.0 letter.1 in
-      let parts : a.0.1 ≡ letter_of b.0.0 ∷ cycle_text c.0 = cc (letter.0, cycle.0) in
-      let text_is : text ≡ half_front a.0.0 (letter_of b.0.0 ∷ cycle_text c.0) = half.0 ∙ ap (half_front a.0.0) parts in
-      let spelled : text ≡ provisional_text made = rw (cycle_is, letter_is) text_is in
-      let below : cycle_of (order_of c.0 b.0.0) < 10 ^ 7 = omega (arith, cycle_is, cycle.1) in
-      let positive : 1 ≤ order_of c.0 b.0.0 = omega arith in
-      subst (λ (p : Provisional). (text ≡ provisional_text p) × FitsPrinted (names.Designation (designations.Provisional p))) (Some_injective made provisional c.2) (spelled, (half.1, positive, below))
+  provisional_takes text =
+      each (half_at text) _ _ (λ half a. each (letter_at 25 half.1) _ _ (λ letter b. each (cycle_in letter.1) _ _ (λ cycle c.
+      let half_is = half_takes text half a in
+      let letter_is = letter_at_takes 25 half.1 letter b in
+      let cycle_is = cycle_takes texts letter.1 cycle c in
+      let order = order_of cycle letter.0 in
+      let cycle_back : cycle_of order ≡ cycle = cycle_of-order_of cycle letter.0 letter_is.1 in
+      let letter_back : letter_index order ≡ letter.0 = letter_index-order_of cycle letter.0 letter_is.1 in
+      let parts : half.1 ≡ letter_of letter.0 ∷ cycle_text cycle = cc (letter_is.0, cycle_is.0) in
+      made _ _ (rw (cycle_back, letter_back) (half_is.0 ∙ ap (half_front half.0) parts), (half_is.1, omega arith, omega (arith, cycle_back, cycle_is.1))))))
 
   -- ---- no text has two shapes
 
