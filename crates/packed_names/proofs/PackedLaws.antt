@@ -16,9 +16,7 @@ use Rattle.packed_names.specs.Spellings.{Spells}
 use Rattle.packed_names.specs.Packed.{packed_text, packed_length, FitsPacked, HasCenturyShape, HasExtendedShape}
 use Rattle.packed_names.specs.PackedReading.{number_in, provisional_in, survey_in, designation_in, packed_in}
 use Rattle.packed_names.proofs.Chains.{chosen, either, mapped}
-use Rattle.packed_names.proofs.PackedNumberLaws.{number_again, number_takes, length-number_text}
-use Rattle.packed_names.proofs.PackedProvisionalLaws.{provisional_again, provisional_takes, length-provisional_text}
-use Rattle.packed_names.proofs.PackedSurveyLaws.{survey_again, survey_takes, length-survey_text, no_provisional}
+use Rattle.packed_names.proofs.PackedFormLaws.{number_again, number_takes, length-number_text, provisional_again, provisional_takes, length-provisional_text, survey_again, survey_takes, length-survey_text, no_provisional}
 use Rattle.ascii_text.specs.Laws.{TextLaws}
 
 module _ (texts : TextLaws) where

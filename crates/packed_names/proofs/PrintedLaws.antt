@@ -16,8 +16,7 @@ use Rattle.packed_names.specs.Spellings.{Spells}
 use Rattle.packed_names.specs.Printed.{printed_text, half_text, FitsPrinted, FitsPrintedHalf}
 use Rattle.packed_names.specs.PrintedReading.{number_in, provisional_in, survey_in, designation_in, printed_in, half_in}
 use Rattle.packed_names.proofs.Chains.{chosen, mapped}
-use Rattle.packed_names.proofs.PrintedNumberLaws.{decimal_in, number_in_takes, survey_again, survey_takes}
-use Rattle.packed_names.proofs.PrintedProvisionalLaws.{half_reader, provisional_again, provisional_takes, provisional_no_number, survey_no_number, survey_no_provisional}
+use Rattle.packed_names.proofs.PrintedFormLaws.{decimal_in, number_in_takes, survey_again, survey_takes, half_reader, provisional_again, provisional_takes, provisional_no_number, survey_no_number, survey_no_provisional}
 use Rattle.ascii_text.specs.Laws.{TextLaws}
 
 pub FitsPrintedHalf-IsHalfMonth : (half : HalfMonth) → IsHalfMonth half → FitsPrintedHalf half

@@ -1,22 +1,103 @@
--- Packed provisional designations: what is written is read, and what is read was written.
-use Rattle.std.proofs.Common.{◌≡◌, ◌⊎◌, ℕ, ◌+◌, ◌-◌, ◌*◌, ◌/◌, ◌%◌, ◌<◌, ◌≤◌, true, false, ◌&&◌, leb, List, [], ◌∷◌, ◌++◌, length, Some, None, refl, sym, ap, ◌∙◌, arith, inl, inr}
+-- Packed numbers and designations: what is written is read, and what is read was written.
+use Rattle.std.proofs.Common.{◌≡◌, ℕ, ◌+◌, ◌-◌, ◌*◌, ◌/◌, ◌%◌, ◌<◌, ◌≤◌, List, ◌∷◌, length, suc, Some, None, refl, ap, ◌∙◌, arith, inl, inr, ◌⊎◌, true, false, ◌&&◌, leb, [], ◌++◌, sym}
 use Rattle.std.proofs.lemmas.Bool.{cases_lt}
 use Rattle.std.proofs.lemmas.Bool.Decides.{nat_tests}
 use Rattle.std.proofs.lemmas.List.{append-nil, length-append}
 use Rattle.ascii_text.specs.declared.digits.Radix.TheVariants.{Ten, SixtyTwo}
 use Rattle.ascii_text.specs.Digits.{digit_byte, digits_text}
-use Rattle.ascii_text.specs.Reading.{digits_at, behind}
+use Rattle.ascii_text.specs.Reading.{sixty_two_value, digit_value, digit_at, more_digits, digits_at, behind}
+use Rattle.packed_names.specs.Packed.{number_text, century_text, extended_text, provisional_text, HasCenturyShape, HasExtendedShape, prefix, survey_text}
+use Rattle.packed_names.specs.PackedReading.{small_number_in, large_number_in, number_in, century_at, century_half_at, century_order_in, century_form_in, extended_form_in, provisional_in, survey_of, survey_at, survey_in}
+use Rattle.packed_names.proofs.Chains.{each, ended, chosen, made, tested}
+use Rattle.packed_names.proofs.PartLaws.{digits_again_whole, digit_again, digit_takes, letter_at-letter_of, letter_at_takes, letter_index-order_of, cycle_of-order_of, letter_index-lt}
 use Rattle.packed_names.specs.declared.half_month.HalfMonth.{HalfMonth}
 use Rattle.packed_names.specs.declared.provisional.Provisional.{Provisional}
 use Rattle.packed_names.specs.Letters.{letter_of, letter_at}
 use Rattle.packed_names.specs.Orders.{letter_index, cycle_of, order_of}
-use Rattle.packed_names.specs.Packed.{century_text, extended_text, provisional_text, HasCenturyShape, HasExtendedShape}
-use Rattle.packed_names.specs.PackedReading.{century_at, century_half_at, century_order_in, century_form_in, extended_form_in, provisional_in}
-use Rattle.packed_names.proofs.Chains.{each, made, tested, ended, chosen}
-use Rattle.packed_names.proofs.DigitLaws.{digits_again_whole, digit_again, digit_takes}
-use Rattle.packed_names.proofs.LetterLaws.{letter_at-letter_of, letter_at_takes}
-use Rattle.packed_names.proofs.OrderLaws.{letter_index-order_of, cycle_of-order_of, letter_index-lt}
+use Rattle.packed_names.specs.declared.survey.Survey.{Survey}
+use Rattle.packed_names.specs.declared.survey.Survey.TheVariants.{PalomarLeiden}
 use Rattle.ascii_text.specs.Laws.{TextLaws}
+
+-- ---- numbers
+
+-- below 620,000 a number is one digit of base 62, for the ten thousands, and four digits
+number_text-small : (number : ℕ) → number < 620000 → number_text number ≡ digit_byte SixtyTwo (number / 10000) ∷ digits_text Ten 4 (number % 10000)
+unfolding number_text digits_text
+number_text-small number below = grind (arith, nat_tests)
+
+number_text-large : (number : ℕ) → 620000 ≤ number → number_text number ≡ 126 ∷ digits_text SixtyTwo 4 (number - 620000)
+unfolding number_text
+number_text-large number from = grind (arith, nat_tests)
+
+not_small : (digits : List ℕ) → small_number_in (126 ∷ digits) ≡ None
+unfolding small_number_in digits_at more_digits digit_at digit_value sixty_two_value
+not_small digits = refl
+
+number_text-parts : (front units : ℕ) → front < 62 → units < 10000 → number_text (10000 * front + units) ≡ digit_byte SixtyTwo front ∷ digits_text Ten 4 units
+number_text-parts front units front_below units_below =
+    let quotient : (10000 * front + units) / 10000 ≡ front = omega arith in
+    let remainder : (10000 * front + units) % 10000 ≡ units = omega arith in
+    number_text-small (10000 * front + units) (omega arith) ∙ rw (quotient, remainder) refl
+
+number_text-behind : (digits : ℕ) → number_text (620000 + digits) ≡ 126 ∷ digits_text SixtyTwo 4 digits
+number_text-behind digits =
+    let back : 620000 + digits - 620000 ≡ digits = omega arith in
+    number_text-large (620000 + digits) (omega arith) ∙ rw back refl
+
+module _ (texts : TextLaws) where
+  open texts use {digits_takes, length-digits_text, behind_takes}
+
+  small_again : (number : ℕ) → number < 620000 → small_number_in (number_text number) ≡ Some number
+  unfolding small_number_in
+  small_again number below =
+      let value : 10000 * (number / 10000) + number % 10000 ≡ number = omega arith in
+      rw (number_text-small number below, digit_again texts SixtyTwo (number / 10000) _ (omega arith), digits_again_whole texts Ten 4 (number % 10000) (omega arith), value) refl
+
+  large_again : (number : ℕ) → 620000 ≤ number → number ≤ 15396335 → large_number_in (number_text number) ≡ Some number
+  unfolding large_number_in behind
+  large_again number from to =
+      let value : 620000 + (number - 620000) ≡ number = omega arith in
+      rw (number_text-large number from, digits_again_whole texts SixtyTwo 4 (number - 620000) (omega arith), value) refl
+
+  pub number_again : (number : ℕ) → number ≤ 15396335 → number_in (number_text number) ≡ Some number
+  unfolding number_in
+  number_again number to =
+      elim (cases_lt number 620000) [
+        | inl below ↦ rw (small_again number below) refl
+        | inr from ↦
+            let other : small_number_in (number_text number) ≡ None = rw (number_text-large number from) (not_small (digits_text SixtyTwo 4 (number - 620000))) in
+            rw (other, large_again number from to) refl
+      ]
+
+  small_takes : (text : List ℕ) (number : ℕ) → small_number_in text ≡ Some number → (text ≡ number_text number) × (number ≤ 15396335)
+  unfolding small_number_in
+  small_takes text =
+      each (digits_at SixtyTwo 1 text) _ _ (λ front a. each (digits_at Ten 4 front.1) _ _ (λ units b. ended _ units.1 _ (λ end.
+      let front_is = digit_takes texts SixtyTwo text front a in
+      let units_is = digits_takes Ten 4 front.1 units.0 units.1 b in
+      let parts = number_text-parts front.0 units.0 front_is.1 units_is.1 in
+      (cc (front_is.0, units_is.0, end, append-nil (digits_text Ten 4 units.0), parts), omega (arith, front_is.1, units_is.1)))))
+
+  large_takes : (text : List ℕ) (number : ℕ) → large_number_in text ≡ Some number → (text ≡ number_text number) × (number ≤ 15396335)
+  unfolding large_number_in
+  large_takes text =
+      each (behind 126 text) _ _ (λ digits a. each (digits_at SixtyTwo 4 digits) _ _ (λ number b. ended _ number.1 _ (λ end.
+      let digits_is = digits_takes SixtyTwo 4 digits number.0 number.1 b in
+      let text_is : text ≡ number_text (620000 + number.0) = cc (behind_takes 126 text digits a, digits_is.0, end, append-nil (digits_text SixtyTwo 4 number.0), number_text-behind number.0) in
+      (text_is, omega (arith, digits_is.1)))))
+
+  pub number_takes : (text : List ℕ) (number : ℕ) → number_in text ≡ Some number → (text ≡ number_text number) × (number ≤ 15396335)
+  unfolding number_in
+  number_takes text = chosen (small_number_in text) (large_number_in text) _ (small_takes text) (large_takes text)
+
+  pub length-number_text : (number : ℕ) → length (number_text number) ≡ 5
+  length-number_text number =
+      elim (cases_lt number 620000) [
+        | inl below ↦ rw (number_text-small number below) (ap suc (length-digits_text Ten 4 (number % 10000)))
+        | inr from ↦ rw (number_text-large number from) (ap suc (length-digits_text SixtyTwo 4 (number - 620000)))
+      ]
+
+-- ---- provisional designations
 
 -- ---- the form with a century letter
 
@@ -61,11 +142,8 @@ module _ (texts : TextLaws) where
   half_again : (half : HalfMonth) (rest : List ℕ) → 1800 ≤ half.year → half.year ≤ 2099 → half.index < 24 → century_half_at (century_half_text half rest) ≡ Some (half, rest)
   unfolding century_half_at century_half_text
   half_again half rest from to index =
-      let century = century_at_again (half.year / 100) (digits_text Ten 2 (half.year % 100) ++ (letter_of half.index ∷ rest)) (omega arith) (omega arith) in
-      let year = digits_again Ten 2 (half.year % 100) (letter_of half.index ∷ rest) (omega arith) in
-      let letter = letter_at-letter_of 24 half.index rest index (omega arith) in
       let value : 100 * (half.year / 100) + half.year % 100 ≡ half.year = omega arith in
-      rw (century, year, letter, value) refl
+      rw (century_at_again (half.year / 100) _ (omega arith) (omega arith), digits_again Ten 2 (half.year % 100) _ (omega arith), letter_at-letter_of 24 half.index rest index (omega arith), value) refl
 
   half_takes : (text : List ℕ) (x : HalfMonth × List ℕ) → century_half_at text ≡ Some x → (text ≡ century_half_text x.0 x.1) × (1800 ≤ x.0.year) × (x.0.year ≤ 2099) × (x.0.index < 24)
   unfolding century_half_at century_half_text
@@ -82,11 +160,8 @@ module _ (texts : TextLaws) where
   order_again : (order : ℕ) → 1 ≤ order → order ≤ 15500 → century_order_in (century_order_text order) ≡ Some order
   unfolding century_order_in century_order_text
   order_again order from to =
-      let tens = digit_again texts SixtyTwo (cycle_of order / 10) (digit_byte Ten (cycle_of order % 10) ∷ letter_of (letter_index order) ∷ []) (omega arith) in
-      let units = digit_again texts Ten (cycle_of order % 10) (letter_of (letter_index order) ∷ []) (omega arith) in
-      let letter = letter_at-letter_of 25 (letter_index order) [] (letter_index-lt order) (omega arith) in
       let value : order_of (10 * (cycle_of order / 10) + cycle_of order % 10) (letter_index order) ≡ order = omega arith in
-      rw (tens, units, letter, value) refl
+      rw (digit_again texts SixtyTwo (cycle_of order / 10) _ (omega arith), digit_again texts Ten (cycle_of order % 10) _ (omega arith), letter_at-letter_of 25 (letter_index order) [] (letter_index-lt order) (omega arith), value) refl
 
   order_takes : (text : List ℕ) (order : ℕ) → century_order_in text ≡ Some order → (text ≡ century_order_text order) × (1 ≤ order) × (order ≤ 15500)
   unfolding century_order_in century_order_text
@@ -106,9 +181,7 @@ module _ (texts : TextLaws) where
   century_again : (provisional : Provisional) → HasCenturyShape provisional → century_form_in (century_text provisional) ≡ Some provisional
   unfolding century_form_in century_text century_half_text century_order_text
   century_again provisional shape =
-      let half = half_again provisional.half (century_order_text provisional.order) shape.year_from shape.year_to shape.index in
-      let order = order_again provisional.order shape.order_from shape.order_to in
-      rw (half, order) refl
+      rw (half_again provisional.half (century_order_text provisional.order) shape.year_from shape.year_to shape.index, order_again provisional.order shape.order_from shape.order_to) refl
 
   century_takes : (text : List ℕ) (provisional : Provisional) → century_form_in text ≡ Some provisional → (text ≡ century_text provisional) × HasCenturyShape provisional
   unfolding century_form_in century_text century_half_text century_order_text
@@ -167,3 +240,50 @@ module _ (texts : TextLaws) where
             let test : leb provisional.order 15500 ≡ true = grind (arith, nat_tests) in
             rw test (simp length-append (omega (arith, length-digits_text Ten 2 (provisional.half.year % 100))))
       ]
+
+-- ---- survey designations
+
+survey_at-prefix : (survey : Survey) (rest : List ℕ) → survey_at (prefix survey ++ rest) ≡ Some (survey, rest)
+unfolding survey_at survey_of prefix
+survey_at-prefix PalomarLeiden rest = refl
+survey_at-prefix survey rest = refl
+
+prefix-survey_of : (first second third : ℕ) (survey : Survey) → survey_of first second third ≡ Some survey → first ∷ second ∷ third ∷ [] ≡ prefix survey
+unfolding survey_of prefix
+prefix-survey_of first second third survey read = grind (arith, nat_tests)
+
+survey_at_takes : (text : List ℕ) (x : Survey × List ℕ) → survey_at text ≡ Some x → text ≡ prefix x.0 ++ x.1
+unfolding survey_at
+survey_at_takes (first ∷ second ∷ third ∷ text) x read =
+    each (survey_of first second third) _ (λ (y : Survey × List ℕ). first ∷ second ∷ third ∷ text ≡ prefix y.0 ++ y.1) (λ survey a.
+    made (survey, text) _ (ap (λ (front : List ℕ). front ++ text) (prefix-survey_of first second third survey a))) x read
+survey_at_takes text x read = absurd cc
+
+length-prefix : (survey : Survey) → length (prefix survey) ≡ 3
+unfolding prefix
+length-prefix PalomarLeiden = refl
+length-prefix survey = refl
+
+pub no_provisional : (survey : Survey) (number : ℕ) → provisional_in (survey_text survey number) ≡ None
+unfolding survey_text prefix provisional_in century_form_in century_half_at century_at extended_form_in behind
+no_provisional PalomarLeiden number = refl
+no_provisional survey number = refl
+
+module _ (texts : TextLaws) where
+  open texts use {digits_takes, length-digits_text}
+
+  pub survey_again : (survey : Survey) (number : ℕ) → number ≤ 9999 → survey_in (survey_text survey number) ≡ Some (survey, number)
+  unfolding survey_in survey_text
+  survey_again survey number within =
+      rw (survey_at-prefix survey (digits_text Ten 4 number), digits_again_whole texts Ten 4 number (omega arith)) refl
+
+  pub survey_takes : (text : List ℕ) (x : Survey × ℕ) → survey_in text ≡ Some x → (text ≡ survey_text x.0 x.1) × (x.1 ≤ 9999)
+  unfolding survey_in survey_text
+  survey_takes text =
+      each (survey_at text) _ _ (λ survey a. each (digits_at Ten 4 survey.1) _ _ (λ number b. ended _ number.1 _ (λ end.
+      let digits_is = digits_takes Ten 4 survey.1 number.0 number.1 b in
+      (cc (survey_at_takes text survey a, digits_is.0, end, append-nil (digits_text Ten 4 number.0)), omega (arith, digits_is.1)))))
+
+  pub length-survey_text : (survey : Survey) (number : ℕ) → length (survey_text survey number) ≡ 7
+  unfolding survey_text
+  length-survey_text survey number = omega (arith, length-append (prefix survey) (digits_text Ten 4 number), length-prefix survey, length-digits_text Ten 4 number)

@@ -1,4 +1,4 @@
--- Printed numbers, cycles and survey designations: what is written is read, and what is read was written.
+-- Printed numbers, half-months and designations: what is written is read, and what is read was written.
 use Rattle.std.proofs.Common.{◌≡◌, ℕ, zero, suc, ◌^◌, ◌<◌, ◌≤◌, Bool, true, false, cond, eqb, List, [], ◌∷◌, ◌++◌, length, drop, Option, Some, None, refl, sym, ap, ◌∙◌, arith}
 use Rattle.std.specs.Fmt.{decimal}
 use Rattle.std.specs.Str.Parse.{AllDigits}
@@ -8,13 +8,22 @@ use Rattle.std.proofs.lemmas.Fmt.{decimal_is_IsNumeral, decimal_nonempty}
 use Rattle.std.proofs.lemmas.List.{append-nil, length-append, drop_at}
 use Rattle.ascii_text.specs.declared.digits.Radix.TheVariants.{Ten}
 use Rattle.ascii_text.specs.Digits.{digits_text}
-use Rattle.ascii_text.specs.Reading.{bind_some, ◌>>=◌, behind, digit_run, number_at}
+use Rattle.ascii_text.specs.Reading.{bind_some, ◌>>=◌, behind, digit_run, number_at, digits_at}
 use Rattle.packed_names.specs.declared.survey.Survey.{Survey}
 use Rattle.packed_names.specs.declared.survey.Survey.TheVariants.{PalomarLeiden, T1, T2, T3}
 use Rattle.packed_names.specs.Ends.{whole}
-use Rattle.packed_names.specs.Printed.{cycle_text, suffix, survey_text}
-use Rattle.packed_names.specs.PrintedReading.{number_in, cycle_in, suffix_of, suffix_in, survey_in}
+use Rattle.packed_names.specs.Printed.{cycle_text, suffix, survey_text, half_text, provisional_text, FitsPrintedHalf, FitsPrinted}
+use Rattle.packed_names.specs.PrintedReading.{number_in, cycle_in, suffix_of, suffix_in, survey_in, half_at, half_in, provisional_in}
 use Rattle.packed_names.proofs.Chains.{each, made, ended, none_from}
+use Rattle.ascii_text.specs.Judged.{IsReader}
+use Rattle.packed_names.specs.declared.half_month.HalfMonth.{HalfMonth}
+use Rattle.packed_names.specs.declared.provisional.Provisional.{Provisional}
+use Rattle.packed_names.specs.declared.name.Designation.TheVariants as designations
+use Rattle.packed_names.specs.declared.name.Name.TheVariants as names
+use Rattle.packed_names.specs.Spellings.{Spells}
+use Rattle.packed_names.specs.Letters.{letter_of, letter_at}
+use Rattle.packed_names.specs.Orders.{letter_index, cycle_of, order_of}
+use Rattle.packed_names.proofs.PartLaws.{letter_at-letter_of, letter_at_takes, letter_index-order_of, cycle_of-order_of, order_of-cycle_of, letter_index-lt}
 use Rattle.ascii_text.specs.Laws.{TextLaws}
 
 -- a number at the end of a text is read to the end
@@ -84,8 +93,7 @@ module _ (texts : TextLaws) where
   pub decimal_in : (number : ℕ) → number < 10 ^ 10 → number_in (decimal number) ≡ Some number
   unfolding number_in
   decimal_in number below =
-      let read = number_again_whole 10 number (omega arith) (omega arith) below in
-      rw read refl
+      rw (number_again_whole 10 number (omega arith) (omega arith) below) refl
 
   pub number_in_takes : (text : List ℕ) (number : ℕ) → number_in text ≡ Some number → (text ≡ decimal number) × (number < 10 ^ 10)
   unfolding number_in
@@ -127,8 +135,7 @@ module _ (texts : TextLaws) where
   pub survey_again : (survey : Survey) (number : ℕ) → number < 10 ^ 5 → survey_in (survey_text survey number) ≡ Some (survey, number)
   unfolding survey_in survey_text
   survey_again survey number below =
-      let digits = number_again 5 number (32 ∷ suffix survey) (omega arith) (omega arith) below (blank_ends (suffix survey)) in
-      rw (digits, behind-cons 32 (suffix survey), suffix_in-suffix survey) refl
+      rw (number_again 5 number (32 ∷ suffix survey) (omega arith) (omega arith) below (blank_ends (suffix survey)), behind-cons 32 (suffix survey), suffix_in-suffix survey) refl
 
   pub survey_takes : (text : List ℕ) (x : Survey × ℕ) → survey_in text ≡ Some x → (text ≡ survey_text x.0 x.1) × (x.1 < 10 ^ 5)
   unfolding survey_in survey_text
@@ -136,3 +143,94 @@ module _ (texts : TextLaws) where
       each (number_at 5 text) _ _ (λ number a. each (behind 32 number.1) _ _ (λ letters b. each (suffix_in letters) _ _ (λ survey c.
       let number_is = number_takes 5 text number (omega arith) a in
       made _ _ (cc (number_is.text_is, behind_takes 32 number.1 letters b, suffix_takes letters survey c), number_is.below))))
+
+-- ---- half-months
+
+-- a half-month before a text
+half_front : HalfMonth → List ℕ → List ℕ
+half_front half rest = digits_text Ten 4 half.year ++ (32 ∷ letter_of half.index ∷ rest)
+
+-- the second character of a suffix is no letter
+not_suffix : (survey : Survey) (half order : ℕ) (rest : List ℕ) → 65 ≤ order → 32 ∷ half ∷ order ∷ rest ≡ 32 ∷ suffix survey → ⊥
+unfolding suffix
+not_suffix PalomarLeiden half order rest letter same = (let dash : order ≡ 45 = cc in omega arith)
+not_suffix survey half order rest letter same = (let dash : order ≡ 45 = cc in omega arith)
+
+letter_of-ge : (index : ℕ) → 65 ≤ letter_of index
+letter_of-ge index = grind (arith, nat_tests)
+
+module _ (texts : TextLaws) where
+  open texts use {digits_again, digits_takes, behind-cons, behind_takes}
+
+  half_again : (half : HalfMonth) (rest : List ℕ) → FitsPrintedHalf half → half_at (half_front half rest) ≡ Some (half, rest)
+  unfolding half_at half_front
+  half_again half rest fits =
+      rw (digits_again Ten 4 half.year _ fits.0, behind-cons 32 _, letter_at-letter_of 24 half.index rest fits.1 (omega arith)) refl
+
+  half_takes : (text : List ℕ) (x : HalfMonth × List ℕ) → half_at text ≡ Some x → (text ≡ half_front x.0 x.1) × FitsPrintedHalf x.0
+  unfolding half_at half_front
+  half_takes text =
+      each (digits_at Ten 4 text) _ _ (λ year a. each (behind 32 year.1) _ _ (λ blank b. each (letter_at 24 blank) _ _ (λ half c.
+      let year_is = digits_takes Ten 4 text year.0 year.1 a in
+      let letter_is = letter_at_takes 24 blank half c in
+      made _ _ (cc (year_is.0, behind_takes 32 year.1 blank b, letter_is.0), (year_is.1, letter_is.1)))))
+
+  half_in_again : (half : HalfMonth) → FitsPrintedHalf half → half_in (half_text half) ≡ Some half
+  unfolding half_in half_text half_front
+  half_in_again half fits = rw (half_again half [] fits) refl
+
+  half_in_takes : (text : List ℕ) (half : HalfMonth) → half_in text ≡ Some half → Spells FitsPrintedHalf half_text half text
+  unfolding half_in half_text half_front
+  half_in_takes text =
+      each (half_at text) _ _ (λ half a. ended half.0 half.1 _ (λ end.
+      let took = half_takes text half a in
+      record { within = took.1; text_is = took.0 ∙ ap (half_front half.0) end }))
+
+  pub half_reader : IsReader (Spells FitsPrintedHalf half_text) half_in
+  half_reader = record {
+    again = λ half text shows. ap half_in shows.text_is ∙ half_in_again half shows.within;
+    takes = half_in_takes;
+  }
+
+  -- ---- provisional designations
+
+  pub provisional_again : (provisional : Provisional) → FitsPrinted (names.Designation (designations.Provisional provisional)) → provisional_in (provisional_text provisional) ≡ Some provisional
+  unfolding provisional_in provisional_text half_front
+  provisional_again provisional fits =
+      let half = half_again provisional.half (letter_of (letter_index provisional.order) ∷ cycle_text (cycle_of provisional.order)) fits.0 in
+      let letter = letter_at-letter_of 25 (letter_index provisional.order) (cycle_text (cycle_of provisional.order)) (letter_index-lt provisional.order) (omega arith) in
+      let cycle = cycle_again texts (cycle_of provisional.order) fits.2 in
+      let order : order_of (cycle_of provisional.order) (letter_index provisional.order) ≡ provisional.order = order_of-cycle_of provisional.order fits.1 in
+      rw (half, letter, cycle, order) refl
+
+  pub provisional_takes : (text : List ℕ) (provisional : Provisional) → provisional_in text ≡ Some provisional → (text ≡ provisional_text provisional) × FitsPrinted (names.Designation (designations.Provisional provisional))
+  unfolding provisional_in provisional_text half_front
+  provisional_takes text =
+      each (half_at text) _ _ (λ half a. each (letter_at 25 half.1) _ _ (λ letter b. each (cycle_in letter.1) _ _ (λ cycle c.
+      let half_is = half_takes text half a in
+      let letter_is = letter_at_takes 25 half.1 letter b in
+      let cycle_is = cycle_takes texts letter.1 cycle c in
+      let order = order_of cycle letter.0 in
+      let cycle_back : cycle_of order ≡ cycle = cycle_of-order_of cycle letter.0 letter_is.1 in
+      let letter_back : letter_index order ≡ letter.0 = letter_index-order_of cycle letter.0 letter_is.1 in
+      let parts : half.1 ≡ letter_of letter.0 ∷ cycle_text cycle = cc (letter_is.0, cycle_is.0) in
+      made _ _ (rw (cycle_back, letter_back) (half_is.0 ∙ ap (half_front half.0) parts), (half_is.1, omega arith, omega (arith, cycle_back, cycle_is.1))))))
+
+  -- ---- no text has two shapes
+
+  pub provisional_no_number : (provisional : Provisional) → FitsPrinted (names.Designation (designations.Provisional provisional)) → number_in (provisional_text provisional) ≡ None
+  unfolding provisional_text
+  provisional_no_number provisional fits =
+      no_number texts (digits_text Ten 4 provisional.half.year) (letter_of provisional.half.index ∷ letter_of (letter_index provisional.order) ∷ cycle_text (cycle_of provisional.order)) (digit_run-year texts provisional.half.year _ fits.0.0)
+
+  pub survey_no_number : (survey : Survey) (number : ℕ) → number < 10 ^ 5 → number_in (survey_text survey number) ≡ None
+  unfolding survey_text
+  survey_no_number survey number below = no_number texts (decimal number) (suffix survey) (digit_run-decimal texts number (suffix survey) (omega arith))
+
+  pub survey_no_provisional : (survey : Survey) (number : ℕ) → number < 10 ^ 5 → provisional_in (survey_text survey number) ≡ None
+  unfolding survey_text provisional_text
+  survey_no_provisional survey number below = none_from (provisional_in (survey_text survey number)) (λ provisional read.
+      let took = provisional_takes (survey_text survey number) provisional read in
+      let rest : List ℕ = letter_of provisional.half.index ∷ letter_of (letter_index provisional.order) ∷ cycle_text (cycle_of provisional.order) in
+      let same = behind_blank (digits_text Ten 4 provisional.half.year) (decimal number) rest (suffix survey) (digit_run-year texts provisional.half.year rest took.1.0.0) (digit_run-decimal texts number (suffix survey) (omega arith)) (sym took.0) in
+      not_suffix survey (letter_of provisional.half.index) (letter_of (letter_index provisional.order)) (cycle_text (cycle_of provisional.order)) (letter_of-ge (letter_index provisional.order)) same)
