@@ -1,9 +1,8 @@
 -- A date that is written is read again, and what is read is written so.
-use Rattle.std.proofs.Common.{◌≡◌, ℕ, List, [], ◌∷◌, ◌++◌, length, Some, Result, refl, ap, ◌∙◌, ℤ, eqb}
+use Rattle.std.proofs.Common.{◌≡◌, ℕ, List, [], length, Some, Result, refl, ap, ◌∙◌, ℤ, eqb}
 use Rattle.std.proofs.lemmas.Bool.{eqb-true}
 use Rattle.std.proofs.lemmas.List.{nil_from_length}
 use Rattle.ascii_text.specs.declared.digits.Radix.TheVariants.{Ten}
-use Rattle.ascii_text.specs.Digits.{digits_text}
 use Rattle.ascii_text.specs.Reading.{digits_at, behind}
 use Rattle.ascii_text.specs.Judged.{IsReader}
 use Rattle.ascii_text.specs.Answering.{it_answers, one_answer}

@@ -1,24 +1,22 @@
 -- A day with decimals that is written is read again, what is read is written so, and the judge gives the one verdict.
-use Rattle.std.proofs.Common.{arith, ◌≡◌, ℕ, ◌*◌, ◌≤◌, inl, inr, true, ◌&&◌, leb, List, ◌++◌, length, Some, Result, Ok, Err, refl, ap, ◌∙◌, ℤ, ◌↔◌, ◌+◌, ◌<◌, subst, sym}
+use Rattle.std.proofs.Common.{arith, ◌≡◌, ℕ, ◌*◌, ◌≤◌, inl, inr, true, ◌&&◌, leb, List, length, Result, Ok, Err, refl, ap, ◌∙◌, ℤ, ◌↔◌, ◌<◌}
 use Rattle.std.specs.Prelude.{IfOk}
 use Rattle.std.proofs.lemmas.Bool.{leb-true, le-leb, and_parts, and_from}
-use Rattle.ascii_text.specs.Digits.{decimals_text}
 use Rattle.ascii_text.specs.Blanks.{blanks, are_blanks}
 use Rattle.ascii_text.specs.Reading.{decimals_at}
 use Rattle.ascii_text.specs.Judged.{IsReader}
 use Rattle.ascii_text.specs.Answering.{it_answers, one_answer}
 use Rattle.obs_time.specs.declared.fault.TimeFault.{TimeFault}
 use Rattle.obs_time.specs.declared.fault.TimeFault.TheVariants.{Spelling}
-use Rattle.obs_time.specs.Dates.{day_number, moment, DateExists, IsObservedYear}
-use Rattle.obs_time.specs.DateText.{date_text, date_at, judge_date, is_observed_year, date_exists}
-use Rattle.obs_time.specs.DayText.{WrittenDay, SpellsDay, IsDayVerdict, IsDayAnswer, IsMomentOf, day_at, decimal_unit, judge_day, day_fraction_of}
+use Rattle.obs_time.specs.Dates.{day_number, moment}
+use Rattle.obs_time.specs.DateText.{date_at, judge_date, is_observed_year, date_exists}
+use Rattle.obs_time.specs.DayText.{WrittenDay, SpellsDay, IsDayVerdict, IsDayAnswer, day_at, decimal_unit, judge_day, day_fraction_of}
 use Rattle.obs_time.proofs.Readings.{each, tested}
 use Rattle.obs_time.proofs.Verdicts.{word_of-date, one_verdict, observed_year, existing_date}
 use Rattle.obs_time.proofs.DateLaws.{date_again, date_takes}
 use Rattle.obs_time.proofs.DayLemmas.{unit_whole, decimals_exact, decimals_are, decimals_below}
 use Rattle.ascii_text.specs.Laws.{TextLaws}
 use Rattle.obs_time.specs.Instants.{nanos_of_a_day, IsInstantNs}
-use Rattle.obs_time.specs.IsoText.{IsIsoAnswer, seconds_of, nanos_of_a_second}
 use Rattle.obs_time.proofs.YearLaws.{in_range}
 
 same_pair : (t t' : ℤ) (count count' : ℕ) → t ≡ t' → count ≡ count' → ◌≡◌ {A = ℤ × ℕ} (t, count) (t', count')

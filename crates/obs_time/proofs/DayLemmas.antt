@@ -1,13 +1,8 @@
 -- Decimals of a day or of a second.
-use Rattle.std.proofs.Common.{◌≡◌, ℕ, ◌+◌, ◌-◌, ◌*◌, ◌^◌, ◌<◌, ◌≤◌, inl, inr, rules, sym, ap, ◌∙◌, arith, ℤ, pos, ◌≤ℤ◌, ◌<ℤ◌}
+use Rattle.std.proofs.Common.{◌≡◌, ℕ, ◌+◌, ◌-◌, ◌*◌, ◌^◌, ◌<◌, ◌≤◌, inl, inr, sym, ap, ◌∙◌, arith}
 use Rattle.std.proofs.Math.Nat.{one-le-pow, mul_assoc, mul_comm, div-eq_of_eq-mul_left, eq_of_mul-eq-mul_right, mul-lt-mul_of_pos_right, eq-zero-or-pos}
 use Rattle.std.proofs.lemmas.Nat.{pow-add}
-use Rattle.std.proofs.lemmas.Int.{by_lt_z}
-use Rattle.jiff_core.specs.Calendar.{IsCivilDate, days_from_civil, day_count}
-use Rattle.jiff_core.proofs.SignedLemmas.{signed_arith}
-use Rattle.jiff_core.proofs.CalendarLemmas.{days_from_civil-day_count, day_count-lt_year, day_count-day_of_year}
 use Rattle.obs_time.specs.Instants.{nanos_of_a_day}
-use Rattle.obs_time.specs.Dates.{IsObservedDay}
 use Rattle.obs_time.specs.DayText.{decimal_unit}
 
 -- a power of ten is not 0

@@ -1,27 +1,25 @@
 -- An ISO time that is written is read again, what is read is written so, and the judge gives the one verdict.
-use Rattle.std.proofs.Common.{◌≡◌, ℕ, ◌+◌, ◌*◌, ◌-◌, ◌^◌, inl, inr, Bool, true, false, ◌&&◌, cond, eqb, ltb, leb, List, [], ◌∷◌, ◌++◌, length, Option, Some, None, Result, Ok, Err, refl, sym, ap, ◌∙◌, ℤ, arith, ◌↔◌, ◌<◌, ◌≤◌, subst}
+use Rattle.std.proofs.Common.{◌≡◌, ℕ, ◌+◌, ◌*◌, ◌-◌, ◌^◌, inl, inr, Bool, true, false, ◌&&◌, cond, eqb, ltb, leb, List, [], ◌∷◌, length, Option, Some, None, Result, Ok, Err, refl, sym, ap, ◌∙◌, ℤ, arith, ◌↔◌, ◌<◌, ◌≤◌}
 use Rattle.std.proofs.lemmas.Bool.{eqb-true, leb-true, le-leb}
 use Rattle.std.proofs.lemmas.Bool.Decides.{nat_tests, Decides-and}
 use Rattle.std.proofs.lemmas.List.{nil_from_length}
 use Rattle.ascii_text.specs.declared.digits.Radix.TheVariants.{Ten}
-use Rattle.ascii_text.specs.Digits.{digits_text, decimals_text}
 use Rattle.ascii_text.specs.Reading.{◌>>=◌, digits_at, behind, decimals_at, decimals_within, at_most}
 use Rattle.ascii_text.specs.Judged.{IsReader, answer_of}
 use Rattle.ascii_text.specs.Answering.{it_answers, one_answer}
 use Rattle.obs_time.specs.declared.fault.TimeFault.{TimeFault}
 use Rattle.obs_time.specs.declared.fault.TimeFault.TheVariants.{Spelling, Decimals}
-use Rattle.obs_time.specs.Dates.{day_number, moment, DateExists, IsObservedYear}
+use Rattle.obs_time.specs.Dates.{day_number, moment}
 use Rattle.obs_time.specs.DateText.{WrittenDate, HasDigits, date_text, date_at, judge_date, is_observed_year, date_exists}
-use Rattle.obs_time.specs.IsoText.{WrittenClock, ClockHasDigits, WrittenIso, SpellsIso, IsIsoVerdict, IsIsoAnswer, IsIsoMoment, clock_text, clock_at, time_at, iso_at, iso_within, seconds_of, nanos_of_a_second, is_time_of_day, ns_of_iso, judge_iso, iso_of, IsTimeOfDay, clock_of}
+use Rattle.obs_time.specs.IsoText.{WrittenClock, ClockHasDigits, WrittenIso, SpellsIso, IsIsoVerdict, IsIsoAnswer, clock_text, clock_at, time_at, iso_at, iso_within, seconds_of, nanos_of_a_second, is_time_of_day, ns_of_iso, judge_iso, iso_of, IsTimeOfDay, clock_of}
 use Rattle.obs_time.proofs.Readings.{each, made, tested}
 use Rattle.obs_time.proofs.Verdicts.{word_of-date, one_verdict, observed_year, existing_date}
 use Rattle.obs_time.proofs.DateLaws.{date_again, date_takes}
-use Rattle.obs_time.proofs.DayLemmas.{decimals_exact, decimals_are, unit_whole, decimals_below}
+use Rattle.obs_time.proofs.DayLemmas.{decimals_exact, decimals_are, decimals_below}
 use Rattle.ascii_text.specs.Laws.{TextLaws}
 use Rattle.std.specs.Bool.{Decides}
 use Rattle.std.proofs.lemmas.Nat.{pow-add}
 use Rattle.obs_time.specs.Instants.{nanos_of_a_day, IsInstantNs}
-use Rattle.obs_time.specs.DayText.{IsDayAnswer}
 use Rattle.obs_time.proofs.YearLaws.{in_range}
 
 -- ---- times of day

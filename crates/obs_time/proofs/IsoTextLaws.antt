@@ -1,17 +1,15 @@
 -- The text of a moment: its numbers are the only ones with nine decimals that stand for it.
-use Rattle.std.proofs.Common.{arith, ◌≡◌, ℕ, ◌+◌, ◌*◌, ◌-◌, ◌/◌, ◌%◌, ◌^◌, ◌<◌, inl, inr, List, length, refl, sym, ap, subst, ◌∙◌, ℤ, length-append}
-use Rattle.std.specs.Prelude.{Result, Ok, Err}
+use Rattle.std.proofs.Common.{arith, ◌≡◌, ℕ, ◌+◌, ◌*◌, ◌-◌, ◌/◌, ◌%◌, ◌^◌, ◌<◌, inl, List, length, refl, sym, ap, subst, ◌∙◌, ℤ, length-append}
+use Rattle.std.specs.Prelude.{Ok}
 use Rattle.std.proofs.lemmas.Nat.{div-mul-add, mod-mul-add, div-add-mod'}
 use Rattle.ascii_text.specs.Digits.{decimals_width}
 use Rattle.obs_time.specs.declared.civil.Civil.{Civil}
-use Rattle.obs_time.specs.declared.fault.TimeFault.{TimeFault}
-use Rattle.obs_time.specs.declared.fault.TimeFault.TheVariants.{Spelling}
 use Rattle.obs_time.specs.Instants.{nanos_of_a_day}
-use Rattle.obs_time.specs.Dates.{DateExists, IsObservedYear, IsCivilOf, day_number, day_of, ns_of_day, moment}
+use Rattle.obs_time.specs.Dates.{IsObservedYear, IsCivilOf, day_number, day_of, ns_of_day, moment}
 use Rattle.obs_time.specs.DateText.{WrittenDate}
 use Rattle.obs_time.specs.Calendar.{date_of_day}
 use Rattle.obs_time.specs.Written.{date_part}
-use Rattle.obs_time.specs.IsoText.{WrittenClock, WrittenIso, SpellsIso, IsIsoVerdict, IsIsoAnswer, spelled_iso, seconds_of, nanos_of_a_second, clock_of, iso_numbers, iso_text, iso_of}
+use Rattle.obs_time.specs.IsoText.{WrittenClock, WrittenIso, SpellsIso, IsIsoVerdict, spelled_iso, seconds_of, nanos_of_a_second, clock_of, iso_numbers, iso_text, iso_of}
 use Rattle.obs_time.proofs.CalendarLaws.{date_of_day_number, day_of_moment, ns_of_moment}
 use Rattle.obs_time.proofs.TextLaws.{digits_of_date}
 use Rattle.obs_time.proofs.DayLemmas.{decimals_are}

@@ -1,5 +1,5 @@
 -- One text for a moment and a number of decimals: it is read as the rounded moment, and a text that was read is written.
-use Rattle.std.proofs.Common.{◌≡◌, ℕ, suc, ◌+◌, ◌*◌, ◌/◌, ◌^◌, ◌<◌, ◌≤◌, inl, inr, List, length, sym, ap, subst, ◌∙◌, arith, ℤ, pos, negsuc, neg_ℤ, mul_comm, add-mul, length-append, ◌-◌, ◌++◌, refl}
+use Rattle.std.proofs.Common.{◌≡◌, ℕ, suc, ◌+◌, ◌*◌, ◌/◌, ◌^◌, ◌<◌, ◌≤◌, inl, List, length, sym, ap, subst, ◌∙◌, arith, ℤ, pos, negsuc, neg_ℤ, mul_comm, add-mul, length-append, ◌-◌, ◌++◌, refl}
 use Rattle.std.specs.Prelude.{Result, Ok}
 use Rattle.std.proofs.Math.Nat.{eq_of_mul-eq-mul_right}
 use Rattle.std.proofs.lemmas.Nat.{div-mul-add, div_below}

@@ -1,5 +1,5 @@
 -- The years of the observed moments, and their day numbers.
-use Rattle.std.proofs.Common.{subst, sym, rules, to_z, of_z, w16, unsigned_abs, ◌≡◌, ℕ, ◌≤◌, ◌+◌, refl, arith, ℤ, pos, neg_ℤ, ◌≤ℤ◌, ◌<ℤ◌, ◌-◌, ◌*◌, ◌^◌, ◌<◌, inl, inr, ap, ◌∙◌}
+use Rattle.std.proofs.Common.{subst, sym, rules, to_z, of_z, w16, unsigned_abs, ◌≡◌, ℕ, ◌≤◌, ◌+◌, refl, arith, ℤ, pos, neg_ℤ, ◌≤ℤ◌, ◌<ℤ◌, ◌<◌, ap, ◌∙◌}
 use Rattle.std.proofs.lemmas.Int.{by_lt_z}
 use Rattle.jiff_core.specs.declared.civil.date.Date.{Date}
 use Rattle.jiff_core.specs.Date.{epoch_day}
@@ -9,10 +9,7 @@ use Rattle.jiff_core.specs.Calendar.{day_count, days_from_civil, IsCivilDate, Is
 use Rattle.jiff_core.proofs.SignedLemmas.{signed_arith, signed_casts}
 use Rattle.jiff_core.proofs.MarchLemmas.{day_count-early}
 use Rattle.jiff_core.proofs.CalendarLemmas.{days_from_civil-day_count, day_count-lt_year, day_count-day_of_year}
-use Rattle.std.proofs.Math.Nat.{one-le-pow, mul_assoc, mul_comm, div-eq_of_eq-mul_left, eq_of_mul-eq-mul_right, mul-lt-mul_of_pos_right, eq-zero-or-pos}
-use Rattle.std.proofs.lemmas.Nat.{pow-add}
 use Rattle.obs_time.specs.Instants.{nanos_of_a_day, IsInstantNs}
-use Rattle.obs_time.specs.DayText.{decimal_unit}
 use Rattle.obs_time.specs.declared.civil.Civil.{Civil}
 use Rattle.obs_time.specs.DateText.{WrittenDate}
 
