@@ -1,53 +1,67 @@
 -- A day with decimals that is written is read again, what is read is written so, and the judge gives the one verdict.
-use Rattle.std.proofs.Common.{arith, ◌≡◌, ℕ, ◌*◌, ◌<◌, ◌≤◌, inl, inr, true, cond, ◌&&◌, leb, List, ◌++◌, length, Some, None, Result, Ok, Err, refl, ap, subst, ◌∙◌, ℤ}
+use Rattle.std.proofs.Common.{arith, ◌≡◌, ℕ, ◌*◌, ◌≤◌, inl, inr, true, ◌&&◌, leb, List, length, Result, Ok, Err, refl, ap, ◌∙◌, ℤ, ◌↔◌, ◌<◌}
 use Rattle.std.specs.Prelude.{IfOk}
-use Rattle.std.proofs.lemmas.Bool.{leb-true, le-leb, and_parts, and_from, le-ltb, lt-ltb, cases_lt}
-use Rattle.ascii_text.specs.Digits.{decimals_text}
+use Rattle.std.proofs.lemmas.Bool.{leb-true, le-leb, and_parts, and_from}
 use Rattle.ascii_text.specs.Blanks.{blanks, are_blanks}
-use Rattle.ascii_text.specs.Reading.{bind_some, ◌>>=◌, decimals_at}
+use Rattle.ascii_text.specs.Reading.{decimals_at}
 use Rattle.ascii_text.specs.Judged.{IsReader}
+use Rattle.ascii_text.specs.Answering.{it_answers, one_answer}
 use Rattle.obs_time.specs.declared.fault.TimeFault.{TimeFault}
-use Rattle.obs_time.specs.declared.fault.TimeFault.TheVariants.{Spelling, NoSuchDate, Range, Decimals}
+use Rattle.obs_time.specs.declared.fault.TimeFault.TheVariants.{Spelling}
 use Rattle.obs_time.specs.Dates.{day_number, moment}
-use Rattle.obs_time.specs.DateText.{date_text, date_at, judge_date, IsDateVerdict}
-use Rattle.obs_time.specs.DayText.{WrittenDay, SpellsDay, IsDayVerdict, IsDayAnswer, day_at, decimal_unit, timed, judge_day, day_fraction_of}
-use Rattle.obs_time.proofs.AnswerLaws.{IsJudge, reader_answers, one_answer}
-use Rattle.obs_time.proofs.Verdicts.{judge_date_gives, judge_date_only}
-use Rattle.obs_time.proofs.DateLaws.{date_again, date_takes, guard_some}
-use Rattle.obs_time.proofs.DayLemmas.{part_exact, part_is}
+use Rattle.obs_time.specs.DateText.{date_at, judge_date, is_observed_year, date_exists}
+use Rattle.obs_time.specs.DayText.{WrittenDay, SpellsDay, IsDayVerdict, IsDayAnswer, day_at, decimal_unit, judge_day, day_fraction_of}
+use Rattle.obs_time.proofs.Readings.{each, tested}
+use Rattle.obs_time.proofs.Verdicts.{word_of-date, one_verdict, observed_year, existing_date}
+use Rattle.obs_time.proofs.DateLaws.{date_again, date_takes}
+use Rattle.obs_time.proofs.DayLemmas.{unit_whole, decimals_exact, decimals_are, decimals_below}
 use Rattle.ascii_text.specs.Laws.{TextLaws}
+use Rattle.obs_time.specs.Instants.{nanos_of_a_day, IsInstantNs}
+use Rattle.obs_time.proofs.YearLaws.{in_range}
 
--- a verdict on a day with few decimals comes from the judge's word on its date
-timed_only : (day : WrittenDay) (word : Result ℤ TimeFault) → day.count ≤ 6 → word ≡ judge_date day.date → (other : Result (ℤ × ℕ) TimeFault) → other ≡ timed day word → other ≡ judge_day day
-unfolding judge_day
-timed_only day word few e other same = rw (le-ltb 6 day.count few, ← e) same
+same_pair : (t t' : ℤ) (count count' : ℕ) → t ≡ t' → count ≡ count' → ◌≡◌ {A = ℤ × ℕ} (t, count) (t', count')
+same_pair t t' count count' e f = cc
 
-many_decimals : (day : WrittenDay) → 6 < day.count → Err Decimals ≡ judge_day day
-unfolding judge_day
-many_decimals day many = rw (lt-ltb 6 day.count many) refl
+pub day_judged : (day : WrittenDay) (answer : Result (ℤ × ℕ) TimeFault) → IsDayVerdict day answer ↔ (answer ≡ judge_day day)
+unfolding judge_day judge_date
+day_judged day answer =
+    let date = day.date in
+    let number = day_number date.year date.month date.day in
+    let part = day.decimals * decimal_unit day.count in
+    one_verdict _ _ _ _ (leb day.count 6) (is_observed_year date.year) (date_exists date.year date.month date.day) (moment number part, day.count)
+    (record {
+      few_tells = (leb-true day.count 6, le-leb day.count 6);
+      range_tells = observed_year date.year;
+      exists_tells = existing_date date.year date.month date.day;
+      right = λ few. (record { ns = part; part = decimals_exact day.decimals day.count _ _ (unit_whole day.count few); exact = refl }, refl);
+      only = λ few read is.
+          let ns : is.0.ns ≡ part = decimals_are day.decimals day.count _ _ is.0.ns (unit_whole day.count few) is.0.part in
+          same_pair _ _ _ _ (is.0.exact ∙ ap (moment number) ns) is.1;
+    })
+    (judge_day day) answer (word_of-date (λ (n : ℤ). (moment n part, day.count)) (leb day.count 6) true (is_observed_year date.year) (date_exists date.year date.month date.day) number)
 
-pair_is : (t : ℤ) (count : ℕ) (t' : ℤ) (count' : ℕ) → t ≡ t' → count ≡ count' → ◌≡◌ {A = Result (ℤ × ℕ) TimeFault} (Ok (t, count)) (Ok (t', count'))
-pair_is t count t' count' e f = cc
-
-judge_day_only : (day : WrittenDay) (other : Result (ℤ × ℕ) TimeFault) → IsDayVerdict day other → other ≡ judge_day day
-judge_day_only day (Ok read) h =
-    let number = day_number day.date.year day.date.month day.date.day in
-    let ns : h.3.ns ≡ day.decimals * decimal_unit day.count = part_is day.decimals day.count h.3.ns h.0 h.3.part in
-    let t : read.0 ≡ moment number (day.decimals * decimal_unit day.count) = h.3.exact ∙ ap (λ (n : ℕ). moment number n) ns in
-    timed_only day (Ok number) h.0 (judge_date_only day.date (Ok number) (h.1, h.2, refl)) (Ok read) (pair_is read.0 read.1 _ _ t h.4)
-judge_day_only day (Err Spelling) h = absurd h
-judge_day_only day (Err Decimals) h = many_decimals day h
-judge_day_only day (Err Range) h = timed_only day (Err Range) h.0 (judge_date_only day.date (Err Range) h.1) (Err Range) refl
-judge_day_only day (Err NoSuchDate) h = timed_only day (Err NoSuchDate) h.0 (judge_date_only day.date (Err NoSuchDate) (h.1, h.2)) (Err NoSuchDate) refl
-
-pub ok_is_no_err : (read : ℤ × ℕ) → ◌≡◌ {A = Result (ℤ × ℕ) TimeFault} (Ok read) (Err Spelling) → ⊥
-ok_is_no_err read e = cc
+-- what is said of a text that spells a day
+pub day_said : (text : List ℕ) (t : ℤ) (count : ℕ) → IsDayAnswer text (Ok (t, count)) → (day : WrittenDay) × SpellsDay day text × IsDayVerdict day (Ok (t, count))
+day_said text t count (inl h) = (h.0, h.1, (day_judged h.0 (Ok (t, count))).1 h.2)
+day_said text t count (inr h) = absurd cc
 
 -- how many decimals are read
 pub decimals_read : (text : List ℕ) (answer : Result (ℤ × ℕ) TimeFault) → IsDayAnswer text answer → IfOk answer (λ read. (1 ≤ read.1) × (read.1 ≤ 6))
-decimals_read text (Ok read) (inl h) = (omega (arith, h.1.some, h.2.4), omega (arith, h.2.0, h.2.4))
-decimals_read text (Ok read) (inr h) = absurd (ok_is_no_err read h.1)
+decimals_read text (Ok read) h =
+    let said = day_said text read.0 read.1 h in
+    (omega (arith, said.1.some, said.2.3.1), omega (arith, said.2.0, said.2.3.1))
 decimals_read text (Err fault) h = tt
+
+-- and it is a moment of the observed years
+pub day_in_range : (text : List ℕ) (t : ℤ) (count : ℕ) → IsDayAnswer text (Ok (t, count)) → IsInstantNs t
+day_in_range text t count answer =
+    let said = day_said text t count answer in
+    let day = said.0 in
+    let is = said.2 in
+    let at = is.3.0 in
+    let units = unit_whole day.count is.0 in
+    let below : at.ns < nanos_of_a_day = rw (decimals_are day.decimals day.count _ _ at.ns units at.part) (decimals_below day.decimals day.count _ _ units (omega arith) said.1.decimals) in
+    in_range day.date.year day.date.month day.date.day at.ns t is.2 is.1 below at.exact
 
 module _ (texts : TextLaws) where
   open texts use {decimals_again, decimals_takes, are_blanks-blanks, are_blanks_takes, digit_run-blanks, no_point-blanks}
@@ -57,51 +71,26 @@ module _ (texts : TextLaws) where
   unfolding day_at
   reads_days = record {
     again = λ day text spelled.
-        let passed : (leb 1 day.count && are_blanks (blanks spelled.space)) ≡ true = and_from (leb 1 day.count) (are_blanks (blanks spelled.space)) (le-leb 1 day.count spelled.some) (are_blanks-blanks spelled.space) in
-        rw (spelled.spelling, date_again texts 32 day.date _ spelled.digits, decimals_again day.count day.decimals (blanks spelled.space) spelled.decimals (digit_run-blanks spelled.space) (no_point-blanks spelled.space), passed) refl;
-    takes = λ text day read.
-        let a = bind_some (date_at 32 text) (λ date. decimals_at date.1 >>= λ x. cond (leb 1 x.0.0 && are_blanks x.1) (Some (record { date = date.0; count = x.0.0; decimals = x.0.1 })) None) day read in
-        let b = bind_some (decimals_at a.0.1) (λ x. cond (leb 1 x.0.0 && are_blanks x.1) (Some (record { date = a.0.0; count = x.0.0; decimals = x.0.1 })) None) day a.2 in
-        let made : WrittenDay = record { date = a.0.0; count = b.0.0.0; decimals = b.0.0.1 } in
-        let g = guard_some (leb 1 b.0.0.0 && are_blanks b.0.1) made day b.2 in
-        let tests = and_parts (leb 1 b.0.0.0) (are_blanks b.0.1) g.0 in
-        let date = date_takes texts 32 text a.0 a.1 in
-        let decimals = decimals_takes a.0.1 b.0 b.1 in
-        let spelled : SpellsDay made text = record {
-          digits = date.digits;
-          some = leb-true 1 b.0.0.0 tests.0;
-          decimals = decimals.below;
-          space = length b.0.1;
-          spelling = date.spelling ∙ ap (date_text 32 a.0.0) (decimals.text_is ∙ ap (λ (rest : List ℕ). decimals_text b.0.0.0 b.0.0.1 ++ rest) (are_blanks_takes b.0.1 tests.1));
-        } in
-        subst (λ (d : WrittenDay). SpellsDay d text) g.1 spelled;
+        let space = spelled.space in
+        let passed : (leb 1 day.count && are_blanks (blanks space)) ≡ true = and_from _ _ (le-leb 1 day.count spelled.some) (are_blanks-blanks space) in
+        rw (spelled.spelling, date_again texts 32 day.date _ spelled.digits, decimals_again day.count day.decimals (blanks space) spelled.decimals (digit_run-blanks space) (no_point-blanks space), passed) refl;
+    takes = λ text. each (date_at 32 text) _ _ (λ date a. each (decimals_at date.1) _ _ (λ decimals b. tested (leb 1 decimals.0.0 && are_blanks decimals.1) _ _ (λ c.
+        let tests = and_parts (leb 1 decimals.0.0) (are_blanks decimals.1) c in
+        let date_is = date_takes texts 32 text date a in
+        let decimals_is = decimals_takes date.1 decimals b in
+        record {
+          digits = date_is.digits;
+          some = leb-true 1 decimals.0.0 tests.0;
+          decimals = decimals_is.below;
+          space = length decimals.1;
+          spelling = cc (date_is.spelling, decimals_is.text_is, are_blanks_takes decimals.1 tests.1);
+        })));
   }
-
-  -- the moment of a day whose date is judged so
-  timed_gives : (day : WrittenDay) → day.count ≤ 6 → (word : Result ℤ TimeFault) → IsDateVerdict day.date word → IsDayVerdict day (timed day word)
-  timed_gives day few (Ok number) h =
-      (few, h.0, h.1, record { ns = day.decimals * decimal_unit day.count; part = part_exact day.decimals day.count few; exact = ap (λ (n : ℤ). moment n (day.decimals * decimal_unit day.count)) h.2 }, refl)
-  timed_gives day few (Err Spelling) h = absurd h
-  timed_gives day few (Err Decimals) h = absurd h
-  timed_gives day few (Err Range) h = (few, h)
-  timed_gives day few (Err NoSuchDate) h = (few, h.0, h.1)
-
-  judge_day_gives : (day : WrittenDay) → IsDayVerdict day (judge_day day)
-  unfolding judge_day
-  judge_day_gives day =
-      elim (cases_lt 6 day.count) [
-        | inl many ↦ rw (lt-ltb 6 day.count many) many
-        | inr few ↦ rw (le-ltb 6 day.count few) (timed_gives day few (judge_date day.date) (judge_date_gives day.date))
-      ]
-
-  judges_days : IsJudge IsDayVerdict judge_day
-  judges_days = record { gives = judge_day_gives; only = judge_day_only }
 
   -- the computed answer to a text is an answer to it, and the only one
   pub day_answered : (text : List ℕ) → IsDayAnswer text (day_fraction_of text)
   unfolding day_fraction_of
-  day_answered text = reader_answers SpellsDay day_at IsDayVerdict judge_day Spelling reads_days judges_days text
+  day_answered text = it_answers SpellsDay day_at reads_days judge_day Spelling text
 
   pub day_answer_only : (text : List ℕ) (other : Result (ℤ × ℕ) TimeFault) → IsDayAnswer text other → other ≡ day_fraction_of text
-  unfolding day_fraction_of
-  day_answer_only text other h = one_answer SpellsDay day_at IsDayVerdict judge_day Spelling reads_days judges_days text other h
+  day_answer_only text other h = one_answer SpellsDay day_at reads_days judge_day Spelling text other (day_fraction_of text) h (day_answered text)

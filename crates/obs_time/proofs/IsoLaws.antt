@@ -1,265 +1,204 @@
 -- An ISO time that is written is read again, what is read is written so, and the judge gives the one verdict.
-use Rattle.std.proofs.Common.{arith, ◌≡◌, ℕ, ◌+◌, ◌*◌, ◌-◌, ◌^◌, ◌<◌, ◌≤◌, inl, inr, Bool, true, false, cond, eqb, ltb, List, [], ◌∷◌, ◌++◌, length, Option, Some, None, Result, Ok, Err, refl, ap, subst, ◌∙◌, ℤ}
-use Rattle.std.proofs.lemmas.Bool.{eqb-true, le-ltb, lt-ltb, cases_lt}
+use Rattle.std.proofs.Common.{◌≡◌, ℕ, ◌+◌, ◌*◌, ◌-◌, ◌^◌, inl, inr, Bool, true, false, ◌&&◌, cond, eqb, ltb, leb, List, [], ◌∷◌, length, Option, Some, None, Result, Ok, Err, refl, sym, ap, ◌∙◌, ℤ, arith, ◌↔◌, ◌<◌, ◌≤◌}
+use Rattle.std.proofs.lemmas.Bool.{eqb-true, leb-true, le-leb}
+use Rattle.std.proofs.lemmas.Bool.Decides.{nat_tests, Decides-and}
 use Rattle.std.proofs.lemmas.List.{nil_from_length}
-use Rattle.std.proofs.lemmas.Option.{same_Some}
 use Rattle.ascii_text.specs.declared.digits.Radix.TheVariants.{Ten}
-use Rattle.ascii_text.specs.Digits.{digits_text, decimals_text}
-use Rattle.ascii_text.specs.Reading.{bind_some, ◌>>=◌, digits_at, behind, decimals_at, decimals_within, at_most}
+use Rattle.ascii_text.specs.Reading.{◌>>=◌, digits_at, behind, decimals_at, decimals_within, at_most}
 use Rattle.ascii_text.specs.Judged.{IsReader, answer_of}
+use Rattle.ascii_text.specs.Answering.{it_answers, one_answer}
 use Rattle.obs_time.specs.declared.fault.TimeFault.{TimeFault}
-use Rattle.obs_time.specs.declared.fault.TimeFault.TheVariants.{Spelling, NoSuchDate, Range, Decimals}
+use Rattle.obs_time.specs.declared.fault.TimeFault.TheVariants.{Spelling, Decimals}
 use Rattle.obs_time.specs.Dates.{day_number, moment}
-use Rattle.obs_time.specs.DateText.{WrittenDate, HasDigits, date_text, date_at, judge_date, IsDateVerdict}
-use Rattle.obs_time.specs.IsoText.{WrittenClock, ClockHasDigits, WrittenIso, SpellsIso, IsTimeOfDay, IsIsoVerdict, IsIsoAnswer, clock_text, spelled_iso, clock_at, time_at, iso_at, iso_within, seconds_of, nanos_of_a_second, is_time_of_day, ns_of_iso, timed_iso, judge_iso, iso_of}
-use Rattle.obs_time.proofs.AnswerLaws.{IsJudge, reader_answers, one_answer}
-use Rattle.obs_time.proofs.Verdicts.{cases_of_test, judge_date_gives, judge_date_only}
-use Rattle.obs_time.proofs.DateLaws.{date_again, date_takes, guard_some}
-use Rattle.obs_time.proofs.IsoLemmas.{decimals_exact, decimals_are, time_of_day}
+use Rattle.obs_time.specs.DateText.{WrittenDate, HasDigits, date_text, date_at, judge_date, is_observed_year, date_exists}
+use Rattle.obs_time.specs.IsoText.{WrittenClock, ClockHasDigits, WrittenIso, SpellsIso, IsIsoVerdict, IsIsoAnswer, clock_text, clock_at, time_at, iso_at, iso_within, seconds_of, nanos_of_a_second, is_time_of_day, ns_of_iso, judge_iso, iso_of, IsTimeOfDay, clock_of}
+use Rattle.obs_time.proofs.Readings.{each, made, tested}
+use Rattle.obs_time.proofs.Verdicts.{word_of-date, one_verdict, observed_year, existing_date}
+use Rattle.obs_time.proofs.DateLaws.{date_again, date_takes}
+use Rattle.obs_time.proofs.DayLemmas.{decimals_exact, decimals_are, decimals_below}
 use Rattle.ascii_text.specs.Laws.{TextLaws}
+use Rattle.std.specs.Bool.{Decides}
+use Rattle.std.proofs.lemmas.Nat.{pow-add}
+use Rattle.obs_time.specs.Instants.{nanos_of_a_day, IsInstantNs}
+use Rattle.obs_time.proofs.YearLaws.{in_range}
 
-record TakesClock (clock : WrittenClock) (text rest : List ℕ) : Type 0 where
-  pub spelling : text ≡ clock_text clock rest
-  pub digits : ClockHasDigits clock
+-- ---- times of day
 
--- the parts of a time of day, one after another
-join_clock : (hour minute second : ℕ) (text a b c d rest : List ℕ) → text ≡ digits_text Ten 2 hour ++ a → a ≡ 58 ∷ b → b ≡ digits_text Ten 2 minute ++ c → c ≡ 58 ∷ d → d ≡ digits_text Ten 2 second ++ rest
-    → text ≡ clock_text (record { hour = hour; minute = minute; second = second }) rest
-join_clock hour minute second text a b c d rest ea eb ec ed ee = cc
+-- a second is a whole number of units of up to nine decimals
+pub second_in_units : (count : ℕ) → count ≤ 9 → 10 ^ (9 - count) * 10 ^ count ≡ nanos_of_a_second
+second_in_units count few =
+    let nine : 9 - count + count ≡ 9 = omega arith in
+    sym (pow-add 10 (9 - count) count) ∙ ap (λ (k : ℕ). 10 ^ k) nine
 
--- ---- a date and a time of day
+-- the test of a time of day
+pub time_of_day : (clock : WrittenClock) → Decides (is_time_of_day clock) (IsTimeOfDay clock)
+time_of_day clock = (
+  λ e. record { hour = grind (arith, nat_tests); minute = grind (arith, nat_tests); second = grind (arith, nat_tests) },
+  λ h. grind (arith, nat_tests, h.hour, h.minute, h.second),
+)
+
+-- a day has 86,400 seconds
+pub seconds_below : (clock : WrittenClock) → IsTimeOfDay clock → seconds_of clock < 86_400
+seconds_below clock is = omega (arith, is.hour, is.minute, is.second)
+
+-- the time of day after so many seconds, and how many they are
+pub seconds_of_clock : (seconds : ℕ) → seconds_of (clock_of seconds) ≡ seconds
+seconds_of_clock seconds = omega arith
+
+pub clock_in_day : (seconds : ℕ) → seconds < 86_400 → IsTimeOfDay (clock_of seconds)
+clock_in_day seconds below = record { hour = omega arith; minute = omega arith; second = omega arith }
+
+same_clock : (a b : WrittenClock) → a.hour ≡ b.hour → a.minute ≡ b.minute → a.second ≡ b.second → a ≡ b
+same_clock a b hour minute second =
+    ap (λ (h : ℕ). record { hour = h; minute = a.minute; second = a.second }) hour ∙ ap (λ (m : ℕ). record { hour = b.hour; minute = m; second = a.second }) minute ∙ ap (λ (s : ℕ). record { hour = b.hour; minute = b.minute; second = s }) second
+
+pub clock_of_seconds : (clock : WrittenClock) → IsTimeOfDay clock → clock ≡ clock_of (seconds_of clock)
+clock_of_seconds clock is =
+    same_clock clock (clock_of (seconds_of clock)) (omega (arith, is.minute, is.second)) (omega (arith, is.minute, is.second)) (omega (arith, is.second))
+
+-- ---- the judge
+
+pub iso_judged : (iso : WrittenIso) (answer : Result ℤ TimeFault) → IsIsoVerdict iso answer ↔ (answer ≡ judge_iso iso)
+unfolding judge_iso judge_date
+iso_judged iso answer =
+    let date = iso.date in
+    let number = day_number date.year date.month date.day in
+    let clock = is_time_of_day iso.clock in
+    let year = is_observed_year date.year in
+    one_verdict _ _ _ _ (leb iso.count 9) (clock && year) (date_exists date.year date.month date.day) (moment number (ns_of_iso iso))
+    (record {
+      few_tells = (leb-true iso.count 9, le-leb iso.count 9);
+      range_tells = Decides-and clock year (time_of_day iso.clock) (observed_year date.year);
+      exists_tells = λ range. existing_date date.year date.month date.day range.1;
+      right = λ few. record { ns = iso.decimals * 10 ^ (9 - iso.count); part = decimals_exact iso.decimals iso.count _ _ (second_in_units iso.count few); exact = refl };
+      only = λ few t is. is.exact ∙ ap (λ (n : ℕ). moment number (seconds_of iso.clock * nanos_of_a_second + n)) (decimals_are iso.decimals iso.count _ _ is.ns (second_in_units iso.count few) is.part);
+    })
+    (judge_iso iso) answer (word_of-date (λ (n : ℤ). moment n (ns_of_iso iso)) (leb iso.count 9) clock year (date_exists date.year date.month date.day) number)
+
+-- what is said of a text that spells an ISO time
+pub iso_said : (text : List ℕ) (t : ℤ) → IsIsoAnswer text (Ok t) → (iso : WrittenIso) × SpellsIso iso text × IsIsoVerdict iso (Ok t)
+iso_said text t (inl h) = (h.0, h.1, (iso_judged h.0 (Ok t)).1 h.2)
+iso_said text t (inr h) = absurd cc
+
+-- and it is a moment of the observed years
+pub iso_in_range : (text : List ℕ) (t : ℤ) → IsIsoAnswer text (Ok t) → IsInstantNs t
+iso_in_range text t answer =
+    let said = iso_said text t answer in
+    let iso = said.0 in
+    let is = said.2 in
+    let at = is.3 in
+    let units = second_in_units iso.count is.0 in
+    let part : at.ns < nanos_of_a_second = rw (decimals_are iso.decimals iso.count _ _ at.ns units at.part) (decimals_below iso.decimals iso.count _ _ units (omega arith) said.1.decimals) in
+    let below : seconds_of iso.clock * nanos_of_a_second + at.ns < nanos_of_a_day = omega (arith, seconds_below iso.clock is.1.0) in
+    in_range iso.date.year iso.date.month iso.date.day (seconds_of iso.clock * nanos_of_a_second + at.ns) t is.2 is.1.1 below at.exact
+
+-- ---- more than nine decimals, which aren't worked out
+
+-- the word on the parts that were read, with nothing in place of too many decimals
+abbrev pub word_within : Option ((WrittenDate × WrittenClock) × Option (ℕ × ℕ)) → Result ℤ TimeFault
+word_within None = Err Spelling
+word_within (Some parts) = elim parts.1 as (λ _. Result ℤ TimeFault) [
+  | None ↦ Err Decimals
+  | Some decimals ↦ judge_iso (record { date = parts.0.0; clock = parts.0.1; count = decimals.0; decimals = decimals.1 })
+]
+
+-- two words on what a step gives are one, where they are one on nothing and on each value of the step
+each_word : {A B C V : Type 0} (P : Option B → V) (Q : Option C → V) (o : Option A) (f : A → Option B) (g : A → Option C) → P None ≡ Q None → ((x : A) → P (f x) ≡ Q (g x)) → P (o >>= f) ≡ Q (o >>= g)
+each_word P Q None f g nothing h = nothing
+each_word P Q (Some x) f g nothing h = h x
+
+within_end : (ends : Bool) (time : WrittenDate × WrittenClock) (decimals : ℕ × ℕ) (many : Bool) → ltb 9 decimals.0 ≡ many
+    → word_within (cond ends (Some (time, cond many None (Some decimals))) None) ≡ answer_of judge_iso Spelling (cond ends (Some (record { date = time.0; clock = time.1; count = decimals.0; decimals = decimals.1 })) None)
+unfolding answer_of judge_iso
+within_end false time decimals many e = refl
+within_end true time decimals false e = refl
+within_end true time decimals true e = let test : leb decimals.0 9 ≡ false = grind (arith, nat_tests, e) in rw test refl
+
+within_decimals : (time : WrittenDate × WrittenClock) (o : Option ((ℕ × ℕ) × List ℕ))
+    → word_within ((o >>= at_most 9) >>= λ decimals. behind 90 decimals.1 >>= λ zone. cond (eqb (length zone) 0) (Some (time, decimals.0)) None)
+    ≡ answer_of judge_iso Spelling (o >>= λ decimals. behind 90 decimals.1 >>= λ zone. cond (eqb (length zone) 0) (Some (record { date = time.0; clock = time.1; count = decimals.0.0; decimals = decimals.0.1 })) None)
+unfolding answer_of
+within_decimals time None = refl
+within_decimals time (Some decimals) =
+    each_word word_within (answer_of judge_iso Spelling) (behind 90 decimals.1) _ _ refl (λ zone. within_end (eqb (length zone) 0) time decimals.0 (ltb 9 decimals.0.0) refl)
+
+-- the answer to a text, by what was read of it
+pub answer_read : (text : List ℕ) (read : Option ((WrittenDate × WrittenClock) × Option (ℕ × ℕ))) → read ≡ iso_within text → word_within read ≡ iso_of text
+unfolding iso_of iso_at iso_within decimals_within answer_of
+answer_read text read e = ap word_within e ∙ each_word word_within (answer_of judge_iso Spelling) (time_at text) _ _ refl (λ time. within_decimals time.0 (decimals_at time.1))
+
+-- ---- the reader
+
+record TakesClock (text : List ℕ) (x : WrittenClock × List ℕ) : Type 0 where
+  pub spelling : text ≡ clock_text x.0 x.1
+  pub digits : ClockHasDigits x.0
 
 abbrev time_text : WrittenDate × WrittenClock → List ℕ → List ℕ
 time_text time rest = date_text 45 time.0 (84 ∷ clock_text time.1 rest)
 
-record TakesTime (time : WrittenDate × WrittenClock) (text rest : List ℕ) : Type 0 where
-  pub spelling : text ≡ time_text time rest
-  pub date : HasDigits time.0
-  pub clock : ClockHasDigits time.1
-
--- the parts, one after another
-join_time : (time : WrittenDate × WrittenClock) (text a b rest : List ℕ) → text ≡ date_text 45 time.0 a → a ≡ 84 ∷ b → b ≡ clock_text time.1 rest → text ≡ time_text time rest
-join_time time text a b rest ea eb ec = ea ∙ ap (date_text 45 time.0) (eb ∙ ap (λ (t : List ℕ). 84 ∷ t) ec)
-
--- ---- the whole text
+record TakesTime (text : List ℕ) (x : (WrittenDate × WrittenClock) × List ℕ) : Type 0 where
+  pub spelling : text ≡ time_text x.0 x.1
+  pub date : HasDigits x.0.0
+  pub clock : ClockHasDigits x.0.1
 
 no_point : ◌≡◌ {A = ℕ} 90 46 → ⊥
-no_point e = omega (arith, e)
-
-join_iso : (iso : WrittenIso) (text a b c : List ℕ) → text ≡ time_text (iso.date, iso.clock) a → a ≡ decimals_text iso.count iso.decimals ++ b → b ≡ 90 ∷ c → c ≡ [] → text ≡ spelled_iso iso
-join_iso iso text a b c ea eb ec ed =
-    ea ∙ ap (time_text (iso.date, iso.clock)) (eb ∙ ap (λ (t : List ℕ). decimals_text iso.count iso.decimals ++ t) (ec ∙ ap (λ (t : List ℕ). 90 ∷ t) ed))
-
--- a verdict on a time of day in range comes from the judge's word on the date
-timed_only : (iso : WrittenIso) (word : Result ℤ TimeFault) → iso.count ≤ 9 → IsTimeOfDay iso.clock → word ≡ judge_date iso.date → (other : Result ℤ TimeFault) → other ≡ timed_iso iso word → other ≡ judge_iso iso
-unfolding judge_iso
-timed_only iso word few clock e other same = rw (le-ltb 9 iso.count few, (time_of_day iso.clock).1 clock, ← e) same
-
-pub many_decimals : (iso : WrittenIso) → 9 < iso.count → Err Decimals ≡ judge_iso iso
-unfolding judge_iso
-many_decimals iso many = rw (lt-ltb 9 iso.count many) refl
-
-clock_out : (iso : WrittenIso) → iso.count ≤ 9 → is_time_of_day iso.clock ≡ false → Err Range ≡ judge_iso iso
-unfolding judge_iso
-clock_out iso few out = rw (le-ltb 9 iso.count few, out) refl
-
-judge_iso_only : (iso : WrittenIso) (other : Result ℤ TimeFault) → IsIsoVerdict iso other → other ≡ judge_iso iso
-judge_iso_only iso (Ok t) h =
-    let number = day_number iso.date.year iso.date.month iso.date.day in
-    let ns : h.4.ns ≡ iso.decimals * 10 ^ (9 - iso.count) = decimals_are iso.decimals iso.count h.4.ns h.0 h.4.part in
-    let exact : t ≡ moment number (ns_of_iso iso) = h.4.exact ∙ ap (λ (n : ℕ). moment number (seconds_of iso.clock * nanos_of_a_second + n)) ns in
-    timed_only iso (Ok number) h.0 h.2 (judge_date_only iso.date (Ok number) (h.1, h.3, refl)) (Ok t) (ap (λ (n : ℤ). Ok n) exact)
-judge_iso_only iso (Err Spelling) h = absurd h
-judge_iso_only iso (Err Decimals) h = many_decimals iso h
-judge_iso_only iso (Err Range) h =
-    elim (cases_of_test (is_time_of_day iso.clock) (IsTimeOfDay iso.clock) (time_of_day iso.clock)) [
-      | inl stands ↦ timed_only iso (Err Range) h.0 stands.1 (judge_date_only iso.date (Err Range) (λ year. h.1 (year, stands.1))) (Err Range) refl
-      | inr fails ↦ clock_out iso h.0 fails.0
-    ]
-judge_iso_only iso (Err NoSuchDate) h = timed_only iso (Err NoSuchDate) h.0 h.2 (judge_date_only iso.date (Err NoSuchDate) (h.1, h.3)) (Err NoSuchDate) refl
-
--- ---- more than nine decimals, which aren't worked out
-
-abbrev within : WrittenIso → (WrittenDate × WrittenClock) × Option (ℕ × ℕ)
-within iso = ((iso.date, iso.clock), cond (ltb 9 iso.count) None (Some (iso.count, iso.decimals)))
-
-within_end : (b : Bool) (iso : WrittenIso) → cond b (Some (within iso)) None ≡ (cond b (Some iso) None >>= λ i. Some (within i))
-within_end true iso = refl
-within_end false iso = refl
-
-nothing_read : (o : Option WrittenIso) → None ≡ (o >>= λ i. Some (within i)) → Err Spelling ≡ answer_of judge_iso Spelling o
-unfolding answer_of
-nothing_read None e = refl
-nothing_read (Some iso) e = absurd cc
-
-too_many : (b : Bool) (found : ℕ × ℕ) → None ≡ cond b None (Some found) → b ≡ true
-too_many true found e = refl
-too_many false found e = absurd cc
-
-many_read : (time : WrittenDate × WrittenClock) (o : Option WrittenIso) → Some (time, None) ≡ (o >>= λ i. Some (within i)) → Err Decimals ≡ answer_of judge_iso Spelling o
-unfolding answer_of judge_iso
-many_read time None e = absurd cc
-many_read time (Some iso) e =
-    let none : None ≡ cond (ltb 9 iso.count) None (Some (iso.count, iso.decimals)) = ap (λ (x : (WrittenDate × WrittenClock) × Option (ℕ × ℕ)). x.1) (same_Some (time, None) (within iso) e) in
-    let many : ltb 9 iso.count ≡ true = too_many (ltb 9 iso.count) (iso.count, iso.decimals) none in
-    rw many refl
-
--- few decimals, and not too many
-few_found : (b : Bool) (few found : ℕ × ℕ) → Some few ≡ cond b None (Some found) → few ≡ found
-few_found true few found e = absurd cc
-few_found false few found e = same_Some few found e
+no_point e = cc
 
 module _ (texts : TextLaws) where
   open texts use {digits_again, digits_takes, behind-cons, behind_takes, decimals_again, decimals_takes, digit_run-other}
-
-  -- ---- a time of day
 
   clock_again : (clock : WrittenClock) (rest : List ℕ) → ClockHasDigits clock → clock_at (clock_text clock rest) ≡ Some (clock, rest)
   unfolding clock_at
   clock_again clock rest digits =
       rw (digits_again Ten 2 clock.hour _ digits.hour, behind-cons 58 _, digits_again Ten 2 clock.minute _ digits.minute, behind-cons 58 _, digits_again Ten 2 clock.second rest digits.second) refl
 
-  clock_takes : (text : List ℕ) (x : WrittenClock × List ℕ) → clock_at text ≡ Some x → TakesClock x.0 text x.1
+  clock_takes : (text : List ℕ) (x : WrittenClock × List ℕ) → clock_at text ≡ Some x → TakesClock text x
   unfolding clock_at
-  clock_takes text x read =
-      let a = bind_some (digits_at Ten 2 text) (λ hour. behind 58 hour.1 >>= λ minutes. digits_at Ten 2 minutes >>= λ minute. behind 58 minute.1 >>= λ seconds. digits_at Ten 2 seconds >>= λ second. Some (record { hour = hour.0; minute = minute.0; second = second.0 }, second.1)) x read in
-      let b = bind_some (behind 58 a.0.1) (λ minutes. digits_at Ten 2 minutes >>= λ minute. behind 58 minute.1 >>= λ seconds. digits_at Ten 2 seconds >>= λ second. Some (record { hour = a.0.0; minute = minute.0; second = second.0 }, second.1)) x a.2 in
-      let c = bind_some (digits_at Ten 2 b.0) (λ minute. behind 58 minute.1 >>= λ seconds. digits_at Ten 2 seconds >>= λ second. Some (record { hour = a.0.0; minute = minute.0; second = second.0 }, second.1)) x b.2 in
-      let d = bind_some (behind 58 c.0.1) (λ seconds. digits_at Ten 2 seconds >>= λ second. Some (record { hour = a.0.0; minute = c.0.0; second = second.0 }, second.1)) x c.2 in
-      let e = bind_some (digits_at Ten 2 d.0) (λ second. Some (record { hour = a.0.0; minute = c.0.0; second = second.0 }, second.1)) x d.2 in
-      let hour = digits_takes Ten 2 text a.0.0 a.0.1 a.1 in
-      let minutes = behind_takes 58 a.0.1 b.0 b.1 in
-      let minute = digits_takes Ten 2 b.0 c.0.0 c.0.1 c.1 in
-      let seconds = behind_takes 58 c.0.1 d.0 d.1 in
-      let second = digits_takes Ten 2 d.0 e.0.0 e.0.1 e.1 in
-      let made : WrittenClock × List ℕ = (record { hour = a.0.0; minute = c.0.0; second = e.0.0 }, e.0.1) in
-      let taken : TakesClock made.0 text made.1 = record {
-        spelling = join_clock a.0.0 c.0.0 e.0.0 text a.0.1 b.0 c.0.1 d.0 e.0.1 hour.0 minutes minute.0 seconds second.0;
-        digits = record { hour = hour.1; minute = minute.1; second = second.1 };
-      } in
-      subst (λ (y : WrittenClock × List ℕ). TakesClock y.0 text y.1) {x = made} (same_Some made x e.2) taken
+  clock_takes text =
+      each (digits_at Ten 2 text) _ _ (λ hour a. each (behind 58 hour.1) _ _ (λ minutes b. each (digits_at Ten 2 minutes) _ _ (λ minute c.
+      each (behind 58 minute.1) _ _ (λ seconds d. each (digits_at Ten 2 seconds) _ _ (λ second e.
+      let hour_is = digits_takes Ten 2 text hour.0 hour.1 a in
+      let minute_is = digits_takes Ten 2 minutes minute.0 minute.1 c in
+      let second_is = digits_takes Ten 2 seconds second.0 second.1 e in
+      made _ _ (record {
+        spelling = cc (hour_is.0, behind_takes 58 hour.1 minutes b, minute_is.0, behind_takes 58 minute.1 seconds d, second_is.0);
+        digits = record { hour = hour_is.1; minute = minute_is.1; second = second_is.1 };
+      }))))))
 
-  time_again : (time : WrittenDate × WrittenClock) (rest : List ℕ) → HasDigits time.0 → ClockHasDigits time.1 → time_at (time_text time rest) ≡ Some (time, rest)
+  time_takes : (text : List ℕ) (x : (WrittenDate × WrittenClock) × List ℕ) → time_at text ≡ Some x → TakesTime text x
   unfolding time_at
-  time_again time rest date clock =
-      rw (date_again texts 45 time.0 _ date, behind-cons 84 _, clock_again time.1 rest clock) refl
-
-  time_takes : (text : List ℕ) (x : (WrittenDate × WrittenClock) × List ℕ) → time_at text ≡ Some x → TakesTime x.0 text x.1
-  unfolding time_at
-  time_takes text x read =
-      let a = bind_some (date_at 45 text) (λ date. behind 84 date.1 >>= λ clocks. clock_at clocks >>= λ clock. Some ((date.0, clock.0), clock.1)) x read in
-      let b = bind_some (behind 84 a.0.1) (λ clocks. clock_at clocks >>= λ clock. Some ((a.0.0, clock.0), clock.1)) x a.2 in
-      let c = bind_some (clock_at b.0) (λ clock. Some ((a.0.0, clock.0), clock.1)) x b.2 in
-      let date = date_takes texts 45 text a.0 a.1 in
-      let clock = clock_takes b.0 c.0 c.1 in
-      let made : (WrittenDate × WrittenClock) × List ℕ = ((a.0.0, c.0.0), c.0.1) in
-      let taken : TakesTime made.0 text made.1 = record {
-        spelling = join_time made.0 text a.0.1 b.0 c.0.1 date.spelling (behind_takes 84 a.0.1 b.0 b.1) clock.spelling;
-        date = date.digits;
-        clock = clock.digits;
-      } in
-      subst (λ (y : (WrittenDate × WrittenClock) × List ℕ). TakesTime y.0 text y.1) {x = made} (same_Some made x c.2) taken
+  time_takes text =
+      each (date_at 45 text) _ _ (λ date a. each (behind 84 date.1) _ _ (λ clocks b. each (clock_at clocks) _ _ (λ clock c.
+      let date_is = date_takes texts 45 text date a in
+      let clock_is = clock_takes clocks clock c in
+      made _ _ (record {
+        spelling = cc (date_is.spelling, behind_takes 84 date.1 clocks b, clock_is.spelling);
+        date = date_is.digits;
+        clock = clock_is.digits;
+      }))))
 
   -- the reader of `YYYY-MM-DDThh:mm:ss.dZ`
   pub reads_isos : IsReader SpellsIso iso_at
-  unfolding iso_at
+  unfolding iso_at time_at
   reads_isos = record {
     again = λ iso text spelled.
-        rw (spelled.spelling, time_again (iso.date, iso.clock) _ spelled.date spelled.clock, decimals_again iso.count iso.decimals (90 ∷ []) spelled.decimals (digit_run-other 90 [] refl) no_point, behind-cons 90 []) refl;
-    takes = λ text iso read.
-        let a = bind_some (time_at text) (λ time. decimals_at time.1 >>= λ decimals. behind 90 decimals.1 >>= λ zone. cond (eqb (length zone) 0) (Some (record { date = time.0.0; clock = time.0.1; count = decimals.0.0; decimals = decimals.0.1 })) None) iso read in
-        let b = bind_some (decimals_at a.0.1) (λ decimals. behind 90 decimals.1 >>= λ zone. cond (eqb (length zone) 0) (Some (record { date = a.0.0.0; clock = a.0.0.1; count = decimals.0.0; decimals = decimals.0.1 })) None) iso a.2 in
-        let made : WrittenIso = record { date = a.0.0.0; clock = a.0.0.1; count = b.0.0.0; decimals = b.0.0.1 } in
-        let c = bind_some (behind 90 b.0.1) (λ zone. cond (eqb (length zone) 0) (Some made) None) iso b.2 in
-        let g = guard_some (eqb (length c.0) 0) made iso c.2 in
-        let time = time_takes text a.0 a.1 in
-        let decimals = decimals_takes a.0.1 b.0 b.1 in
-        let spelled : SpellsIso made text = record {
-          date = time.date;
-          clock = time.clock;
-          decimals = decimals.below;
-          spelling = join_iso made text a.0.1 b.0.1 c.0 time.spelling decimals.text_is (behind_takes 90 b.0.1 c.0 c.1) (nil_from_length c.0 (eqb-true (length c.0) 0 g.0));
-        } in
-        subst (λ (i : WrittenIso). SpellsIso i text) {x = made} g.1 spelled;
+        rw (spelled.spelling, date_again texts 45 iso.date _ spelled.date, behind-cons 84 _, clock_again iso.clock _ spelled.clock, decimals_again iso.count iso.decimals (90 ∷ []) spelled.decimals (digit_run-other 90 [] refl) no_point, behind-cons 90 []) refl;
+    takes = λ text. each (time_at text) _ _ (λ time a. each (decimals_at time.1) _ _ (λ decimals b. each (behind 90 decimals.1) _ _ (λ zone c. tested (eqb (length zone) 0) _ _ (λ d.
+        let time_is = time_takes text time a in
+        let decimals_is = decimals_takes time.1 decimals b in
+        let ended = nil_from_length zone (eqb-true _ _ d) in
+        record {
+          date = time_is.date;
+          clock = time_is.clock;
+          decimals = decimals_is.below;
+          spelling = cc (time_is.spelling, decimals_is.text_is, behind_takes 90 decimals.1 zone c, ended);
+        }))));
   }
-
-  -- ---- the judge
-
-  timed_gives : (iso : WrittenIso) → iso.count ≤ 9 → IsTimeOfDay iso.clock → (word : Result ℤ TimeFault) → IsDateVerdict iso.date word → IsIsoVerdict iso (timed_iso iso word)
-  timed_gives iso few clock (Ok number) h =
-      (few, h.0, clock, h.1, record { ns = iso.decimals * 10 ^ (9 - iso.count); part = decimals_exact iso.decimals iso.count few; exact = ap (λ (n : ℤ). moment n (ns_of_iso iso)) h.2 })
-  timed_gives iso few clock (Err Spelling) h = absurd h
-  timed_gives iso few clock (Err Decimals) h = absurd h
-  timed_gives iso few clock (Err Range) h = (few, λ both. h both.0)
-  timed_gives iso few clock (Err NoSuchDate) h = (few, h.0, clock, h.1)
-
-  judge_iso_gives : (iso : WrittenIso) → IsIsoVerdict iso (judge_iso iso)
-  unfolding judge_iso
-  judge_iso_gives iso =
-      elim (cases_lt 9 iso.count) [
-        | inl many ↦ rw (lt-ltb 9 iso.count many) many
-        | inr few ↦ elim (cases_of_test (is_time_of_day iso.clock) (IsTimeOfDay iso.clock) (time_of_day iso.clock)) [
-          | inl stands ↦ rw (le-ltb 9 iso.count few, stands.0) (timed_gives iso few stands.1 (judge_date iso.date) (judge_date_gives iso.date))
-          | inr fails ↦ rw (le-ltb 9 iso.count few, fails.0) (few, λ both. fails.1 both.1)
-        ]
-      ]
-
-  judges_isos : IsJudge IsIsoVerdict judge_iso
-  judges_isos = record { gives = judge_iso_gives; only = judge_iso_only }
 
   -- the computed answer to a text is an answer to it, and the only one
   pub iso_answered : (text : List ℕ) → IsIsoAnswer text (iso_of text)
   unfolding iso_of
-  iso_answered text = reader_answers SpellsIso iso_at IsIsoVerdict judge_iso Spelling reads_isos judges_isos text
+  iso_answered text = it_answers SpellsIso iso_at reads_isos judge_iso Spelling text
 
   pub iso_answer_only : (text : List ℕ) (other : Result ℤ TimeFault) → IsIsoAnswer text other → other ≡ iso_of text
-  unfolding iso_of
-  iso_answer_only text other h = one_answer SpellsIso iso_at IsIsoVerdict judge_iso Spelling reads_isos judges_isos text other h
-
-  abbrev end_of : (WrittenDate × WrittenClock) → (ℕ × ℕ) → List ℕ → Option WrittenIso
-  end_of time decimals zone = cond (eqb (length zone) 0) (Some (record { date = time.0; clock = time.1; count = decimals.0; decimals = decimals.1 })) None
-
-  within_zone : (time : WrittenDate × WrittenClock) (decimals : ℕ × ℕ) (o : Option (List ℕ))
-      → (o >>= λ zone. cond (eqb (length zone) 0) (Some (time, cond (ltb 9 decimals.0) None (Some decimals))) None) ≡ ((o >>= end_of time decimals) >>= λ i. Some (within i))
-  within_zone time decimals None = refl
-  within_zone time decimals (Some zone) = within_end (eqb (length zone) 0) (record { date = time.0; clock = time.1; count = decimals.0; decimals = decimals.1 })
-
-  within_decimals : (time : WrittenDate × WrittenClock) (o : Option ((ℕ × ℕ) × List ℕ))
-      → ((o >>= at_most 9) >>= λ decimals. behind 90 decimals.1 >>= λ zone. cond (eqb (length zone) 0) (Some (time, decimals.0)) None) ≡ ((o >>= λ decimals. behind 90 decimals.1 >>= end_of time decimals.0) >>= λ i. Some (within i))
-  within_decimals time None = refl
-  within_decimals time (Some decimals) = within_zone time decimals.0 (behind 90 decimals.1)
-
-  within_time : (o : Option ((WrittenDate × WrittenClock) × List ℕ))
-      → (o >>= λ time. decimals_within 9 time.1 >>= λ decimals. behind 90 decimals.1 >>= λ zone. cond (eqb (length zone) 0) (Some (time.0, decimals.0)) None)
-      ≡ ((o >>= λ time. decimals_at time.1 >>= λ decimals. behind 90 decimals.1 >>= end_of time.0 decimals.0) >>= λ i. Some (within i))
-  unfolding decimals_within
-  within_time None = refl
-  within_time (Some time) = within_decimals time.0 (decimals_at time.1)
-
-  iso_within_is : (text : List ℕ) → iso_within text ≡ (iso_at text >>= λ i. Some (within i))
-  unfolding iso_within iso_at
-  iso_within_is text = within_time (time_at text)
-
-  -- the answer to a text that spells nothing
-  pub answer_none : (text : List ℕ) → None ≡ iso_within text → Err Spelling ≡ iso_of text
-  unfolding iso_of
-  answer_none text e = nothing_read (iso_at text) (e ∙ iso_within_is text)
-
-  -- to one with more than nine decimals
-  pub answer_many : (text : List ℕ) (time : WrittenDate × WrittenClock) → Some (time, None) ≡ iso_within text → Err Decimals ≡ iso_of text
-  unfolding iso_of
-  answer_many text time e = many_read time (iso_at text) (e ∙ iso_within_is text)
-
-  few_read : (iso : WrittenIso) (o : Option WrittenIso) → Some ((iso.date, iso.clock), Some (iso.count, iso.decimals)) ≡ (o >>= λ i. Some (within i)) → judge_iso iso ≡ answer_of judge_iso Spelling o
-  unfolding answer_of
-  few_read iso None e = absurd cc
-  few_read iso (Some other) e =
-      let parts = same_Some ((iso.date, iso.clock), Some (iso.count, iso.decimals)) (within other) e in
-      let time : (iso.date, iso.clock) ≡ (other.date, other.clock) = ap (λ (x : (WrittenDate × WrittenClock) × Option (ℕ × ℕ)). x.0) parts in
-      let decimals = few_found (ltb 9 other.count) (iso.count, iso.decimals) (other.count, other.decimals) (ap (λ (x : (WrittenDate × WrittenClock) × Option (ℕ × ℕ)). x.1) parts) in
-      ap judge_iso (ap (λ (t : WrittenDate × WrittenClock). record { date = t.0; clock = t.1; count = iso.count; decimals = iso.decimals }) time ∙ ap (λ (d : ℕ × ℕ). record { date = other.date; clock = other.clock; count = d.0; decimals = d.1 }) decimals)
-
-  -- and to one with at most nine
-  pub answer_few : (text : List ℕ) (iso : WrittenIso) → Some ((iso.date, iso.clock), Some (iso.count, iso.decimals)) ≡ iso_within text → judge_iso iso ≡ iso_of text
-  unfolding iso_of
-  answer_few text iso e = few_read iso (iso_at text) (e ∙ iso_within_is text)
+  iso_answer_only text other h = one_answer SpellsIso iso_at reads_isos judge_iso Spelling text other (iso_of text) h (iso_answered text)

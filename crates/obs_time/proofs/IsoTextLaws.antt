@@ -1,21 +1,20 @@
 -- The text of a moment: its numbers are the only ones with nine decimals that stand for it.
-use Rattle.std.proofs.Common.{arith, ◌≡◌, ℕ, ◌+◌, ◌*◌, ◌-◌, ◌/◌, ◌%◌, ◌^◌, ◌<◌, inl, inr, List, length, refl, sym, ap, subst, ◌∙◌, ℤ, length-append}
-use Rattle.std.specs.Prelude.{Result, Ok, Err}
+use Rattle.std.proofs.Common.{arith, ◌≡◌, ℕ, ◌+◌, ◌*◌, ◌-◌, ◌/◌, ◌%◌, ◌^◌, ◌<◌, inl, List, length, refl, sym, ap, subst, ◌∙◌, ℤ, length-append}
+use Rattle.std.specs.Prelude.{Ok}
 use Rattle.std.proofs.lemmas.Nat.{div-mul-add, mod-mul-add, div-add-mod'}
 use Rattle.ascii_text.specs.Digits.{decimals_width}
 use Rattle.obs_time.specs.declared.civil.Civil.{Civil}
-use Rattle.obs_time.specs.declared.fault.TimeFault.{TimeFault}
-use Rattle.obs_time.specs.declared.fault.TimeFault.TheVariants.{Spelling}
 use Rattle.obs_time.specs.Instants.{nanos_of_a_day}
-use Rattle.obs_time.specs.Dates.{DateExists, IsObservedYear, IsCivilOf, day_number, day_of, ns_of_day, moment}
+use Rattle.obs_time.specs.Dates.{IsObservedYear, IsCivilOf, day_number, day_of, ns_of_day, moment}
 use Rattle.obs_time.specs.DateText.{WrittenDate}
 use Rattle.obs_time.specs.Calendar.{date_of_day}
 use Rattle.obs_time.specs.Written.{date_part}
-use Rattle.obs_time.specs.IsoText.{WrittenClock, WrittenIso, SpellsIso, IsTimeOfDay, IsIsoAnswer, spelled_iso, seconds_of, nanos_of_a_second, clock_of, iso_numbers, iso_text, iso_of}
+use Rattle.obs_time.specs.IsoText.{WrittenClock, WrittenIso, SpellsIso, IsIsoVerdict, spelled_iso, seconds_of, nanos_of_a_second, clock_of, iso_numbers, iso_text, iso_of}
 use Rattle.obs_time.proofs.CalendarLaws.{date_of_day_number, day_of_moment, ns_of_moment}
-use Rattle.obs_time.proofs.WritingLaws.{digits_of_date}
-use Rattle.obs_time.proofs.IsoLemmas.{decimals_are, seconds_below, seconds_of_clock, clock_in_day, clock_of_seconds}
-use Rattle.obs_time.proofs.IsoLaws.{iso_answered, iso_answer_only}
+use Rattle.obs_time.proofs.TextLaws.{digits_of_date}
+use Rattle.obs_time.proofs.DayLemmas.{decimals_are}
+use Rattle.obs_time.proofs.IsoLaws.{second_in_units, seconds_below, seconds_of_clock, clock_in_day, clock_of_seconds}
+use Rattle.obs_time.proofs.IsoLaws.{iso_judged, iso_said, iso_answered, iso_answer_only}
 use Rattle.ascii_text.specs.Laws.{TextLaws}
 
 same_numbers : (a b : WrittenIso) → a.date ≡ b.date → a.clock ≡ b.clock → a.count ≡ b.count → a.decimals ≡ b.decimals → a ≡ b
@@ -25,60 +24,47 @@ same_numbers a b date clock count decimals =
     ∙ ap (λ (k : ℕ). record { date = b.date; clock = b.clock; count = k; decimals = a.decimals }) count
     ∙ ap (λ (k : ℕ). record { date = b.date; clock = b.clock; count = b.count; decimals = k }) decimals
 
--- the numbers stand for a moment of an observed year, with nine decimals
-record StandFor (iso : WrittenIso) (t : ℤ) : Type 0 where
-  pub exists : DateExists iso.date.year iso.date.month iso.date.day
-  pub year : IsObservedYear iso.date.year
-  pub clock : IsTimeOfDay iso.clock
-  pub count : iso.count ≡ 9
-  pub decimals : iso.decimals < nanos_of_a_second
-  pub exact : t ≡ moment (day_number iso.date.year iso.date.month iso.date.day) (seconds_of iso.clock * nanos_of_a_second + iso.decimals)
-
-numbers_are : (iso : WrittenIso) (t : ℤ) → StandFor iso t → iso ≡ iso_numbers t
+-- nine decimals that stand for a moment of an observed year are its numbers
+numbers_are : (iso : WrittenIso) (t : ℤ) → IsIsoVerdict iso (Ok t) → iso.count ≡ 9 → iso.decimals < 10 ^ iso.count → iso ≡ iso_numbers t
 unfolding iso_numbers
-numbers_are iso t is =
+numbers_are iso t is count below =
+    let at = is.3 in
     let number = day_number iso.date.year iso.date.month iso.date.day in
     let seconds = seconds_of iso.clock in
-    let below : seconds * nanos_of_a_second + iso.decimals < nanos_of_a_day = omega (arith, seconds_below iso.clock is.clock, is.decimals) in
-    let day : day_of t ≡ number = ap day_of is.exact ∙ day_of_moment number (seconds * nanos_of_a_second + iso.decimals) below in
-    let ns : ns_of_day t ≡ seconds * nanos_of_a_second + iso.decimals = ap ns_of_day is.exact ∙ ns_of_moment number (seconds * nanos_of_a_second + iso.decimals) below in
-    let whole : ns_of_day t / nanos_of_a_second ≡ seconds = ap (λ (n : ℕ). n / nanos_of_a_second) ns ∙ div-mul-add seconds nanos_of_a_second iso.decimals is.decimals in
-    let part : ns_of_day t % nanos_of_a_second ≡ iso.decimals = ap (λ (n : ℕ). n % nanos_of_a_second) ns ∙ mod-mul-add seconds nanos_of_a_second iso.decimals is.decimals in
+    let decimals : iso.decimals < nanos_of_a_second = subst (λ (k : ℕ). iso.decimals < 10 ^ k) count below in
+    let part : at.ns ≡ iso.decimals = decimals_are iso.decimals iso.count _ _ at.ns (second_in_units iso.count is.0) at.part ∙ ap (λ (k : ℕ). iso.decimals * 10 ^ (9 - k)) count ∙ omega arith in
+    let exact : t ≡ moment number (seconds * nanos_of_a_second + iso.decimals) = at.exact ∙ ap (λ (n : ℕ). moment number (seconds * nanos_of_a_second + n)) part in
+    let within : seconds * nanos_of_a_second + iso.decimals < nanos_of_a_day = omega (arith, seconds_below iso.clock is.1.0) in
+    let day : day_of t ≡ number = ap day_of exact ∙ day_of_moment number (seconds * nanos_of_a_second + iso.decimals) within in
+    let ns : ns_of_day t ≡ seconds * nanos_of_a_second + iso.decimals = ap ns_of_day exact ∙ ns_of_moment number (seconds * nanos_of_a_second + iso.decimals) within in
+    let whole : ns_of_day t / nanos_of_a_second ≡ seconds = ap (λ (n : ℕ). n / nanos_of_a_second) ns ∙ div-mul-add seconds nanos_of_a_second iso.decimals decimals in
+    let rest : ns_of_day t % nanos_of_a_second ≡ iso.decimals = ap (λ (n : ℕ). n % nanos_of_a_second) ns ∙ mod-mul-add seconds nanos_of_a_second iso.decimals decimals in
     same_numbers iso (record { date = date_of_day (day_of t); clock = clock_of (ns_of_day t / nanos_of_a_second); count = 9; decimals = ns_of_day t % nanos_of_a_second })
-    (date_of_day_number iso.date is.exists (omega (arith, is.year.0)) (omega (arith, is.year.1)) ∙ ap date_of_day (sym day))
-    (clock_of_seconds iso.clock is.clock ∙ ap clock_of (sym whole))
-    is.count
-    (sym part)
+    (date_of_day_number iso.date is.2 (omega (arith, is.1.1.0)) (omega (arith, is.1.1.1)) ∙ ap date_of_day (sym day))
+    (clock_of_seconds iso.clock is.1.0 ∙ ap clock_of (sym whole))
+    count
+    (sym rest)
 
 -- ---- the numbers that are written
 
 abbrev pub civil_numbers : Civil → WrittenIso
 civil_numbers civil = record { date = date_part civil; clock = clock_of (civil.ns_of_day / nanos_of_a_second); count = 9; decimals = civil.ns_of_day % nanos_of_a_second }
 
-civil_stands : (t : ℤ) (civil : Civil) → IsCivilOf t civil → IsObservedYear civil.year → StandFor (civil_numbers civil) t
+civil_stands : (t : ℤ) (civil : Civil) → IsCivilOf t civil → IsObservedYear civil.year → IsIsoVerdict (civil_numbers civil) (Ok t)
 civil_stands t civil is year =
     let seconds = civil.ns_of_day / nanos_of_a_second in
     let below : seconds < 86_400 = omega (arith, is.time) in
     let ns : seconds_of (clock_of seconds) * nanos_of_a_second + civil.ns_of_day % nanos_of_a_second ≡ civil.ns_of_day =
     ap (λ (s : ℕ). s * nanos_of_a_second + civil.ns_of_day % nanos_of_a_second) (seconds_of_clock seconds) ∙ div-add-mod' civil.ns_of_day nanos_of_a_second in
-    record {
-      exists = is.date;
-      year = year;
-      clock = clock_in_day seconds below;
-      count = refl;
-      decimals = omega arith;
-      exact = is.exact ∙ ap (λ (n : ℕ). moment (day_number civil.year civil.month civil.day) n) (sym ns);
-    }
+    let exact = is.exact ∙ ap (moment (day_number civil.year civil.month civil.day)) (sym ns) in
+    (omega arith, (clock_in_day seconds below, year), is.date, record { ns = civil.ns_of_day % nanos_of_a_second; part = refl; exact = exact })
 
 pub civil_text : (t : ℤ) (civil : Civil) → IsCivilOf t civil → IsObservedYear civil.year → spelled_iso (civil_numbers civil) ≡ iso_text t
 unfolding iso_text
-civil_text t civil is year = ap spelled_iso (numbers_are (civil_numbers civil) t (civil_stands t civil is year))
+civil_text t civil is year = ap spelled_iso (numbers_are (civil_numbers civil) t (civil_stands t civil is year) refl (omega arith))
 
 nine_wide : (count : ℕ) → decimals_width count ≡ 10 → count ≡ 9
 nine_wide count wide = grind arith
-
-ok_is_no_err : (t : ℤ) → ◌≡◌ {A = Result ℤ TimeFault} (Ok t) (Err Spelling) → ⊥
-ok_is_no_err t e = cc
 
 module _ (texts : TextLaws) where
   open texts use {length-digits_text, length-decimals_text}
@@ -90,11 +76,11 @@ module _ (texts : TextLaws) where
       let stands = civil_stands t civil is year in
       let spelled : SpellsIso iso (spelled_iso iso) = record {
         date = digits_of_date civil.year civil.month civil.day (omega (arith, year.1)) is.date;
-        clock = record { hour = omega (arith, stands.clock.hour); minute = omega (arith, stands.clock.minute); second = omega (arith, stands.clock.second) };
-        decimals = omega (arith, stands.decimals);
+        clock = record { hour = omega (arith, stands.1.0.hour); minute = omega (arith, stands.1.0.minute); second = omega (arith, stands.1.0.second) };
+        decimals = omega arith;
         spelling = refl;
       } in
-      sym (iso_answer_only texts (spelled_iso iso) (Ok t) (inl (iso, spelled, (omega arith, year, stands.clock, is.date, record { ns = iso.decimals; part = refl; exact = stands.exact }))))
+      sym (iso_answer_only texts (spelled_iso iso) (Ok t) (inl (iso, spelled, (iso_judged iso (Ok t)).0 stands)))
 
   -- ---- a text that was read
 
@@ -102,19 +88,12 @@ module _ (texts : TextLaws) where
   length-spelled_iso : (iso : WrittenIso) → length (spelled_iso iso) ≡ 20 + decimals_width iso.count
   length-spelled_iso iso = simp (length-append, length-digits_text, length-decimals_text) (omega arith)
 
-  answered_text : (t : ℤ) (text : List ℕ) → length text ≡ 30 → IsIsoAnswer text (Ok t) → text ≡ iso_text t
-  unfolding iso_text
-  answered_text t text len (inl h) =
-      let iso = h.0 in
-      let spelled = h.1 in
-      let verdict = h.2 in
-      let count : iso.count ≡ 9 = nine_wide iso.count (omega (arith, len, ap length spelled.spelling, length-spelled_iso iso)) in
-      let decimals : iso.decimals < nanos_of_a_second = subst (λ (k : ℕ). iso.decimals < 10 ^ k) count spelled.decimals in
-      let ns : verdict.4.ns ≡ iso.decimals = decimals_are iso.decimals iso.count verdict.4.ns verdict.0 verdict.4.part ∙ ap (λ (k : ℕ). iso.decimals * 10 ^ (9 - k)) count ∙ omega arith in
-      let exact = verdict.4.exact ∙ ap (λ (n : ℕ). moment (day_number iso.date.year iso.date.month iso.date.day) (seconds_of iso.clock * nanos_of_a_second + n)) ns in
-      spelled.spelling ∙ ap spelled_iso (numbers_are iso t (record { exists = verdict.3; year = verdict.1; clock = verdict.2; count = count; decimals = decimals; exact = exact }))
-  answered_text t text len (inr h) = absurd (ok_is_no_err t h.1)
-
   -- a text with nine decimals that is read as a moment is the moment's text
   pub text_is_its : (t : ℤ) (text : List ℕ) → length text ≡ 30 → iso_of text ≡ Ok t → text ≡ iso_text t
-  text_is_its t text len read = answered_text t text len (subst (λ (r : Result ℤ TimeFault). IsIsoAnswer text r) read (iso_answered texts text))
+  unfolding iso_text
+  text_is_its t text len read =
+      let said = iso_said text t (rw read at (iso_answered texts text)) in
+      let iso = said.0 in
+      let spelled = said.1 in
+      let count : iso.count ≡ 9 = nine_wide iso.count (omega (arith, len, ap length spelled.spelling, length-spelled_iso iso)) in
+      spelled.spelling ∙ ap spelled_iso (numbers_are iso t said.2 count spelled.decimals)

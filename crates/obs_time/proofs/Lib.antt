@@ -1,15 +1,11 @@
-pub mod YearLemmas
-pub mod AnswerLaws
+pub mod Readings
 pub mod Verdicts
 pub mod DateLaws
 pub mod DayLemmas
 pub mod DayLaws
 pub mod RoundingLemmas
-pub mod WritingLaws
 pub mod YearLaws
 pub mod TextLaws
 pub mod CalendarLaws
-pub mod IsoLemmas
 pub mod IsoLaws
 pub mod IsoTextLaws
-pub mod Ranges

@@ -1,11 +1,13 @@
 -- Rounding to the nearest multiple.
-use Rattle.std.proofs.Common.{◌≡◌, ℕ, zero, suc, ◌+◌, ◌-◌, ◌*◌, ◌/◌, ◌<◌, ◌≤◌, inl, inr, refl, sym, ap, ◌∙◌, arith, ℤ, pos, negsuc, neg_ℤ, ◌-ℤ◌, ◌*ℤ◌, unsigned_abs, mul-le-mul_right, suc-mul, mul_assoc, mul_comm, add-mul, zero-mul}
+use Rattle.std.proofs.Common.{◌≡◌, ℕ, zero, suc, ◌+◌, ◌-◌, ◌*◌, ◌/◌, ◌^◌, ◌<◌, ◌≤◌, inl, inr, refl, sym, ap, ◌∙◌, arith, ℤ, pos, negsuc, neg_ℤ, ◌-ℤ◌, ◌*ℤ◌, unsigned_abs, mul-le-mul_right, suc-mul, mul_assoc, mul_comm, add-mul, zero-mul}
 use Rattle.std.proofs.Math.Nat.{mul-sub, mul-div_cancel_left}
 use Rattle.std.proofs.lemmas.Bool.{cases_order}
 use Rattle.std.proofs.lemmas.Nat.{div_below}
 use Rattle.jiff_core.proofs.SignedLemmas.{signed_arith, one_part}
 use Rattle.obs_time.specs.Instants.{nanos_of_a_day}
 use Rattle.obs_time.specs.Dates.{moment}
+use Rattle.obs_time.specs.DayText.{decimal_unit}
+use Rattle.obs_time.proofs.DayLemmas.{unit_whole, unit_positive}
 use Rattle.obs_time.specs.Rounding.{distance, nearest_multiple, rounded, IsNearest}
 
 -- how far two numbers lie from each other
@@ -16,26 +18,18 @@ gap m n = (m - n) + (n - m)
 apart : (j k unit : ℕ) → j < k → j * unit + unit ≤ k * unit
 apart j k unit h = omega (arith, mul-le-mul_right {m = suc j} {n = k} unit h, suc-mul j unit)
 
-near_same : (n unit k : ℕ) → 0 < unit → gap n (nearest_multiple n unit) ≤ gap n (k * unit)
-near_same n unit k positive =
+-- the nearest multiple is no farther than another one, and the greater of two equally near ones
+near : (n unit k : ℕ) → 0 < unit → (gap n (nearest_multiple n unit) ≤ gap n (k * unit)) × (gap n (k * unit) ≡ gap n (nearest_multiple n unit) → k * unit ≤ nearest_multiple n unit)
+near n unit k positive =
     let q = (n + unit / 2) / unit in
     elim (cases_order k q) [
-      | inl same ↦ rw same (omega arith)
-      | inr (inl below) ↦ omega (arith, apart k q unit below)
-      | inr (inr above) ↦ omega (arith, apart q k unit above)
-    ]
-
-far_same : (n unit k : ℕ) → 0 < unit → gap n (k * unit) ≡ gap n (nearest_multiple n unit) → k * unit ≤ nearest_multiple n unit
-far_same n unit k positive tie =
-    let q = (n + unit / 2) / unit in
-    elim (cases_order k q) [
-      | inl same ↦ rw same (omega arith)
-      | inr (inl below) ↦ omega (arith, apart k q unit below)
-      | inr (inr above) ↦ absurd (omega (arith, apart q k unit above))
+      | inl same ↦ (rw same (omega arith), λ tie. rw same (omega arith))
+      | inr (inl below) ↦ (omega (arith, apart k q unit below), λ tie. omega (arith, apart k q unit below))
+      | inr (inr above) ↦ (omega (arith, apart q k unit above), λ tie. absurd (omega (arith, apart q k unit above)))
     ]
 
 near_other : (n unit : ℕ) → 0 < unit → gap n (nearest_multiple n unit) ≤ n
-near_other n unit positive = omega (arith, near_same n unit 0 positive)
+near_other n unit positive = omega (arith, (near n unit 0 positive).0)
 
 -- distances of signed numbers, by their sizes
 distance_pos : (m n : ℕ) → distance (pos m) (pos n) ≡ gap m n
@@ -61,11 +55,11 @@ nearest_pos n unit positive =
       times = pos ((n + unit / 2) / unit);
       multiple = refl;
       nearest = λ k. elim k as (λ k. distance (pos n) (pos p) ≤ distance (pos n) (k *ℤ pos unit)) [
-        | pos j ↦ omega (arith, distance_pos n p, distance_pos n (j * unit), near_same n unit j positive)
+        | pos j ↦ omega (arith, distance_pos n p, distance_pos n (j * unit), (near n unit j positive).0)
         | negsuc j ↦ omega (arith, distance_pos n p, distance_down n (suc j * unit), near_other n unit positive)
       ];
       farther = λ k. elim k as (λ k. distance (pos n) (k *ℤ pos unit) ≡ distance (pos n) (pos p) → unsigned_abs (k *ℤ pos unit) ≤ p) [
-        | pos j ↦ λ tie. far_same n unit j positive (sym (distance_pos n (j * unit)) ∙ tie ∙ distance_pos n p)
+        | pos j ↦ λ tie. (near n unit j positive).1 (sym (distance_pos n (j * unit)) ∙ tie ∙ distance_pos n p)
         | negsuc j ↦ λ tie. omega (arith, distance_pos n p, distance_down n (suc j * unit), near_other n unit positive, size_neg (suc j * unit))
       ];
     }
@@ -82,11 +76,11 @@ nearest_neg n unit positive =
       multiple = neg_multiple ((n + unit / 2) / unit) unit;
       nearest = λ k. elim k as (λ k. distance (neg_ℤ (pos n)) (neg_ℤ (pos p)) ≤ distance (neg_ℤ (pos n)) (k *ℤ pos unit)) [
         | pos j ↦ omega (arith, distance_neg n p, distance_up n (j * unit), near_other n unit positive)
-        | negsuc j ↦ omega (arith, distance_neg n p, distance_neg n (suc j * unit), near_same n unit (suc j) positive)
+        | negsuc j ↦ omega (arith, distance_neg n p, distance_neg n (suc j * unit), (near n unit (suc j) positive).0)
       ];
       farther = λ k. elim k as (λ k. distance (neg_ℤ (pos n)) (k *ℤ pos unit) ≡ distance (neg_ℤ (pos n)) (neg_ℤ (pos p)) → unsigned_abs (k *ℤ pos unit) ≤ unsigned_abs (neg_ℤ (pos p))) [
         | pos j ↦ λ tie. omega (arith, distance_neg n p, distance_up n (j * unit), near_other n unit positive, size_neg p)
-        | negsuc j ↦ λ tie. omega (arith, size_neg p, size_neg (suc j * unit), far_same n unit (suc j) positive (sym (distance_neg n (suc j * unit)) ∙ tie ∙ distance_neg n p))
+        | negsuc j ↦ λ tie. omega (arith, size_neg p, size_neg (suc j * unit), (near n unit (suc j) positive).1 (sym (distance_neg n (suc j * unit)) ∙ tie ∙ distance_neg n p))
       ];
     }
 
@@ -96,7 +90,7 @@ rounded_nearest (pos n) unit positive = nearest_pos n unit positive
 rounded_nearest (negsuc n) unit positive = nearest_neg (suc n) unit positive
 
 -- a number that is at most a multiple is not rounded past it
-pub nearest_within : (n times unit : ℕ) → 0 < unit → n ≤ times * unit → nearest_multiple n unit ≤ times * unit
+nearest_within : (n times unit : ℕ) → 0 < unit → n ≤ times * unit → nearest_multiple n unit ≤ times * unit
 nearest_within n times unit positive within =
     let below : n + unit / 2 < suc times * unit = omega (arith, suc-mul times unit) in
     let less = div_below (n + unit / 2) unit (suc times) positive below in
@@ -106,10 +100,12 @@ nearest_within n times unit positive within =
 pub days_in_units : (days parts unit day : ℕ) → parts * unit ≡ day → days * day ≡ days * parts * unit
 days_in_units days parts unit day whole = ap (λ (k : ℕ). days * k) (sym whole) ∙ sym (mul_assoc days parts unit)
 
-pub rounded_within_days : (n days parts unit day : ℕ) → 0 < unit → parts * unit ≡ day → n ≤ days * day → nearest_multiple n unit ≤ days * day
-rounded_within_days n days parts unit day positive whole within =
-    let e = days_in_units days parts unit day whole in
-    rw e (nearest_within n (days * parts) unit positive (omega (arith, e)))
+-- decimals of a day don't round past a day's end
+pub rounded_within : (n days count unit : ℕ) → count ≤ 6 → unit ≡ decimal_unit count → n ≤ days * nanos_of_a_day → nearest_multiple n unit ≤ days * nanos_of_a_day
+rounded_within n days count unit few unit_is within =
+    let parts : 10 ^ count * decimal_unit count ≡ nanos_of_a_day = mul_comm (10 ^ count) (decimal_unit count) ∙ unit_whole count few in
+    let e = days_in_units days (10 ^ count) (decimal_unit count) nanos_of_a_day parts in
+    rw (unit_is, e) (nearest_within n (days * 10 ^ count) (decimal_unit count) (unit_positive count few) (omega (arith, e)))
 
 -- what lies between two multiples is one
 pub between_multiples : (a b n unit : ℕ) → 0 < unit → a * unit + n ≡ b * unit → n / unit * unit ≡ n

@@ -1,29 +1,83 @@
 -- One text for a moment and a number of decimals: it is read as the rounded moment, and a text that was read is written.
-use Rattle.std.proofs.Common.{◌≡◌, ℕ, suc, ◌+◌, ◌*◌, ◌/◌, ◌^◌, ◌<◌, ◌≤◌, inl, inr, List, length, sym, ap, subst, ◌∙◌, arith, ℤ, pos, negsuc, neg_ℤ, mul_comm, add-mul, length-append}
+use Rattle.std.proofs.Common.{◌≡◌, ℕ, suc, ◌+◌, ◌*◌, ◌/◌, ◌^◌, ◌<◌, ◌≤◌, inl, List, length, sym, ap, subst, ◌∙◌, arith, ℤ, pos, negsuc, neg_ℤ, mul_comm, add-mul, length-append, ◌-◌, ◌++◌, refl}
 use Rattle.std.specs.Prelude.{Result, Ok}
 use Rattle.std.proofs.Math.Nat.{eq_of_mul-eq-mul_right}
-use Rattle.std.proofs.lemmas.Nat.{div-mul-add}
+use Rattle.std.proofs.lemmas.Nat.{div-mul-add, div_below}
 use Rattle.jiff_core.specs.declared.civil.date.Date.{Date}
 use Rattle.jiff_core.proofs.SignedLemmas.{signed_arith}
 use Rattle.jiff_core.proofs.DateLemmas.{epoch_day_injective}
-use Rattle.ascii_text.specs.Digits.{decimals_width}
+use Rattle.ascii_text.specs.Digits.{decimals_width, decimals_text}
 use Rattle.obs_time.specs.declared.fault.TimeFault.{TimeFault}
 use Rattle.obs_time.specs.Instants.{nanos_of_a_day, IsInstantNs}
-use Rattle.obs_time.specs.Dates.{DateExists, day_number, moment}
-use Rattle.obs_time.specs.DateText.{WrittenDate}
+use Rattle.obs_time.specs.Dates.{DateExists, day_number, moment, IsCivilOf, day_of, ns_of_day}
+use Rattle.obs_time.specs.DateText.{WrittenDate, HasDigits, date_text}
 use Rattle.obs_time.specs.DayText.{WrittenDay, SpellsDay, IsMomentOf, IsDayAnswer, day_text, decimal_unit, day_fraction_of}
 use Rattle.obs_time.specs.Rounding.{rounded, nearest_multiple}
-use Rattle.obs_time.specs.WrittenText.{IsTextOf}
+use Rattle.obs_time.specs.WrittenText.{IsTextOf, day_text_of}
 use Rattle.obs_time.proofs.YearLaws.{civil_date, same_parts, year_of_instant}
-use Rattle.obs_time.proofs.DayLemmas.{unit_whole, unit_positive, part_below, part_is}
-use Rattle.obs_time.proofs.DayLaws.{day_answered, day_answer_only, ok_is_no_err}
-use Rattle.obs_time.proofs.RoundingLemmas.{days_in_units, between_multiples}
+use Rattle.obs_time.proofs.DayLemmas.{unit_whole, unit_positive, decimals_below, decimals_are, decimals_exact}
+use Rattle.obs_time.proofs.DayLaws.{day_judged, day_said, day_answered, day_answer_only}
+use Rattle.obs_time.proofs.RoundingLemmas.{days_in_units, between_multiples, rounded_part}
 use Rattle.ascii_text.specs.Laws.{TextLaws}
+use Rattle.jiff_core.proofs.CalendarLemmas.{days_in_month_bounds}
+use Rattle.ascii_text.specs.Blanks.{blanks}
+use Rattle.obs_time.specs.declared.civil.Civil.{Civil}
+use Rattle.obs_time.specs.Calendar.{date_of_day}
+use Rattle.obs_time.specs.Written.{date_part}
+use Rattle.obs_time.proofs.CalendarLaws.{ns_of_moment}
 
 -- the nanoseconds that decimals stand for are fewer than a day's
 ns_below : (day : WrittenDay) (t : ℤ) (is : IsMomentOf day t) → day.count ≤ 6 → day.decimals < 10 ^ day.count → is.ns < nanos_of_a_day
 ns_below day t is few below =
-    rw (part_is day.decimals day.count is.ns few is.part) (part_below day.decimals day.count few below)
+    let units = unit_whole day.count few in
+    rw (decimals_are day.decimals day.count _ _ is.ns units is.part) (decimals_below day.decimals day.count _ _ units (omega arith) below)
+
+-- ---- the text of a rounded moment
+
+-- a date that the calendar has needs no more digits than are written
+pub digits_of_date : (year month day : ℕ) → year < 10 ^ 4 → DateExists year month day → HasDigits (record { year = year; month = month; day = day })
+digits_of_date year month day few exists = record {
+  year = few;
+  month = omega (arith, signed_arith, exists.1.1);
+  day = omega (arith, signed_arith, exists.2.1, days_in_month_bounds (pos year) month);
+}
+
+pub text_of : (t : ℤ) (count : ℕ) (civil : Civil) (value : ℕ) (text : List ℕ) → 1 ≤ count → count ≤ 6 → IsCivilOf (rounded t (decimal_unit count)) civil → civil.year ≤ 2200 → value ≡ civil.ns_of_day / decimal_unit count
+    → text ≡ date_text 32 (record { year = civil.year; month = civil.month; day = civil.day }) (decimals_text count value ++ blanks (6 - count)) → IsTextOf t count text
+text_of t count civil value text some few is year value_is spelling =
+    let unit = decimal_unit count in
+    let positive = unit_positive count few in
+    let parts : 10 ^ count * unit ≡ nanos_of_a_day = mul_comm (10 ^ count) unit ∙ unit_whole count few in
+    let whole : civil.ns_of_day / unit * unit ≡ civil.ns_of_day = rounded_part t (day_number civil.year civil.month civil.day) unit (10 ^ count) civil.ns_of_day positive parts is.exact in
+    let exact : civil.ns_of_day ≡ value * unit = sym whole ∙ ap (λ (k : ℕ). k * unit) (sym value_is) in
+    let below : civil.ns_of_day < 10 ^ count * unit = omega (arith, parts, is.time) in
+    record {
+      day = record { date = record { year = civil.year; month = civil.month; day = civil.day }; count = count; decimals = value };
+      spelled = record {
+        digits = digits_of_date civil.year civil.month civil.day (omega arith) is.date;
+        some = some;
+        decimals = omega (arith, value_is, div_below civil.ns_of_day unit (10 ^ count) positive below);
+        space = 6 - count;
+        spelling = spelling;
+      };
+      count_is = refl;
+      exists = is.date;
+      moment = record {
+        ns = civil.ns_of_day;
+        part = ap (λ (k : ℕ). k * 10 ^ count) exact ∙ decimals_exact value count _ _ (unit_whole count few);
+        exact = is.exact;
+      };
+    }
+
+-- that text, worked out
+pub text_is : (t : ℤ) (count : ℕ) (civil : Civil) (value : ℕ) (text : List ℕ) → IsCivilOf (rounded t (decimal_unit count)) civil → date_part civil ≡ date_of_day (day_of (rounded t (decimal_unit count)))
+    → value ≡ civil.ns_of_day / decimal_unit count → text ≡ date_text 32 (date_part civil) (decimals_text count value ++ blanks (6 - count)) → text ≡ day_text_of t count
+unfolding day_text_of
+text_is t count civil value text is date value_is spelling =
+    let ns : ns_of_day (rounded t (decimal_unit count)) ≡ civil.ns_of_day = ap ns_of_day is.exact ∙ ns_of_moment (day_number civil.year civil.month civil.day) civil.ns_of_day is.time in
+    let same : value ≡ ns_of_day (rounded t (decimal_unit count)) / decimal_unit count = value_is ∙ ap (λ (n : ℕ). n / decimal_unit count) (sym ns) in
+    spelling ∙ ap (λ (d : WrittenDate). date_text 32 d (decimals_text count value ++ blanks (6 - count))) date
+    ∙ ap (λ (v : ℕ). date_text 32 (date_of_day (day_of (rounded t (decimal_unit count)))) (decimals_text count v ++ blanks (6 - count))) same
 
 -- ---- one text
 
@@ -77,17 +131,18 @@ rounded_kept (negsuc x) (negsuc d) unit parts times positive whole e =
 
 -- what a text was read as, it is the text of
 read_text : (text : List ℕ) (t : ℤ) (count : ℕ) → IsDayAnswer text (Ok (t, count)) → IsTextOf t count text
-read_text text t count (inl h) =
-    let day = h.0 in
-    let verdict = h.2 in
-    let few : count ≤ 6 = omega (arith, verdict.0, verdict.4) in
-    let part : verdict.3.ns ≡ day.decimals * decimal_unit count = part_is day.decimals day.count verdict.3.ns verdict.0 verdict.3.part ∙ ap (λ (k : ℕ). day.decimals * decimal_unit k) (sym verdict.4) in
+read_text text t count h =
+    let said = day_said text t count h in
+    let day = said.0 in
+    let verdict = said.2 in
+    let moment_is = verdict.3.0 in
+    let few : count ≤ 6 = omega (arith, verdict.0, verdict.3.1) in
+    let part : moment_is.ns ≡ day.decimals * decimal_unit count = decimals_are day.decimals day.count _ _ moment_is.ns (unit_whole day.count verdict.0) moment_is.part ∙ ap (λ (k : ℕ). day.decimals * decimal_unit k) (sym verdict.3.1) in
     let parts : 10 ^ count * decimal_unit count ≡ nanos_of_a_day = mul_comm (10 ^ count) (decimal_unit count) ∙ unit_whole count few in
     let number = day_number day.date.year day.date.month day.date.day in
-    let exact : t ≡ moment number (day.decimals * decimal_unit count) = verdict.3.exact ∙ ap (λ (k : ℕ). moment number k) part in
+    let exact : t ≡ moment number (day.decimals * decimal_unit count) = moment_is.exact ∙ ap (moment number) part in
     let kept = rounded_kept t number (decimal_unit count) (10 ^ count) day.decimals (unit_positive count few) parts exact in
-    record { day = day; spelled = h.1; count_is = sym verdict.4; exists = verdict.2; moment = subst (λ (x : ℤ). IsMomentOf day x) (sym kept) verdict.3 }
-read_text text t count (inr h) = absurd (ok_is_no_err (t, count) h.1)
+    record { day = day; spelled = said.1; count_is = sym verdict.3.1; exists = verdict.2; moment = subst (IsMomentOf day) (sym kept) moment_is }
 
 module _ (texts : TextLaws) where
   open texts use {length-digits_text, length-decimals_text, length-blanks}
@@ -99,7 +154,7 @@ module _ (texts : TextLaws) where
       let some_few : day.count ≤ 6 = omega (arith, is.count_is) in
       let below = ns_below day (rounded t (decimal_unit count)) is.moment some_few is.spelled.decimals in
       let year = year_of_instant day.date.year day.date.month day.date.day is.moment.ns (rounded t (decimal_unit count)) is.exists below is.moment.exact range in
-      sym (day_answer_only texts text (Ok (rounded t (decimal_unit count), count)) (inl (day, is.spelled, (some_few, year, is.exists, is.moment, sym is.count_is))))
+      sym (day_answer_only texts text (Ok (rounded t (decimal_unit count), count)) (inl (day, is.spelled, (day_judged day _).0 (some_few, year, is.exists, (is.moment, sym is.count_is)))))
 
   -- how long the text of a day with decimals is
   length-day_text : (day : WrittenDay) (space : ℕ) → 1 ≤ day.count → length (day_text day space) ≡ 11 + day.count + space

@@ -1,75 +1,82 @@
--- The tests of a date's judge, and what they say.
-use Rattle.std.proofs.Common.{◌≡◌, ℕ, ◌≤◌, ◌⊎◌, inl, inr, Bool, true, false, ◌&&◌, refl, ap, arith, ℤ, pos, ◌↔◌}
-use Rattle.std.specs.Prelude.{nat_le, Result, Ok, Err}
-use Rattle.std.proofs.lemmas.Bool.{leb-true, le-leb, and_parts, and_from, false_from_ne_true, both_ways}
+-- The tests of the judges tell what is to be said, and nothing else is.
+use Rattle.std.proofs.Common.{◌≡◌, ℕ, ◌≤◌, Bool, true, false, cond, ◌&&◌, refl, sym, ap, ◌∙◌, arith, ℤ, pos, ◌↔◌}
+use Rattle.std.specs.Prelude.{Result, Ok, Err}
+use Rattle.std.specs.Bool.{Decides}
+use Rattle.std.specs.Result.{result_map_both}
+use Rattle.std.proofs.lemmas.Bool.{false_from_ne_true}
+use Rattle.std.proofs.lemmas.Bool.Decides.{nat_tests, not_from_Decides}
 use Rattle.jiff_core.specs.Calendar.{days_in_month}
 use Rattle.jiff_core.proofs.SignedLemmas.{signed_arith}
 use Rattle.obs_time.specs.declared.fault.TimeFault.{TimeFault}
 use Rattle.obs_time.specs.declared.fault.TimeFault.TheVariants.{Spelling, NoSuchDate, Range, Decimals}
-use Rattle.obs_time.specs.Dates.{DateExists, IsObservedYear}
+use Rattle.obs_time.specs.Dates.{DateExists, IsObservedYear, day_number}
 use Rattle.obs_time.specs.DateText.{WrittenDate, is_observed_year, date_exists, judge_date, IsDateVerdict}
+use Rattle.obs_time.specs.Verdicts.{IsVerdict}
+
+-- the value where the tests pass, else the first that is wrong
+abbrev pub word_of : {V : Type 0} → Bool → Bool → Bool → V → Result V TimeFault
+word_of few range exists value = cond few (cond range (cond exists (Ok value) (Err NoSuchDate)) (Err Range)) (Err Decimals)
+
+-- the word on what is made of a date, from the word on the date
+pub word_of-date : {V : Type 0} (f : ℤ → V) (few clock year exists : Bool) (number : ℤ)
+    → cond few (cond clock (result_map_both f (λ fault. fault) (word_of true year exists number)) (Err Range)) (Err Decimals) ≡ word_of few (clock && year) exists (f number)
+word_of-date f false clock year exists number = refl
+word_of-date f true false year exists number = refl
+word_of-date f true true false exists number = refl
+word_of-date f true true true false number = refl
+word_of-date f true true true true number = refl
+
+module _ {V : Type 0} (Few InRange Exists : Type 0) (IsRight : V → Type 0) where
+  -- the tests tell the facts, and one value is right
+  pub record Tells (few range exists : Bool) (value : V) : Type 0 where
+    pub few_tells : Decides few Few
+    pub range_tells : Decides range InRange
+    pub exists_tells : InRange → Decides exists Exists
+    pub right : Few → IsRight value
+    pub only : Few → (other : V) → IsRight other → other ≡ value
+
+  said : (few range exists : Bool) (value : V) → Tells few range exists value → IsVerdict Few InRange Exists IsRight (word_of few range exists value)
+  said false range exists value is = not_from_Decides false is.few_tells refl
+  said true false exists value is = (is.few_tells.0 refl, not_from_Decides false is.range_tells refl)
+  said true true false value is = let range = is.range_tells.0 refl in (is.few_tells.0 refl, range, not_from_Decides false (is.exists_tells range) refl)
+  said true true true value is =
+      let few = is.few_tells.0 refl in
+      let range = is.range_tells.0 refl in
+      (few, range, (is.exists_tells range).0 refl, is.right few)
+
+  only_said : (few range exists : Bool) (value : V) → Tells few range exists value → (answer : Result V TimeFault) → IsVerdict Few InRange Exists IsRight answer → answer ≡ word_of few range exists value
+  only_said few range exists value is (Ok other) h = rw (is.few_tells.1 h.0, is.range_tells.1 h.1, (is.exists_tells h.1).1 h.2) (ap (λ (v : V). Ok v) (is.only h.0 other h.3))
+  only_said few range exists value is (Err Spelling) h = absurd h
+  only_said few range exists value is (Err Decimals) h = rw (false_from_ne_true few (λ e. h (is.few_tells.0 e))) refl
+  only_said few range exists value is (Err Range) h = rw (is.few_tells.1 h.0, false_from_ne_true range (λ e. h.1 (is.range_tells.0 e))) refl
+  only_said few range exists value is (Err NoSuchDate) h =
+      rw (is.few_tells.1 h.0, is.range_tells.1 h.1, false_from_ne_true exists (λ e. h.2 ((is.exists_tells h.1).0 e))) refl
+
+  -- the judge's word is the one verdict
+  pub one_verdict : (few range exists : Bool) (value : V) → Tells few range exists value → (word answer : Result V TimeFault) → word ≡ word_of few range exists value
+      → IsVerdict Few InRange Exists IsRight answer ↔ (answer ≡ word)
+  one_verdict few range exists value is word answer e =
+      (λ h. only_said few range exists value is answer h ∙ sym e, λ same. rw (same ∙ e) (said few range exists value is))
 
 -- the test of a year
-pub observed_year : (year : ℕ) → (is_observed_year year ≡ true) ↔ IsObservedYear year
-observed_year year = (
-  λ e. let parts = and_parts (nat_le 1800 year) (nat_le year 2199) e in (leb-true 1800 year parts.0, leb-true year 2199 parts.1),
-  λ h. and_from (nat_le 1800 year) (nat_le year 2199) (le-leb 1800 year h.0) (le-leb year 2199 h.1),
-)
+pub observed_year : (year : ℕ) → Decides (is_observed_year year) (IsObservedYear year)
+observed_year year = (λ e. (grind (arith, nat_tests), grind (arith, nat_tests)), λ h. grind (arith, nat_tests, h.0, h.1))
 
 -- the test of a date, in a year that the calendar's library has
-pub existing_date : (year month day : ℕ) → IsObservedYear year → (date_exists year month day ≡ true) ↔ DateExists year month day
-existing_date year month day observed =
-    let last = days_in_month (pos year) month in (
-      λ e. let parts = and_parts (nat_le 1 month && nat_le month 12) (nat_le 1 day && nat_le day last) e in
-          let months = and_parts (nat_le 1 month) (nat_le month 12) parts.0 in
-          let days = and_parts (nat_le 1 day) (nat_le day last) parts.1 in
-          let m1 = leb-true 1 month months.0 in
-          let m2 = leb-true month 12 months.1 in
-          let d1 = leb-true 1 day days.0 in
-          let d2 : day ≤ last = leb-true day last days.1 in
-          ((omega (arith, signed_arith), omega (arith, signed_arith)), (omega (arith, signed_arith), omega (arith, signed_arith)), (omega (arith, signed_arith), omega (arith, signed_arith))),
-      λ h.
-          let m1 : 1 ≤ month = omega (arith, signed_arith, h.1.0) in
-          let m2 : month ≤ 12 = omega (arith, signed_arith, h.1.1) in
-          let d1 : 1 ≤ day = omega (arith, signed_arith, h.2.0) in
-          let d2 : day ≤ last = omega (arith, signed_arith, h.2.1) in
-          and_from (nat_le 1 month && nat_le month 12) (nat_le 1 day && nat_le day last) (and_from (nat_le 1 month) (nat_le month 12) (le-leb 1 month m1) (le-leb month 12 m2)) (and_from (nat_le 1 day) (nat_le day last) (le-leb 1 day d1) (le-leb day last d2)),
-    )
+pub existing_date : (year month day : ℕ) → IsObservedYear year → Decides (date_exists year month day) (DateExists year month day)
+existing_date year month day observed = (
+  λ e.
+      let within : (1 ≤ month) × (month ≤ 12) × (1 ≤ day) × (day ≤ days_in_month (pos year) month) = (grind (arith, nat_tests), grind (arith, nat_tests), grind (arith, nat_tests), grind (arith, nat_tests)) in
+      ((omega (arith, signed_arith), omega (arith, signed_arith)), (omega (arith, signed_arith), omega (arith, signed_arith)), (omega (arith, signed_arith), omega (arith, signed_arith))),
+  λ h.
+      let within : (1 ≤ month) × (month ≤ 12) × (1 ≤ day) × (day ≤ days_in_month (pos year) month)
+      = (omega (arith, signed_arith, h.1.0), omega (arith, signed_arith, h.1.1), omega (arith, signed_arith, h.2.0), omega (arith, signed_arith, h.2.1)) in
+      grind (arith, nat_tests, within.0, within.1, within.2, within.3),
+)
 
--- a test that holds exactly where a fact does, by cases
-pub cases_of_test : (b : Bool) (P : Type 0) → ((b ≡ true) ↔ P) → ((b ≡ true) × P) ⊎ ((b ≡ false) × (P → ⊥))
-cases_of_test true P h = inl (refl, h.0 refl)
-cases_of_test false P h = inr (refl, λ p. both_ways false refl (h.1 p))
-
--- a year is observed or not, and the test says which
-pub cases_year : (year : ℕ) → ((is_observed_year year ≡ true) × IsObservedYear year) ⊎ ((is_observed_year year ≡ false) × ¬ IsObservedYear year)
-cases_year year = cases_of_test (is_observed_year year) (IsObservedYear year) (observed_year year)
-
-pub cases_date : (year month day : ℕ) → IsObservedYear year → ((date_exists year month day ≡ true) × DateExists year month day) ⊎ ((date_exists year month day ≡ false) × ¬ DateExists year month day)
-cases_date year month day observed = cases_of_test (date_exists year month day) (DateExists year month day) (existing_date year month day observed)
-
--- the judge's word on a date is a verdict on it
-pub judge_date_gives : (date : WrittenDate) → IsDateVerdict date (judge_date date)
+pub date_judged : (date : WrittenDate) (answer : Result ℤ TimeFault) → IsDateVerdict date answer ↔ (answer ≡ judge_date date)
 unfolding judge_date
-judge_date_gives date =
-    elim (cases_year date.year) [
-      | inr year ↦ rw (year.0) (year.1)
-      | inl year ↦ elim (cases_date date.year date.month date.day year.1) [
-        | inl stands ↦ rw (year.0, stands.0) (year.1, stands.1, refl)
-        | inr fails ↦ rw (year.0, fails.0) (year.1, fails.1)
-      ]
-    ]
-
--- and each verdict on it is the judge's word
-pub judge_date_only : (date : WrittenDate) (verdict : Result ℤ TimeFault) → IsDateVerdict date verdict → verdict ≡ judge_date date
-unfolding judge_date
-judge_date_only date (Ok day) h =
-    rw ((observed_year date.year).1 h.0, (existing_date date.year date.month date.day h.0).1 h.1) (ap (λ (d : ℤ). Ok d) h.2)
-judge_date_only date (Err Spelling) h = absurd h
-judge_date_only date (Err Decimals) h = absurd h
-judge_date_only date (Err Range) h =
-    let outside : is_observed_year date.year ≡ false = false_from_ne_true (is_observed_year date.year) (λ e. h ((observed_year date.year).0 e)) in
-    rw outside refl
-judge_date_only date (Err NoSuchDate) h =
-    let missing : date_exists date.year date.month date.day ≡ false = false_from_ne_true (date_exists date.year date.month date.day) (λ e. h.1 ((existing_date date.year date.month date.day h.0).0 e)) in
-    rw ((observed_year date.year).1 h.0, missing) refl
+date_judged date answer =
+    one_verdict _ _ _ _ true (is_observed_year date.year) (date_exists date.year date.month date.day) (day_number date.year date.month date.day)
+    (record { few_tells = (λ _. tt, λ _. refl); range_tells = observed_year date.year; exists_tells = existing_date date.year date.month date.day; right = λ _. refl; only = λ _ other is. is })
+    (judge_date date) answer refl

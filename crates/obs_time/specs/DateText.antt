@@ -1,14 +1,14 @@
 -- Dates as text: four digits of the year, two of the month and two of the day, with a separator between them.
-use Rattle.std.specs.Prelude.{◌≡◌, ℕ, ◌^◌, ◌<◌, Bool, not, ◌&&◌, nat_le, ◌==◌, if◌then◌else◌, List, [], ◌∷◌, ◌++◌}
-use Rattle.std.specs.Prelude.{length, Option, Some, None, Result, Ok, Err, ℤ, pos}
+use Rattle.std.specs.Prelude.{◌≡◌, ℕ, ◌^◌, ◌<◌, Bool, ◌&&◌, nat_le, ◌==◌, if◌then◌else◌, List, [], ◌∷◌, ◌++◌}
+use Rattle.std.specs.Prelude.{length, Option, Some, None, Result, Ok, Err, ℤ, pos, ⊤}
 use Rattle.jiff_core.specs.Calendar.{days_in_month}
 use Rattle.ascii_text.specs.declared.digits.Radix.TheVariants.{Ten}
 use Rattle.ascii_text.specs.Digits.{digits_text}
 use Rattle.ascii_text.specs.Reading.{◌>>=◌, digits_at, behind}
-use Rattle.ascii_text.specs.Judged.{answer_of}
+use Rattle.ascii_text.specs.Judged.{answer_of, Answers}
 use Rattle.obs_time.specs.declared.fault.TimeFault.{TimeFault}
-use Rattle.obs_time.specs.declared.fault.TimeFault.TheVariants.{Spelling, NoSuchDate, Range, Decimals}
-use Rattle.obs_time.specs.Answering.{IsAnswer}
+use Rattle.obs_time.specs.declared.fault.TimeFault.TheVariants.{Spelling, NoSuchDate, Range}
+use Rattle.obs_time.specs.Verdicts.{IsVerdict}
 use Rattle.obs_time.specs.Dates.{DateExists, IsObservedYear, day_number}
 
 -- the numbers that a date is written with
@@ -62,9 +62,10 @@ date_exists year month day =
 -- the day number of a date that observations may have
 unfoldable pub judge_date : WrittenDate → Result ℤ TimeFault
 judge_date date =
-    if not (is_observed_year date.year) then Err Range
-    else (if date_exists date.year date.month date.day then Ok (day_number date.year date.month date.day)
+    if is_observed_year date.year then
+    (if date_exists date.year date.month date.day then Ok (day_number date.year date.month date.day)
     else Err NoSuchDate)
+    else Err Range
 
 -- the day number that a text `YYYY-MM-DD` stands for
 unfoldable pub date_of : List ℕ → Result ℤ TimeFault
@@ -72,15 +73,10 @@ date_of text = answer_of judge_date Spelling (whole_date text)
 
 -- what is to be said of a date: its day number, or the first that is wrong with it
 abbrev pub IsDateVerdict : WrittenDate → Result ℤ TimeFault → Type 0
-IsDateVerdict date (Ok day) =
-    IsObservedYear date.year × DateExists date.year date.month date.day
-    × (day ≡ day_number date.year date.month date.day)
-IsDateVerdict date (Err Range) = ¬ IsObservedYear date.year
-IsDateVerdict date (Err NoSuchDate) =
-    IsObservedYear date.year × ¬ DateExists date.year date.month date.day
-IsDateVerdict date (Err Spelling) = ⊥
-IsDateVerdict date (Err Decimals) = ⊥
+IsDateVerdict date =
+    IsVerdict ⊤ (IsObservedYear date.year) (DateExists date.year date.month date.day)
+    (λ day. day ≡ day_number date.year date.month date.day)
 
--- what is to be said of a text: a verdict on the date that it spells, or that it spells none
+-- what is to be said of a text: the judge's word on the date that it spells, or that it spells none
 abbrev pub IsDateAnswer : List ℕ → Result ℤ TimeFault → Type 0
-IsDateAnswer text answer = IsAnswer SpellsDate IsDateVerdict Spelling text answer
+IsDateAnswer text answer = Answers SpellsDate judge_date Spelling text answer

@@ -1,13 +1,14 @@
 -- Moments as text: a date and decimals of the day, `2024 03 15.12345`, as columns 16 to 32 of an 80-column record.
-use Rattle.std.specs.Prelude.{◌≡◌, ℕ, ◌*◌, ◌/◌, ◌^◌, ◌<◌, ◌≤◌, ◌&&◌, nat_lt, nat_le, if◌then◌else◌, List, ◌++◌, Option}
-use Rattle.std.specs.Prelude.{Some, None, Result, Ok, Err, ℤ}
+use Rattle.std.specs.Prelude.{◌≡◌, ℕ, ◌*◌, ◌/◌, ◌^◌, ◌<◌, ◌≤◌, ◌&&◌, nat_le, if◌then◌else◌, List, ◌++◌, Option}
+use Rattle.std.specs.Prelude.{Some, None, Result, Err, ℤ}
+use Rattle.std.specs.Result.{result_map_both}
 use Rattle.ascii_text.specs.Digits.{decimals_text}
 use Rattle.ascii_text.specs.Blanks.{blanks, are_blanks}
 use Rattle.ascii_text.specs.Reading.{◌>>=◌, decimals_at}
-use Rattle.ascii_text.specs.Judged.{answer_of}
+use Rattle.ascii_text.specs.Judged.{answer_of, Answers}
 use Rattle.obs_time.specs.declared.fault.TimeFault.{TimeFault}
-use Rattle.obs_time.specs.declared.fault.TimeFault.TheVariants.{Spelling, NoSuchDate, Range, Decimals}
-use Rattle.obs_time.specs.Answering.{IsAnswer}
+use Rattle.obs_time.specs.declared.fault.TimeFault.TheVariants.{Spelling, Decimals}
+use Rattle.obs_time.specs.Verdicts.{IsVerdict}
 use Rattle.obs_time.specs.Instants.{nanos_of_a_day}
 use Rattle.obs_time.specs.Dates.{DateExists, IsObservedYear, day_number, moment}
 use Rattle.obs_time.specs.DateText.{WrittenDate, HasDigits, date_text, date_at, judge_date}
@@ -36,22 +37,6 @@ pub record IsMomentOf (day : WrittenDay) (t : ℤ) : Type 0 where
   pub part : ns * 10 ^ day.count ≡ day.decimals * nanos_of_a_day
   pub exact : t ≡ moment (day_number day.date.year day.date.month day.date.day) ns
 
--- what is to be said of a day with decimals: its moment and the number of its decimals, or the first that is wrong
-abbrev pub IsDayVerdict : WrittenDay → Result (ℤ × ℕ) TimeFault → Type 0
-IsDayVerdict day (Ok read) =
-    (day.count ≤ 6) × IsObservedYear day.date.year
-    × DateExists day.date.year day.date.month day.date.day × IsMomentOf day read.0 × (read.1 ≡ day.count)
-IsDayVerdict day (Err Decimals) = 6 < day.count
-IsDayVerdict day (Err Range) = (day.count ≤ 6) × ¬ IsObservedYear day.date.year
-IsDayVerdict day (Err NoSuchDate) =
-    (day.count ≤ 6) × IsObservedYear day.date.year
-    × ¬ DateExists day.date.year day.date.month day.date.day
-IsDayVerdict day (Err Spelling) = ⊥
-
--- what is to be said of a text: a verdict on the day that it spells, or that it spells none
-abbrev pub IsDayAnswer : List ℕ → Result (ℤ × ℕ) TimeFault → Type 0
-IsDayAnswer text answer = IsAnswer SpellsDay IsDayVerdict Spelling text answer
-
 -- a day with decimals that is the whole text, but for blanks
 unfoldable pub day_at : List ℕ → Option WrittenDay
 day_at text = do
@@ -64,15 +49,24 @@ day_at text = do
 abbrev pub decimal_unit : ℕ → ℕ
 decimal_unit count = nanos_of_a_day / 10 ^ count
 
--- the moment of a day whose date was judged
-abbrev pub timed : WrittenDay → Result ℤ TimeFault → Result (ℤ × ℕ) TimeFault
-timed day (Ok number) = Ok (moment number (day.decimals * decimal_unit day.count), day.count)
-timed day (Err fault) = Err fault
-
--- the moment of a day with decimals
+-- the moment of a day with decimals, and their number
 unfoldable pub judge_day : WrittenDay → Result (ℤ × ℕ) TimeFault
-judge_day day = if nat_lt 6 day.count then Err Decimals else timed day (judge_date day.date)
+judge_day day =
+    if nat_le day.count 6 then
+    (result_map_both (λ number. (moment number (day.decimals * decimal_unit day.count), day.count)) (λ fault. fault)
+    (judge_date day.date))
+    else Err Decimals
 
 -- the moment that a text `YYYY MM DD.d` stands for, and the number of its decimals
 unfoldable pub day_fraction_of : List ℕ → Result (ℤ × ℕ) TimeFault
 day_fraction_of text = answer_of judge_day Spelling (day_at text)
+
+-- what is to be said of a day with decimals: its moment and the number of its decimals, or the first that is wrong
+abbrev pub IsDayVerdict : WrittenDay → Result (ℤ × ℕ) TimeFault → Type 0
+IsDayVerdict day =
+    IsVerdict (day.count ≤ 6) (IsObservedYear day.date.year) (DateExists day.date.year day.date.month day.date.day)
+    (λ read. IsMomentOf day read.0 × (read.1 ≡ day.count))
+
+-- what is to be said of a text: the judge's word on the day that it spells, or that it spells none
+abbrev pub IsDayAnswer : List ℕ → Result (ℤ × ℕ) TimeFault → Type 0
+IsDayAnswer text answer = Answers SpellsDay judge_day Spelling text answer

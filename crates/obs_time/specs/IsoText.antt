@@ -1,14 +1,15 @@
 -- Moments as ISO 8601 text: `2024-03-15T23:59:59.999Z`, a date, a time of day in UTC, and decimals of the second or
 -- none.
-use Rattle.std.specs.Prelude.{◌≡◌, ℕ, ◌+◌, ◌-◌, ◌*◌, ◌/◌, ◌%◌, ◌^◌, ◌<◌, ◌≤◌, Bool, not, ◌&&◌, nat_lt, nat_le, ◌==◌}
-use Rattle.std.specs.Prelude.{if◌then◌else◌, List, [], ◌∷◌, ◌++◌, length, Option, Some, None, Result, Ok, Err, ℤ}
+use Rattle.std.specs.Prelude.{◌≡◌, ℕ, ◌+◌, ◌-◌, ◌*◌, ◌/◌, ◌%◌, ◌^◌, ◌<◌, ◌≤◌, Bool, ◌&&◌, nat_le, ◌==◌}
+use Rattle.std.specs.Prelude.{if◌then◌else◌, List, [], ◌∷◌, ◌++◌, length, Option, Some, None, Result, Err, ℤ}
+use Rattle.std.specs.Result.{result_map_both}
 use Rattle.ascii_text.specs.declared.digits.Radix.TheVariants.{Ten}
 use Rattle.ascii_text.specs.Digits.{digits_text, decimals_text}
 use Rattle.ascii_text.specs.Reading.{◌>>=◌, digits_at, behind, decimals_at, decimals_within}
-use Rattle.ascii_text.specs.Judged.{answer_of}
+use Rattle.ascii_text.specs.Judged.{answer_of, Answers}
 use Rattle.obs_time.specs.declared.fault.TimeFault.{TimeFault}
-use Rattle.obs_time.specs.declared.fault.TimeFault.TheVariants.{Spelling, NoSuchDate, Range, Decimals}
-use Rattle.obs_time.specs.Answering.{IsAnswer}
+use Rattle.obs_time.specs.declared.fault.TimeFault.TheVariants.{Spelling, Range, Decimals}
+use Rattle.obs_time.specs.Verdicts.{IsVerdict}
 use Rattle.obs_time.specs.Dates.{DateExists, IsObservedYear, day_number, day_of, ns_of_day, moment}
 use Rattle.obs_time.specs.DateText.{WrittenDate, HasDigits, date_text, date_at, judge_date}
 use Rattle.obs_time.specs.Calendar.{date_of_day}
@@ -71,22 +72,6 @@ pub record IsIsoMoment (iso : WrittenIso) (t : ℤ) : Type 0 where
   pub exact : t ≡ moment (day_number iso.date.year iso.date.month iso.date.day)
       (seconds_of iso.clock * nanos_of_a_second + ns)
 
--- what is to be said of the numbers of an ISO time: the moment, or the first that is wrong with them
-abbrev pub IsIsoVerdict : WrittenIso → Result ℤ TimeFault → Type 0
-IsIsoVerdict iso (Ok t) =
-    (iso.count ≤ 9) × IsObservedYear iso.date.year × IsTimeOfDay iso.clock
-    × DateExists iso.date.year iso.date.month iso.date.day × IsIsoMoment iso t
-IsIsoVerdict iso (Err Decimals) = 9 < iso.count
-IsIsoVerdict iso (Err Range) = (iso.count ≤ 9) × ¬ (IsObservedYear iso.date.year × IsTimeOfDay iso.clock)
-IsIsoVerdict iso (Err NoSuchDate) =
-    (iso.count ≤ 9) × IsObservedYear iso.date.year × IsTimeOfDay iso.clock
-    × ¬ DateExists iso.date.year iso.date.month iso.date.day
-IsIsoVerdict iso (Err Spelling) = ⊥
-
--- what is to be said of a text: a verdict on the numbers that it spells, or that it spells none
-abbrev pub IsIsoAnswer : List ℕ → Result ℤ TimeFault → Type 0
-IsIsoAnswer text answer = IsAnswer SpellsIso IsIsoVerdict Spelling text answer
-
 -- a time of day at the front of a text, and what follows
 unfoldable pub clock_at : List ℕ → Option (WrittenClock × List ℕ)
 clock_at text = do
@@ -134,20 +119,28 @@ is_time_of_day clock = nat_le clock.hour 23 && (nat_le clock.minute 59 && nat_le
 abbrev pub ns_of_iso : WrittenIso → ℕ
 ns_of_iso iso = seconds_of iso.clock * nanos_of_a_second + iso.decimals * 10 ^ (9 - iso.count)
 
--- the moment of that time on a day that was judged
-abbrev pub timed_iso : WrittenIso → Result ℤ TimeFault → Result ℤ TimeFault
-timed_iso iso (Ok number) = Ok (moment number (ns_of_iso iso))
-timed_iso iso (Err fault) = Err fault
-
 -- the moment that the numbers stand for: a time of day out of range comes before what the date's judge says
 unfoldable pub judge_iso : WrittenIso → Result ℤ TimeFault
 judge_iso iso =
-    if nat_lt 9 iso.count then Err Decimals
-    else (if not (is_time_of_day iso.clock) then Err Range else timed_iso iso (judge_date iso.date))
+    if nat_le iso.count 9 then
+    (if is_time_of_day iso.clock then
+    (result_map_both (λ number. moment number (ns_of_iso iso)) (λ fault. fault) (judge_date iso.date))
+    else Err Range)
+    else Err Decimals
 
 -- the moment that a text `YYYY-MM-DDThh:mm:ssZ` stands for, with or without decimals of the second
 unfoldable pub iso_of : List ℕ → Result ℤ TimeFault
 iso_of text = answer_of judge_iso Spelling (iso_at text)
+
+-- what is to be said of the numbers of an ISO time: the moment, or the first that is wrong with them
+abbrev pub IsIsoVerdict : WrittenIso → Result ℤ TimeFault → Type 0
+IsIsoVerdict iso =
+    IsVerdict (iso.count ≤ 9) (IsTimeOfDay iso.clock × IsObservedYear iso.date.year)
+    (DateExists iso.date.year iso.date.month iso.date.day) (IsIsoMoment iso)
+
+-- what is to be said of a text: the judge's word on the numbers that it spells, or that it spells none
+abbrev pub IsIsoAnswer : List ℕ → Result ℤ TimeFault → Type 0
+IsIsoAnswer text answer = Answers SpellsIso judge_iso Spelling text answer
 
 -- the time of day after so many seconds of it
 abbrev pub clock_of : ℕ → WrittenClock

@@ -1,6 +1,6 @@
 pub mod Instants
 pub mod Dates
-pub mod Answering
+pub mod Verdicts
 pub mod DateText
 pub mod DayText
 pub mod Rounding

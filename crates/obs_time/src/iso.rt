@@ -144,7 +144,6 @@ fn judge_iso(time: Time, decimals: Decimals) -> Result<Instant, TimeFault>
 fn answer(text: &[u8]) -> Result<Instant, TimeFault>
     ensures { result ≡ iso_of text.now }
 {
-    ascii_text::laws::texts();
     match iso_within(text) {
         Some((time, Some(decimals))) => judge_iso(time, decimals),
         Some((_, None)) => Err(TimeFault::Decimals),

@@ -1,29 +1,44 @@
 -- What follows where a chain of readings gave a value.
-use Rattle.std.proofs.Common.{◌≡◌, ℕ, eqb, List, [], length, Option, Some, None, refl, inl, inr, ◌⊎◌}
+use Rattle.std.proofs.Common.{◌≡◌, ℕ, Bool, true, false, cond, eqb, List, [], length, Option, Some, None, refl, subst}
 use Rattle.std.specs.Prelude.{option_map}
 use Rattle.std.proofs.lemmas.Bool.{eqb-true}
 use Rattle.std.proofs.lemmas.List.{nil_from_length}
-use Rattle.std.proofs.lemmas.Option.{cond_some}
+use Rattle.std.proofs.lemmas.Option.{same_Some}
+use Rattle.ascii_text.specs.Reading.{◌>>=◌}
 use Rattle.packed_names.specs.Ends.{whole, first_of}
 
+-- the next step is taken on what the one before gave
+pub each : {A B : Type 0} (o : Option A) (f : A → Option B) (Q : B → Type 0) → ((x : A) → o ≡ Some x → (y : B) → f x ≡ Some y → Q y) → (y : B) → (o >>= f) ≡ Some y → Q y
+each (Some x) f Q h y e = h x refl y e
+each None f Q h y e = absurd cc
+
+-- what is given at the end
+pub made : {A : Type 0} (x : A) (Q : A → Type 0) → Q x → (y : A) → Some x ≡ Some y → Q y
+made x Q h y e = subst Q (same_Some x y e) h
+
+-- what is given where a test passes
+pub tested : {A : Type 0} (b : Bool) (x : A) (Q : A → Type 0) → (b ≡ true → Q x) → (y : A) → cond b (Some x) None ≡ Some y → Q y
+tested true x Q h y e = made x Q (h refl) y e
+tested false x Q h y e = absurd cc
+
 -- what was read to the end
-pub whole_some : {A : Type 0} (value : A) (rest : List ℕ) (y : A) → whole value rest ≡ Some y → (rest ≡ []) × (value ≡ y)
-whole_some value rest y e =
-    let ended = cond_some (eqb (length rest) 0) value y e in
-    (nil_from_length rest (eqb-true _ _ ended.0), ended.1)
+pub ended : {A : Type 0} (x : A) (rest : List ℕ) (Q : A → Type 0) → (rest ≡ [] → Q x) → (y : A) → whole x rest ≡ Some y → Q y
+ended x rest Q h = tested (eqb (length rest) 0) x Q (λ end. h (nil_from_length rest (eqb-true _ _ end)))
 
--- which of two gave the value; the second only where the first gave none
-pub first_of_some : {A : Type 0} (first other : Option A) (y : A) → first_of first other ≡ Some y → (first ≡ Some y) ⊎ ((first ≡ None) × (other ≡ Some y))
-first_of_some (Some x) other y e = inl e
-first_of_some None other y e = inr (refl, e)
+-- what one of two gave
+pub chosen : {A : Type 0} (first other : Option A) (Q : A → Type 0) → ((y : A) → first ≡ Some y → Q y) → ((y : A) → other ≡ Some y → Q y) → (y : A) → first_of first other ≡ Some y → Q y
+chosen (Some x) other Q one two y e = one y e
+chosen None other Q one two y e = two y e
 
-pub Some_injective : {A : Type 0} (x y : A) → ◌≡◌ {A = Option A} (Some x) (Some y) → x ≡ y
-Some_injective x y e = cc
+-- what is given by one of two, as a test says
+pub either : {A : Type 0} (b : Bool) (one other : Option A) (Q : A → Type 0) → ((y : A) → one ≡ Some y → Q y) → ((y : A) → other ≡ Some y → Q y) → (y : A) → cond b one other ≡ Some y → Q y
+either true one other Q h k = h
+either false one other Q h k = k
 
--- the value that was mapped
-pub option_map_some : {A B : Type 0} (f : A → B) (o : Option A) (y : B) → option_map f o ≡ Some y → (x : A) × (o ≡ Some x) × (f x ≡ y)
-option_map_some f (Some x) y e = (x, refl, Some_injective (f x) y e)
-option_map_some f None y e = absurd cc
+-- what was made of a value
+pub mapped : {A B : Type 0} (f : A → B) (o : Option A) (Q : B → Type 0) → ((x : A) → o ≡ Some x → Q (f x)) → (y : B) → option_map f o ≡ Some y → Q y
+mapped f (Some x) Q h y e = made (f x) Q (h x refl) y e
+mapped f None Q h y e = absurd cc
 
 -- nothing was read where no value can be
 pub none_from : {P : Type 0} (read : Option P) → ((values : P) → read ≡ Some values → ⊥) → read ≡ None

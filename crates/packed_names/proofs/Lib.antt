@@ -1,14 +1,9 @@
 pub mod Chains
-pub mod LetterLaws
-pub mod DigitLaws
-pub mod OrderLaws
+pub mod PartLaws
 pub mod ComparingLaws
-pub mod PackedNumberLaws
-pub mod PackedProvisionalLaws
-pub mod PackedSurveyLaws
 pub mod JudgingLaws
+pub mod PackedFormLaws
 pub mod PackedLaws
-pub mod PrintedNumberLaws
-pub mod PrintedProvisionalLaws
+pub mod PrintedFormLaws
 pub mod PrintedLaws
 pub mod DecimalLengths

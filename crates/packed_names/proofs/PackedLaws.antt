@@ -1,7 +1,6 @@
 -- The reader of packed names takes what is spelled, and nothing else.
-use Rattle.std.proofs.Common.{◌≡◌, ◌⊎◌, ℕ, ◌≤◌, true, false, eqb, List, length, Some, refl, ap, ◌∙◌, subst, inl, inr, arith}
-use Rattle.std.specs.Prelude.{option_map}
-use Rattle.std.proofs.lemmas.Bool.{cases_lt, cases_eq}
+use Rattle.std.proofs.Common.{◌≡◌, ◌⊎◌, ℕ, ◌≤◌, eqb, List, length, Some, Result, ◌↔◌, refl, ap, ◌∙◌, inl, inr, arith}
+use Rattle.std.proofs.lemmas.Bool.{cases_lt}
 use Rattle.std.proofs.lemmas.Bool.Decides.{nat_tests}
 use Rattle.ascii_text.specs.Judged.{IsReader}
 use Rattle.packed_names.specs.declared.provisional.Provisional.{Provisional}
@@ -9,19 +8,16 @@ use Rattle.packed_names.specs.declared.name.Designation.{Designation}
 use Rattle.packed_names.specs.declared.name.Designation.TheVariants as designations
 use Rattle.packed_names.specs.declared.name.Name.{Name}
 use Rattle.packed_names.specs.declared.name.Name.TheVariants as names
+use Rattle.packed_names.specs.declared.name.NameFault.{NameFault}
+use Rattle.packed_names.specs.Judging.{is_in_range, answered}
+use Rattle.packed_names.proofs.JudgingLaws.{Says, answers_exactly, name_test}
 use Rattle.packed_names.specs.Ranges.{IsName, IsProvisional}
 use Rattle.packed_names.specs.Spellings.{Spells}
 use Rattle.packed_names.specs.Packed.{packed_text, packed_length, FitsPacked, HasCenturyShape, HasExtendedShape}
 use Rattle.packed_names.specs.PackedReading.{number_in, provisional_in, survey_in, designation_in, packed_in}
-use Rattle.packed_names.proofs.Chains.{first_of_some, option_map_some}
-use Rattle.packed_names.proofs.PackedNumberLaws.{number_again, number_takes, length-number_text}
-use Rattle.packed_names.proofs.PackedProvisionalLaws.{provisional_again, provisional_takes, length-provisional_text}
-use Rattle.packed_names.proofs.PackedSurveyLaws.{survey_again, survey_takes, length-survey_text, no_provisional}
+use Rattle.packed_names.proofs.Chains.{chosen, either, mapped}
+use Rattle.packed_names.proofs.PackedFormLaws.{number_again, number_takes, length-number_text, provisional_again, provisional_takes, length-provisional_text, survey_again, survey_takes, length-survey_text, no_provisional}
 use Rattle.ascii_text.specs.Laws.{TextLaws}
-
--- what a designation was read from
-TakesDesignation : List ℕ → Designation → Type 0
-TakesDesignation text designation = (text ≡ packed_text (names.Designation designation)) × FitsPacked (names.Designation designation)
 
 module _ (texts : TextLaws) where
   designation_again : (designation : Designation) → FitsPacked (names.Designation designation) → designation_in (packed_text (names.Designation designation)) ≡ Some designation
@@ -38,35 +34,19 @@ module _ (texts : TextLaws) where
   packed_again (names.Number number) fits = rw (length-number_text texts number.0, number_again texts number.0 fits) refl
   packed_again (names.Designation designation) fits = rw (length-designation designation, designation_again designation fits) refl
 
-  designation_takes : (text : List ℕ) (designation : Designation) → designation_in text ≡ Some designation → TakesDesignation text designation
-  unfolding designation_in TakesDesignation
-  designation_takes text designation read =
-      elim (first_of_some (option_map (λ p. designations.Provisional p) (provisional_in text)) (option_map (λ s. designations.Survey s.0 s.1) (survey_in text)) designation read) [
-        | inl first ↦
-            let step = option_map_some (λ p. designations.Provisional p) (provisional_in text) designation first in
-            subst (λ d. (text ≡ packed_text (names.Designation d)) × FitsPacked (names.Designation d)) step.2 (provisional_takes texts text step.0 step.1)
-        | inr other ↦
-            let step = option_map_some (λ s. designations.Survey s.0 s.1) (survey_in text) designation other.1 in
-            subst (λ d. (text ≡ packed_text (names.Designation d)) × FitsPacked (names.Designation d)) step.2 (survey_takes texts text step.0 step.1)
-      ]
+  designation_takes : (text : List ℕ) (designation : Designation) → designation_in text ≡ Some designation → Spells FitsPacked packed_text (names.Designation designation) text
+  unfolding designation_in
+  designation_takes text =
+      chosen _ _ _
+      (mapped (λ p. designations.Provisional p) (provisional_in text) _ (λ p e. let took = provisional_takes texts text p e in record { within = took.1; text_is = took.0 }))
+      (mapped (λ s. designations.Survey s.0 s.1) (survey_in text) _ (λ s e. let took = survey_takes texts text s e in record { within = took.1; text_is = took.0 }))
 
   packed_takes : (text : List ℕ) (name : Name) → packed_in text ≡ Some name → Spells FitsPacked packed_text name text
-  unfolding packed_in TakesDesignation
-  packed_takes text name read =
-      elim (cases_eq (length text) 5) [
-        | inl five ↦
-            let test : eqb (length text) 5 ≡ true = grind (arith, nat_tests) in
-            let chosen : option_map (λ n. names.Number (record { 0 = n })) (number_in text) ≡ Some name = rw test at read in
-            let step = option_map_some (λ n. names.Number (record { 0 = n })) (number_in text) name chosen in
-            let took = number_takes texts text step.0 step.1 in
-            subst (λ n. Spells FitsPacked packed_text n text) step.2 (record { within = took.1; text_is = took.0 })
-        | inr other ↦
-            let test : eqb (length text) 5 ≡ false = grind (arith, nat_tests) in
-            let chosen : option_map (λ d. names.Designation d) (designation_in text) ≡ Some name = rw test at read in
-            let step = option_map_some (λ d. names.Designation d) (designation_in text) name chosen in
-            let took = designation_takes text step.0 step.1 in
-            subst (λ n. Spells FitsPacked packed_text n text) step.2 (record { within = took.1; text_is = took.0 })
-      ]
+  unfolding packed_in
+  packed_takes text =
+      either (eqb (length text) 5) _ _ _
+      (mapped (λ n. names.Number (record { 0 = n })) (number_in text) _ (λ n e. let took = number_takes texts text n e in record { within = took.1; text_is = took.0 }))
+      (mapped (λ d. names.Designation d) (designation_in text) _ (designation_takes text))
 
   pub packed_reader : IsReader (Spells FitsPacked packed_text) packed_in
   packed_reader = record {
@@ -95,3 +75,8 @@ module _ (texts : TextLaws) where
   pub length-packed_text : (name : Name) → length (packed_text name) ≡ packed_length name
   length-packed_text (names.Number number) = length-number_text texts number.0
   length-packed_text (names.Designation designation) = length-designation designation
+
+  -- what each answer to a text says
+  pub packed_exactly : (text : List ℕ) (result : Result Name NameFault) → result ≡ answered is_in_range (packed_in text) → (answer : Result Name NameFault)
+      → (result ≡ answer) ↔ Says IsName is_in_range name_test packed_text FitsPacked FitsPacked-IsName packed_in packed_reader text answer
+  packed_exactly text result exact answer = answers_exactly IsName is_in_range name_test packed_text FitsPacked FitsPacked-IsName packed_in packed_reader text result exact answer

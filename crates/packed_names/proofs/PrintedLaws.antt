@@ -1,6 +1,5 @@
 -- The reader of printed names takes what is spelled, and nothing else.
-use Rattle.std.proofs.Common.{◌≡◌, ℕ, ◌≤◌, List, Some, None, refl, ap, ◌∙◌, subst, inl, inr, arith}
-use Rattle.std.specs.Prelude.{option_map}
+use Rattle.std.proofs.Common.{◌≡◌, ℕ, ◌≤◌, List, Some, None, Result, ◌↔◌, refl, ap, ◌∙◌, arith}
 use Rattle.std.proofs.lemmas.Bool.Decides.{nat_tests}
 use Rattle.ascii_text.specs.Judged.{IsReader}
 use Rattle.packed_names.specs.declared.half_month.HalfMonth.{HalfMonth}
@@ -9,13 +8,15 @@ use Rattle.packed_names.specs.declared.name.Designation.{Designation}
 use Rattle.packed_names.specs.declared.name.Designation.TheVariants as designations
 use Rattle.packed_names.specs.declared.name.Name.{Name}
 use Rattle.packed_names.specs.declared.name.Name.TheVariants as names
+use Rattle.packed_names.specs.declared.name.NameFault.{NameFault}
+use Rattle.packed_names.specs.Judging.{is_in_range, is_half_month, answered}
+use Rattle.packed_names.proofs.JudgingLaws.{Says, answers_exactly, name_test, half_month_test}
 use Rattle.packed_names.specs.Ranges.{IsName, IsHalfMonth, IsProvisional, limit_of}
 use Rattle.packed_names.specs.Spellings.{Spells}
-use Rattle.packed_names.specs.Printed.{printed_text, FitsPrinted, FitsPrintedHalf}
-use Rattle.packed_names.specs.PrintedReading.{number_in, provisional_in, survey_in, designation_in, printed_in}
-use Rattle.packed_names.proofs.Chains.{first_of_some, option_map_some}
-use Rattle.packed_names.proofs.PrintedNumberLaws.{decimal_in, number_in_takes, survey_again, survey_takes}
-use Rattle.packed_names.proofs.PrintedProvisionalLaws.{provisional_again, provisional_takes, provisional_no_number, survey_no_number, survey_no_provisional}
+use Rattle.packed_names.specs.Printed.{printed_text, half_text, FitsPrinted, FitsPrintedHalf}
+use Rattle.packed_names.specs.PrintedReading.{number_in, provisional_in, survey_in, designation_in, printed_in, half_in}
+use Rattle.packed_names.proofs.Chains.{chosen, mapped}
+use Rattle.packed_names.proofs.PrintedFormLaws.{decimal_in, number_in_takes, survey_again, survey_takes, half_reader, provisional_again, provisional_takes, provisional_no_number, survey_no_number, survey_no_provisional}
 use Rattle.ascii_text.specs.Laws.{TextLaws}
 
 pub FitsPrintedHalf-IsHalfMonth : (half : HalfMonth) → IsHalfMonth half → FitsPrintedHalf half
@@ -50,33 +51,29 @@ module _ (texts : TextLaws) where
 
   designation_takes : (text : List ℕ) (designation : Designation) → designation_in text ≡ Some designation → Spells FitsPrinted printed_text (names.Designation designation) text
   unfolding designation_in
-  designation_takes text designation read =
-      elim (first_of_some (option_map (λ p. designations.Provisional p) (provisional_in text)) (option_map (λ s. designations.Survey s.0 s.1) (survey_in text)) designation read) [
-        | inl first ↦
-            let step = option_map_some (λ p. designations.Provisional p) (provisional_in text) designation first in
-            let took = provisional_takes texts text step.0 step.1 in
-            subst (λ d. Spells FitsPrinted printed_text (names.Designation d) text) step.2 (record { within = took.1; text_is = took.0 })
-        | inr other ↦
-            let step = option_map_some (λ s. designations.Survey s.0 s.1) (survey_in text) designation other.1 in
-            let took = survey_takes texts text step.0 step.1 in
-            subst (λ d. Spells FitsPrinted printed_text (names.Designation d) text) step.2 (record { within = took.1; text_is = took.0 })
-      ]
+  designation_takes text =
+      chosen _ _ _
+      (mapped (λ p. designations.Provisional p) (provisional_in text) _ (λ p e. let took = provisional_takes texts text p e in record { within = took.1; text_is = took.0 }))
+      (mapped (λ s. designations.Survey s.0 s.1) (survey_in text) _ (λ s e. let took = survey_takes texts text s e in record { within = took.1; text_is = took.0 }))
 
   printed_takes : (text : List ℕ) (name : Name) → printed_in text ≡ Some name → Spells FitsPrinted printed_text name text
   unfolding printed_in
-  printed_takes text name read =
-      elim (first_of_some (option_map (λ n. names.Number (record { 0 = n })) (number_in text)) (option_map (λ d. names.Designation d) (designation_in text)) name read) [
-        | inl first ↦
-            let step = option_map_some (λ n. names.Number (record { 0 = n })) (number_in text) name first in
-            let took = number_in_takes texts text step.0 step.1 in
-            subst (λ n. Spells FitsPrinted printed_text n text) step.2 (record { within = took.1; text_is = took.0 })
-        | inr other ↦
-            let step = option_map_some (λ d. names.Designation d) (designation_in text) name other.1 in
-            subst (λ n. Spells FitsPrinted printed_text n text) step.2 (designation_takes text step.0 step.1)
-      ]
+  printed_takes text =
+      chosen _ _ _
+      (mapped (λ n. names.Number (record { 0 = n })) (number_in text) _ (λ n e. let took = number_in_takes texts text n e in record { within = took.1; text_is = took.0 }))
+      (mapped (λ d. names.Designation d) (designation_in text) _ (designation_takes text))
 
   pub printed_reader : IsReader (Spells FitsPrinted printed_text) printed_in
   printed_reader = record {
     again = λ name text shows. ap printed_in shows.text_is ∙ printed_again name shows.within;
     takes = printed_takes;
   }
+
+  -- what each answer to a text says
+  pub printed_exactly : (text : List ℕ) (result : Result Name NameFault) → result ≡ answered is_in_range (printed_in text) → (answer : Result Name NameFault)
+      → (result ≡ answer) ↔ Says IsName is_in_range name_test printed_text FitsPrinted FitsPrinted-IsName printed_in printed_reader text answer
+  printed_exactly text result exact answer = answers_exactly IsName is_in_range name_test printed_text FitsPrinted FitsPrinted-IsName printed_in printed_reader text result exact answer
+
+  pub half_exactly : (text : List ℕ) (result : Result HalfMonth NameFault) → result ≡ answered is_half_month (half_in text) → (answer : Result HalfMonth NameFault)
+      → (result ≡ answer) ↔ Says IsHalfMonth is_half_month half_month_test half_text FitsPrintedHalf FitsPrintedHalf-IsHalfMonth half_in (half_reader texts) text answer
+  half_exactly text result exact answer = answers_exactly IsHalfMonth is_half_month half_month_test half_text FitsPrintedHalf FitsPrintedHalf-IsHalfMonth half_in (half_reader texts) text result exact answer

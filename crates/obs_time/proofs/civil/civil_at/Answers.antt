@@ -5,7 +5,7 @@ use Rattle.jiff_core.proofs.DateLemmas.{civil}
 use Rattle.obs_time.specs.Calendar.{date_of_day}
 use Rattle.obs_time.specs.Dates.{moment}
 use Rattle.obs_time.proofs.CalendarLaws.{date_of_moment, day_of_moment}
-use Rattle.obs_time.proofs.YearLemmas.{year_of_day, year_to_2199, year_kept, date_exists}
+use Rattle.obs_time.proofs.YearLaws.{year_of_day, year_to_2199, year_kept, date_exists}
 use Rattle.obs_time.proofs.civil.civil_at.Goals as goal
 
 pub overflow_cast-result : goal.overflow_cast-result

@@ -2,7 +2,7 @@ use Rattle.std.proofs.Common.{arith, ap, pos, ◌≡◌}
 use Rattle.jiff_core.proofs.SignedLemmas.{signed_arith, signed_casts}
 use Rattle.jiff_core.proofs.DateLemmas.{civil}
 use Rattle.jiff_core.specs.Date.{epoch_day}
-use Rattle.obs_time.proofs.DayLemmas.{observed_day}
+use Rattle.obs_time.proofs.YearLaws.{observed_day}
 use Rattle.obs_time.proofs.dates.judge_date.Goals as goal
 
 pub returns-in-Ok-clause-range : goal.returns-in-Ok-clause-range

@@ -7,7 +7,7 @@ use Rattle.obs_time.specs.DayText.{decimal_unit}
 use Rattle.obs_time.specs.Written.{date_part}
 use Rattle.obs_time.proofs.RoundingLemmas.{rounded_nearest}
 use Rattle.obs_time.proofs.DayLemmas.{unit_positive}
-use Rattle.obs_time.proofs.WritingLaws.{text_of, text_is}
+use Rattle.obs_time.proofs.TextLaws.{text_of, text_is}
 use Rattle.obs_time.proofs.TextLaws.{text_is_read, one_text, text_is_kept}
 use Rattle.obs_time.proofs.writing.write_day_fraction.Goals as goal
 

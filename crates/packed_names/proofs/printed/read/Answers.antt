@@ -1,16 +1,13 @@
-use Rattle.packed_names.specs.Ranges.{IsName}
-use Rattle.packed_names.specs.Judging.{is_in_range}
-use Rattle.packed_names.specs.Printed.{printed_text, FitsPrinted}
-use Rattle.packed_names.specs.PrintedReading.{printed_in}
-use Rattle.packed_names.proofs.JudgingLaws.{name_test, ok_exactly, out_of_range_exactly, spelling_exactly}
-use Rattle.packed_names.proofs.PrintedLaws.{printed_reader, FitsPrinted-IsName}
+use Rattle.std.proofs.Common.{Ok, Err}
+use Rattle.packed_names.specs.declared.name.NameFault.TheVariants.{Spelling, OutOfRange}
+use Rattle.packed_names.proofs.PrintedLaws.{printed_exactly}
 use Rattle.packed_names.proofs.printed.read.Goals as goal
 
 pub returns-clause-name : goal.returns-clause-name
-returns-clause-name c = ok_exactly IsName is_in_range name_test printed_text FitsPrinted FitsPrinted-IsName printed_in (printed_reader c.texts.ensures) c.args.text.now c.printed.result c.printed.ensures.exact
+returns-clause-name c = λ name. printed_exactly c.texts.ensures c.args.text.now c.printed.result c.printed.ensures.exact (Ok name)
 
 pub returns-clause-out_of_range : goal.returns-clause-out_of_range
-returns-clause-out_of_range c = out_of_range_exactly IsName is_in_range name_test printed_text FitsPrinted FitsPrinted-IsName printed_in (printed_reader c.texts.ensures) c.args.text.now c.printed.result c.printed.ensures.exact
+returns-clause-out_of_range c = printed_exactly c.texts.ensures c.args.text.now c.printed.result c.printed.ensures.exact (Err OutOfRange)
 
 pub returns-clause-spelling : goal.returns-clause-spelling
-returns-clause-spelling c = spelling_exactly IsName is_in_range name_test printed_text FitsPrinted FitsPrinted-IsName printed_in (printed_reader c.texts.ensures) c.args.text.now c.printed.result c.printed.ensures.exact
+returns-clause-spelling c = printed_exactly c.texts.ensures c.args.text.now c.printed.result c.printed.ensures.exact (Err Spelling)
