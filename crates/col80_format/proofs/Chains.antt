@@ -1,5 +1,5 @@
 -- Steps of reading under one rule.
-use Rattle.std.proofs.Common.{◌≡◌, Bool, true, false, cond, List, [], ◌∷◌, Result, Ok, Err, refl, inl}
+use Rattle.std.proofs.Common.{◌≡◌, Bool, true, false, cond, [], ◌∷◌, Result, Ok, Err, refl, inl}
 use Rattle.obs_record.specs.declared.rule.RuleCode.{RuleCode}
 use Rattle.text_lines.specs.Rules.{Judges}
 use Rattle.text_lines.specs.Steps.{◌>>=◌}

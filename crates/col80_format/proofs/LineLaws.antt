@@ -1,5 +1,5 @@
 -- What is read from a line is what its columns say, and nothing else is.
-use Rattle.std.proofs.Common.{◌≡◌, ℕ, Bool, true, false, cond, eqb, not, List, [], ◌∷◌, length, get_or, All, Option, Result, Ok, Err, refl, sym, ap, subst, ◌∙◌, inl, arith, lit≤}
+use Rattle.std.proofs.Common.{◌≡◌, ℕ, Bool, true, eqb, not, List, [], ◌∷◌, length, get_or, All, Result, Ok, Err, refl, sym, ap, subst, ◌∙◌, inl, arith, lit≤}
 use Rattle.std.specs.Prelude.{Contains}
 use Rattle.std.specs.List.{list_all, list_any}
 use Rattle.std.proofs.lemmas.Bool.{eqb-true, eqb-false, not-true, not-false}

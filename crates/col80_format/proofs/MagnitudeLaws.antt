@@ -1,11 +1,11 @@
 -- A magnitude that is spelled is read, and one that is read is spelled.
-use Rattle.std.proofs.Common.{◌≡◌, ◌≢◌, ℕ, ◌+◌, ◌/◌, ◌%◌, ◌<◌, ◌≤◌, Bool, true, false, cond, eqb, leb, ◌&&◌, List, [], ◌∷◌, ◌++◌, length, get_or, Option, Some, None, Result, Ok, Err, refl, sym, ap, subst, ◌∙◌, inl, inr, arith}
+use Rattle.std.proofs.Common.{◌≡◌, ℕ, ◌+◌, ◌/◌, ◌<◌, ◌≤◌, Bool, true, false, cond, eqb, leb, ◌&&◌, List, [], ◌∷◌, ◌++◌, length, get_or, Option, Some, None, Ok, refl, ap, subst, ◌∙◌, inl, inr, arith}
 use Rattle.std.proofs.lemmas.Bool.{eqb-true, eqb-false, ne_eqb, and_parts, lt-ltb, le-ltb, le-leb, leb-true, cases_lt}
 use Rattle.std.proofs.lemmas.Option.{cond_some}
 use Rattle.ascii_text.specs.declared.digits.Radix.TheVariants.{Ten}
 use Rattle.ascii_text.specs.Digits.{digits_text, decimals_text}
 use Rattle.ascii_text.specs.Blanks.{blanks, are_blanks}
-use Rattle.ascii_text.specs.Reading.{◌>>=◌, bind_some, digits_at, decimals_at}
+use Rattle.ascii_text.specs.Reading.{bind_some, digits_at, decimals_at}
 use Rattle.obs_record.specs.declared.rule.RuleCode.TheVariants.{S9}
 use Rattle.col80_format.specs.Magnitudes.{whole_text, SpellsMagnitude, IsMagnitudeText, whole_at, written_in, magnitude_from, magnitude_in}
 use Rattle.col80_format.specs.LawsBelow.{Laws}

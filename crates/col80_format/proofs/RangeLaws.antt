@@ -1,10 +1,9 @@
 -- What a line says that keeps every rule is in range, has a mode that is taken, and its station has 3 bytes.
-use Rattle.std.proofs.Common.{◌≡◌, ◌≢◌, ◌⊎◌, ℕ, zero, suc, ◌+◌, ◌-◌, ◌*◌, ◌^◌, ◌<◌, ◌≤◌, Bool, eqb, List, ◌++◌, length, get_or, take, drop, All, Option, Some, None, Result, Ok, Err, refl, sym, ap, subst, ◌∙◌, inl, inr, arith, lit≤}
+use Rattle.std.proofs.Common.{◌≡◌, ◌⊎◌, ℕ, zero, suc, ◌+◌, ◌-◌, ◌*◌, ◌^◌, ◌<◌, ◌≤◌, Bool, eqb, List, ◌++◌, length, get_or, take, drop, All, Option, Some, None, Result, Ok, Err, refl, sym, ap, subst, ◌∙◌, inl, inr, arith, lit≤}
 use Rattle.std.specs.Prelude.{Contains, IfOk, IfSome, IsSome, ℤ}
 use Rattle.std.proofs.lemmas.Bool.{cond_both}
 use Rattle.std.proofs.lemmas.List.{take-append-drop, take-take, drop-take, take_at, drop_at, length-append, replicate-append-replicate}
 use Rattle.std.proofs.lemmas.List.Elements.{All-map, All-take, All-drop}
-use Rattle.ascii_text.specs.Bytes.{blank, vertical_bar}
 use Rattle.ascii_text.specs.Blanks.{blanks}
 use Rattle.angle_fixed.specs.Answer.{ReadsTime, ReadsArc}
 use Rattle.obs_time.specs.DayText.{IsDayAnswer}
@@ -20,7 +19,7 @@ use Rattle.obs_record.specs.Filed.{IsTakenMode, IsOwnName, IsStated, IsFiled, Ar
 use Rattle.obs_record.specs.Magnitudes.{HasDecimals}
 use Rattle.obs_record.specs.Modes.{refused_modes}
 use Rattle.obs_record.specs.Short.{IsShort, kept_short}
-use Rattle.obs_record.specs.Sighting.{IsPrintable, IsCoded, IsShape, places_of, IsSighting}
+use Rattle.obs_record.specs.Sighting.{IsPrintable, IsCoded, IsSighting}
 use Rattle.col80_format.specs.Batch.{observation_lines, read_of, lines_of}
 use Rattle.col80_format.specs.Columns.{columns, column, coded}
 use Rattle.col80_format.specs.LawsBelow.{Laws}

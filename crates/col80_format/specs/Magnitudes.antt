@@ -2,7 +2,6 @@
 use Rattle.std.specs.Prelude.{◌≡◌, ℕ, ◌^◌, ◌<◌, ◌≤◌, nat_lt, nat_le, ◌&&◌, ◌==◌, if◌then◌else◌, List, [], ◌∷◌, ◌++◌}
 use Rattle.std.specs.Prelude.{Option, Some, None, Result, Ok, Err}
 use Rattle.ascii_text.specs.declared.digits.Radix.TheVariants.{Ten}
-use Rattle.ascii_text.specs.declared.reading.Decimals.{Decimals}
 use Rattle.ascii_text.specs.Digits.{digits_text, decimals_text}
 use Rattle.ascii_text.specs.Bytes.{blank}
 use Rattle.ascii_text.specs.Blanks.{blanks, are_blanks}

@@ -1,8 +1,5 @@
-use Rattle.std.proofs.Common.{◌≡◌, ℕ, List, ◌++◌, length, ap, ◌∙◌, arith}
+use Rattle.std.proofs.Common.{ℕ, List, length, ap, arith}
 use Rattle.std.proofs.lemmas.List.{length-append}
-use Rattle.text_lines.specs.Pieces.{complete_lines, unfinished}
-use Rattle.col80_format.specs.declared.batch.Seen.{Seen}
-use Rattle.col80_format.specs.Feeding.{seen_all, Progress}
 use Rattle.col80_format.proofs.Batches.{piece_cut, room_left}
 use Rattle.col80_format.proofs.reader.read_on.Goals as goal
 
