@@ -1,11 +1,12 @@
 -- A batch that is read line by line says what the batch says.
-use Rattle.std.proofs.Common.{◌≡◌, ℕ, ◌+◌, ◌<◌, ◌≤◌, Bool, true, false, not, cond, eqb, ◌||◌, List, [], ◌∷◌, ◌++◌, append_assoc, length, map, take, refl, sym, ap, subst, ◌∙◌, arith}
+use Rattle.std.proofs.Common.{◌≡◌, ℕ, ◌+◌, ◌<◌, ◌≤◌, Bool, true, false, not, cond, ◌||◌, List, [], ◌∷◌, ◌++◌, append_assoc, length, map, take, refl, sym, ap, subst, ◌∙◌, arith}
 use Rattle.std.specs.List.{enumerate_from, AllZip}
 use Rattle.std.specs.Str.Lines.{lines}
-use Rattle.std.proofs.lemmas.List.{append-nil, take-append-le, length-append, length-take}
-use Rattle.std.proofs.lemmas.List.Elements.{All-nil, All-push}
+use Rattle.std.proofs.lemmas.List.{append-nil, take-append-le, length-take}
+use Rattle.std.proofs.lemmas.Bool.{cond_both}
+use Rattle.std.proofs.lemmas.List.Elements.{All-push}
 use Rattle.ascii_text.specs.Blanks.{are_blanks}
-use Rattle.text_lines.specs.Lines.{filled_lines, IsNumberable}
+use Rattle.text_lines.specs.Lines.{filled_lines}
 use Rattle.text_lines.specs.Pieces.{complete_lines, unfinished}
 use Rattle.text_lines.specs.Laws.{LineLaws}
 use Rattle.std.specs.Prelude.{IfOk}
@@ -15,7 +16,7 @@ use Rattle.obs_record.specs.Lines.{AreInRange}
 use Rattle.col80_format.specs.declared.batch.Seen.{Seen}
 use Rattle.col80_format.specs.Batch.{drop_while, is_front_line, behind_front, IsReadFrom, read_of, lines_of}
 use Rattle.col80_format.specs.Feeding.{none_seen, read_on, seen_on, seen_all, Progress, progress_of}
-use Rattle.col80_format.proofs.LawsBelow.{Laws}
+use Rattle.col80_format.specs.LawsBelow.{Laws}
 use Rattle.col80_format.proofs.LineLaws.{reading_is}
 
 -- ---- lines after lines that were seen
@@ -29,38 +30,24 @@ observations false numbered = filled_lines (behind_front numbered)
 abbrev found_on : List Line → Bool → ℕ → List (List ℕ) → List Line
 found_on found observed n ls = found ++ map read_of (observations observed (enumerate_from n ls))
 
-read_first : (found : List Line) (n : ℕ) (line : List ℕ) (ls : List (List ℕ)) (blank : Bool) → are_blanks line ≡ blank
-    → found_on (cond blank found (found ++ read_of (n, line) ∷ [])) true (n + 1) ls ≡ found_on found true n (line ∷ ls)
-read_first found n line ls true b = rw b refl
-read_first found n line ls false b = rw b (append_assoc found (read_of (n, line) ∷ []) (map read_of (filled_lines (enumerate_from (n + 1) ls))))
-
-first_observation : (found : List Line) (n : ℕ) (line : List ℕ) (ls : List (List ℕ)) → is_front_line line ≡ false → found_on found false n (line ∷ ls) ≡ found_on found true n (line ∷ ls)
-unfolding drop_while
-first_observation found n line ls other = rw other refl
-
-passed_over : (found : List Line) (n : ℕ) (line : List ℕ) (ls : List (List ℕ)) → is_front_line line ≡ true → found_on found false (n + 1) ls ≡ found_on found false n (line ∷ ls)
-unfolding drop_while
-passed_over found n line ls front = rw front refl
-
-step_by : (observed front : Bool) (n : ℕ) (found : List Line) (line : List ℕ) (ls : List (List ℕ)) → is_front_line line ≡ front
+step_by : (observed front blank : Bool) (n : ℕ) (found : List Line) (line : List ℕ) (ls : List (List ℕ)) → is_front_line line ≡ front → are_blanks line ≡ blank
     → let next = cond {A = Seen} (observed || not front) (record { next = n + 1; observed = true; found = read_on found n line }) (record { next = n + 1; observed = false; found = found }) in
     found_on next.found next.observed (n + 1) ls ≡ found_on found observed n (line ∷ ls)
-step_by true front n found line ls is = read_first found n line ls (are_blanks line) refl
-step_by false false n found line ls is = read_first found n line ls (are_blanks line) refl ∙ sym (first_observation found n line ls is)
-step_by false true n found line ls is = passed_over found n line ls is
-
-next_by : (now : Bool) (n : ℕ) (found read : List Line) → (cond {A = Seen} now (record { next = n + 1; observed = true; found = read }) (record { next = n + 1; observed = false; found = found })).next ≡ n + 1
-next_by true n found read = refl
-next_by false n found read = refl
+unfolding drop_while
+step_by true front true n found line ls is b = rw b refl
+step_by true front false n found line ls is b = rw b (append_assoc found (read_of (n, line) ∷ []) (map read_of (filled_lines (enumerate_from (n + 1) ls))))
+step_by false true blank n found line ls is b = rw is refl
+step_by false false true n found line ls is b = rw (is, b) refl
+step_by false false false n found line ls is b = rw (is, b) (append_assoc found (read_of (n, line) ∷ []) (map read_of (filled_lines (enumerate_from (n + 1) ls))))
 
 pub next-seen_on : (seen : Seen) (line : List ℕ) → (seen_on seen line).next ≡ seen.next + 1
 unfolding seen_on
-next-seen_on seen line = next_by (seen.observed || not (is_front_line line)) seen.next seen.found (read_on seen.found seen.next line)
+next-seen_on seen line = cond_both (seen.observed || not (is_front_line line)) _ _ (λ (s : Seen). s.next ≡ seen.next + 1) (λ on. refl) (λ over. refl)
 
 found-step : (seen : Seen) (line : List ℕ) (ls : List (List ℕ))
     → found_on (seen_on seen line).found (seen_on seen line).observed (seen.next + 1) ls ≡ found_on seen.found seen.observed seen.next (line ∷ ls)
 unfolding seen_on
-found-step seen line ls = step_by seen.observed (is_front_line line) seen.next seen.found line ls refl
+found-step seen line ls = step_by seen.observed (is_front_line line) (are_blanks line) seen.next seen.found line ls refl refl
 
 nothing_more : (found : List Line) (observed : Bool) (n : ℕ) → found_on found observed n [] ≡ found
 unfolding drop_while
@@ -99,12 +86,6 @@ found_in_range found new line is read before = subst AreInRange (sym is) (All-pu
 -- ---- pieces
 
 module _ (texts : LineLaws) where
-  -- nothing was fed yet
-  pub unfed : progress_of [] ≡ record { rest = []; seen = none_seen }
-  unfed =
-      ap (λ (t : List ℕ). let p : Progress = record { rest = t; seen = seen_all none_seen (complete_lines []) } in p) (texts.all_unfinished [] (All-nil (λ b. eqb b 10 ≡ false)))
-      ∙ ap (λ (ls : List (List ℕ)). let p : Progress = record { rest = []; seen = seen_all none_seen ls } in p) (texts.none_complete [] (All-nil (λ b. eqb b 10 ≡ false)))
-
   open texts use {complete_on, unfinished_on, last_line, no_last_line, few}
 
   -- a piece that ends a line, and a piece after it
@@ -125,44 +106,22 @@ module _ (texts : LineLaws) where
       sym (ap (λ (t : List ℕ). let p : Progress = record { rest = t; seen = seen_all none_seen (complete_lines (text ++ piece)) } in p) left
       ∙ ap (λ (s : Seen). let p : Progress = record { rest = unfinished after; seen = s } in p) seen_at)
 
-  -- a piece without a line feed
-  pub piece_added : (text piece rest : List ℕ) (seen : Seen) → record { rest = rest; seen = seen } ≡ progress_of text
-      → complete_lines (text ++ piece) ≡ complete_lines text → unfinished (text ++ piece) ≡ unfinished text ++ piece
-      → record { rest = rest ++ piece; seen = seen } ≡ progress_of (text ++ piece)
-  piece_added text piece rest seen is same left =
-      let rest_is : rest ≡ unfinished text = ap (λ (p : Progress). p.rest) is in
-      let seen_is : seen ≡ seen_all none_seen (complete_lines text) = ap (λ (p : Progress). p.seen) is in
-      rw (rest_is, seen_is, left, same) refl
-
-  -- there is room for the number of the last line
-  pub room_of : (text rest : List ℕ) (seen : Seen) → record { rest = rest; seen = seen } ≡ progress_of text → IsNumberable text → length rest + seen.next ≤ 4294967295
-  room_of text rest seen is short =
-      let rest_is : rest ≡ unfinished text = ap (λ (p : Progress). p.rest) is in
-      let seen_is : seen ≡ seen_all none_seen (complete_lines text) = ap (λ (p : Progress). p.seen) is in
-      omega (arith, ap length rest_is, ap (λ (s : Seen). s.next) seen_is, next-seen_all none_seen (complete_lines text), few text)
-
-  -- there is room for the numbers of the lines that a piece ends
-  pub room_left : (text piece rest : List ℕ) (seen : Seen) → record { rest = rest; seen = seen } ≡ progress_of text → IsNumberable (text ++ piece)
-      → length rest + length piece + seen.next ≤ 4294967295
-  room_left text piece rest seen is short =
-      let rest_is : rest ≡ unfinished text = ap (λ (p : Progress). p.rest) is in
-      let seen_is : seen ≡ seen_all none_seen (complete_lines text) = ap (λ (p : Progress). p.seen) is in
-      omega (arith, ap length rest_is, ap (λ (s : Seen). s.next) seen_is, next-seen_all none_seen (complete_lines text), few text, length-append text piece)
+  -- there is room for the numbers of the lines that a piece ends, and of one more
+  pub room_left : (text : List ℕ) (more : ℕ) (rest : List ℕ) (seen : Seen) → record { rest = rest; seen = seen } ≡ progress_of text → length text + more < 4294967295
+      → length rest + more + seen.next ≤ 4294967295
+  room_left text more rest seen is short =
+      omega (arith, ap (λ (p : Progress). length p.rest) is, ap (λ (p : Progress). p.seen.next) is, next-seen_all none_seen (complete_lines text), few text)
 
   -- a batch that ends with the last line feed
   pub ends_complete : (text rest : List ℕ) (seen : Seen) → record { rest = rest; seen = seen } ≡ progress_of text → length rest ≡ 0 → seen.found ≡ lines_of text
   ends_complete text rest seen is none =
-      let rest_is : rest ≡ unfinished text = ap (λ (p : Progress). p.rest) is in
-      let seen_is : seen ≡ seen_all none_seen (complete_lines text) = ap (λ (p : Progress). p.seen) is in
-      ap (λ (s : Seen). s.found) seen_is ∙ ap (λ (ls : List (List ℕ)). (seen_all none_seen ls).found) (sym (no_last_line text (omega (arith, none, ap length rest_is)))) ∙ batch_read text
+      ap (λ (p : Progress). p.seen.found) is ∙ ap (λ (ls : List (List ℕ)). (seen_all none_seen ls).found) (sym (no_last_line text (omega (arith, none, ap (λ (p : Progress). length p.rest) is)))) ∙ batch_read text
 
   -- a batch whose last line no line feed ends
   pub ends_unfinished : (text rest : List ℕ) (seen : Seen) → record { rest = rest; seen = seen } ≡ progress_of text → 0 < length rest → (seen_on seen rest).found ≡ lines_of text
   ends_unfinished text rest seen is some =
-      let rest_is : rest ≡ unfinished text = ap (λ (p : Progress). p.rest) is in
-      let seen_is : seen ≡ seen_all none_seen (complete_lines text) = ap (λ (p : Progress). p.seen) is in
-      rw (rest_is, seen_is) (ap (λ (s : Seen). s.found) (sym (seen_all-append none_seen (complete_lines text) (unfinished text ∷ [])))
-      ∙ ap (λ (ls : List (List ℕ)). (seen_all none_seen ls).found) (sym (last_line text (omega (arith, some, ap length rest_is)))) ∙ batch_read text)
+      ap (λ (p : Progress). (seen_on p.seen p.rest).found) is ∙ ap (λ (s : Seen). s.found) (sym (seen_all-append none_seen (complete_lines text) (unfinished text ∷ [])))
+      ∙ ap (λ (ls : List (List ℕ)). (seen_all none_seen ls).found) (sym (last_line text (omega (arith, some, ap (λ (p : Progress). length p.rest) is)))) ∙ batch_read text
 
 -- ---- each line with its reading
 

@@ -1,4 +1,3 @@
-pub mod LawsBelow
 pub mod Batches
 pub mod MagnitudeLaws
 pub mod Chains
@@ -6,4 +5,3 @@ pub mod NameLaws
 pub mod LineLaws
 pub mod RangeLaws
 pub mod LineTexts
-pub mod Stated

@@ -1,28 +1,34 @@
--- A line's observation has its fields in their ranges.
-use Rattle.std.proofs.Common.{◌≡◌, ◌⊎◌, ℕ, zero, suc, ◌+◌, ◌-◌, ◌*◌, ◌^◌, ◌<◌, ◌≤◌, Bool, true, false, cond, eqb, List, ◌++◌, length, take, drop, All, Option, Some, None, Ok, refl, sym, ap, subst, ◌∙◌, inl, inr, pos, neg_ℤ, ◌≤ℤ◌, arith, lit≤}
-use Rattle.std.specs.Prelude.{IfSome, IsSome, ℤ}
-use Rattle.std.proofs.lemmas.List.{take-append-drop, take-take, drop-take, replicate-append-replicate}
+-- What a line says that keeps every rule is in range, has a mode that is taken, and its station has 3 bytes.
+use Rattle.std.proofs.Common.{◌≡◌, ◌⊎◌, ℕ, zero, suc, ◌+◌, ◌-◌, ◌*◌, ◌^◌, ◌<◌, ◌≤◌, Bool, eqb, List, ◌++◌, length, get_or, take, drop, All, Option, Some, None, Result, Ok, Err, refl, sym, ap, subst, ◌∙◌, inl, inr, arith, lit≤}
+use Rattle.std.specs.Prelude.{Contains, IfOk, IfSome, IsSome, ℤ}
+use Rattle.std.proofs.lemmas.Bool.{cond_both}
+use Rattle.std.proofs.lemmas.List.{take-append-drop, take-take, drop-take, take_at, drop_at, length-append, replicate-append-replicate}
+use Rattle.std.proofs.lemmas.List.Elements.{All-map, All-take, All-drop}
 use Rattle.ascii_text.specs.Blanks.{blanks}
-use Rattle.angle_fixed.specs.Angles.{circle, quarter}
 use Rattle.angle_fixed.specs.Answer.{ReadsTime, ReadsArc}
-use Rattle.obs_time.specs.Instants.{IsInstantNs}
 use Rattle.obs_time.specs.DayText.{IsDayAnswer}
 use Rattle.packed_names.specs.declared.number.Number.{Number}
 use Rattle.packed_names.specs.declared.name.Designation.{Designation}
 use Rattle.packed_names.specs.Ranges.{IsNumber, IsDesignation}
+use Rattle.obs_record.specs.declared.line.Line.{Line}
+use Rattle.obs_record.specs.declared.rule.RuleCode.{RuleCode}
 use Rattle.obs_record.specs.declared.short.Short.{Short}
 use Rattle.obs_record.specs.declared.sighting.Coded.TheVariants.{Nothing, Letter}
 use Rattle.obs_record.specs.declared.sighting.Sighting.{Sighting}
-use Rattle.obs_record.specs.Short.{IsShort}
-use Rattle.obs_record.specs.declared.sighting.Shape.{Shape}
+use Rattle.obs_record.specs.Filed.{IsTakenMode, IsOwnName, IsStated, IsFiled, AreStated}
 use Rattle.obs_record.specs.Magnitudes.{HasDecimals}
-use Rattle.obs_record.specs.Sighting.{IsPrintable, IsCoded, IsShape, places_of, IsSighting}
-use Rattle.text_lines.specs.Rules.{KeepsEach}
+use Rattle.obs_record.specs.Modes.{refused_modes}
+use Rattle.obs_record.specs.Short.{IsShort, kept_short}
+use Rattle.obs_record.specs.Sighting.{IsPrintable, IsCoded, IsSighting}
+use Rattle.col80_format.specs.Batch.{observation_lines, read_of, lines_of}
 use Rattle.col80_format.specs.Columns.{columns, column, coded}
-use Rattle.col80_format.specs.Names.{IsNumberText, IsNameText, AreNamesOf}
+use Rattle.col80_format.specs.LawsBelow.{Laws}
+use Rattle.col80_format.specs.Names.{IsNumberText, SpellsTemporary, IsNameText, AreNamesOf}
 use Rattle.col80_format.specs.Magnitudes.{IsMagnitudeText}
-use Rattle.col80_format.specs.Rules.{Keeps, line_rules, IsSightingOf}
-use Rattle.col80_format.proofs.LawsBelow.{Laws}
+use Rattle.col80_format.specs.Reading.{reading_of}
+use Rattle.col80_format.specs.Rules.{IsSightingOf, IsReading}
+use Rattle.col80_format.proofs.LineLaws.{reading_is}
+use Rattle.col80_format.proofs.NameLaws.{columns_long}
 
 -- ---- names
 
@@ -56,12 +62,11 @@ named_so line None None None are =
 printable_column : (a : ℕ) (line : List ℕ) → length line ≡ 80 → All IsPrintable line → 1 ≤ a → a ≤ 80 → IsPrintable (column a line)
 printable_column a line long all low high = all (a - 1) 0 (omega arith)
 
-coded_by : (blank : Bool) (byte : ℕ) → IsPrintable byte → IsCoded (cond blank Nothing (Letter byte))
-coded_by true byte printable = tt
-coded_by false byte printable = printable
-
 coded_within : (byte : ℕ) → IsPrintable byte → IsCoded (coded byte)
-coded_within byte printable = coded_by (eqb byte 32) byte printable
+coded_within byte printable = cond_both (eqb byte 32) Nothing (Letter byte) IsCoded (λ blank. tt) (λ other. printable)
+
+mode_taken : (byte : ℕ) → ¬ Contains refused_modes byte → IsTakenMode (coded byte)
+mode_taken byte free = cond_both (eqb byte 32) Nothing (Letter byte) IsTakenMode (λ blank. tt) (λ other. free)
 
 -- ---- the magnitude
 
@@ -74,13 +79,11 @@ written_within (suc (suc (suc count))) whole decimals few low below = absurd (om
 magnitude_within : (text : List ℕ) (mag : Option ℕ) (count : ℕ) → IsMagnitudeText text mag count → IfSome mag (λ m. m ≤ 99990000)
 magnitude_within text None count is = tt
 magnitude_within text (Some mag) count is =
-    let written = is.0 in
-    let spelled = is.1 in
-    omega (arith, is.2, written_within written.count written.whole written.decimals spelled.few spelled.whole spelled.decimals)
+    omega (arith, is.2, written_within is.0.decimals.count is.0.whole is.0.decimals.value is.1.few is.1.whole is.1.decimals)
 
 few_places : (text : List ℕ) (mag : Option ℕ) (count : ℕ) → IsMagnitudeText text mag count → count ≤ 2
 few_places text None count is = omega (arith, is.1)
-few_places text (Some mag) count is = (let spelled = is.1 in omega (arith, is.3, spelled.few))
+few_places text (Some mag) count is = omega (arith, is.3, is.1.few)
 
 -- ---- decimals
 
@@ -94,34 +97,44 @@ seconds_within text ra count is = omega (arith, is.2, ap (λ (x : ℕ × ℕ). x
 arcseconds_within : (text : List ℕ) (dec : ℤ) (count : ℕ) (minus : Bool) → ReadsArc text (Ok (dec, count, minus)) → count ≤ 2
 arcseconds_within text dec count minus is = omega (arith, is.2, ap (λ (x : ℤ × ℕ × Bool). x.1) is.4)
 
--- what the types of a time and of angles say
-pub record TypesHold (s : Sighting) : Type 0 where
-  pub time : IsInstantNs s.time
-  pub ra : s.ra < circle
-  pub dec : (neg_ℤ (pos quarter) ≤ℤ s.dec) × (s.dec ≤ℤ pos quarter)
+-- ---- temporary designations
+
+-- what stands between two others has the bytes of the whole
+between : (P : ℕ → Type 0) (front name behind text : List ℕ) → text ≡ front ++ (name ++ behind) → All P text → All P name
+between P front name behind text is all =
+    subst (All P) (ap (λ (t : List ℕ). take (length name) (drop (length front) t)) is ∙ ap (take (length name)) (drop_at front (name ++ behind) (length front) refl) ∙ take_at name behind (length name) refl)
+    (All-take P (length name) (drop (length front) text) (All-drop P (length front) text all))
 
 module _ (laws : Laws) where
   open laws use {records.{kept_is_short, made_of_decimals}}
 
-  decimals_by : (text : List ℕ) (mag : Option ℕ) (count : ℕ) → IsMagnitudeText text mag count → HasDecimals mag count
-  decimals_by text None count is = is.1
-  decimals_by text (Some mag) count is =
-      let w = is.0 in
-      let six : w.count ≤ 6 = (let spelled = is.1 in omega (arith, spelled.few)) in
-      subst (λ (n : ℕ). HasDecimals (Some mag) n) (sym is.3) (subst (λ (m : ℕ). HasDecimals (Some m) w.count) (sym is.2) (made_of_decimals w.whole w.count w.decimals six))
+  spelled_name : (name text : List ℕ) → length text ≡ 7 → All IsPrintable text → SpellsTemporary name text → IsOwnName (kept_short name)
+  spelled_name name text long printed spelled =
+      let alone = spelled.alone in
+      let part = between IsPrintable (blanks alone.before) name (blanks alone.after) text alone.parts printed in
+      let few : length name ≤ 12 = omega (arith, long, ap length alone.parts, length-append (blanks alone.before) (name ++ blanks alone.after), length-append name (blanks alone.after)) in
+      laws.own name spelled.some few (λ k d lt. (omega (arith, (part k d lt).0, (spelled.plain k d lt).0), (part k d lt).1))
 
-  decimals_within : (text : List ℕ) (mag : Option ℕ) (shape : Shape) (count : ℕ) → places_of shape ≡ count → IsMagnitudeText text mag count → HasDecimals mag (places_of shape)
-  decimals_within text mag shape count same is = subst (HasDecimals mag) (sym same) (decimals_by text mag count is)
+  temporary_so : (text : List ℕ) (prov : Option Designation) (sub : Option Short) → length text ≡ 7 → All IsPrintable text → IsNameText text prov sub → IfSome sub IsOwnName
+  temporary_so text prov None long printed is = tt
+  temporary_so text None (Some short) long printed is = subst IsOwnName (sym is.3) (spelled_name is.1 text long printed is.2)
+  temporary_so text (Some designation) (Some short) long printed is = absurd is
 
   temporary_within : (text : List ℕ) (prov : Option Designation) (sub : Option Short) → IsNameText text prov sub → IfSome sub IsShort
   temporary_within text prov None is = tt
   temporary_within text None (Some short) is = subst IsShort (sym is.3) (kept_is_short is.1)
   temporary_within text (Some designation) (Some short) is = absurd is
 
-  pub sighting_within : (line : List ℕ) (s : Sighting) → KeepsEach (λ rule. Keeps rule line) line_rules → IsSightingOf line s → TypesHold s → IsSighting s
-  sighting_within line s kept is types =
-      let long : length line ≡ 80 = kept.0 in
-      let printable : All IsPrintable line = kept.1.0 in
+  -- ---- lines
+
+  decimals_within : (text : List ℕ) (mag : Option ℕ) (count : ℕ) → IsMagnitudeText text mag count → HasDecimals mag count
+  decimals_within text None count is = is.1
+  decimals_within text (Some mag) count is = rw (is.2, is.3) (made_of_decimals is.0.whole is.0.decimals.count is.0.decimals.value (omega (arith, is.1.few)))
+
+  sighting_within : (line : List ℕ) (s : Sighting) → IsReading line (Ok s) → IsSighting s
+  sighting_within line s reading =
+      let is : IsSightingOf line s = reading.1 in
+      let printable = λ (a : ℕ) (low : 1 ≤ a) (high : a ≤ 80). printable_column a line reading.0.0 reading.0.1.0 low high in
       let days = days_within (columns 16 32 line) s.time is.days is.time in
       record {
         number = number_within (columns 1 5 line) s.perm is.named.number;
@@ -129,14 +142,39 @@ module _ (laws : Laws) where
         temporary = temporary_within (columns 6 12 line) s.prov s.sub is.named.name;
         named = named_so line s.perm s.prov s.sub is.named;
         station = subst IsShort (sym is.station) (kept_is_short (columns 78 80 line));
-        time = types.time;
-        ra = types.ra;
-        dec = types.dec;
+        time = laws.time (columns 16 32 line) s.time is.days is.time;
+        ra = laws.ra (columns 33 44 line) s.ra is.seconds is.ra;
+        dec = laws.dec (columns 45 56 line) s.dec is.arcseconds is.minus is.dec;
         magnitude = magnitude_within (columns 66 70 line) s.mag is.places is.mag;
-        decimals = decimals_within (columns 66 70 line) s.mag s.shape is.places (ap places_of is.shape) is.mag;
-        band = subst IsCoded (sym is.band) (coded_within (column 71 line) (printable_column 71 line long printable (lit≤ tt) (lit≤ tt)));
-        mode = subst IsCoded (sym is.mode) (coded_within (column 15 line) (printable_column 15 line long printable (lit≤ tt) (lit≤ tt)));
-        catalogue = subst IsCoded (sym is.catalogue) tt;
-        note1 = subst IsPrintable (sym is.note1) (printable_column 14 line long printable (lit≤ tt) (lit≤ tt));
-        shape = subst IsShape (sym is.shape) (days.0, days.1, seconds_within (columns 33 44 line) s.ra is.seconds is.ra, arcseconds_within (columns 45 56 line) s.dec is.arcseconds is.minus is.dec, few_places (columns 66 70 line) s.mag is.places is.mag);
+        decimals = rw (is.shape) (decimals_within (columns 66 70 line) s.mag is.places is.mag);
+        band = rw (is.band) (coded_within (column 71 line) (printable 71 (lit≤ tt) (lit≤ tt)));
+        mode = rw (is.mode) (coded_within (column 15 line) (printable 15 (lit≤ tt) (lit≤ tt)));
+        catalogue = rw (is.catalogue) tt;
+        note1 = rw (is.note1) (printable 14 (lit≤ tt) (lit≤ tt));
+        shape = rw (is.shape) (days.0, days.1, seconds_within (columns 33 44 line) s.ra is.seconds is.ra, arcseconds_within (columns 45 56 line) s.dec is.arcseconds is.minus is.dec, few_places (columns 66 70 line) s.mag is.places is.mag);
       }
+
+  pub in_range : (line : List ℕ) (reading : Result Sighting RuleCode) → IsReading line reading → IfOk reading IsSighting
+  in_range line (Ok s) is = sighting_within line s is
+  in_range line (Err rule) is = tt
+
+  pub filed : (line : List ℕ) (s : Sighting) → IsReading line (Ok s) → IsFiled s
+  unfolding kept_short
+  filed line s reading =
+      let is : IsSightingOf line s = reading.1 in
+      let long : length line ≡ 80 = reading.0.0 in
+      record {
+        sighting = sighting_within line s reading;
+        station = rw is.station (omega (arith, columns_long 78 80 line long (lit≤ tt)));
+        mode = rw is.mode (mode_taken (column 15 line) reading.0.1.1.1.0);
+        temporary = temporary_so (columns 6 12 line) s.prov s.sub (columns_long 6 12 line long (lit≤ tt)) (All-take IsPrintable 7 (drop 5 line) (All-drop IsPrintable 5 line reading.0.1.0)) is.named.name;
+      }
+
+  stated : (line : List ℕ) (reading : Result Sighting RuleCode) → IsReading line reading → IfOk reading IsStated
+  stated line (Ok s) is = (let f = filed line s is in record { sighting = f.sighting; mode = f.mode; temporary = f.temporary })
+  stated line (Err rule) is = tt
+
+  pub batch_stated : (body : List ℕ) → AreStated (lines_of body)
+  batch_stated body =
+      All-map (λ (line : Line). IfOk line.read IsStated) read_of (observation_lines body)
+      (λ k d lt. stated (get_or (observation_lines body) k d).1 (reading_of (get_or (observation_lines body) k d).1) (reading_is laws (get_or (observation_lines body) k d).1))

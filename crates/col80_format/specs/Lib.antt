@@ -1,7 +1,7 @@
 pub mod Columns
 pub mod Names
 pub mod Magnitudes
-pub mod Written
+pub mod LawsBelow
 pub mod Rules
 pub mod Reading
 pub mod Batch

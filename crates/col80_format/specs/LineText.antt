@@ -73,20 +73,21 @@ back_text s form letters =
     blanks 9 ++ magnitude_text form.places s.mag ++ (letters.band ∷ letters.catalogue ∷ []) ++ blanks 5
     ++ take 3 s.station.bytes
 
+-- the line with this text in columns 16 to 32
+abbrev pub line_with : Sighting → Front → Letters → List ℕ → List ℕ
+line_with s front letters day =
+    front_text s front letters ++ (day ++ (angles_text s (form_of s.shape) ++ back_text s (form_of s.shape) letters))
+
 -- the line
 unfoldable pub line_text : Sighting → Front → Letters → List ℕ
-line_text s front letters =
-    front_text s front letters
-    ++ (day_text_of s.time (form_of s.shape).days ++ (angles_text s (form_of s.shape)
-    ++ back_text s (form_of s.shape) letters))
+line_text s front letters = line_with s front letters (day_text_of s.time (form_of s.shape).days)
 
 -- what makes it right: columns 16 to 32 are the text of the time, and the others are as they are
 pub record IsLineText (s : Sighting) (front : Front) (letters : Letters) (text : List ℕ) : Type 0 where
   pub day : List ℕ
   pub day_long : length day ≡ 17
   pub day_is : IsTextOf s.time (form_of s.shape).days day
-  pub text_is : text ≡ front_text s front letters ++ (day
-      ++ (angles_text s (form_of s.shape) ++ back_text s (form_of s.shape) letters))
+  pub text_is : text ≡ line_with s front letters day
 
 -- the letters are printed, and the mode's is none of those of refused records
 pub record AreLetters (letters : Letters) : Type 0 where

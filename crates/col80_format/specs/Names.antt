@@ -48,10 +48,6 @@ pub record AreNamesOf (line : List ℕ) (named : Names) : Type 0 where
 
 -- ---- reading them
 
--- the name whose packed form the text is, or why it is none
-unfoldable pub unpacked : List ℕ → Result Name NameFault
-unpacked text = answered is_in_range (packed_in text)
-
 abbrev pub number_from : Result Name NameFault → Result (Option Number) RuleCode
 number_from (Ok (names.Number number)) = Ok (Some number)
 number_from (Ok (names.Designation designation)) = Err S3
@@ -59,7 +55,7 @@ number_from (Err fault) = Err S3
 
 -- the number in columns 1 to 5
 unfoldable pub number_in : List ℕ → Result (Option Number) RuleCode
-number_in text = if are_blanks text then Ok None else number_from (unpacked text)
+number_in text = if are_blanks text then Ok None else number_from (answered is_in_range (packed_in text))
 
 -- a byte that a temporary designation may have
 abbrev pub is_plain : ℕ → Bool
@@ -81,7 +77,7 @@ name_from text (Err fault) = temporary text
 
 -- the designation or the temporary designation in columns 6 to 12
 unfoldable pub name_in : List ℕ → Result (Option Designation × Option Short) RuleCode
-name_in text = if are_blanks text then Ok (None, None) else name_from text (unpacked text)
+name_in text = if are_blanks text then Ok (None, None) else name_from text (answered is_in_range (packed_in text))
 
 -- the names in columns 1 to 12
 unfoldable pub names_in : List ℕ → Result Names RuleCode

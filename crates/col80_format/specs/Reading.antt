@@ -1,9 +1,8 @@
 -- What an 80-column line says, worked out from its front to its end.
-use Rattle.std.specs.Prelude.{ℕ, Bool, not, ◌==◌, if◌then◌else◌, List, length, Option, Result, Ok, Err, ℤ}
+use Rattle.std.specs.Prelude.{ℕ, not, ◌==◌, if◌then◌else◌, List, length, Option, Result, Ok, Err}
 use Rattle.std.specs.List.{list_all, list_any}
 use Rattle.ascii_text.specs.Blanks.{are_blanks}
 use Rattle.ascii_text.specs.Judged.{answer_of}
-use Rattle.angle_fixed.specs.declared.fault.AngleFault.{AngleFault}
 use Rattle.angle_fixed.specs.declared.fault.AngleFault.TheVariants.{Spelling}
 use Rattle.angle_fixed.specs.Reading.{parts_at, time_answer, signed_parts_at, arc_answer}
 use Rattle.obs_time.specs.DayText.{day_fraction_of}
@@ -30,20 +29,12 @@ head_of line =
     else (names_in line >>= λ named.
     if list_any (λ mode. mode == column 15 line) refused_modes then Err S4 else Ok named))
 
--- the right ascension of a text and the number of its decimals, or what is wrong with it
-unfoldable pub right_ascension_of : List ℕ → Result (ℕ × ℕ) AngleFault
-right_ascension_of text = answer_of time_answer Spelling (parts_at text)
-
--- the declination of a text, the number of its decimals and whether a minus stands before it, or what is wrong with it
-unfoldable pub declination_of : List ℕ → Result (ℤ × ℕ × Bool) AngleFault
-declination_of text = answer_of arc_answer Spelling (signed_parts_at text)
-
 -- columns 16 to 56: rules S5 to S7
 unfoldable pub position_of : List ℕ → Result Position RuleCode
 position_of line = do
   time ← or_breaks S5 (day_fraction_of (columns 16 32 line))
-  ra ← or_breaks S6 (right_ascension_of (columns 33 44 line))
-  dec ← or_breaks S7 (declination_of (columns 45 56 line))
+  ra ← or_breaks S6 (answer_of time_answer Spelling (parts_at (columns 33 44 line)))
+  dec ← or_breaks S7 (answer_of arc_answer Spelling (signed_parts_at (columns 45 56 line)))
   Ok (record {
     time = time.0;
     days = time.1;
@@ -56,7 +47,7 @@ position_of line = do
 
 -- columns 57 to 70: rules S8 and S9
 unfoldable pub tail_of : List ℕ → Result (Option ℕ × ℕ) RuleCode
-tail_of line = if are_blanks (columns 57 65 line) then magnitude_in (columns 66 70 line) else Err S8
+tail_of line = if not (are_blanks (columns 57 65 line)) then Err S8 else magnitude_in (columns 66 70 line)
 
 -- the observation of these parts and of the columns that any character may stand in
 abbrev pub observed : List ℕ → Names → Position → Option ℕ × ℕ → Sighting

@@ -8,6 +8,21 @@ ghost use Rattle.std.specs.Str.Lines.{lines};
 ghost use Rattle.col80_format.specs.Rules.{IsReading};
 ghost use Rattle.col80_format.specs.Batch.{lines_of};
 ghost use Rattle.col80_format.specs.Feeding.{none_seen, seen_all};
+ghost use Rattle.col80_format.specs.LawsBelow.{Laws};
+
+/// The laws of the crates below, together.
+pub(crate) fn below()
+    ensures { Laws }
+{
+    ascii_text::laws::texts();
+    angle_fixed::laws::angles();
+    obs_time::laws::times();
+    packed_names::laws::names();
+    obs_record::laws::records();
+    obs_time::laws::moments_in_range();
+    angle_fixed::laws::angles_in_range();
+    obs_record::laws::own_names();
+}
 
 /// A line has one reading, and no two.
 pub fn one_reading()
@@ -15,11 +30,7 @@ pub fn one_reading()
     ensures only { (line : List ℕ) (one other : Result Sighting RuleCode) → IsReading line one → IsReading line other
         → one ≡ other }
 {
-    ascii_text::laws::texts();
-    angle_fixed::laws::angles();
-    obs_time::laws::times();
-    packed_names::laws::names();
-    obs_record::laws::records();
+    below();
 }
 
 /// A batch says what its lines say that are read one after another, as a reader of pieces reads them.
@@ -33,12 +44,5 @@ pub fn lines_in_range()
     ensures line { (line : List ℕ) (s : Sighting) → IsReading line (Ok s) → IsFiled s }
     ensures batch { (body : List ℕ) → AreStated (lines_of body) }
 {
-    ascii_text::laws::texts();
-    angle_fixed::laws::angles();
-    obs_time::laws::times();
-    packed_names::laws::names();
-    obs_record::laws::records();
-    obs_record::laws::own_names();
-    obs_time::laws::moments_in_range();
-    angle_fixed::laws::angles_in_range();
+    below();
 }

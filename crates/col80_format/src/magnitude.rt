@@ -2,7 +2,6 @@
 
 ghost use Rattle.std.specs.Prelude.{◌≡◌, ◌+◌, ◌^◌, ◌<◌, ◌≤◌, length, IfSome, option_map};
 ghost use Rattle.col80_format.specs.Magnitudes.{whole_at, written_in, magnitude_in};
-ghost use Rattle.col80_format.specs.Written.{written};
 
 use ascii_text::blanks::are_blanks;
 use ascii_text::digits::Radix;
@@ -38,7 +37,7 @@ fn whole_at(text: &[u8]) -> Option<(u64, &[u8])>
 #[tactic(auto, unfolding(crate::specs::Magnitudes::written_in))]
 fn written_in(text: &[u8]) -> Option<Written>
     requires { length text.now ≤ 18 }
-    ensures exact { option_map written result ≡ written_in text.now }
+    ensures exact { result ≡ written_in text.now }
     ensures whole { IfSome result (λ x. x.whole < 100) }
     ensures few { IfSome result (λ x. x.decimals.count ≤ 2) }
     ensures decimals { IfSome result (λ x. x.decimals.value < 10 ^ x.decimals.count) }

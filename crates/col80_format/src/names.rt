@@ -17,7 +17,7 @@ pub(crate) struct Names {
 }
 
 /// The number in columns 1 to 5, where they aren't blank.
-#[tactic(auto, unfolding(crate::specs::Names::number_in, crate::specs::Names::unpacked))]
+#[tactic(auto, unfolding(crate::specs::Names::number_in))]
 fn number_in(text: &[u8]) -> Result<Option<Number>, RuleCode>
     ensures { result ≡ number_in text.now }
 {
@@ -51,7 +51,7 @@ fn temporary_in(text: &[u8]) -> Result<Short, RuleCode>
 }
 
 /// The designation in columns 6 to 12, or the temporary designation where they are no packed one.
-#[tactic(auto, unfolding(crate::specs::Names::name_in, crate::specs::Names::unpacked))]
+#[tactic(auto, unfolding(crate::specs::Names::name_in))]
 fn name_in(text: &[u8]) -> Result<(Option<Designation>, Option<Short>), RuleCode>
     ensures { result ≡ name_in text.now }
 {

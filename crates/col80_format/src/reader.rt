@@ -8,6 +8,7 @@ ghost use Rattle.col80_format.specs.Batch.{observation_lines, IsReadFrom, lines_
 ghost use Rattle.col80_format.specs.Feeding.{progress_of};
 
 use crate::batch::{Seen, see_line, see_lines};
+use crate::laws::below;
 use item_list::{Bytes, NoMemory};
 use obs_record::Lines;
 use std::alloc::Global;
@@ -103,11 +104,7 @@ impl EightyReader {
         ensures range { IfOk result AreInRange }
     {
         text_lines::laws::lines();
-        ascii_text::laws::texts();
-        angle_fixed::laws::angles();
-        obs_time::laws::times();
-        packed_names::laws::names();
-        obs_record::laws::records();
+        below();
         let mut seen = self.seen;
         if !self.rest.is_empty() {
             see_line(&mut seen, self.rest.as_slice())?;

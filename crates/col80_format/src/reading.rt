@@ -1,8 +1,6 @@
 //! The reading of a line.
 
-ghost use Rattle.std.specs.Prelude.{◌≡◌, ◌<◌, ◌==◌, length, Result, OnOk, IfOk, pos, neg_ℤ, ◌≤ℤ◌};
-ghost use Rattle.angle_fixed.specs.Angles.{circle, quarter};
-ghost use Rattle.obs_time.specs.Instants.{IsInstantNs};
+ghost use Rattle.std.specs.Prelude.{◌≡◌, ◌==◌, length, Result, OnOk, IfOk};
 ghost use Rattle.obs_record.specs.declared.rule.RuleCode.{RuleCode};
 ghost use Rattle.obs_record.specs.declared.sighting.Sighting.{Sighting};
 ghost use Rattle.obs_record.specs.Sighting.{IsSighting};
@@ -10,6 +8,7 @@ ghost use Rattle.col80_format.specs.Columns.{coded};
 ghost use Rattle.col80_format.specs.Reading.{head_of, position_of, tail_of, observed, reading_of};
 ghost use Rattle.col80_format.specs.Rules.{IsReading};
 
+use crate::laws::below;
 use crate::magnitude::magnitude_in;
 use crate::names::{Names, names_in};
 use angle_fixed::{Dec, Ra, read_dms, read_hms};
@@ -77,11 +76,7 @@ fn seventeen(columns: &[u8]) -> &[u8; 17]
 }
 
 /// Columns 16 to 56: when and where, or the first broken rule of S5 to S7.
-#[tactic(auto,
-// the position by its two angles
-unfolding(crate::specs::Reading::position_of, crate::specs::Reading::right_ascension_of,
-// right ascension above
-crate::specs::Reading::declination_of))]
+#[tactic(auto, unfolding(crate::specs::Reading::position_of))]
 fn position_of(line: &[u8]) -> Result<Position, RuleCode>
     requires { length line.now ≡ 80 }
     ensures { result ≡ position_of line.now }
@@ -149,9 +144,7 @@ fn observed(line: &[u8], names: Names, at: Position, magnitude: (Option<u32>, u8
 /// What a line says.
 #[tactic(auto, unfolding(crate::specs::Reading::reading_of))]
 fn reading(line: &[u8]) -> Result<Sighting, RuleCode>
-    ensures exact { result ≡ reading_of line.now }
-    ensures time { IfOk result (λ s. IsInstantNs s.time) }
-    ensures angles { IfOk result (λ s. (s.ra < circle) × (neg_ℤ (pos quarter) ≤ℤ s.dec) × (s.dec ≤ℤ pos quarter)) }
+    ensures { result ≡ reading_of line.now }
 {
     let names = head_of(line)?;
     let at = position_of(line)?;
@@ -173,10 +166,6 @@ pub fn read_line(line: &[u8]) -> Result<Sighting, RuleCode>
     ensures only { (other : Result Sighting RuleCode) → IsReading line.now other → other ≡ result }
     ensures range { IfOk result IsSighting }
 {
-    ascii_text::laws::texts();
-    angle_fixed::laws::angles();
-    obs_time::laws::times();
-    packed_names::laws::names();
-    obs_record::laws::records();
+    below();
     reading(line)
 }

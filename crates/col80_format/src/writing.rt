@@ -14,6 +14,7 @@ ghost use Rattle.col80_format.specs.LineText.{angles_text, back_text, form_of, l
 ghost use Rattle.col80_format.specs.LineText.{IsSameLine};
 
 use crate::form::{Form, form_of, note_of};
+use crate::laws::below;
 use angle_fixed::{write_dms, write_hms};
 use arrayvec::ArrayVec;
 use ascii_text::digits::Radix;
@@ -217,11 +218,7 @@ pub fn write_line(s: &Sighting, front: Front, letters: Letters) -> [u8; 80]
     // No other text is right.
     ensures only { (other : List ℕ) → IsLineText s.now front letters other → other ≡ result }
 {
-    ascii_text::laws::texts();
-    angle_fixed::laws::angles();
-    obs_time::laws::times();
-    packed_names::laws::names();
-    obs_record::laws::records();
+    below();
     let form = form_of(s.shape);
     let mut out = Text::new();
     put_front(&mut out, s, &front, letters);

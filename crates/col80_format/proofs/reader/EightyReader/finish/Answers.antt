@@ -5,8 +5,7 @@ use Rattle.obs_record.specs.Lines.{AreInRange}
 use Rattle.col80_format.specs.declared.batch.Seen.{Seen}
 use Rattle.col80_format.specs.Batch.{observation_lines, IsReadFrom}
 use Rattle.col80_format.specs.Feeding.{progress_of, seen_on}
-use Rattle.col80_format.proofs.LawsBelow.{Laws}
-use Rattle.col80_format.proofs.Batches.{room_of, ends_complete, ends_unfinished, all_read}
+use Rattle.col80_format.proofs.Batches.{room_left, ends_complete, ends_unfinished, all_read}
 use Rattle.col80_format.proofs.reader.EightyReader.finish.Goals as goal
 use Rattle.col80_format.proofs.reader.EightyReader.finish.Goals.{then-not-is_empty+in_ok-see_line, else-not-is_empty}
 
@@ -21,7 +20,7 @@ pub see_line-requires : goal.see_line-requires
 see_line-requires c =
     let fed = c.self.invariant.0 in
     let some : 0 < length c.self.inside.rest = some_left c.self.inside.rest c.is_empty.result c.is_empty.ensures c.if-not-is_empty.true in
-    omega (arith, some, room_of c.lines.ensures fed.0 c.self.inside.rest c.self.inside.seen fed.1 fed.2)
+    omega (arith, some, room_left c.lines.ensures fed.0 0 c.self.inside.rest c.self.inside.seen fed.1 (omega (arith, fed.2)))
 
 pub returns-clause-exact : goal.returns-clause-exact
 returns-clause-exact c = λ text is.
@@ -38,8 +37,7 @@ returns-clause-exact c = λ text is.
 
 pub returns-clause-lines : goal.returns-clause-lines
 returns-clause-lines c = λ text is.
-    let laws : Laws = record { texts = c.texts.ensures; angles = c.angles.ensures; times = c.times.ensures; names = c.names.ensures; records = c.records.ensures } in
-    subst (AllZip IsReadFrom (observation_lines text)) (sym (returns-clause-exact c text is)) (all_read laws (observation_lines text))
+    subst (AllZip IsReadFrom (observation_lines text)) (sym (returns-clause-exact c text is)) (all_read c.below.ensures (observation_lines text))
 
 pub returns-clause-range : goal.returns-clause-range
 returns-clause-range c =
