@@ -1,12 +1,13 @@
 -- The data lines of a batch are the lines that stand below a column header.
-use Rattle.std.proofs.Common.{◌≡◌, ◌⊎◌, ℕ, ◌<◌, zero, suc, Bool, true, false, cond, ◌&&◌, ◌||◌, eqb, List, [], ◌∷◌, ◌++◌, length, All, Result, Ok, Err, refl, sym, ap, subst, ◌∙◌, inl, inr, arith}
-use Rattle.std.specs.Prelude.{◌↔◌, slice_index_or}
+use Rattle.std.proofs.Common.{◌≡◌, ◌⊎◌, ℕ, zero, suc, Bool, true, false, ◌||◌, eqb, List, [], ◌∷◌, ◌++◌, append_assoc, length, All, Result, Ok, Err, refl, sym, ap, subst, ◌∙◌, inl, inr, arith}
+use Rattle.std.specs.Prelude.{◌↔◌}
 use Rattle.std.specs.List.{Contains, list_all, enumerate_from}
 use Rattle.std.specs.Str.Lines.{lines}
-use Rattle.std.proofs.lemmas.Bool.{eqb-true}
-use Rattle.std.proofs.lemmas.List.Elements.{All-nil, All-cons}
+use Rattle.std.proofs.lemmas.Bool.{cases_Bool, cond_both, eqb-true, and_parts, or_parts, or_from, or_left, or_right}
+use Rattle.std.proofs.lemmas.List.Elements.{All-nil, All-head, All-tail, All-push}
 use Rattle.ascii_text.specs.Blanks.{are_blanks}
 use Rattle.obs_record.specs.declared.rule.HeaderFault.{HeaderFault}
+use Rattle.obs_record.specs.declared.rule.HeaderFault.TheVariants.{H1}
 use Rattle.text_lines.specs.Steps.{◌>>=◌}
 use Rattle.ades_psv.specs.declared.columns.Columns.{Columns}
 use Rattle.ades_psv.specs.declared.header.Place.{Place}
@@ -17,398 +18,268 @@ use Rattle.ades_psv.specs.Columns.{columns_of}
 use Rattle.ades_psv.specs.Headers.{is_version, is_group, is_element, below_header, filled_step, step}
 use Rattle.ades_psv.specs.Batch.{DataLine, Said, before, said_on, said_from, ended, data_lines_of}
 use Rattle.ades_psv.specs.Standing.{is_passed, StandsBelow}
-use Rattle.ades_psv.proofs.SaidLaws.{behind, said-append}
-use Rattle.ades_psv.proofs.Walks.{data_below}
 
--- ---- membership
+abbrev Numbered : Type 0
+Numbered = List (ℕ × List ℕ)
 
-abbrev IsIn : DataLine → List DataLine → Type 0
-IsIn d [] = ⊥
-IsIn d (x ∷ xs) = (x ≡ d) ⊎ IsIn d xs
+-- the line below these columns, as a data line
+abbrev listed_as : Columns → ℕ × List ℕ → DataLine
+listed_as known line = record { columns = known; number = line.0; text = line.1 }
 
-in_behind : (d : DataLine) (xs ys : List DataLine) → IsIn d ys → IsIn d (xs ++ ys)
-in_behind d [] ys is = is
-in_behind d (x ∷ xs) ys is = inr (in_behind d xs ys is)
+-- ---- lists of data lines
 
-in_at : (d : DataLine) (xs : List DataLine) (k : ℕ) → k < length xs → slice_index_or xs k d ≡ d → IsIn d xs
-in_at d [] k lt e = absurd (omega arith)
-in_at d (x ∷ xs) zero lt e = inl e
-in_at d (x ∷ xs) (suc k) lt e = inr (in_at d xs k (omega arith) e)
+first_or_later : (one d : DataLine) (ds : List DataLine) → Contains (one ∷ ds) d → (one ≡ d) ⊎ Contains ds d
+first_or_later one d ds (zero, lt, same) = inl same
+first_or_later one d ds (suc k, lt, same) = inr (k, omega arith, same)
 
-at_in : (d : DataLine) (xs : List DataLine) → IsIn d xs → Contains xs d
-at_in d [] is = absurd is
-at_in d (x ∷ xs) (inl e) = (0, omega arith, e)
-at_in d (x ∷ xs) (inr is) = let place = at_in d xs is in (suc place.0, (let lt = place.1 in omega arith), place.2)
+later : (one d : DataLine) (ds : List DataLine) → Contains ds d → Contains (one ∷ ds) d
+later one d ds is = (suc is.0, (let lt = is.1 in omega arith), is.2)
+
+abbrev well : {A : Type 0} → A → Result A (HeaderFault × ℕ)
+well x = Ok x
+
+same_well : {A : Type 0} (x y : A) → well x ≡ well y → x ≡ y
+same_well x y e = cc
+
+-- what is said behind a data line
+before_said : (one : DataLine) (r : Said) (end : Place) (ds : List DataLine) → (r >>= before one) ≡ Ok (end, ds)
+    → (rest : List DataLine) × (r ≡ Ok (end, rest)) × (one ∷ rest ≡ ds)
+before_said one (Err fault) end ds said = absurd cc
+before_said one (Ok found) end ds said =
+    let same = same_well (found.0, one ∷ found.1) (end, ds) said in
+    (found.1, ap (λ (x : Place × List DataLine). well (x.0, found.1)) same, ap (λ (x : Place × List DataLine). x.1) same)
 
 -- ---- single lines
-
-all_blank : (a b : Bool) → a && b ≡ true → a ≡ true
-all_blank true b h = refl
-all_blank false b h = h
 
 -- a blank line opens no group
 blank_no_group : (line : List ℕ) → are_blanks line ≡ true → is_group line ≡ false
 unfolding are_blanks
 blank_no_group [] blank = refl
 blank_no_group (byte ∷ line) blank =
-    let is : byte ≡ 32 = eqb-true byte 32 (all_blank (eqb byte 32) (list_all (λ b. eqb b 32) line) blank) in
+    let is : byte ≡ 32 = eqb-true byte 32 (and_parts (eqb byte 32) (list_all (λ b. eqb b 32) line) blank).0 in
     rw is refl
 
 -- and a line that opens a group isn't blank
-group_no_blank_by : (line : List ℕ) (blank : Bool) → are_blanks line ≡ blank → is_group line ≡ true → blank ≡ false
-group_no_blank_by line true e opens = absurd (let no = blank_no_group line e in cc)
-group_no_blank_by line false e opens = refl
-
 group_no_blank : (line : List ℕ) → is_group line ≡ true → are_blanks line ≡ false
-group_no_blank line opens = group_no_blank_by line (are_blanks line) refl opens
+group_no_blank line opens = elim (cases_Bool (are_blanks line)) [
+  | inl blank ↦ absurd (let no = blank_no_group line blank in cc)
+  | inr filled ↦ filled
+]
 
 -- the line of the version opens a group
 version_group : (line : List ℕ) → is_version line ≡ true → is_group line ≡ true
 unfolding is_version
-version_group line version = all_blank (is_group line) _ version
+version_group line version = (and_parts (is_group line) _ version).0
 
-not_passed : (a b c : Bool) → a || (b || c) ≡ false → (a ≡ false) × (b ≡ false) × (c ≡ false)
-not_passed true b c h = absurd cc
-not_passed false true c h = absurd cc
-not_passed false false true h = absurd cc
-not_passed false false false h = (refl, refl, refl)
+not_passed : (line : List ℕ) → is_passed line ≡ false → (are_blanks line ≡ false) × (is_group line ≡ false) × (is_element line ≡ false)
+not_passed line listed =
+    let tests = or_parts (are_blanks line) (is_group line || is_element line) listed in
+    let signs = or_parts (is_group line) (is_element line) tests.1 in
+    (tests.0, signs.0, signs.1)
 
 -- ---- from the data lines to where they stand
 
--- the data line stands in the header that goes on with these lines
-record InHeader (numbered : List (ℕ × List ℕ)) (d : DataLine) : Type 0 where
-  group : List (ℕ × List ℕ)
-  header : ℕ × List ℕ
-  between : List (ℕ × List ℕ)
-  below : List (ℕ × List ℕ)
-  are : numbered ≡ group ++ header ∷ (between ++ (d.number, d.text) ∷ below)
+-- lines that end in a header whose column header is still to come
+record InHeader (front : Numbered) : Type 0 where
+  above : Numbered
+  opening : ℕ × List ℕ
+  group : Numbered
+  are : front ≡ above ++ opening ∷ group
+  opens : is_group opening.1 ≡ true
   passed : All (λ line. is_passed line.1 ≡ true) group
+
+-- lines that end among those below these columns
+record InListing (known : Columns) (front : Numbered) : Type 0 where
+  before : Numbered
+  headed : InHeader before
+  header : ℕ × List ℕ
+  between : Numbered
+  are : front ≡ before ++ header ∷ between
   names : is_passed header.1 ≡ false
-  columns : columns_of header.1 ≡ Ok d.columns
+  columns : columns_of header.1 ≡ Ok known
   nearest : All (λ line. is_group line.1 ≡ false) between
-  listed : is_passed d.text ≡ false
 
--- or among the lines below these columns
-record InListing (known : Columns) (numbered : List (ℕ × List ℕ)) (d : DataLine) : Type 0 where
-  between : List (ℕ × List ℕ)
-  below : List (ℕ × List ℕ)
-  are : numbered ≡ between ++ (d.number, d.text) ∷ below
-  columns : known ≡ d.columns
-  nearest : All (λ line. is_group line.1 ≡ false) between
-  listed : is_passed d.text ≡ false
+abbrev EndsIn : Place → Numbered → Type 0
+EndsIn Opening front = Unit {0}
+EndsIn Header front = InHeader front
+EndsIn (Listing known) front = InListing known front
 
-abbrev Stands : Place → List (ℕ × List ℕ) → DataLine → Type 0
-Stands Opening numbered d = StandsBelow numbered d
-Stands Header numbered d = StandsBelow numbered d ⊎ InHeader numbered d
-Stands (Listing columns) numbered d = StandsBelow numbered d ⊎ InListing columns numbered d
+opened : (front : Numbered) (line : ℕ × List ℕ) → is_group line.1 ≡ true → InHeader (front ++ line ∷ [])
+opened front line opens = record { above = front; opening = line; group = []; are = refl; opens = opens; passed = All-nil _ }
 
-deeper : (line : ℕ × List ℕ) (more : List (ℕ × List ℕ)) (d : DataLine) → StandsBelow more d → StandsBelow (line ∷ more) d
-deeper line more d is = record {
-  above = line ∷ is.above;
+header_on : (front : Numbered) (line : ℕ × List ℕ) → InHeader front → is_passed line.1 ≡ true → InHeader (front ++ line ∷ [])
+header_on front line is passed = record {
+  above = is.above;
   opening = is.opening;
-  group = is.group;
-  header = is.header;
-  between = is.between;
-  below = is.below;
-  are = ap (λ (ls : List (ℕ × List ℕ)). line ∷ ls) is.are;
+  group = is.group ++ line ∷ [];
+  are = ap (λ (ls : Numbered). ls ++ line ∷ []) is.are ∙ append_assoc is.above (is.opening ∷ is.group) (line ∷ []);
   opens = is.opens;
-  passed = is.passed;
-  names = is.names;
-  columns = is.columns;
-  nearest = is.nearest;
-  listed = is.listed;
+  passed = All-push (λ (l : ℕ × List ℕ). is_passed l.1 ≡ true) is.group line is.passed passed;
 }
 
-opened : (line : ℕ × List ℕ) (more : List (ℕ × List ℕ)) (d : DataLine) → is_group line.1 ≡ true → InHeader more d → StandsBelow (line ∷ more) d
-opened line more d opens is = record {
-  above = [];
-  opening = line;
-  group = is.group;
+headed : (front : Numbered) (line : ℕ × List ℕ) (known : Columns) → InHeader front → is_passed line.1 ≡ false → columns_of line.1 ≡ Ok known → InListing known (front ++ line ∷ [])
+headed front line known is names columns =
+    record { before = front; headed = is; header = line; between = []; are = refl; names = names; columns = columns; nearest = All-nil _ }
+
+listing_on : (front : Numbered) (line : ℕ × List ℕ) (known : Columns) → InListing known front → is_group line.1 ≡ false → InListing known (front ++ line ∷ [])
+listing_on front line known is other = record {
+  before = is.before;
+  headed = is.headed;
   header = is.header;
-  between = is.between;
-  below = is.below;
-  are = ap (λ (ls : List (ℕ × List ℕ)). line ∷ ls) is.are;
-  opens = opens;
-  passed = is.passed;
+  between = is.between ++ line ∷ [];
+  are = ap (λ (ls : Numbered). ls ++ line ∷ []) is.are ∙ append_assoc is.before (is.header ∷ is.between) (line ∷ []);
   names = is.names;
   columns = is.columns;
-  nearest = is.nearest;
-  listed = is.listed;
+  nearest = All-push (λ (l : ℕ × List ℕ). is_group l.1 ≡ false) is.between line is.nearest other;
 }
 
-header_on : (line : ℕ × List ℕ) (more : List (ℕ × List ℕ)) (d : DataLine) → is_passed line.1 ≡ true → InHeader more d → InHeader (line ∷ more) d
-header_on line more d passed is = record {
-  group = line ∷ is.group;
-  header = is.header;
-  between = is.between;
-  below = is.below;
-  are = ap (λ (ls : List (ℕ × List ℕ)). line ∷ ls) is.are;
-  passed = All-cons (λ (l : ℕ × List ℕ). is_passed l.1 ≡ true) line is.group passed is.passed;
-  names = is.names;
-  columns = is.columns;
-  nearest = is.nearest;
-  listed = is.listed;
-}
+-- a line that isn't passed over, behind those that end below columns
+found_below : (front : Numbered) (line : ℕ × List ℕ) (more : Numbered) (known : Columns) → InListing known front → is_passed line.1 ≡ false → StandsBelow (front ++ line ∷ more) (listed_as known line)
+found_below front line more known is listed =
+    let head = is.headed in
+    record {
+      above = head.above;
+      opening = head.opening;
+      group = head.group;
+      header = is.header;
+      between = is.between;
+      below = more;
+      are = rw (is.are, head.are) (simp append_assoc);
+      opens = head.opens;
+      passed = head.passed;
+      names = is.names;
+      columns = is.columns;
+      nearest = is.nearest;
+      listed = listed;
+    }
 
-headed : (line : ℕ × List ℕ) (more : List (ℕ × List ℕ)) (known : Columns) (d : DataLine) → is_passed line.1 ≡ false → columns_of line.1 ≡ Ok known → InListing known more d → InHeader (line ∷ more) d
-headed line more known d names columns is = record {
-  group = [];
-  header = line;
-  between = is.between;
-  below = is.below;
-  are = ap (λ (ls : List (ℕ × List ℕ)). line ∷ ls) is.are;
-  passed = All-nil (λ (l : ℕ × List ℕ). is_passed l.1 ≡ true);
-  names = names;
-  columns = columns ∙ ap (λ (c : Columns). Ok c) is.columns;
-  nearest = is.nearest;
-  listed = is.listed;
-}
+named_by : (named : Result Columns HeaderFault) (front : Numbered) (line : ℕ × List ℕ) (more : Numbered) (end : Place) (ds : List DataLine) (d : DataLine) → columns_of line.1 ≡ named → is_passed line.1 ≡ false → InHeader front
+    → ((next : Place) (rest : List DataLine) → EndsIn next (front ++ line ∷ []) → said_from next more ≡ Ok (end, rest) → Contains rest d → StandsBelow (front ++ line ∷ more) d)
+    → said_on line.0 line.1 (λ next. said_from next more) (below_header named) ≡ Ok (end, ds) → Contains ds d → StandsBelow (front ++ line ∷ more) d
+named_by (Ok known) front line more end ds d n names at further = further (Listing known) ds (headed front line known at names n)
+named_by (Err fault) front line more end ds d n names at further = λ said is. absurd cc
 
-listing_on : (line : ℕ × List ℕ) (more : List (ℕ × List ℕ)) (known : Columns) (d : DataLine) → is_group line.1 ≡ false → InListing known more d → InListing known (line ∷ more) d
-listing_on line more known d other is = record {
-  between = line ∷ is.between;
-  below = is.below;
-  are = ap (λ (ls : List (ℕ × List ℕ)). line ∷ ls) is.are;
-  columns = is.columns;
-  nearest = All-cons (λ (l : ℕ × List ℕ). is_group l.1 ≡ false) line is.between other is.nearest;
-  listed = is.listed;
-}
+stands_by : (place : Place) (front : Numbered) (line : ℕ × List ℕ) (more : Numbered) (end : Place) (ds : List DataLine) (d : DataLine) → EndsIn place front
+    → ((next : Place) (rest : List DataLine) → EndsIn next (front ++ line ∷ []) → said_from next more ≡ Ok (end, rest) → Contains rest d → StandsBelow (front ++ line ∷ more) d)
+    → said_on line.0 line.1 (λ next. said_from next more) (step place line.1) ≡ Ok (end, ds) → Contains ds d → StandsBelow (front ++ line ∷ more) d
+unfolding step filled_step
+stands_by Opening front line more end ds d at further =
+    let Leads = λ (next : Step). said_on line.0 line.1 (λ p. said_from p more) next ≡ Ok (end, ds) → Contains ds d → StandsBelow (front ++ line ∷ more) d in
+    cond_both (are_blanks line.1) (On Opening) _ Leads (λ b. further Opening ds tt) (λ b.
+    cond_both (is_version line.1) (On Header) (Fault H1) Leads (λ v. further Header ds (opened front line (version_group line.1 v))) (λ v said is. absurd cc))
+stands_by Header front line more end ds d at further =
+    let Leads = λ (next : Step). said_on line.0 line.1 (λ p. said_from p more) next ≡ Ok (end, ds) → Contains ds d → StandsBelow (front ++ line ∷ more) d in
+    cond_both (are_blanks line.1) (On Header) _ Leads (λ b. further Header ds (header_on front line at (or_left _ _ b))) (λ b.
+    cond_both (is_group line.1 || is_element line.1) (On Header) _ Leads (λ g. further Header ds (header_on front line at (or_right (are_blanks line.1) _ g))) (λ g.
+    named_by (columns_of line.1) front line more end ds d refl (or_from _ _ b g) at further))
+stands_by (Listing known) front line more end ds d at further =
+    let Leads = λ (next : Step). said_on line.0 line.1 (λ p. said_from p more) next ≡ Ok (end, ds) → Contains ds d → StandsBelow (front ++ line ∷ more) d in
+    cond_both (are_blanks line.1) (On (Listing known)) _ Leads (λ b. further (Listing known) ds (listing_on front line known at (blank_no_group line.1 b))) (λ b.
+    cond_both (is_group line.1) (On Header) _ Leads (λ g. further Header ds (opened front line g)) (λ g.
+    cond_both (is_element line.1) (On (Listing known)) (Data known) Leads (λ e. further (Listing known) ds (listing_on front line known at g)) (λ e said is.
+    let rest = before_said (listed_as known line) (said_from (Listing known) more) end ds said in
+    elim (first_or_later (listed_as known line) d rest.0 (subst (λ (ls : List DataLine). Contains ls d) (sym rest.2) is)) [
+      | inl same ↦ subst (StandsBelow (front ++ line ∷ more)) same (found_below front line more known at (or_from (are_blanks line.1) _ b (or_from (is_group line.1) _ g e)))
+      | inr behind ↦ further (Listing known) rest.0 (listing_on front line known at g) rest.1 behind
+    ])))
 
-more_below : (line : ℕ × List ℕ) (more : List (ℕ × List ℕ)) (known : Columns) (d : DataLine) → is_group line.1 ≡ false → Stands (Listing known) more d → Stands (Listing known) (line ∷ more) d
-more_below line more known d other (inl is) = inl (deeper line more d is)
-more_below line more known d other (inr is) = inr (listing_on line more known d other is)
-
-more_header : (line : ℕ × List ℕ) (more : List (ℕ × List ℕ)) (d : DataLine) → is_passed line.1 ≡ true → Stands Header more d → Stands Header (line ∷ more) d
-more_header line more d passed (inl is) = inl (deeper line more d is)
-more_header line more d passed (inr is) = inr (header_on line more d passed is)
-
-new_header : (line : ℕ × List ℕ) (more : List (ℕ × List ℕ)) (d : DataLine) → is_group line.1 ≡ true → Stands Header more d → StandsBelow (line ∷ more) d
-new_header line more d opens (inl is) = deeper line more d is
-new_header line more d opens (inr is) = opened line more d opens is
-
-new_columns : (line : ℕ × List ℕ) (more : List (ℕ × List ℕ)) (known : Columns) (d : DataLine) → is_passed line.1 ≡ false → columns_of line.1 ≡ Ok known → Stands (Listing known) more d → Stands Header (line ∷ more) d
-new_columns line more known d names columns (inl is) = inl (deeper line more d is)
-new_columns line more known d names columns (inr is) = inr (headed line more known d names columns is)
-
--- after a blank line
-blank_on : (place : Place) (line : ℕ × List ℕ) (more : List (ℕ × List ℕ)) (d : DataLine) → are_blanks line.1 ≡ true → Stands place more d → Stands place (line ∷ more) d
-blank_on Opening line more d blank is = deeper line more d is
-blank_on Header line more d blank is = more_header line more d (rw blank refl) is
-blank_on (Listing known) line more d blank is = more_below line more known d (blank_no_group line.1 blank) is
-
-passed_by : (blank belongs : Bool) → belongs ≡ true → blank || belongs ≡ true
-passed_by true belongs h = refl
-passed_by false belongs h = h
-
-header_next : (line : ℕ × List ℕ) (more : List (ℕ × List ℕ)) (d : DataLine) (r : Result Columns HeaderFault) (next : Place) → is_passed line.1 ≡ false → columns_of line.1 ≡ r → below_header r ≡ On next
-    → Stands next more d → Stands Header (line ∷ more) d
-header_next line more d (Ok known) next names e on is =
-    new_columns line more known d names e (subst (λ (p : Place). Stands p more d) (let same : next ≡ Listing known = cc in same) is)
-header_next line more d (Err fault) next names e on is = absurd cc
-
-same_place : (place next : Place) (more : List (ℕ × List ℕ)) (d : DataLine) → On place ≡ On next → Stands next more d → Stands place more d
-same_place place next more d on is = subst (λ (p : Place). Stands p more d) (let same : next ≡ place = cc in same) is
-
--- after another line that leads on
-filled_on : (place next : Place) (line : ℕ × List ℕ) (more : List (ℕ × List ℕ)) (d : DataLine) (version group element : Bool) → are_blanks line.1 ≡ false → is_version line.1 ≡ version → is_group line.1 ≡ group → is_element line.1 ≡ element
-    → filled_step place line.1 ≡ On next → Stands next more d → Stands place (line ∷ more) d
-unfolding filled_step
-filled_on Opening next line more d true group element blank v g e on is =
-    new_header line more d (version_group line.1 v) (same_place Header next more d (rw v at on) is)
-filled_on Opening next line more d false group element blank v g e on is = absurd (let h = rw v at on in cc)
-filled_on Header next line more d version true element blank v g e on is =
-    more_header line more d (rw (blank, g) refl) (same_place Header next more d (rw g at on) is)
-filled_on Header next line more d version false true blank v g e on is =
-    more_header line more d (rw (blank, g, e) refl) (same_place Header next more d (rw (g, e) at on) is)
-filled_on Header next line more d version false false blank v g e on is =
-    header_next line more d (columns_of line.1) next (rw (blank, g, e) refl) refl (rw (g, e) at on) is
-filled_on (Listing known) next line more d version true element blank v g e on is =
-    inl (new_header line more d g (same_place Header next more d (rw g at on) is))
-filled_on (Listing known) next line more d version false true blank v g e on is =
-    more_below line more known d g (same_place (Listing known) next more d (rw (g, e) at on) is)
-filled_on (Listing known) next line more d version false false blank v g e on is = absurd (let h = rw (g, e) at on in cc)
-
-on_by : (blank : Bool) (place next : Place) (line : ℕ × List ℕ) (more : List (ℕ × List ℕ)) (d : DataLine) → are_blanks line.1 ≡ blank → cond blank (On place) (filled_step place line.1) ≡ On next
-    → Stands next more d → Stands place (line ∷ more) d
-on_by true place next line more d e on is = blank_on place line more d e (same_place place next more d on is)
-on_by false place next line more d e on is =
-    filled_on place next line more d (is_version line.1) (is_group line.1) (is_element line.1) e refl refl refl on is
-
-stands_on : (place next : Place) (line : ℕ × List ℕ) (more : List (ℕ × List ℕ)) (d : DataLine) → step place line.1 ≡ On next → Stands next more d → Stands place (line ∷ more) d
-unfolding step
-stands_on place next line more d on is = on_by (are_blanks line.1) place next line more d refl on is
-
--- a data line isn't passed over
-filled_listed : (known columns : Columns) (line : List ℕ) (group element : Bool) → is_group line ≡ group → is_element line ≡ element → filled_step (Listing known) line ≡ Data columns → (group ≡ false) × (element ≡ false)
-unfolding filled_step
-filled_listed known columns line true element g e is = absurd (let h = rw g at is in cc)
-filled_listed known columns line false true g e is = absurd (let h = rw (g, e) at is in cc)
-filled_listed known columns line false false g e is = (refl, refl)
-
-listed_by : (blank : Bool) (known columns : Columns) (line : List ℕ) → are_blanks line ≡ blank → cond blank (On (Listing known)) (filled_step (Listing known) line) ≡ Data columns → is_passed line ≡ false
-listed_by true known columns line e is = absurd cc
-listed_by false known columns line e is =
-    let tests = filled_listed known columns line (is_group line) (is_element line) refl refl is in
-    rw (e, tests.0, tests.1) refl
-
-is_listed : (place : Place) (columns : Columns) (line : List ℕ) → step place line ≡ Data columns → is_passed line ≡ false
-unfolding step
-is_listed place columns line is =
-    listed_by (are_blanks line) columns columns line refl (subst (λ (p : Place). step p line ≡ Data columns) (data_below place line columns is) is)
-
-first_listed : (known : Columns) (line : ℕ × List ℕ) (more : List (ℕ × List ℕ)) → is_passed line.1 ≡ false → InListing known (line ∷ more) (record { columns = known; number = line.0; text = line.1 })
-first_listed known line more listed = record { between = []; below = more; are = refl; columns = refl; nearest = All-nil (λ (l : ℕ × List ℕ). is_group l.1 ≡ false); listed = listed }
-
-abbrev well : {A : Type 0} → A → Result A (HeaderFault × ℕ)
-well x = Ok x
-
-abbrev all_well : Place × List DataLine → Said
-all_well end = Ok end
-
-same_well : {A : Type 0} (x y : A) → well x ≡ well y → x ≡ y
-same_well x y e = cc
-
-same_end : (a b : Place × List DataLine) → all_well a ≡ all_well b → (a.0 ≡ b.0) × (a.1 ≡ b.1)
-same_end a b e =
-    let same : a ≡ b = same_well a b e in
-    (ap (λ (x : Place × List DataLine). x.0) same, ap (λ (x : Place × List DataLine). x.1) same)
-
-found_end : (found : Place × List DataLine) (end : Place) (ds : List DataLine) → found.0 ≡ end → found.1 ≡ ds → all_well found ≡ Ok (end, ds)
-found_end found end ds place rest = ap (λ (p : Place). all_well (p, found.1)) place ∙ ap (λ (x : List DataLine). all_well (end, x)) rest
-
-in_before : (one d : DataLine) (r : Said) (end : Place) (ds : List DataLine) → (r >>= before one) ≡ Ok (end, ds) → IsIn d ds
-    → (one ≡ d) ⊎ ((rest : List DataLine) × (r ≡ Ok (end, rest)) × IsIn d rest)
-in_before one d (Err fault) end ds said is = absurd cc
-in_before one d (Ok found) end [] said is = absurd is
-in_before one d (Ok found) end (x ∷ ds) said (inl e) =
-    inl (let parts = same_end (found.0, one ∷ found.1) (end, x ∷ ds) said in let list = parts.1 in let same : one ≡ x = cc in same ∙ e)
-in_before one d (Ok found) end (x ∷ ds) said (inr is) =
-    let parts = same_end (found.0, one ∷ found.1) (end, x ∷ ds) said in
-    inr (ds, found_end found end ds parts.0 (let list = parts.1 in cc), is)
-
-stands_by : (place : Place) (line : ℕ × List ℕ) (more : List (ℕ × List ℕ)) (end : Place) (ds : List DataLine) (d : DataLine) (next : Step) → step place line.1 ≡ next
-    → ((p : Place) (rest : List DataLine) → said_from p more ≡ Ok (end, rest) → IsIn d rest → Stands p more d)
-    → said_on line.0 line.1 (λ p. said_from p more) next ≡ Ok (end, ds) → IsIn d ds → Stands place (line ∷ more) d
-stands_by place line more end ds d (On next) e further said is = stands_on place next line more d e (further next ds said is)
-stands_by place line more end ds d (Fault fault) e further said is = absurd cc
-stands_by place line more end ds d (Data columns) e further said is =
-    let listed = is_listed place columns line.1 e in
-    let tests = not_passed (are_blanks line.1) (is_group line.1) (is_element line.1) listed in
-    let one : DataLine = record { columns = columns; number = line.0; text = line.1 } in
-    let below : Stands (Listing columns) (line ∷ more) d = elim (in_before one d (said_from (Listing columns) more) end ds said is) [
-      | inl same ↦ inr (subst (InListing columns (line ∷ more)) same (first_listed columns line more listed))
-      | inr rest ↦ more_below line more columns d tests.1 (further (Listing columns) rest.0 rest.1 rest.2)
-    ] in
-    subst (λ (p : Place). Stands p (line ∷ more) d) (sym (data_below place line.1 columns e)) below
-
-stands : (place : Place) (numbered : List (ℕ × List ℕ)) (end : Place) (ds : List DataLine) (d : DataLine) → said_from place numbered ≡ Ok (end, ds) → IsIn d ds → Stands place numbered d
+stands : (place : Place) (front numbered : Numbered) (end : Place) (ds : List DataLine) (d : DataLine) → EndsIn place front → said_from place numbered ≡ Ok (end, ds) → Contains ds d → StandsBelow (front ++ numbered) d
 unfolding said_from
-stands place [] end ds d said is = absurd (subst (IsIn d) (sym (same_end (place, []) (end, ds) said).1) is)
-stands place (line ∷ more) end ds d said is = stands_by place line more end ds d (step place line.1) refl (λ p rest s i. stands p more end rest d s i) said is
+stands place front [] end ds d at said is =
+    let none : length ds ≡ 0 = sym (ap (λ (x : Place × List DataLine). length x.1) (same_well (place, []) (end, ds) said)) in
+    absurd (let lt = is.1 in omega arith)
+stands place front (line ∷ more) end ds d at said is =
+    stands_by place front line more end ds d at
+    (λ next rest ends s i. subst (λ (ls : Numbered). StandsBelow ls d) (append_assoc front (line ∷ []) more) (stands next (front ++ line ∷ []) more end rest d ends s i)) said is
 
 -- ---- from where a line stands to the data lines
 
--- what lines say that follow others
-rest_by : (front : List DataLine) (place : Place) (ys : List (ℕ × List ℕ)) (r : Said) (end : Place) (ds : List DataLine) → said_from place ys ≡ r → (r >>= behind front) ≡ Ok (end, ds)
-    → (rest : List DataLine) × (said_from place ys ≡ Ok (end, rest)) × (ds ≡ front ++ rest)
-rest_by front place ys (Err fault) end ds e said = absurd cc
-rest_by front place ys (Ok found) end ds e said =
-    let parts = same_end (found.0, front ++ found.1) (end, ds) said in
-    (found.1, e ∙ found_end found end found.1 parts.0 refl, sym parts.1)
+-- where the next line stands; a fault leads nowhere, so that it may be said to lead into a header
+abbrev place_after : Step → Place
+place_after (On next) = next
+place_after (Data columns) = Listing columns
+place_after (Fault fault) = Header
 
-said_rest : (place : Place) (xs ys : List (ℕ × List ℕ)) (r : Said) (end : Place) (ds : List DataLine) (d : DataLine) → said_from place (xs ++ ys) ≡ Ok (end, ds) → said_from place xs ≡ r
-    → ((p : Place) (rest : List DataLine) → said_from p ys ≡ Ok (end, rest) → IsIn d rest) → IsIn d ds
-said_rest place xs ys (Err fault) end ds d said e found =
-    absurd (let whole : (said_from place xs >>= λ f. said_from f.0 ys >>= behind f.1) ≡ Ok (end, ds) = sym (said-append place xs ys) ∙ said in let none = rw e at whole in cc)
-said_rest place xs ys (Ok front) end ds d said e found =
-    let whole : (said_from place xs >>= λ f. said_from f.0 ys >>= behind f.1) ≡ Ok (end, ds) = sym (said-append place xs ys) ∙ said in
-    let rest = rest_by front.1 front.0 ys (said_from front.0 ys) end ds refl (rw e at whole) in
-    subst (IsIn d) (sym rest.2) (in_behind d front.1 rest.0 (found front.0 rest.0 rest.1))
+abbrev LeadsTo : Place → Step → Type 0
+LeadsTo place next = place_after next ≡ place
 
-said_step : (place next : Place) (line : ℕ × List ℕ) (more : List (ℕ × List ℕ)) → step place line.1 ≡ On next → said_from place (line ∷ more) ≡ said_from next more
+-- the data lines of the lines behind this one are among those of all
+record AreBehind (next : Place) (more : Numbered) (end : Place) (ds : List DataLine) : Type 0 where
+  rest : List DataLine
+  said : said_from next more ≡ Ok (end, rest)
+  among : (d : DataLine) → Contains rest d → Contains ds d
+
+behind_by : (next : Step) (line : ℕ × List ℕ) (more : Numbered) (end : Place) (ds : List DataLine) → said_on line.0 line.1 (λ p. said_from p more) next ≡ Ok (end, ds)
+    → AreBehind (place_after next) more end ds
+behind_by (On next) line more end ds said = record { rest = ds; said = said; among = λ d is. is }
+behind_by (Fault fault) line more end ds said = absurd cc
+behind_by (Data columns) line more end ds said =
+    let rest = before_said (listed_as columns line) (said_from (Listing columns) more) end ds said in
+    record { rest = rest.0; said = rest.1; among = λ d is. subst (λ (ls : List DataLine). Contains ls d) rest.2 (later (listed_as columns line) d rest.0 is) }
+
+behind_line : (place next : Place) (line : ℕ × List ℕ) (more : Numbered) (end : Place) (ds : List DataLine) → place_after (step place line.1) ≡ next → said_from place (line ∷ more) ≡ Ok (end, ds)
+    → AreBehind next more end ds
 unfolding said_from
-said_step place next line more e = rw e refl
+behind_line place next line more end ds leads said = subst (λ (p : Place). AreBehind p more end ds) leads (behind_by (step place line.1) line more end ds said)
 
-said_data : (place : Place) (columns : Columns) (line : ℕ × List ℕ) (more : List (ℕ × List ℕ)) → step place line.1 ≡ Data columns
-    → said_from place (line ∷ more) ≡ (said_from (Listing columns) more >>= before (record { columns = columns; number = line.0; text = line.1 }))
-unfolding said_from
-said_data place columns line more e = rw e refl
+-- lines each of which leads on to the place in which it stands
+behind_lines : (place : Place) (front more : Numbered) (end : Place) (ds : List DataLine) → All (λ line. LeadsTo place (step place line.1)) front → said_from place (front ++ more) ≡ Ok (end, ds)
+    → AreBehind place more end ds
+behind_lines place [] more end ds stay said = record { rest = ds; said = said; among = λ d is. is }
+behind_lines place (line ∷ front) more end ds stay said =
+    let Stays = λ (l : ℕ × List ℕ). LeadsTo place (step place l.1) in
+    let next = behind_line place place line (front ++ more) end ds (All-head Stays line front stay) said in
+    let far = behind_lines place front more end next.rest (All-tail Stays line front stay) next.said in
+    record { rest = far.rest; said = far.said; among = λ d is. next.among d (far.among d is) }
 
-before_in : (one : DataLine) (r : Said) (end : Place) (ds : List DataLine) → (r >>= before one) ≡ Ok (end, ds) → IsIn one ds
-before_in one (Err fault) end ds said = absurd cc
-before_in one (Ok found) end [] said = absurd (let list = (same_end (found.0, one ∷ found.1) (end, []) said).1 in cc)
-before_in one (Ok found) end (x ∷ ds) said = inl (let list = (same_end (found.0, one ∷ found.1) (end, x ∷ ds) said).1 in let same : one ≡ x = cc in sym same)
+-- lines wherever they lead
+behind_any : (place : Place) (front more : Numbered) (end : Place) (ds : List DataLine) → said_from place (front ++ more) ≡ Ok (end, ds) → (next : Place) × AreBehind next more end ds
+behind_any place [] more end ds said = (place, record { rest = ds; said = said; among = λ d is. is })
+behind_any place (line ∷ front) more end ds said =
+    let next = behind_line place (place_after (step place line.1)) line (front ++ more) end ds refl said in
+    let far = behind_any (place_after (step place line.1)) front more end next.rest next.said in
+    (far.0, record { rest = far.1.rest; said = far.1.said; among = λ d is. next.among d (far.1.among d is) })
 
-before_keeps : (one d : DataLine) (r : Said) (end : Place) (ds : List DataLine) → (r >>= before one) ≡ Ok (end, ds) → ((rest : List DataLine) → r ≡ Ok (end, rest) → IsIn d rest) → IsIn d ds
-before_keeps one d (Err fault) end ds said found = absurd cc
-before_keeps one d (Ok more) end [] said found = absurd (let list = (same_end (more.0, one ∷ more.1) (end, []) said).1 in cc)
-before_keeps one d (Ok more) end (x ∷ ds) said found =
-    let parts = same_end (more.0, one ∷ more.1) (end, x ∷ ds) said in
-    inr (found ds (found_end more end ds parts.0 (let list = parts.1 in cc)))
+-- a line that opens a group leads into a header, if anywhere
+into_header : (place : Place) (line : List ℕ) → is_group line ≡ true → LeadsTo Header (step place line)
+unfolding step filled_step
+into_header Opening line g = rw (group_no_blank line g) (cond_both (is_version line) (On Header) (Fault H1) (LeadsTo Header) (λ v. refl) (λ v. refl))
+into_header Header line g = rw (group_no_blank line g, g) refl
+into_header (Listing known) line g = rw (group_no_blank line g, g) refl
+
+header_stays : (line : List ℕ) → is_passed line ≡ true → LeadsTo Header (step Header line)
+unfolding step filled_step
+header_stays line passed =
+    cond_both (are_blanks line) (On Header) _ (LeadsTo Header) (λ b. refl) (λ b.
+    cond_both (is_group line || is_element line) (On Header) _ (LeadsTo Header) (λ g. refl) (λ g. absurd (let none = or_from (are_blanks line) _ b g in cc)))
+
+listing_stays : (known : Columns) (line : List ℕ) → is_group line ≡ false → LeadsTo (Listing known) (step (Listing known) line)
+unfolding step filled_step
+listing_stays known line g =
+    cond_both (are_blanks line) (On (Listing known)) _ (LeadsTo (Listing known)) (λ b. refl) (λ b.
+    rw g (cond_both (is_element line) (On (Listing known)) (Data known) (LeadsTo (Listing known)) (λ e. refl) (λ e. refl)))
+
+into_listing : (known : Columns) (line : List ℕ) → is_passed line ≡ false → columns_of line ≡ Ok known → place_after (step Header line) ≡ Listing known
+unfolding step filled_step
+into_listing known line names columns = let tests = not_passed line names in rw (tests.0, tests.1, tests.2, columns) refl
 
 -- a line that isn't passed over, below columns
-data_step : (known : Columns) (line : List ℕ) → (are_blanks line ≡ false) × (is_group line ≡ false) × (is_element line ≡ false) → step (Listing known) line ≡ Data known
-unfolding step filled_step
-data_step known line tests = rw (tests.0, tests.1, tests.2) refl
+listed_first : (known : Columns) (line : ℕ × List ℕ) (more : Numbered) (end : Place) (ds : List DataLine) → is_passed line.1 ≡ false → said_from (Listing known) (line ∷ more) ≡ Ok (end, ds) → Contains ds (listed_as known line)
+unfolding said_from step filled_step
+listed_first known line more end ds listed said =
+    let tests = not_passed line.1 listed in
+    let rest = before_said (listed_as known line) (said_from (Listing known) more) end ds (rw (tests.0, tests.1, tests.2) at said) in
+    subst (λ (ls : List DataLine). Contains ls (listed_as known line)) rest.2 (0, omega arith, refl)
 
--- a line below columns that opens no group leads on or is a data line
-below_by : (known : Columns) (line : ℕ × List ℕ) (more : List (ℕ × List ℕ)) (end : Place) (ds : List DataLine) (d : DataLine) (blank element : Bool) → are_blanks line.1 ≡ blank → is_element line.1 ≡ element → is_group line.1 ≡ false
-    → said_from (Listing known) (line ∷ more) ≡ Ok (end, ds) → ((rest : List DataLine) → said_from (Listing known) more ≡ Ok (end, rest) → IsIn d rest) → IsIn d ds
-unfolding step filled_step
-below_by known line more end ds d true element b e g said found = found ds (sym (said_step (Listing known) (Listing known) line more (rw b refl)) ∙ said)
-below_by known line more end ds d false true b e g said found = found ds (sym (said_step (Listing known) (Listing known) line more (rw (b, g, e) refl)) ∙ said)
-below_by known line more end ds d false false b e g said found =
-    before_keeps (record { columns = known; number = line.0; text = line.1 }) d (said_from (Listing known) more) end ds
-    (sym (said_data (Listing known) known line more (data_step known line.1 (b, g, e))) ∙ said) found
-
-below_in : (known : Columns) (between below : List (ℕ × List ℕ)) (end : Place) (ds : List DataLine) (d : DataLine) → All (λ line. is_group line.1 ≡ false) between → is_passed d.text ≡ false → known ≡ d.columns
-    → said_from (Listing known) (between ++ (d.number, d.text) ∷ below) ≡ Ok (end, ds) → IsIn d ds
-below_in known [] below end ds d nearest listed columns said =
-    let one : DataLine = record { columns = known; number = d.number; text = d.text } in
-    subst (λ (x : DataLine). IsIn x ds) (ap (λ (c : Columns). record { columns = c; number = d.number; text = d.text }) columns)
-    (before_in one (said_from (Listing known) below) end ds
-    (sym (said_data (Listing known) known (d.number, d.text) below (data_step known d.text (not_passed (are_blanks d.text) (is_group d.text) (is_element d.text) listed))) ∙ said))
-below_in known (line ∷ between) below end ds d nearest listed columns said =
-    below_by known line (between ++ (d.number, d.text) ∷ below) end ds d (are_blanks line.1) (is_element line.1) refl refl (nearest 0 line (omega arith)) said
-    (λ rest s. below_in known between below end rest d (λ k x lt. nearest (suc k) x (omega arith)) listed columns s)
-
--- the lines of a header
-passed_step : (line : List ℕ) (blank group element : Bool) → are_blanks line ≡ blank → is_group line ≡ group → is_element line ≡ element → blank || (group || element) ≡ true → step Header line ≡ On Header
-unfolding step filled_step
-passed_step line true group element b g e passed = rw b refl
-passed_step line false true element b g e passed = rw (b, g) refl
-passed_step line false false true b g e passed = rw (b, g, e) refl
-passed_step line false false false b g e passed = absurd cc
-
-names_step : (line : List ℕ) (known : Columns) → (are_blanks line ≡ false) × (is_group line ≡ false) × (is_element line ≡ false) → columns_of line ≡ Ok known → step Header line ≡ On (Listing known)
-unfolding step filled_step
-names_step line known tests columns = rw (tests.0, tests.1, tests.2, columns) refl
-
-header_in : (group : List (ℕ × List ℕ)) (header : ℕ × List ℕ) (between below : List (ℕ × List ℕ)) (end : Place) (ds : List DataLine) (d : DataLine) → All (λ line. is_passed line.1 ≡ true) group → is_passed header.1 ≡ false
-    → columns_of header.1 ≡ Ok d.columns → All (λ line. is_group line.1 ≡ false) between → is_passed d.text ≡ false
-    → said_from Header (group ++ header ∷ (between ++ (d.number, d.text) ∷ below)) ≡ Ok (end, ds) → IsIn d ds
-header_in [] header between below end ds d passed names columns nearest listed said =
-    below_in d.columns between below end ds d nearest listed refl
-    (sym (said_step Header (Listing d.columns) header (between ++ (d.number, d.text) ∷ below) (names_step header.1 d.columns (not_passed (are_blanks header.1) (is_group header.1) (is_element header.1) names) columns)) ∙ said)
-header_in (line ∷ group) header between below end ds d passed names columns nearest listed said =
-    header_in group header between below end ds d (λ k x lt. passed (suc k) x (omega arith)) names columns nearest listed
-    (sym (said_step Header Header line (group ++ header ∷ (between ++ (d.number, d.text) ∷ below)) (passed_step line.1 (are_blanks line.1) (is_group line.1) (is_element line.1) refl refl refl (passed 0 line (omega arith)))) ∙ said)
-
--- a line that opens a group
-opening_by : (place : Place) (line : ℕ × List ℕ) (more : List (ℕ × List ℕ)) (end : Place) (ds : List DataLine) (version : Bool) → is_version line.1 ≡ version → are_blanks line.1 ≡ false → is_group line.1 ≡ true
-    → said_from place (line ∷ more) ≡ Ok (end, ds) → said_from Header more ≡ Ok (end, ds)
-unfolding step filled_step said_from
-opening_by Opening line more end ds true v b g said = sym (said_step Opening Header line more (rw (b, v) refl)) ∙ said
-opening_by Opening line more end ds false v b g said = absurd (let none = rw (b, v) at said in cc)
-opening_by Header line more end ds version v b g said = sym (said_step Header Header line more (rw (b, g) refl)) ∙ said
-opening_by (Listing known) line more end ds version v b g said = sym (said_step (Listing known) Header line more (rw (b, g) refl)) ∙ said
-
-stands_in : (numbered : List (ℕ × List ℕ)) (end : Place) (ds : List DataLine) (d : DataLine) → said_from Opening numbered ≡ Ok (end, ds) → StandsBelow numbered d → IsIn d ds
+stands_in : (numbered : Numbered) (end : Place) (ds : List DataLine) (d : DataLine) → said_from Opening numbered ≡ Ok (end, ds) → StandsBelow numbered d → Contains ds d
 stands_in numbered end ds d said is =
-    let rest : List (ℕ × List ℕ) = is.group ++ is.header ∷ (is.between ++ (d.number, d.text) ∷ is.below) in
-    said_rest Opening is.above (is.opening ∷ rest) (said_from Opening is.above) end ds d (ap (said_from Opening) (sym is.are) ∙ said) refl
-    (λ place found s. header_in is.group is.header is.between is.below end found d is.passed is.names is.columns is.nearest is.listed
-    (opening_by place is.opening rest end found (is_version is.opening.1) refl (group_no_blank is.opening.1 is.opens) is.opens s))
+    let above = behind_any Opening is.above _ end ds (rw is.are at said) in
+    let opening = behind_line above.0 Header is.opening _ end above.1.rest (into_header above.0 is.opening.1 is.opens) above.1.said in
+    let group = behind_lines Header is.group _ end opening.rest (λ k line lt. header_stays _ (is.passed k line lt)) opening.said in
+    let header = behind_line Header (Listing d.columns) is.header _ end group.rest (into_listing d.columns is.header.1 is.names is.columns) group.said in
+    let between = behind_lines (Listing d.columns) is.between _ end header.rest (λ k line lt. listing_stays d.columns _ (is.nearest k line lt)) header.said in
+    above.1.among d (opening.among d (group.among d (header.among d (between.among d
+    (listed_first d.columns (d.number, d.text) is.below end between.rest is.listed between.said)))))
 
 -- ---- whole batches
 
@@ -421,7 +292,5 @@ well_ended (Err fault) last ds said = absurd cc
 pub stand_below : (body : List ℕ) (ds : List DataLine) → data_lines_of body ≡ Ok ds → (d : DataLine) → Contains ds d ↔ StandsBelow (enumerate_from 1 (lines body)) d
 unfolding data_lines_of
 stand_below body ds said d =
-    let whole = well_ended (said_from Opening (enumerate_from 1 (lines body))) (length (lines body)) ds said in (
-      (λ (is : Contains ds d). stands Opening (enumerate_from 1 (lines body)) whole.0 ds d whole.1 (in_at d ds is.0 is.1 is.2)),
-      (λ (is : StandsBelow (enumerate_from 1 (lines body)) d). at_in d ds (stands_in (enumerate_from 1 (lines body)) whole.0 ds d whole.1 is)),
-    )
+    let whole = well_ended (said_from Opening (enumerate_from 1 (lines body))) (length (lines body)) ds said in
+    (stands Opening [] (enumerate_from 1 (lines body)) whole.0 ds d tt whole.1, stands_in (enumerate_from 1 (lines body)) whole.0 ds d whole.1)
