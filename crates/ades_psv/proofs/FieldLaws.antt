@@ -1,5 +1,5 @@
 -- The fields of a data line: what is read from one is what it says, and what it says is read.
-use Rattle.std.proofs.Common.{◌≡◌, ◌≢◌, ℕ, ◌+◌, ◌≤◌, Bool, true, false, cond, leb, ltb, ◌&&◌, List, [], ◌∷◌, length, length-append, get_or, All, Option, Some, None, Result, Ok, Err, refl, sym, ap, subst, ◌∙◌, arith}
+use Rattle.std.proofs.Common.{◌≡◌, ◌≢◌, ℕ, ◌+◌, ◌≤◌, Bool, true, false, cond, leb, ltb, ◌&&◌, List, [], ◌∷◌, length, length-append, All, Option, Some, None, Result, Ok, Err, refl, sym, ap, subst, ◌∙◌, arith}
 use Rattle.std.specs.Prelude.{◌↔◌, option_map, MatchResult}
 use Rattle.std.specs.List.{list_all}
 use Rattle.std.proofs.lemmas.Bool.{and_parts, leb-true, le-leb}
@@ -15,8 +15,6 @@ use Rattle.obs_time.specs.declared.fault.TimeFault.TheVariants as times
 use Rattle.obs_time.specs.DateText.{date_at}
 use Rattle.angle_fixed.specs.Degrees.{ra_degrees_of, dec_degrees_of, signed_degrees_at, past_sign, ReadsRaDegrees, ReadsDecDegrees}
 use Rattle.obs_time.specs.IsoText.{iso_of, iso_at, time_at, IsIsoAnswer}
-use Rattle.packed_names.specs.declared.number.Number.{Number}
-use Rattle.packed_names.specs.declared.name.Designation.{Designation}
 use Rattle.packed_names.specs.declared.name.Name.{Name}
 use Rattle.packed_names.specs.declared.name.Name.TheVariants as names
 use Rattle.packed_names.specs.declared.name.NameFault.{NameFault}
