@@ -1,6 +1,6 @@
 -- The cells of a line, from the front.
-use Rattle.std.proofs.Common.{◌≡◌, ℕ, ◌+◌, ◌-◌, ◌<◌, suc, Bool, true, false, eqb, List, [], ◌∷◌, ◌++◌, length, map, All, Option, Some, refl, sym, ap, ◌∙◌, arith}
-use Rattle.std.specs.Prelude.{slice_get, count_by, is_some, ◌||◌, cond}
+use Rattle.std.proofs.Common.{◌≡◌, ℕ, ◌+◌, Bool, true, false, eqb, List, [], ◌∷◌, ◌++◌, length, map, All, Option, Some, refl, sym, ap, ◌∙◌}
+use Rattle.std.specs.Prelude.{count_by, is_some, ◌||◌, cond}
 use Rattle.std.specs.List.{list_any, position_from}
 use Rattle.std.proofs.lemmas.List.{length-map}
 use Rattle.std.proofs.lemmas.List.Splits.{slice_split_none, slice_split_at, length-slice_split}
@@ -22,12 +22,6 @@ cells-whole line piece is none = ap cells (sym is) ∙ ap (map trimmed) (slice_s
 pub length-cells : (line : List ℕ) → length (cells line) ≡ count_by (λ b. eqb b 124) line + 1
 unfolding cells
 length-cells line = length-map (pieces line) trimmed ∙ length-slice_split (λ b. eqb b 124) line
-
--- after the first cell, places count from the next one
-pub past_cell : (cs more : List (List ℕ)) (cell : List ℕ) (k n : ℕ) → cs ≡ cell ∷ more → k < n → slice_get cs (n - k) ≡ slice_get more (n - (k + 1))
-past_cell cs more cell k n is lt =
-    let next : n - k ≡ suc (n - (k + 1)) = omega arith in
-    rw (is, next) refl
 
 some_or : (b : Bool) (n : ℕ) (o : Option ℕ) (any : Bool) → is_some o ≡ any → is_some (cond b (Some n) o) ≡ b || any
 some_or true n o any is = refl

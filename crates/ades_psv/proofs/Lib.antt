@@ -10,5 +10,3 @@ pub mod SaidLaws
 pub mod Walks
 pub mod Options
 pub mod Readers
-pub mod Standing
-pub mod Stated

@@ -8,6 +8,7 @@ use Rattle.std.specs.Ordering.{is_eq, match_ordering}
 use Rattle.std.specs.List.{list_any}
 use Rattle.std.specs.BTreeMap.{is_at}
 use Rattle.std.specs.BTreeSet.{insert_key}
+use Rattle.std.proofs.lemmas.Bool.{and_right, not-false, not-true, or_from, or_left, or_right}
 use Rattle.std.proofs.lemmas.Map.Text.{is_eq-slice_cmp}
 use Rattle.ades_psv.specs.Cells.{is_word}
 use Rattle.ades_psv.specs.Columns.{has_column, has_twice}
@@ -37,14 +38,6 @@ contains_seen [] name = refl
 contains_seen (key ∷ seen) name =
     ap (λ (b : Bool). b || list_any (is_at (by_text name)) seen) (is_eq-slice_cmp name.now key.now)
     ∙ ap (λ (b : Bool). is_word key.now name.now || b) (contains_seen seen name)
-
-or_true : (a : Bool) → a || true ≡ true
-or_true true = refl
-or_true false = refl
-
-or_none : (a b : Bool) → b ≡ false → (a && false) || b ≡ false
-or_none true b is = is
-or_none false b is = is
 
 twice_or : (a b : Bool) → a || b ≡ a || (a || b)
 twice_or true b = refl
@@ -96,7 +89,7 @@ meets_insert seen name (text ∷ names) some =
 meets_none : (names : List (List ℕ)) → meets [] names ≡ false
 unfolding meets
 meets_none [] = refl
-meets_none (name ∷ names) = or_none (not (eqb (length name) 0)) (meets [] names) (meets_none names)
+meets_none (name ∷ names) = or_from (not (eqb (length name) 0) && false) (meets [] names) (and_right (not (eqb (length name) 0)) false refl) (meets_none names)
 
 -- nothing was seen yet
 pub repeats_none : (names : List (List ℕ)) → repeats [] names ≡ has_twice names
@@ -113,7 +106,7 @@ unfolding meets has_twice
 repeats_found seen name names some found = rw (some, found) refl
 
 regroup_or : (h m t : Bool) → m || (h || t) ≡ (h || m) || t
-regroup_or h true t = sym (ap (λ (b : Bool). b || t) (or_true h))
+regroup_or h true t = sym (or_left (h || true) t (or_right h true refl))
 regroup_or true false t = refl
 regroup_or false false t = refl
 
@@ -132,20 +125,12 @@ repeats_end seen = refl
 
 -- ---- what an insertion told
 
-other_from : (b : Bool) (added : Bool) → added ≡ not b → added ≡ true → b ≡ false
-other_from true added is h = absurd cc
-other_from false added is h = refl
-
-same_from : (b : Bool) (added : Bool) → added ≡ not b → added ≡ false → b ≡ true
-same_from true added is h = refl
-same_from false added is h = absurd cc
-
 -- a name that was put there wasn't seen, another one was
 pub unseen : (seen : List (Bor (List ℕ))) (name : Bor (List ℕ)) (added : Bool) → added ≡ not (list_any (is_at (by_text name)) seen) → added ≡ true → is_seen seen name.now ≡ false
-unseen seen name added is h = sym (contains_seen seen name) ∙ other_from (list_any (is_at (by_text name)) seen) added is h
+unseen seen name added is h = sym (contains_seen seen name) ∙ not-true (list_any (is_at (by_text name)) seen) (sym is ∙ h)
 
 pub seen_before : (seen : List (Bor (List ℕ))) (name : Bor (List ℕ)) (added : Bool) → added ≡ not (list_any (is_at (by_text name)) seen) → added ≡ false → is_seen seen name.now ≡ true
-seen_before seen name added is h = sym (contains_seen seen name) ∙ same_from (list_any (is_at (by_text name)) seen) added is h
+seen_before seen name added is h = sym (contains_seen seen name) ∙ not-false (list_any (is_at (by_text name)) seen) (sym is ∙ h)
 
 -- one name more was put among those seen, or was empty
 pub noted : (old new : List (Bor (List ℕ))) (name : Bor (List ℕ)) (cs names : List (List ℕ)) (total added : Bool) → repeats old cs ≡ total → cs ≡ name.now ∷ names

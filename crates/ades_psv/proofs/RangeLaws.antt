@@ -3,10 +3,7 @@ use Rattle.std.proofs.Common.{◌≢◌, ◌⊎◌, ℕ, ◌<◌, ◌≤◌, Boo
 use Rattle.std.specs.Prelude.{IfSome, IsSome}
 use Rattle.angle_fixed.specs.Angles.{circle, quarter}
 use Rattle.obs_time.specs.Instants.{IsInstantNs}
-use Rattle.packed_names.specs.declared.number.Number.{Number}
-use Rattle.packed_names.specs.declared.name.Designation.{Designation}
 use Rattle.packed_names.specs.Ranges.{IsNumber, IsDesignation}
-use Rattle.obs_record.specs.declared.short.Short.{Short}
 use Rattle.obs_record.specs.declared.sighting.Coded.TheVariants.{Nothing, Word}
 use Rattle.obs_record.specs.declared.sighting.Sighting.{Sighting}
 use Rattle.obs_record.specs.Short.{IsShort, kept_short}
@@ -22,13 +19,10 @@ use Rattle.ades_psv.proofs.LawsBelow.{Laws}
 
 -- ---- names
 
-number_within : (text : List ℕ) (perm : Option Number) → Says IsNumberText text perm → IfSome perm (λ number. IsNumber number.0)
-number_within text None says = tt
-number_within text (Some number) says = says.within
-
-designation_within : (text : List ℕ) (prov : Option Designation) → Says IsDesignationText text prov → IfSome prov IsDesignation
-designation_within text None says = tt
-designation_within text (Some designation) says = says.within
+-- what is so of whatever is read from a field is so of what it says
+pub says_all : {A : Type 0} (Reads : List ℕ → A → Type 0) (Good : A → Type 0) (text : List ℕ) (said : Option A) → ((x : A) → Reads text x → Good x) → Says Reads text said → IfSome said Good
+says_all Reads Good text None good says = tt
+says_all Reads Good text (Some x) good says = good x says
 
 -- a field that isn't empty says something
 says_some : {A : Type 0} (Reads : List ℕ → A → Type 0) (text : List ℕ) (said : Option A) → Says Reads text said → text ≢ [] → IsSome said
@@ -59,10 +53,6 @@ pub record TypesHold (s : Sighting) : Type 0 where
 module _ (laws : Laws) where
   open laws use {records.{kept_is_short, made_of_decimals}}
 
-  temporary_within : (text : List ℕ) (sub : Option Short) → Says IsTemporary text sub → IfSome sub IsShort
-  temporary_within text None says = tt
-  temporary_within text (Some short) says = subst IsShort (sym says.kept) (kept_is_short text)
-
   coded_by : (empty : Bool) (text : List ℕ) → IsCoded (cond empty Nothing (Word (kept_short text)))
   coded_by true text = tt
   coded_by false text = kept_is_short text
@@ -77,9 +67,9 @@ module _ (laws : Laws) where
   sighting_within fields s kept is types =
       let has : HasFields fields = kept.1.1.1.1.1.1.1.0 in
       record {
-        number = number_within fields.perm s.perm is.perm;
-        designation = designation_within fields.prov s.prov is.prov;
-        temporary = temporary_within fields.sub s.sub is.sub;
+        number = says_all IsNumberText (λ number. IsNumber number.0) fields.perm s.perm (λ number says. says.within) is.perm;
+        designation = says_all IsDesignationText IsDesignation fields.prov s.prov (λ designation says. says.within) is.prov;
+        temporary = says_all IsTemporary IsShort fields.sub s.sub (λ short says. subst IsShort (sym says.kept) (kept_is_short fields.sub)) is.sub;
         named = named_so fields s is has.name;
         station = subst IsShort (sym is.station) (kept_is_short fields.station);
         time = types.time;

@@ -3,11 +3,11 @@ use Rattle.std.proofs.Common.{◌≡◌, ℕ, ◌+◌, ◌<◌, List, [], ◌∷
 use Rattle.std.specs.Prelude.{IsOk, IfOk, OnOk}
 use Rattle.std.specs.List.{AllZip, enumerate_from}
 use Rattle.std.specs.Str.Lines.{lines}
-use Rattle.std.proofs.lemmas.List.{append-nil}
+use Rattle.std.proofs.lemmas.List.{append-nil, map-append}
 use Rattle.std.proofs.lemmas.List.Elements.{All-nil}
 use Rattle.obs_record.specs.declared.line.Line.{Line}
 use Rattle.obs_record.specs.declared.rule.HeaderFault.{HeaderFault}
-use Rattle.text_lines.specs.Steps.{◌>>=◌}
+use Rattle.text_lines.specs.Steps.{◌>>=◌, bind_ok}
 use Rattle.text_lines.specs.Pieces.{complete_lines, unfinished, joined}
 use Rattle.text_lines.specs.Laws.{LineLaws}
 use Rattle.ades_psv.specs.declared.fault.PsvFault.{PsvFault}
@@ -15,47 +15,27 @@ use Rattle.ades_psv.specs.declared.fault.PsvFault.TheVariants as faults
 use Rattle.ades_psv.specs.declared.header.Place.{Place}
 use Rattle.ades_psv.specs.declared.header.Place.TheVariants.{Opening, Header, Listing}
 use Rattle.ades_psv.specs.declared.walking.Reached.{Reached}
-use Rattle.ades_psv.specs.Answers.{IsAnswer}
 use Rattle.ades_psv.specs.Batch.{DataLine, Said, said_from, ended, data_lines_of, read_of, all_read, psv_lines_of, IsReadFrom, AreReadFrom}
 use Rattle.ades_psv.specs.Fields.{Fields, fields_of}
 use Rattle.ades_psv.specs.Rules.{IsReading}
 use Rattle.ades_psv.specs.Reading.{reading_of}
-use Rattle.ades_psv.specs.Walking.{said_behind, HasRead, Fails}
-use Rattle.ades_psv.specs.Feeding.{Progress, Fed, unfed, reached, read_on, fed, fed_all, HasRoom, complete_fault, read_end, finished, Feeds}
-use Rattle.ades_psv.specs.Readers.{what_is_fed}
+use Rattle.ades_psv.specs.Walking.{IsAnswer, said_behind, HasRead, Fails}
+use Rattle.ades_psv.specs.Feeding.{Progress, Fed, unfed, reached, read_on, fed, fed_all, HasRoom, complete_fault, read_end, finished, Feeds, what_is_fed}
 use Rattle.ades_psv.proofs.SaidLaws.{behind, said_join}
-use Rattle.ades_psv.proofs.Walks.{map_join}
 
 -- ---- one piece
 
 -- a piece whose front ends the unfinished line
 pub split_lines : (laws : LineLaws) (rest front after piece : List ℕ) → piece ≡ front ++ after → unfinished (rest ++ front) ≡ []
     → complete_lines (rest ++ piece) ≡ complete_lines (rest ++ front) ++ complete_lines after
-split_lines laws rest front after piece parts ended =
-    ap complete_lines (ap (λ (p : List ℕ). rest ++ p) parts ∙ sym (append_assoc rest front after))
-    ∙ laws.complete_on (rest ++ front) after
-    ∙ ap (λ (t : List ℕ). complete_lines (rest ++ front) ++ complete_lines (t ++ after)) ended
+split_lines laws rest front after piece parts ended = rw (parts, ← append_assoc rest front after, laws.complete_on (rest ++ front) after, ended) refl
 
 pub split_rest : (laws : LineLaws) (rest front after piece : List ℕ) → piece ≡ front ++ after → unfinished (rest ++ front) ≡ [] → unfinished (rest ++ piece) ≡ unfinished after
-split_rest laws rest front after piece parts ended =
-    ap unfinished (ap (λ (p : List ℕ). rest ++ p) parts ∙ sym (append_assoc rest front after))
-    ∙ laws.unfinished_on (rest ++ front) after
-    ∙ ap (λ (t : List ℕ). unfinished (t ++ after)) ended
+split_rest laws rest front after piece parts ended = rw (parts, ← append_assoc rest front after, laws.unfinished_on (rest ++ front) after, ended) refl
 
 -- a piece without a line feed
 pub no_lines : (laws : LineLaws) (rest piece : List ℕ) → unfinished rest ≡ rest → complete_lines (rest ++ piece) ≡ complete_lines rest → complete_lines (rest ++ piece) ≡ []
 no_lines laws rest piece alone same = same ∙ ap complete_lines (sym alone) ∙ laws.rest_alone rest
-
--- the lines that it ends were read
-pub feeds_lines : (before after : Reached) (rest piece left : List ℕ) → HasRead before (complete_lines (rest ++ piece)) after → left ≡ unfinished (rest ++ piece)
-    → what_is_fed after left None ≡ fed (what_is_fed before rest None) piece
-unfolding read_on
-feeds_lines before after rest piece left read is = rw (read.said, read.count, read.found, is) refl
-
--- and one of them has a fault
-pub feeds_fault : (before : Reached) (rest piece : List ℕ) (fault : HeaderFault × ℕ) → said_behind before (complete_lines (rest ++ piece)) ≡ Err fault → fed (what_is_fed before rest None) piece ≡ Err fault
-unfolding read_on
-feeds_fault before rest piece fault fails = rw fails refl
 
 pub has_room : (before : Reached) (rest : List ℕ) (more : ℕ) (told : Option (HeaderFault × ℕ)) (old : Fed) → what_is_fed before rest told ≡ old → told ≡ None
     → HasRoom old more → before.count + length rest + more < 4294967295
@@ -64,14 +44,17 @@ has_room before rest more told old view none room = rw (← view, none) at room
 pub room_left : (after : Reached) (left : List ℕ) (more : ℕ) (told : Option (HeaderFault × ℕ)) → told ≡ None → after.count + length left + more < 4294967295 → HasRoom (what_is_fed after left told) more
 room_left after left more told none room = rw none room
 
--- so the reader has come on, or it has met a fault
+-- the lines that it ends were read, and the reader has come on
 pub fed_on : (before after : Reached) (rest piece left : List ℕ) (told : Option (HeaderFault × ℕ)) (old : Fed) → what_is_fed before rest told ≡ old → told ≡ None
     → HasRead before (complete_lines (rest ++ piece)) after → left ≡ unfinished (rest ++ piece) → (what_is_fed after left told ≡ fed old piece) × IsOk (what_is_fed after left told)
-fed_on before after rest piece left told old view none read is = rw (none, ← view, none) (feeds_lines before after rest piece left read is, refl)
+unfolding read_on
+fed_on before after rest piece left told old view none read is = rw (none, ← view, none, read.said, read.count, read.found, is) (refl, refl)
 
+-- or one of them has a fault
 pub fed_fault : (before : Reached) (rest piece : List ℕ) (told : Option (HeaderFault × ℕ)) (old : Fed) (fault : HeaderFault × ℕ) → what_is_fed before rest told ≡ old → told ≡ None
     → said_behind before (complete_lines (rest ++ piece)) ≡ Err fault → Err fault ≡ fed old piece
-fed_fault before rest piece told old fault view none fails = rw (← view, none) (sym (feeds_fault before rest piece fault fails))
+unfolding read_on
+fed_fault before rest piece told old fault view none fails = rw (← view, none, fails) refl
 
 -- ---- the end
 
@@ -89,18 +72,16 @@ fails_last before rest told old (faults.Header fault line) view none fails = rw 
 fails_last before rest told old faults.NoMemory view none fails = tt
 
 -- the end of a batch, whatever was found in it
-pub ended_well : {A : Type 0} (last : ℕ) (place : Place) (x : A) → ended last (place, tt {0}) ≡ Ok (tt {0}) → ended last (place, x) ≡ Ok x
-ended_well last Opening x is = absurd cc
-ended_well last Header x is = absurd cc
-ended_well last (Listing columns) x is = refl
+ended_as : {A : Type 0} (last : ℕ) (place : Place) (x : A) → ended last (place, x) ≡ (ended last (place, tt {0}) >>= λ _. Ok x)
+ended_as last Opening x = refl
+ended_as last Header x = refl
+ended_as last (Listing columns) x = refl
 
-ended_fault : {A : Type 0} (last : ℕ) (place : Place) (x : A) (fault : HeaderFault × ℕ) → ended last (place, tt {0}) ≡ Err fault → ended last (place, x) ≡ Err fault
-ended_fault last Opening x fault is = cc
-ended_fault last Header x fault is = cc
-ended_fault last (Listing columns) x fault is = absurd cc
+pub ended_well : {A : Type 0} (last : ℕ) (place : Place) (x : A) → ended last (place, tt {0}) ≡ Ok (tt {0}) → ended last (place, x) ≡ Ok x
+ended_well last place x is = rw (ended_as last place x, is) refl
 
 pub ended_ill : {A : Type 0} (last : ℕ) (place : Place) (x : A) (said : Result A (HeaderFault × ℕ)) (fault : PsvFault) → said ≡ ended last (place, x) → IsAnswer (ended last (place, tt {0})) (Err fault) → IsAnswer said (Err fault)
-ended_ill last place x said (faults.Header fault line) same is = same ∙ ended_fault last place x (fault, line) is
+ended_ill last place x said (faults.Header fault line) same is = rw (same, ended_as last place x, is) refl
 ended_ill last place x said faults.NoMemory same is = tt
 
 -- what is said at the end, of all data lines or of those that were found before and the last ones
@@ -108,25 +89,23 @@ ending : (n : ℕ) (data_lines : List DataLine) (r : Said)
     → (r >>= λ end. ended n (end.0, map read_of data_lines ++ map read_of end.1)) ≡ (((r >>= behind data_lines) >>= ended n) >>= all_read)
 ending n data_lines (Ok (Opening, more)) = refl
 ending n data_lines (Ok (Header, more)) = refl
-ending n data_lines (Ok (Listing columns, more)) = ap (λ (ls : List Line). Ok ls) (sym (map_join read_of data_lines more))
+ending n data_lines (Ok (Listing columns, more)) = ap (λ (ls : List Line). Ok ls) (sym (map-append read_of data_lines more))
 ending n data_lines (Err fault) = refl
 
--- what a text says whose complete lines say this
-said_whole : (laws : LineLaws) (text : List ℕ) (r : Said) → said_from Opening (enumerate_from 1 (complete_lines text)) ≡ r
-    → said_from Opening (enumerate_from 1 (lines text)) ≡ (r >>= λ end. said_from end.0 (enumerate_from (1 + length (complete_lines text)) (lines (unfinished text))) >>= behind end.1)
-said_whole laws text r is =
-    ap (λ (ls : List (List ℕ)). said_from Opening (enumerate_from 1 ls)) (laws.whole text)
-    ∙ said_join Opening 1 (complete_lines text) (lines (unfinished text))
-    ∙ ap (λ (s : Said). s >>= λ end. said_from end.0 (enumerate_from (1 + length (complete_lines text)) (lines (unfinished text))) >>= behind end.1) is
+-- what lines say behind lines that say this
+said_over : (complete more : List (List ℕ)) (r : Said) → said_from Opening (enumerate_from 1 complete) ≡ r
+    → said_from Opening (enumerate_from 1 (complete ++ more)) ≡ (r >>= λ end. said_from end.0 (enumerate_from (1 + length complete) more) >>= behind end.1)
+said_over complete more r is =
+    said_join Opening 1 complete more ∙ ap (λ (s : Said). s >>= λ end. said_from end.0 (enumerate_from (1 + length complete) more) >>= behind end.1) is
 
 finished_by : (laws : LineLaws) (text : List ℕ) (r : Said) → said_from Opening (enumerate_from 1 (complete_lines text)) ≡ r → finished (fed unfed text) ≡ psv_lines_of text
 unfolding read_on read_end data_lines_of psv_lines_of
 finished_by laws text (Ok end) is =
-    let all : length (lines text) ≡ 0 + length (complete_lines text) + length (lines (unfinished text)) = omega (arith, ap length (laws.whole text), length-append (complete_lines text) (lines (unfinished text))) in
+    let all : length (complete_lines text ++ lines (unfinished text)) ≡ 0 + length (complete_lines text) + length (lines (unfinished text)) = omega (arith, length-append (complete_lines text) (lines (unfinished text))) in
     let number : 0 + length (complete_lines text) + 1 ≡ 1 + length (complete_lines text) = omega arith in
-    rw (said_whole laws text (Ok end) is, is, number, all)
+    rw (laws.whole text, said_over (complete_lines text) (lines (unfinished text)) (Ok end) is, is, number, all)
     (ending (0 + length (complete_lines text) + length (lines (unfinished text))) end.1 (said_from end.0 (enumerate_from (1 + length (complete_lines text)) (lines (unfinished text)))))
-finished_by laws text (Err fault) is = rw (said_whole laws text (Err fault) is, is) refl
+finished_by laws text (Err fault) is = rw (laws.whole text, said_over (complete_lines text) (lines (unfinished text)) (Err fault) is, is) refl
 
 -- a reader that was fed a text says in the end what the text says
 pub finished_text : (laws : LineLaws) (text : List ℕ) → finished (fed unfed text) ≡ psv_lines_of text
@@ -152,24 +131,18 @@ reached_again : (data_lines : List DataLine) (complete more : List (List ℕ)) (
     ≡ ((r >>= behind data_lines) >>= reached (record { place = Opening; count = 0; found = []; rest = [] }) (complete ++ more) left)
 reached_again data_lines complete more rest left (Ok end) is place old =
     let count : 0 + length complete + length more ≡ 0 + length (complete ++ more) = omega (arith, length-append complete more) in
-    rw (is, count, map_join read_of data_lines end.1) refl
+    rw (is, count, map-append read_of data_lines end.1) refl
 reached_again data_lines complete more rest left (Err fault) is place old = refl
-
-said_on_text : (laws : LineLaws) (text piece : List ℕ) (r : Said) → said_from Opening (enumerate_from 1 (complete_lines text)) ≡ r
-    → said_from Opening (enumerate_from 1 (complete_lines (text ++ piece))) ≡ (r >>= λ end. said_from end.0 (enumerate_from (1 + length (complete_lines text)) (complete_lines (unfinished text ++ piece))) >>= behind end.1)
-said_on_text laws text piece r is =
-    ap (λ (ls : List (List ℕ)). said_from Opening (enumerate_from 1 ls)) (laws.complete_on text piece)
-    ∙ said_join Opening 1 (complete_lines text) (complete_lines (unfinished text ++ piece))
-    ∙ ap (λ (s : Said). s >>= λ end. said_from end.0 (enumerate_from (1 + length (complete_lines text)) (complete_lines (unfinished text ++ piece))) >>= behind end.1) is
 
 fed_by : (laws : LineLaws) (text piece : List ℕ) (r : Said) → said_from Opening (enumerate_from 1 (complete_lines text)) ≡ r → fed (fed unfed text) piece ≡ fed unfed (text ++ piece)
 unfolding read_on
 fed_by laws text piece (Ok end) is =
+    let more = complete_lines (unfinished text ++ piece) in
     let number : 0 + length (complete_lines text) + 1 ≡ 1 + length (complete_lines text) = omega arith in
-    rw (said_on_text laws text piece (Ok end) is, is, number, laws.complete_on text piece)
-    (reached_again end.1 (complete_lines text) (complete_lines (unfinished text ++ piece)) (unfinished (unfinished text ++ piece)) (unfinished (text ++ piece))
-    (said_from end.0 (enumerate_from (1 + length (complete_lines text)) (complete_lines (unfinished text ++ piece)))) (sym (laws.unfinished_on text piece)) end.0 (unfinished text))
-fed_by laws text piece (Err fault) is = rw (said_on_text laws text piece (Err fault) is, is) refl
+    rw (laws.complete_on text piece, said_over (complete_lines text) more (Ok end) is, is, number)
+    (reached_again end.1 (complete_lines text) more (unfinished (unfinished text ++ piece)) (unfinished (text ++ piece))
+    (said_from end.0 (enumerate_from (1 + length (complete_lines text)) more)) (sym (laws.unfinished_on text piece)) end.0 (unfinished text))
+fed_by laws text piece (Err fault) is = rw (laws.complete_on text piece, said_over (complete_lines text) (complete_lines (unfinished text ++ piece)) (Err fault) is, is) refl
 
 pub fed_text : (laws : LineLaws) (text piece : List ℕ) → fed (fed unfed text) piece ≡ fed unfed (text ++ piece)
 fed_text laws text piece = fed_by laws text piece (said_from Opening (enumerate_from 1 (complete_lines text))) refl
@@ -204,11 +177,7 @@ told text fault fails =
 pub fault_stays : (laws : LineLaws) (text more : List ℕ) (fault : HeaderFault × ℕ) → fed unfed text ≡ Err fault → psv_lines_of (text ++ more) ≡ Err fault
 unfolding data_lines_of psv_lines_of
 fault_stays laws text more fault fails =
-    let all : said_from Opening (enumerate_from 1 (lines (text ++ more))) ≡ Err fault
-    = ap (λ (ls : List (List ℕ)). said_from Opening (enumerate_from 1 ls)) (laws.lines_on text more)
-    ∙ said_join Opening 1 (complete_lines text) (lines (unfinished text ++ more))
-    ∙ ap (λ (s : Said). s >>= λ end. said_from end.0 (enumerate_from (1 + length (complete_lines text)) (lines (unfinished text ++ more))) >>= behind end.1) (told text fault fails) in
-    rw all refl
+    rw (laws.lines_on text more, said_over (complete_lines text) (lines (unfinished text ++ more)) (Err fault) (told text fault fails)) refl
 
 -- ---- the text that came
 
@@ -242,9 +211,7 @@ feeds_fault_of laws text piece before after result fault line feeds is told =
 
 -- what is said at the end is what the text says
 pub finish_text : (laws : LineLaws) (text : List ℕ) (reader : Fed) (result : Result (List Line) PsvFault) → reader ≡ fed unfed text → IsAnswer (finished reader) result → IsAnswer (psv_lines_of text) result
-finish_text laws text reader result is said =
-    let same : finished reader ≡ psv_lines_of text = ap finished is ∙ finished_text laws text in
-    subst (λ (s : Result (List Line) (HeaderFault × ℕ)). IsAnswer s result) same said
+finish_text laws text reader result is said = rw (← finished_text laws text, ← is) said
 
 -- ---- a batch in one piece
 
@@ -258,14 +225,10 @@ zip_read : ((fields : Fields) → IsReading fields (reading_of fields)) → (dat
 zip_read reads [] = tt
 zip_read reads (line ∷ data_lines) = ((refl, reads (fields_of line.columns line.text)), zip_read reads data_lines)
 
-read_by : ((fields : Fields) → IsReading fields (reading_of fields)) → (body : List ℕ) (found : List Line) (r : Result (List DataLine) (HeaderFault × ℕ)) → data_lines_of body ≡ r → (r >>= all_read) ≡ Ok found → AreReadFrom body found
-read_by reads body found (Ok data_lines) is said = (data_lines, is, (let same : map read_of data_lines ≡ found = cc in subst (AllZip IsReadFrom data_lines) same (zip_read reads data_lines)))
-read_by reads body found (Err fault) is said = absurd cc
-
-read_from : ((fields : Fields) → IsReading fields (reading_of fields)) → (body : List ℕ) (found : List Line) → psv_lines_of body ≡ Ok found → AreReadFrom body found
-unfolding psv_lines_of
-read_from reads body found said = read_by reads body found (data_lines_of body) refl said
-
 pub answer_lines : ((fields : Fields) → IsReading fields (reading_of fields)) → (body : List ℕ) (result : Result (List Line) PsvFault) → IsAnswer (psv_lines_of body) result → IfOk result (λ found. AreReadFrom body found)
-answer_lines reads body (Ok found) said = read_from reads body found said
+unfolding psv_lines_of
+answer_lines reads body (Ok found) said =
+    let lines_found = bind_ok (data_lines_of body) all_read found said in
+    let same : map read_of lines_found.0 ≡ found = (let read = lines_found.2 in cc) in
+    (lines_found.0, lines_found.1, subst (AllZip IsReadFrom lines_found.0) same (zip_read reads lines_found.0))
 answer_lines reads body (Err fault) said = tt

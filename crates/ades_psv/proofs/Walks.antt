@@ -1,9 +1,11 @@
 -- Lines that are read one after another.
-use Rattle.std.proofs.Common.{◌≡◌, ℕ, ◌+◌, ◌≤◌, take, Bool, true, false, cond, List, [], ◌∷◌, ◌++◌, append_assoc, length, length-append, map, Result, Ok, Err, refl, sym, ap, ◌∙◌, arith}
+use Rattle.std.proofs.Common.{◌≡◌, ℕ, ◌+◌, ◌≤◌, take, ◌||◌, List, [], ◌∷◌, ◌++◌, append_assoc, length, length-append, map, Result, Ok, Err, refl, sym, ap, ◌∙◌, arith}
 use Rattle.std.specs.List.{enumerate_from}
-use Rattle.std.proofs.lemmas.List.{append-nil, length-take, take-take}
+use Rattle.std.proofs.lemmas.List.{append-nil, length-take, map-append, take-take}
+use Rattle.std.proofs.lemmas.Bool.{cond_both}
 use Rattle.ascii_text.specs.Blanks.{are_blanks}
 use Rattle.obs_record.specs.declared.rule.HeaderFault.{HeaderFault}
+use Rattle.obs_record.specs.declared.rule.HeaderFault.TheVariants.{H1}
 use Rattle.obs_record.specs.declared.line.Line.{Line}
 use Rattle.ades_psv.specs.declared.columns.Columns.{Columns}
 use Rattle.ades_psv.specs.declared.fault.PsvFault.{PsvFault}
@@ -31,26 +33,23 @@ no_data_below : (r : Result Columns HeaderFault) (columns : Columns) → below_h
 no_data_below (Ok known) columns is = cc
 no_data_below (Err fault) columns is = cc
 
--- a data line stands below its columns
-filled_data : (place : Place) (line : List ℕ) (columns : Columns) (version group element : Bool) → is_version line ≡ version → is_group line ≡ group → is_element line ≡ element
-    → filled_step place line ≡ Data columns → place ≡ Listing columns
+abbrev DataBelow : Place → Columns → Step → Type 0
+DataBelow place columns next = next ≡ Data columns → place ≡ Listing columns
+
+filled_data : (place : Place) (line : List ℕ) (columns : Columns) → DataBelow place columns (filled_step place line)
 unfolding filled_step
-filled_data Opening line columns true group element v g e is = absurd (let h = rw v at is in cc)
-filled_data Opening line columns false group element v g e is = absurd (let h = rw v at is in cc)
-filled_data Header line columns version true element v g e is = absurd (let h = rw g at is in cc)
-filled_data Header line columns version false true v g e is = absurd (let h = rw (g, e) at is in cc)
-filled_data Header line columns version false false v g e is = absurd (no_data_below (columns_of line) columns (rw (g, e) at is))
-filled_data (Listing known) line columns version true element v g e is = absurd (let h = rw g at is in cc)
-filled_data (Listing known) line columns version false true v g e is = absurd (let h = rw (g, e) at is in cc)
-filled_data (Listing known) line columns version false false v g e is = let h = rw (g, e) at is in cc
+filled_data Opening line columns = cond_both (is_version line) (On Header) (Fault H1) (DataBelow Opening columns) (λ v is. absurd cc) (λ v is. absurd cc)
+filled_data Header line columns =
+    cond_both (is_group line || is_element line) (On Header) (below_header (columns_of line)) (DataBelow Header columns) (λ g is. absurd cc)
+    (λ g is. absurd (no_data_below (columns_of line) columns is))
+filled_data (Listing known) line columns =
+    cond_both (is_group line) (On Header) _ (DataBelow (Listing known) columns) (λ g is. absurd cc) (λ g.
+    cond_both (is_element line) (On (Listing known)) (Data known) (DataBelow (Listing known) columns) (λ e is. absurd cc) (λ e is. cc))
 
-data_by : (blank : Bool) (place : Place) (line : List ℕ) (columns : Columns) → cond blank (On place) (filled_step place line) ≡ Data columns → place ≡ Listing columns
-data_by true place line columns is = absurd cc
-data_by false place line columns is = filled_data place line columns (is_version line) (is_group line) (is_element line) refl refl refl is
-
-pub data_below : (place : Place) (line : List ℕ) (columns : Columns) → step place line ≡ Data columns → place ≡ Listing columns
+-- a data line stands below its columns
+data_below : (place : Place) (line : List ℕ) (columns : Columns) → DataBelow place columns (step place line)
 unfolding step
-data_below place line columns is = data_by (are_blanks line) place line columns is
+data_below place line columns = cond_both (are_blanks line) (On place) (filled_step place line) (DataBelow place columns) (λ b is. absurd cc) (λ b. filled_data place line columns)
 
 -- a line that leads on
 pub reads_on : (before after : Reached) (line : List ℕ) (next : Place) → step before.place line ≡ On next → after.place ≡ next → after.count ≡ before.count + 1 → after.found ≡ before.found
@@ -84,10 +83,6 @@ reads_nothing reached = record {
   found = sym (append-nil reached.found);
 }
 
-pub map_join : {A B : Type 0} (f : A → B) (xs ys : List A) → map f (xs ++ ys) ≡ map f xs ++ map f ys
-map_join f [] ys = refl
-map_join f (x ∷ xs) ys = ap (λ (zs : List _). f x ∷ zs) (map_join f xs ys)
-
 -- what lines say after lines that were read
 pub said_further : (before middle : Reached) (xs ys : List (List ℕ)) (read : HasRead before xs middle) → said_behind before (xs ++ ys) ≡ (said_behind middle ys >>= behind read.data_lines)
 said_further before middle xs ys read =
@@ -103,7 +98,7 @@ reads_further before middle after xs ys first second = record {
   count = omega (arith, first.count, second.count, length-append xs ys);
   found = second.found ∙ ap (λ (ls : List Line). ls ++ map read_of second.data_lines) first.found
       ∙ append_assoc before.found (map read_of first.data_lines) (map read_of second.data_lines)
-      ∙ ap (λ (ls : List Line). before.found ++ ls) (sym (map_join read_of first.data_lines second.data_lines));
+      ∙ ap (λ (ls : List Line). before.found ++ ls) (sym (map-append read_of first.data_lines second.data_lines));
 }
 
 -- a fault after lines that were read

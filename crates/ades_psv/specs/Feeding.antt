@@ -9,9 +9,10 @@ use Rattle.ades_psv.specs.declared.fault.PsvFault.{PsvFault}
 use Rattle.ades_psv.specs.declared.fault.PsvFault.TheVariants as faults
 use Rattle.ades_psv.specs.declared.header.Place.{Place}
 use Rattle.ades_psv.specs.declared.header.Place.TheVariants.{Opening}
+use Rattle.ades_psv.specs.declared.walking.Reached.{Reached}
 use Rattle.text_lines.specs.Steps.{◌>>=◌}
 use Rattle.text_lines.specs.Pieces.{complete_lines, unfinished}
-use Rattle.ades_psv.specs.Batch.{DataLine, Said, said_from, ended, read_of}
+use Rattle.ades_psv.specs.Batch.{DataLine, Said, said_from, ended, read_of, AreInRange}
 
 -- How far a batch was read whose headers have no fault so far.
 pub record Progress : Type 0 where
@@ -89,3 +90,19 @@ abbrev pub Feeds : Fed → List ℕ → Fed → Result (Unit {0}) PsvFault → T
 Feeds before piece after (Ok _) = (after ≡ fed before piece) × IsOk after
 Feeds before piece after (Err (faults.Header fault line)) = (after ≡ fed before piece) × (after ≡ Err (fault, line))
 Feeds before piece after (Err faults.NoMemory) = after ≡ before
+
+-- what a reader has come to, by what it keeps
+abbrev pub what_is_fed : Reached → List ℕ → Option (HeaderFault × ℕ) → Fed
+what_is_fed reached rest None = Ok (record {
+  place = reached.place;
+  count = reached.count;
+  found = reached.found;
+  rest = rest;
+})
+what_is_fed reached rest (Some fault) = Err fault
+
+-- the unfinished line has no line feed, its number and the next one's have 32 bits, and what was found is in range
+pub record IsUnderWay (reached : Reached) (rest : List ℕ) : Type 0 where
+  pub rest_alone : unfinished rest ≡ rest
+  pub room : reached.count + length rest < 4294967295
+  pub range : AreInRange reached.found

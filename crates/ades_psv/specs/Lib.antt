@@ -1,4 +1,3 @@
-pub mod Answers
 pub mod Cells
 pub mod Columns
 pub mod Headers
@@ -12,5 +11,4 @@ pub mod Batch
 pub mod Feeding
 pub mod Cutting
 pub mod Walking
-pub mod Readers
 pub mod Standing

@@ -1,10 +1,17 @@
 -- Lines that are read one after another, from what was reached so far.
 use Rattle.std.specs.Prelude.{◌≡◌, ℕ, ◌+◌, List, ◌++◌, length, map, Result, Ok, Err}
 use Rattle.std.specs.List.{enumerate_from}
+use Rattle.obs_record.specs.declared.rule.HeaderFault.{HeaderFault}
 use Rattle.ades_psv.specs.declared.fault.PsvFault.{PsvFault}
 use Rattle.ades_psv.specs.declared.fault.PsvFault.TheVariants as faults
 use Rattle.ades_psv.specs.declared.walking.Reached.{Reached}
 use Rattle.ades_psv.specs.Batch.{DataLine, Said, said_from, read_of}
+
+-- the answer is what is to be said, a fault with its line; or memory was refused
+abbrev pub IsAnswer : {A : Type 0} → Result A (HeaderFault × ℕ) → Result A PsvFault → Type 0
+IsAnswer said (Ok x) = said ≡ Ok x
+IsAnswer said (Err (faults.Header fault line)) = said ≡ Err (fault, line)
+IsAnswer said (Err faults.NoMemory) = Unit {0}
 
 -- what lines say after those that were read
 abbrev pub said_behind : Reached → List (List ℕ) → Said

@@ -5,9 +5,8 @@ ghost use Rattle.std.specs.Prelude.{OnErr, Ok, Err};
 ghost use Rattle.text_lines.specs.Lines.{IsNumberable};
 ghost use Rattle.text_lines.specs.Pieces.{complete_lines, unfinished};
 ghost use Rattle.ades_psv.specs.declared.fault.PsvFault.TheVariants as faults;
-ghost use Rattle.ades_psv.specs.Answers.{IsAnswer};
 ghost use Rattle.ades_psv.specs.Batch.{psv_lines_of, AreReadFrom, AreInRange};
-ghost use Rattle.ades_psv.specs.Walking.{Reads};
+ghost use Rattle.ades_psv.specs.Walking.{IsAnswer, Reads};
 ghost use Rattle.ades_psv.specs.Feeding.{unfed, fed, complete_fault, HasRoom, Feeds, finished};
 ghost use Rattle.obs_record.specs.declared.rule.HeaderFault.{HeaderFault};
 
@@ -41,7 +40,7 @@ impl Model for PsvReader {
 
     ghost Value = { Fed };
 
-    ghost use Rattle.ades_psv.specs.Readers.{what_is_fed, IsUnderWay};
+    ghost use Rattle.ades_psv.specs.Feeding.{what_is_fed, IsUnderWay};
 
     ghost view = { λ r. what_is_fed r.reached r.rest r.told };
 

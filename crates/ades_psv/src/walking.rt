@@ -3,9 +3,8 @@
 ghost use Rattle.std.specs.Prelude.{◌≡◌, ◌+◌, ◌<◌, ◌≤◌, [], ◌∷◌, length, take, IfOk};
 ghost use Rattle.std.specs.Str.Lines.{lines};
 ghost use Rattle.text_lines.specs.Pieces.{complete_lines, unfinished};
-ghost use Rattle.ades_psv.specs.Answers.{IsAnswer};
 ghost use Rattle.ades_psv.specs.Batch.{ended, AreInRange};
-ghost use Rattle.ades_psv.specs.Walking.{Reads};
+ghost use Rattle.ades_psv.specs.Walking.{IsAnswer, Reads};
 
 use crate::fault::PsvFault;
 use crate::fields::cut_fields;

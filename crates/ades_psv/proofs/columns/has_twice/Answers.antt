@@ -1,8 +1,8 @@
-use Rattle.std.proofs.Common.{◌≡◌, ℕ, false, eqb, List, [], ◌∷◌, length, Option, Some, None, sym, ap, ◌∙◌, Bor}
-use Rattle.std.specs.Prelude.{IfSome, IfNone}
+use Rattle.std.proofs.Common.{◌≡◌, false, eqb, [], ◌∷◌, length, sym, ap, ◌∙◌}
 use Rattle.ades_psv.specs.Cells.{cells}
 use Rattle.std.specs.BTreeSet.{keys}
 use Rattle.ades_psv.specs.Columns.{has_twice}
+use Rattle.ades_psv.proofs.Cutting.{begins}
 use Rattle.ades_psv.proofs.NameSets.{repeats, repeats_none, repeats_found, repeats_end, seen_before, noted, passed_over}
 use Rattle.ades_psv.proofs.columns.has_twice.Goals as goal
 use Rattle.ades_psv.proofs.columns.has_twice.Goals.{else-not-is_empty-via-then-not-is_empty+in_ok-insert+else-not-branch, else-not-is_empty-via-else-not-is_empty}
@@ -10,17 +10,11 @@ use Rattle.ades_psv.proofs.columns.has_twice.Goals.{else-not-is_empty-via-then-n
 pub names-init : goal.names-init
 names-init c = rw c.new-seen.ensures.empty (repeats_none (cells c.args.line.now))
 
--- a name that isn't empty, and what stands after it
-rest_of : (line : List ℕ) (name : List ℕ) (behind : Option (Bor (List ℕ))) → IfSome behind (λ rest. cells line ≡ name ∷ cells rest.now) → IfNone behind (cells line ≡ name ∷ [])
-    → (names : List (List ℕ)) × (cells line ≡ name ∷ names)
-rest_of line name None more last = ([], last)
-rest_of line name (Some rest) more last = (cells rest.now, more)
-
 pub returns-then-not-branch : goal.returns-then-not-branch
 returns-then-not-branch c =
     let name = c.first_cell.result.0 in
     let some : eqb (length name.now) 0 ≡ false = sym c.is_empty.ensures ∙ c.if-not-is_empty.true in
-    let rest = rest_of c.names.rest.now name.now c.first_cell.result.1 c.first_cell.ensures.more c.first_cell.ensures.last in
+    let rest = begins c.names.rest.now name.now c.first_cell.result.1 c.first_cell.ensures.more c.first_cell.ensures.last in
     sym (repeats_found c.names.seen.keys name.now rest.0 some (seen_before c.names.seen.keys name c.in_ok-insert.field-0 c.in_ok-insert.ensures.added c.if-not-branch.true))
     ∙ ap (repeats c.names.seen.keys) (sym rest.1) ∙ c.names.invariant
 
