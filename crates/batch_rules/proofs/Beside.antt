@@ -12,8 +12,9 @@ use Rattle.obs_record.specs.declared.rule.RuleCode.TheVariants.{B4, B5}
 use Rattle.tracklet_file.specs.Observations.{same_station, is_at}
 use Rattle.act_model.specs.Rows.{first_row}
 use Rattle.act_model.specs.BatchRules.{name_of, same_track, is_elsewhere, stands_elsewhere}
-use Rattle.batch_rules.specs.Places.{place_key, moment_key}
-use Rattle.batch_rules.specs.PlaceTests.{same_place, same_moment, has_place, has_moment, AreUpTo, rule_beside}
+use Rattle.place_keys.specs.Places.{place_key, same_place}
+use Rattle.batch_rules.specs.Places.{moment_key}
+use Rattle.batch_rules.specs.PlaceTests.{same_moment, has_place, has_moment, AreUpTo, rule_beside}
 use Rattle.batch_rules.proofs.Any.{IsIn, each_in, any_same, none_in}
 use Rattle.batch_rules.proofs.KeyLemmas.{same_keys}
 

@@ -12,4 +12,3 @@ mod Passed
 mod Puts
 mod Standing
 mod Beside
-mod TextWords

@@ -1,17 +1,9 @@
 -- Numbers that are hashed in the place of keys.
-use Rattle.std.specs.Prelude.{ℕ, ◌+◌, ◌*◌, ◌%◌, ◌^◌, List, take, drop}
-use Rattle.std.specs.Simd.Lanes.{number_l}
+use Rattle.std.specs.Prelude.{ℕ}
+use Rattle.place_keys.specs.Marks.{mixed, text_mark}
 use Rattle.batch_rules.specs.declared.keys.NameKey.{NameKey}
 use Rattle.batch_rules.specs.declared.keys.NameKey.TheVariants as keys
 use Rattle.batch_rules.specs.declared.keys.GroupKey.{GroupKey}
-
--- a number that two others make
-unfoldable pub mixed : ℕ → ℕ → ℕ
-mixed one other = (one + (other * 0x9e37_79b9_7f4a_7c15) % 2 ^ 64) % 2 ^ 64
-
--- a number that a text of twelve bytes makes
-abbrev pub text_mark : List ℕ → ℕ
-text_mark bytes = mixed (number_l 256 (take 8 bytes) % 2 ^ 64) (number_l 256 (drop 8 bytes))
 
 abbrev pub name_mark : NameKey → ℕ
 name_mark (keys.Number number) = number

@@ -8,14 +8,10 @@ use Rattle.obs_record.specs.declared.rule.RuleCode.TheVariants.{B4, B5}
 use Rattle.tracklet_file.specs.Observations.{is_at}
 use Rattle.act_model.specs.Rows.{first_row}
 use Rattle.act_model.specs.BatchRules.{stands_elsewhere}
-use Rattle.batch_rules.specs.declared.places.PlaceKey.{PlaceKey}
 use Rattle.batch_rules.specs.declared.places.MomentKey.{MomentKey}
-use Rattle.batch_rules.specs.contracts.places.PlaceKeyPartialEq.TheImpl as place_keys
 use Rattle.batch_rules.specs.contracts.places.MomentKeyPartialEq.TheImpl as moment_keys
-use Rattle.batch_rules.specs.Places.{place_key, moment_key}
-
-abbrev pub same_place : PlaceKey → PlaceKey → Bool
-same_place = (place_keys.ghosts).eq
+use Rattle.place_keys.specs.Places.{place_key, same_place}
+use Rattle.batch_rules.specs.Places.{moment_key}
 
 abbrev pub same_moment : MomentKey → MomentKey → Bool
 same_moment = (moment_keys.ghosts).eq

@@ -1,19 +1,7 @@
--- The keys of places and of moments.
+-- The keys of moments.
 use Rattle.obs_record.specs.declared.sighting.Sighting.{Sighting}
-use Rattle.batch_rules.specs.declared.places.PlaceKey.{PlaceKey}
 use Rattle.batch_rules.specs.declared.places.MomentKey.{MomentKey}
 use Rattle.batch_rules.specs.Groups.{group_key}
-
--- the key of an observation's station, time and position
-abbrev pub place_key : Sighting → PlaceKey
-place_key s =
-    record {
-      len = s.station.len;
-      bytes = record { bytes = s.station.bytes };
-      time = s.time;
-      ra = s.ra;
-      dec = s.dec;
-    }
 
 -- the key of an observation's group and time
 abbrev pub moment_key : Sighting → MomentKey

@@ -3,10 +3,11 @@
 ghost use Rattle.std.specs.Prelude.{◌≡◌, ◌∷◌, [], reverse, IfOk};
 ghost use Rattle.batch_rules.specs.PlaceTests.{rule_beside};
 
-use crate::places::{MomentKey, PlaceKey, moment_key, place_key};
+use crate::places::{MomentKey, moment_key};
 use indexmap::IndexSet;
 use item_list::NoMemory;
 use obs_record::{RuleCode, Sighting};
+use place_keys::{PlaceKey, place_key};
 use std::alloc::Global;
 use std::marker::Model;
 
@@ -22,8 +23,9 @@ impl Model for Indexed {
     ghost use Rattle.std.specs.Prelude.{◌≡◌, List, reverse};
     ghost use Rattle.indexmap.specs.IndexSet.{contains};
     ghost use Rattle.obs_record.specs.declared.sighting.Sighting.{Sighting};
-    ghost use Rattle.batch_rules.specs.Places.{place_key, moment_key};
-    ghost use Rattle.batch_rules.specs.PlaceTests.{same_place, same_moment, has_place, has_moment};
+    ghost use Rattle.place_keys.specs.Places.{place_key, same_place};
+    ghost use Rattle.batch_rules.specs.Places.{moment_key};
+    ghost use Rattle.batch_rules.specs.PlaceTests.{same_moment, has_place, has_moment};
 
     ghost Value = { List Sighting };
 

@@ -9,9 +9,9 @@ ghost use Rattle.batch_rules.specs.Groups.{name_key, group_key};
 ghost use Rattle.batch_rules.specs.Marks.{name_mark, group_mark};
 
 use crate::names::track_name;
-use crate::words::{Text, mixed, text_mark};
 use obs_record::{Sighting, TrackName};
 use packed_names::{Designation, Survey};
+use place_keys::{Text, mixed, text_mark};
 use std::hash::{Hash, Hasher};
 
 /// What tells the names of observations apart.

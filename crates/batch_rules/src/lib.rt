@@ -13,7 +13,6 @@ mod names;
 mod places;
 mod rules;
 mod rulings;
-mod words;
 
 pub use act_model::Ruling;
 pub use judging::judge;

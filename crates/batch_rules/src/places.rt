@@ -1,41 +1,18 @@
-//! Keys of observations: what tells their stations, times and positions apart, and their groups at a time.
+//! Keys of moments: what tells the groups of observations at a time apart.
 
 ghost use Rattle.std.specs.Prelude.{◌≡◌};
 ghost use Rattle.std.proofs.Common.{rules};
 ghost use Rattle.std.specs.Int.{w64, cast_unsigned};
 ghost use Rattle.std.specs.Hash as fed;
 ghost use Rattle.std.specs.Cmp.Rules.{hashing};
-ghost use Rattle.batch_rules.specs.Places.{place_key, moment_key};
-ghost use Rattle.batch_rules.specs.Marks.{mixed, group_mark};
+ghost use Rattle.place_keys.specs.Marks.{mixed};
+ghost use Rattle.batch_rules.specs.Places.{moment_key};
+ghost use Rattle.batch_rules.specs.Marks.{group_mark};
 
 use crate::keys::{GroupKey, group_key, group_mark};
-use crate::words::{Text, mixed};
 use obs_record::Sighting;
+use place_keys::mixed;
 use std::hash::{Hash, Hasher};
-
-/// What tells places apart: the station's code with its length, the time in nanoseconds, and the right ascension and
-/// the declination in units of 1/9,000,000,000,000 degree.
-#[derive(Clone, Copy, PartialEq, Eq)]
-pub(crate) struct PlaceKey {
-    pub(crate) len: u8,
-    pub(crate) bytes: Text,
-    pub(crate) time: i64,
-    pub(crate) ra: u64,
-    pub(crate) dec: i64,
-}
-
-impl Hash for PlaceKey {
-    ghost hash_input = { λ key.
-        fed.u64 (mixed (cast_unsigned w64 key.time) (mixed key.ra (cast_unsigned w64 key.dec))) };
-
-    ghost respects_eq = { Prim.search (hashing, rules) };
-
-    // The station isn't hashed: two stations seldom have one time and position.
-    fn hash<H: Hasher>(&self, state: &mut H) {
-        let position = mixed(self.ra, self.dec.cast_unsigned());
-        state.write_u64(mixed(self.time.cast_unsigned(), position));
-    }
-}
 
 /// What tells the moments of groups apart: the group, and the time in nanoseconds.
 #[derive(Clone, Copy, PartialEq, Eq)]
@@ -51,20 +28,6 @@ impl Hash for MomentKey {
 
     fn hash<H: Hasher>(&self, state: &mut H) {
         state.write_u64(mixed(self.time.cast_unsigned(), group_mark(&self.group)));
-    }
-}
-
-/// The key of an observation's station, time and position.
-pub(crate) fn place_key(s: &Sighting) -> PlaceKey
-    ensures { result ≡ place_key s.now }
-{
-    let bytes = s.station.bytes;
-    PlaceKey {
-        len: s.station.len,
-        bytes: Text { bytes },
-        time: s.time.ns(),
-        ra: s.ra.units() as u64,
-        dec: s.dec.units(),
     }
 }
 

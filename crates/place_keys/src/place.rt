@@ -1,14 +1,13 @@
 //! Keys of places.
 
-ghost use Rattle.std.specs.Prelude.{◌≡◌};
+ghost use Rattle.std.specs.Prelude.{◌≡◌, ◌++◌};
 ghost use Rattle.std.proofs.Common.{rules};
-ghost use Rattle.std.specs.Int.{w64, cast_unsigned};
 ghost use Rattle.std.specs.Hash as fed;
 ghost use Rattle.std.specs.Cmp.Rules.{hashing};
-ghost use Rattle.place_keys.specs.Marks.{mixed, text_mark};
+ghost use Rattle.place_keys.specs.Marks.{text_mark};
 ghost use Rattle.place_keys.specs.Places.{key_at, place_key};
 
-use crate::words::{Text, mixed, text_mark};
+use crate::words::{Text, text_mark};
 use angle_fixed::{Dec, Ra};
 use obs_record::{Short, Sighting};
 use obs_time::Instant;
@@ -30,15 +29,17 @@ pub struct PlaceKey {
 }
 
 impl Hash for PlaceKey {
-    ghost hash_input = { λ key. fed.u64 (mixed (cast_unsigned w64 key.time)
-        (mixed key.ra (mixed (cast_unsigned w64 key.dec) (text_mark key.bytes.bytes)))) };
+    ghost hash_input = { λ key. fed.i64 key.time ++ (fed.u64 key.ra ++ (fed.i64 key.dec
+        ++ fed.u64 (text_mark key.bytes.bytes))) };
 
     ghost respects_eq = { Prim.search (hashing, rules) };
 
-    // The hasher multiplies the number once more, so that its last bits needn't differ.
+    // Each part is mixed into what those before it made, so that no sum of parts stands for another one.
     fn hash<H: Hasher>(&self, state: &mut H) {
-        let north = mixed(self.dec.cast_unsigned(), text_mark(&self.bytes));
-        state.write_u64(mixed(self.time.cast_unsigned(), mixed(self.ra, north)));
+        state.write_i64(self.time);
+        state.write_u64(self.ra);
+        state.write_i64(self.dec);
+        state.write_u64(text_mark(&self.bytes));
     }
 }
 

@@ -1,9 +1,10 @@
 use Rattle.std.proofs.Common.{true, false, List, ap, sym, ◌∙◌}
 use Rattle.indexmap.specs.IndexSet.{contains}
 use Rattle.obs_record.specs.declared.sighting.Sighting.{Sighting}
-use Rattle.batch_rules.specs.declared.places.PlaceKey.{PlaceKey}
+use Rattle.place_keys.specs.declared.place.PlaceKey.{PlaceKey}
 use Rattle.batch_rules.specs.declared.places.MomentKey.{MomentKey}
-use Rattle.batch_rules.specs.PlaceTests.{same_place, same_moment, has_place, has_moment}
+use Rattle.place_keys.specs.Places.{same_place}
+use Rattle.batch_rules.specs.PlaceTests.{same_moment, has_place, has_moment}
 use Rattle.batch_rules.proofs.Beside.{broken_told}
 use Rattle.batch_rules.proofs.indexed.Indexed.broken_by.Goals as goal
 

@@ -3,10 +3,11 @@ use Rattle.std.specs.Prelude.{reverse}
 use Rattle.std.proofs.lemmas.List.{reverse-append}
 use Rattle.indexmap.specs.IndexSet.{contains}
 use Rattle.obs_record.specs.declared.sighting.Sighting.{Sighting}
-use Rattle.batch_rules.specs.declared.places.PlaceKey.{PlaceKey}
+use Rattle.place_keys.specs.declared.place.PlaceKey.{PlaceKey}
 use Rattle.batch_rules.specs.declared.places.MomentKey.{MomentKey}
-use Rattle.batch_rules.specs.Places.{place_key, moment_key}
-use Rattle.batch_rules.specs.PlaceTests.{same_place, same_moment, has_place, has_moment}
+use Rattle.place_keys.specs.Places.{place_key, same_place}
+use Rattle.batch_rules.specs.Places.{moment_key}
+use Rattle.batch_rules.specs.PlaceTests.{same_moment, has_place, has_moment}
 use Rattle.batch_rules.proofs.Beside.{more_told}
 use Rattle.batch_rules.proofs.indexed.Indexed.with.Goals as goal
 
