@@ -125,7 +125,7 @@ module _ (laws : Laws) where
       let note : ℕ = note_of s.shape s.note1 in
       let head : List ℕ = number_text front.number ++ front.name ++ (star_byte front.star ∷ []) in
       let day_is : is.day ≡ columns 16 32 line =
-      sym (text_is_kept s.time of_line.days is.day (columns 16 32 line) (days_within (columns 16 32 line) s.time of_line.days of_line.time).1 (rw of_line.shape at is.day_is)
+      sym (text_is_kept s.time of_line.days is.day (columns 16 32 line) (days_within laws.times (columns 16 32 line) s.time of_line.days of_line.time).1 (rw of_line.shape at is.day_is)
       (columns_long 16 32 line long (lit≤ tt) ∙ sym is.day_long) (sym (day_answer_only (columns 16 32 line) (Ok (s.time, of_line.days)) of_line.time))) in
       let ra_is : time_text s.ra form.seconds ≡ columns 33 44 line = rw of_line.shape (time_text_again (columns 33 44 line) s.ra of_line.seconds (columns_long 33 44 line long (lit≤ tt)) of_line.ra) in
       let dec_is : arc_text s.dec form.arcseconds form.minus ≡ columns 45 56 line =

@@ -7,6 +7,7 @@ use Rattle.std.proofs.lemmas.List.Elements.{All-map, All-take, All-drop}
 use Rattle.ascii_text.specs.Blanks.{blanks}
 use Rattle.angle_fixed.specs.Answer.{ReadsTime, ReadsArc}
 use Rattle.obs_time.specs.DayText.{IsDayAnswer}
+use Rattle.obs_time.specs.Laws.{TimeLaws}
 use Rattle.packed_names.specs.declared.number.Number.{Number}
 use Rattle.packed_names.specs.declared.name.Designation.{Designation}
 use Rattle.packed_names.specs.Ranges.{IsNumber, IsDesignation}
@@ -87,9 +88,12 @@ few_places text (Some mag) count is = omega (arith, is.3, is.1.few)
 
 -- ---- decimals
 
-pub days_within : (text : List ℕ) (t : ℤ) (count : ℕ) → IsDayAnswer text (Ok (t, count)) → (1 ≤ count) × (count ≤ 6)
-days_within text t count (inl is) = (let spelled = is.1 in (omega (arith, is.2.4, spelled.some), omega (arith, is.2.4, is.2.0)))
-days_within text t count (inr none) = absurd cc
+pub days_within : (times : TimeLaws) (text : List ℕ) (t : ℤ) (count : ℕ) → IsDayAnswer text (Ok (t, count)) → (1 ≤ count) × (count ≤ 6)
+days_within times text t count (inl is) =
+    let spelled = is.1 in
+    let verdict = (times.day_judged is.0 (Ok (t, count))).1 is.2 in
+    (omega (arith, verdict.3.1, spelled.some), omega (arith, verdict.3.1, verdict.0))
+days_within times text t count (inr none) = absurd cc
 
 seconds_within : (text : List ℕ) (ra count : ℕ) → ReadsTime text (Ok (ra, count)) → count ≤ 3
 seconds_within text ra count is = omega (arith, is.2, ap (λ (x : ℕ × ℕ). x.1) is.4)
@@ -135,7 +139,7 @@ module _ (laws : Laws) where
   sighting_within line s reading =
       let is : IsSightingOf line s = reading.1 in
       let printable = λ (a : ℕ) (low : 1 ≤ a) (high : a ≤ 80). printable_column a line reading.0.0 reading.0.1.0 low high in
-      let days = days_within (columns 16 32 line) s.time is.days is.time in
+      let days = days_within laws.times (columns 16 32 line) s.time is.days is.time in
       record {
         number = number_within (columns 1 5 line) s.perm is.named.number;
         designation = designation_within (columns 6 12 line) s.prov s.sub is.named.name;
