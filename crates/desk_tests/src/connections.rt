@@ -1,14 +1,13 @@
 //! Connections in memory, attended with a keeper that never has memory.
 
-ghost use Rattle.std.specs.Prelude.{◌≡◌};
+ghost use Rattle.std.specs.Prelude.{◌≡◌, None};
 
 use act_model::{Key, Refusal, Reply, Request};
-use desk_io::{Clock, MemSink, MemSource, TickClock};
-use intake_lock::{Clerk, Pass, TurnLock};
+use desk_io::{Clock, MemSink, MemSource, Sink, Source, TickClock};
+use intake_lock::{Clerk, TurnLock};
 use link_desk::{Left, attend};
 use obs_time::Instant;
 use std::alloc::Global;
-use std::process::Abort;
 use std::sync::Wait;
 use std::test::*;
 
@@ -81,7 +80,7 @@ const UNREAD: &str =
 const HEAD: &str =
     "HTTP/1.1 507 Insufficient Storage\r\nContent-Length: 20\r\nContent-Type: text/plain\r\n\r\n";
 
-const ROWS: [Row; 9] = [
+const ROWS: &[Row] = &[
     Row {
         sent: "",
         faults: Faults { read: 0, write: 0 },
@@ -165,117 +164,157 @@ const ROWS: [Row; 9] = [
     },
 ];
 
-// A lock round the keeper, and its root pass.
-fn lock_of<R: Abort>(rt: &R, alloc: Global) -> (TurnLock<Forgetful>, Pass)
-    ensures { result.1.lock ≡ result.0.id }
+// Attends a connection with this keeper. Why it is left; None where memory was refused, here and below.
+fn left_of<V: Clerk, S: Source, K: Sink, C: Clock, R: Wait>(
+    rt: &R,
+    alloc: Global,
+    keeper: V,
+    source: &mut S,
+    sink: &mut K,
+    clock: &mut C,
+) -> Option<Left>
+    requires { (V.office keeper).state.doubt ≡ None }
 {
+    let Ok((lock, root)) = TurnLock::new(alloc, keeper) else {
+        return None;
+    };
+    let (_root, left) = attend(rt, alloc, &lock, root, source, sink, clock);
+    Some(left)
+}
+
+// Attends a connection with the keeper that never has memory.
+fn end_of<S: Source, K: Sink, C: Clock, R: Wait>(
+    rt: &R,
+    alloc: Global,
+    source: &mut S,
+    sink: &mut K,
+    clock: &mut C,
+) -> Option<End> {
     let keeper = Forgetful {
         founder: Key::new(b"+founder-1"),
     };
-    match TurnLock::new(alloc, keeper) {
-        Ok(made) => made,
-        Err(_) => panic!(rt; "memory"),
-    }
+    let left = left_of(rt, alloc, keeper, source, sink, clock)?;
+    Some(End {
+        left,
+        readings: clock.now().ns(),
+    })
 }
 
-// Attends a connection. Why it is left.
-fn left_of<R: Abort + Wait>(
-    rt: &R,
-    alloc: Global,
-    source: &mut MemSource,
-    sink: &mut MemSink,
-    clock: &mut TickClock,
-) -> Left {
-    let (lock, root) = lock_of(rt, alloc);
-    let (_root, left) = attend(rt, alloc, &lock, root, source, sink, clock);
-    left
-}
-
-// Attends a connection of these bytes, of which a read gives at most 30. Why it is left, and how many readings of the
-// clock were taken.
-fn attended<R: Abort + Wait>(
+// Attends a connection of these bytes, of which a read gives at most 30.
+fn attended<K: Sink, R: Wait>(
     rt: &R,
     alloc: Global,
     sent: &[u8],
     read: u64,
-    sink: &mut MemSink,
-) -> (Left, i64) {
-    let mut source = MemSource::new(alloc, sent, 30, &[read]).expect(rt, "memory");
-    let mut clock = TickClock::new(Instant::new(0).expect(rt, "in range"), 1);
-    let left = left_of(rt, alloc, &mut source, sink, &mut clock);
-    (left, clock.now().ns())
+    sink: &mut K,
+) -> Option<End> {
+    let mut source = MemSource::new(alloc, sent, 30, &[read]).ok()?;
+    let mut clock = TickClock::new(Instant::new(0)?, 1);
+    end_of(rt, alloc, &mut source, sink, &mut clock)
 }
 
-fn joined<R: Abort>(rt: &R, alloc: Global, texts: [&str; 2]) -> Vec<u8> {
-    let mut all = Vec::new(alloc);
-    for text in texts {
-        all.extend_from_slice(text.as_bytes()).expect(rt, "memory");
+// Whether a connection ends so.
+fn is_end(end: Option<End>, want: End) -> bool {
+    match end {
+        Some(end) => end.left == want.left && end.readings == want.readings,
+        None => false,
     }
-    all
 }
 
-fn expect_end<R: Abort + Wait>(
+// Whether a connection of these bytes ends so, with these answers, where the sink has this capacity.
+fn is_attended<R: Wait>(
     rt: &R,
     alloc: Global,
     sent: &[u8],
     faults: Faults,
+    capacity: usize,
     end: End,
     answered: &[u8],
-) {
-    let mut sink = MemSink::new(alloc, 1_000, &[faults.write]).expect(rt, "memory");
-    let (left, readings) = attended(rt, alloc, sent, faults.read, &mut sink);
-    assert_eq!(rt; left, end.left);
-    assert_eq!(rt; readings, end.readings);
-    assert_eq!(rt; sink.bytes(), answered);
+) -> bool {
+    match MemSink::new(alloc, capacity, &[faults.write]) {
+        Ok(mut sink) => {
+            is_end(attended(rt, alloc, sent, faults.read, &mut sink), end)
+                && sink.bytes() == answered
+        }
+        Err(_) => false,
+    }
 }
 
-fn expect_row<R: Abort + Wait>(rt: &R, alloc: Global, row: Row) {
-    let answered = joined(rt, alloc, row.answered);
-    expect_end(
-        rt,
-        alloc,
-        row.sent.as_bytes(),
-        row.faults,
-        row.end,
-        answered.as_slice(),
-    );
+fn joined(alloc: Global, texts: [&str; 2]) -> Option<Vec<u8>> {
+    let mut all = Vec::new(alloc);
+    for text in texts {
+        all.extend_from_slice(text.as_bytes()).ok()?;
+    }
+    Some(all)
+}
+
+// Whether the connection of a row ends as it must.
+fn holds<R: Wait>(rt: &R, alloc: Global, row: &Row) -> bool {
+    match joined(alloc, row.answered) {
+        Some(answered) => is_attended(
+            rt,
+            alloc,
+            row.sent.as_bytes(),
+            row.faults,
+            1_000,
+            row.end,
+            answered.as_slice(),
+        ),
+        None => false,
+    }
+}
+
+// The first of these rows whose connection ends otherwise, counted from 0; None where there is none.
+fn wrong_row<R: Wait>(rt: &R, alloc: Global, rows: &[Row]) -> Option<usize> {
+    for (place, row) in rows.iter().enumerate() {
+        if !holds(rt, alloc, row) {
+            return Some(place);
+        }
+    }
+    None
 }
 
 #[test]
 fn connections(rt: HostRuntime) {
-    for row in ROWS {
-        expect_row(&rt, rt.alloc(), row);
-    }
+    let wrong = wrong_row(&rt, rt.alloc(), ROWS);
+    assert_eq!(rt; wrong, None);
 }
 
-fn tallies<R: Abort>(rt: &R, alloc: Global, count: usize) -> Vec<u8> {
+// So many requests for the tally.
+fn tallies(alloc: Global, count: usize) -> Option<Vec<u8>> {
     let mut sent = Vec::new(alloc);
     for _ in 0..count {
         sent.extend_from_slice(b"GET /v1/ask/tally HTTP/1.1\r\n\r\n")
-            .expect(rt, "memory");
+            .ok()?;
     }
-    sent
+    Some(sent)
 }
 
 // The answers to so many tallies and one more, which is the last.
-fn refusals<R: Abort>(rt: &R, alloc: Global, count: usize) -> Vec<u8> {
+fn refusals(alloc: Global, count: usize) -> Option<Vec<u8>> {
     let mut all = Vec::new(alloc);
     for _ in 0..count {
-        all.extend_from_slice(REFUSED.as_bytes())
-            .expect(rt, "memory");
+        all.extend_from_slice(REFUSED.as_bytes()).ok()?;
     }
-    all.extend_from_slice(REFUSED_LAST.as_bytes())
-        .expect(rt, "memory");
-    all
+    all.extend_from_slice(REFUSED_LAST.as_bytes()).ok()?;
+    Some(all)
+}
+
+// Whether a connection of 1,001 requests is left after 1,000 answers.
+fn is_left_after_enough<R: Wait>(rt: &R, alloc: Global) -> Option<bool> {
+    let sent = tallies(alloc, 1_001)?;
+    let answered = refusals(alloc, 999)?;
+    let faults = Faults { read: 0, write: 0 };
+    let end = End {
+        left: Left::Enough,
+        readings: 0,
+    };
+    let (sent, answered) = (sent.as_slice(), answered.as_slice());
+    Some(is_attended(rt, alloc, sent, faults, 200_000, end, answered))
 }
 
 #[test]
 fn a_thousand_answers(rt: HostRuntime) {
-    let sent = tallies(&rt, rt.alloc(), 1_001);
-    let answered = refusals(&rt, rt.alloc(), 999);
-    let mut sink = MemSink::new(rt.alloc(), 200_000, &[]).expect(&rt, "memory");
-    let (left, readings) = attended(&rt, rt.alloc(), &sent, 0, &mut sink);
-    assert_eq!(&rt; left, Left::Enough);
-    assert_eq!(&rt; readings, 0);
-    assert!(&rt; sink.bytes() == answered.as_slice());
+    let left = is_left_after_enough(&rt, rt.alloc());
+    assert_eq!(rt; left, Some(true));
 }

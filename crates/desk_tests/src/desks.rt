@@ -3,7 +3,7 @@
 ghost use Rattle.act_model.specs.Roster.{IsFounder};
 
 use act_model::{Body, Keeper, Key, Reply, Request, Verb, reply_text};
-use disk_model::MemDisk;
+use disk_model::{Disk, MemDisk};
 use item_list::Bytes;
 use mpc_desk::Desk;
 use obs_time::Instant;
@@ -107,14 +107,6 @@ fn wrong_answer<V: Keeper>(
     None
 }
 
-/// A desk on an empty disk, whose journal may have so many bytes.
-fn opened(alloc: Global, limit: u64) -> Option<Desk<MemDisk>> {
-    match MemDisk::new(alloc, &[], CAPACITY, &[]) {
-        Ok(disk) => Desk::open(alloc, founder(), limit, disk).ok(),
-        Err(_) => None,
-    }
-}
-
 const ANN: Exchange = (ENROLS_ANN, "receipt 1\ncaller 1\n");
 
 // How many bytes the journal may have, and what a second act of 77 bytes is answered after one that left 78.
@@ -134,11 +126,25 @@ fn is_second<V: Keeper>(
     wrong_answer(alloc, keeper, reading, &[ANN, (ENROLS_BOB, text), ANN]).is_none()
 }
 
-/// Whether it is, at a desk whose journal may have so many bytes.
+/// Whether it is, at a desk on this disk, whose journal may have so many bytes.
+fn is_second_over<D: Disk>(
+    alloc: Global,
+    disk: D,
+    limit: u64,
+    reading: Instant,
+    text: &'static str,
+) -> bool {
+    match Desk::open(alloc, founder(), limit, disk) {
+        Ok(mut desk) => is_second(alloc, &mut desk, reading, text),
+        Err(_) => false,
+    }
+}
+
+/// Whether it is, at a desk on an empty disk.
 fn is_second_within(alloc: Global, limit: u64, reading: Instant, text: &'static str) -> bool {
-    match opened(alloc, limit) {
-        Some(mut desk) => is_second(alloc, &mut desk, reading, text),
-        None => false,
+    match MemDisk::new(alloc, &[], CAPACITY, &[]) {
+        Ok(disk) => is_second_over(alloc, disk, limit, reading, text),
+        Err(_) => false,
     }
 }
 

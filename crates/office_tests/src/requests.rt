@@ -1,4 +1,6 @@
 //! What becomes of requests, kind by kind, with ample memory.
+//!
+//! All but the impl is over any office: the type of the office in memory makes each proof that it stands in dear.
 
 ghost use Rattle.std.specs.Prelude.{◌≡◌, true};
 ghost use Rattle.act_model.specs.Requests.{is_act};
@@ -108,7 +110,7 @@ const TWICE: &str = concat!(
 const OUT_OF_MEMORY: &str = "refused 17 NoMemory\n";
 
 /// The office is set up; a batch comes, is sent again, and its number is used for others; then refusals.
-const CASES: [Case; 21] = [
+const CASES: &[Case] = &[
     Case {
         key: FOUNDER,
         number: 1,
@@ -417,15 +419,40 @@ fn founder() -> Key
     Key::new(FOUNDER)
 }
 
-/// An office without entries; None where memory was refused, here and below.
-fn office(alloc: Global) -> Option<Core> {
-    Core::new(alloc, founder()).ok()
+/// An office that is asked.
+trait Office: Sized + Drop {
+    /// One without entries; None where memory was refused, here and below.
+    fn found(alloc: Global) -> Option<Self>;
+
+    /// The answer to a request, with its kind; an act that is ready is added.
+    fn take(&mut self, request: &Request, reading: Instant) -> (Kind, Reply);
+
+    /// Whether an entry that is taken in again becomes what it must.
+    fn becomes(&mut self, again: &Again) -> bool;
+
+    /// How many entries it has.
+    fn entries(&self) -> u64;
 }
 
-fn body(alloc: Global, text: Option<&str>) -> Option<Body> {
-    match text {
-        Some(text) => Some(Body::Whole(Bytes::from_slice(alloc, text.as_bytes()).ok()?)),
-        None => Some(Body::NoRoom),
+impl Office for Core {
+    fn found(alloc: Global) -> Option<Core> {
+        Core::new(alloc, founder()).ok()
+    }
+
+    fn take(&mut self, request: &Request, reading: Instant) -> (Kind, Reply) {
+        if request.verb.is_act() {
+            return act(self, request, reading);
+        }
+        (Kind::Refused, self.answer(request))
+    }
+
+    fn becomes(&mut self, again: &Again) -> bool {
+        let &(caller, number, moment, verb, body, want) = again;
+        self.replay(caller, number, moment, verb, body.as_bytes()) == want
+    }
+
+    fn entries(&self) -> u64 {
+        Core::entries(self)
     }
 }
 
@@ -440,69 +467,72 @@ fn act(core: &mut Core, request: &Request, reading: Instant) -> (Kind, Reply)
     }
 }
 
-/// The answer to a request, with its kind.
-fn asked(core: &mut Core, request: &Request) -> Option<(Kind, Reply)> {
-    let reading = Instant::new(DAY)?;
-    if request.verb.is_act() {
-        return Some(act(core, request, reading));
+fn body(alloc: Global, text: Option<&str>) -> Option<Body> {
+    match text {
+        Some(text) => Some(Body::Whole(Bytes::from_slice(alloc, text.as_bytes()).ok()?)),
+        None => Some(Body::NoRoom),
     }
-    Some((Kind::Refused, core.answer(request)))
 }
 
-/// The text of the answer, with its kind.
-fn told(alloc: Global, core: &mut Core, request: &Request) -> Option<(Kind, Text)> {
-    let (kind, reply) = asked(core, request)?;
-    Some((kind, reply_text(alloc, reply).ok()?))
-}
-
-/// Whether a request is answered as it must be.
-fn holds(alloc: Global, core: &mut Core, case: &Case) -> Option<bool> {
-    let request = Request {
+/// The request of a case.
+fn request(alloc: Global, case: &Case) -> Option<Request> {
+    Some(Request {
         key: Key::new(case.key),
         number: Some(case.number),
         verb: case.verb,
         body: body(alloc, case.body)?,
-    };
-    let (kind, text) = told(alloc, core, &request)?;
+    })
+}
+
+/// The text of the answer, with its kind.
+fn told<O: Office>(alloc: Global, office: &mut O, request: &Request) -> Option<(Kind, Text)> {
+    let reading = Instant::new(DAY)?;
+    let (kind, reply) = office.take(request, reading);
+    Some((kind, reply_text(alloc, reply).ok()?))
+}
+
+/// Whether a request is answered as it must be.
+fn holds<O: Office>(alloc: Global, office: &mut O, case: &Case) -> Option<bool> {
+    let request = request(alloc, case)?;
+    let (kind, text) = told(alloc, office, &request)?;
     Some(kind == case.kind && text.as_slice() == case.text.as_bytes())
 }
 
 /// The first of these cases that is answered otherwise, counted from 0; None where there is none.
-fn wrong_of(alloc: Global, core: &mut Core, cases: &[Case]) -> Option<usize> {
+fn wrong_of<O: Office>(alloc: Global, office: &mut O, cases: &[Case]) -> Option<usize> {
     for (place, case) in cases.iter().enumerate() {
-        if holds(alloc, core, case) != Some(true) {
+        if holds(alloc, office, case) != Some(true) {
             return Some(place);
         }
     }
     None
 }
 
-/// The first case of an office's days that is answered otherwise.
-fn wrong_case(alloc: Global, core: &mut Core) -> Option<usize> {
-    wrong_of(alloc, core, &CASES)
+/// The cases of an office's days.
+fn days() -> &'static [Case] {
+    CASES
 }
 
-/// The first case that a new office answers otherwise.
-fn wrong_answer(alloc: Global) -> Option<Option<usize>> {
-    let mut core = office(alloc)?;
-    Some(wrong_case(alloc, &mut core))
+/// The cases of the roster.
+fn roster() -> &'static [Case] {
+    ROSTER
+}
+
+/// The first of these cases that a new office answers otherwise.
+fn wrong_answer<O: Office>(alloc: Global, cases: &[Case]) -> Option<Option<usize>> {
+    let mut office = O::found(alloc)?;
+    Some(wrong_of(alloc, &mut office, cases))
 }
 
 #[test]
 fn answers_each_kind(rt: HostRuntime) {
-    let wrong = wrong_answer(rt.alloc());
+    let wrong = wrong_answer::<Core>(rt.alloc(), days());
     assert_eq!(rt; wrong, Some(None));
-}
-
-/// The first case of the roster that a new office answers otherwise.
-fn wrong_caller(alloc: Global) -> Option<Option<usize>> {
-    let mut core = office(alloc)?;
-    Some(wrong_of(alloc, &mut core, ROSTER))
 }
 
 #[test]
 fn hears_each_caller(rt: HostRuntime) {
-    let wrong = wrong_caller(rt.alloc());
+    let wrong = wrong_answer::<Core>(rt.alloc(), roster());
     assert_eq!(rt; wrong, Some(None));
 }
 
@@ -536,16 +566,14 @@ fn batch(alloc: Global, count: u32) -> Option<Bytes> {
     Some(bytes)
 }
 
-/// The answer to a batch of 1,001 lines.
-fn long_answer(alloc: Global, core: &mut Core) -> Option<Text> {
-    let request = Request {
+/// A request with a batch of 1,001 lines.
+fn long_request(alloc: Global) -> Option<Request> {
+    Some(Request {
         key: Key::new(OBSERVER),
         number: Some(9),
         verb: Verb::Submit80,
         body: Body::Whole(batch(alloc, 1_001)?),
-    };
-    let (_, text) = told(alloc, core, &request)?;
-    Some(text)
+    })
 }
 
 /// Whether all 1,001 lines were accepted, after the two that stand.
@@ -556,27 +584,24 @@ fn is_long(text: &[u8]) -> bool {
 }
 
 /// Whether a batch of 1,001 lines is accepted.
-fn accepts_long(alloc: Global, core: &mut Core) -> bool {
-    match long_answer(alloc, core) {
-        Some(text) => is_long(text.as_slice()),
-        None => false,
+fn accepts_long<O: Office>(alloc: Global, office: &mut O) -> Option<bool> {
+    let request = long_request(alloc)?;
+    let (_, text) = told(alloc, office, &request)?;
+    Some(is_long(text.as_slice()))
+}
+
+/// Whether a new office accepts it after these cases.
+fn takes_long<O: Office>(alloc: Global, cases: &[Case]) -> Option<bool> {
+    let mut office = O::found(alloc)?;
+    if wrong_of(alloc, &mut office, cases).is_some() {
+        return None;
     }
-}
-
-/// Whether it is accepted after all cases.
-fn accepts_long_after(alloc: Global, core: &mut Core) -> bool {
-    wrong_case(alloc, core).is_none() && accepts_long(alloc, core)
-}
-
-/// The same in a new office.
-fn takes_long(alloc: Global) -> Option<bool> {
-    let mut core = office(alloc)?;
-    Some(accepts_long_after(alloc, &mut core))
+    accepts_long(alloc, &mut office)
 }
 
 #[test]
 fn takes_a_long_batch(rt: HostRuntime) {
-    let taken = takes_long(rt.alloc());
+    let taken = takes_long::<Core>(rt.alloc(), days());
     assert_eq!(rt; taken, Some(true));
 }
 
@@ -584,7 +609,7 @@ fn takes_a_long_batch(rt: HostRuntime) {
 type Again = (u32, u64, i64, u8, &'static str, Result<(), ReplayFault>);
 
 /// Entries one after the other. The ones that are not legal leave the office as it was.
-const AGAIN: [Again; 11] = [
+const AGAIN: &[Again] = &[
     (1, 1, DAY, 4, LINES, Err(ReplayFault::NotLegal)),
     (0, 1, DAY, 1, ENROL, Ok(())),
     // The number was used, the moment is before the last entry's or no moment of the clock, nobody has the number of
@@ -601,16 +626,10 @@ const AGAIN: [Again; 11] = [
     (0, 3, DAY + 1, 3, BAND, Ok(())),
 ];
 
-/// Whether an entry becomes what it must.
-fn becomes(core: &mut Core, again: &Again) -> bool {
-    let &(caller, number, moment, verb, body, want) = again;
-    core.replay(caller, number, moment, verb, body.as_bytes()) == want
-}
-
-/// The first entry that becomes something else, counted from 0; None where there is none.
-fn wrong_entry(core: &mut Core) -> Option<usize> {
-    for (place, again) in AGAIN.iter().enumerate() {
-        if !becomes(core, again) {
+/// The first of these entries that becomes something else, counted from 0; None where there is none.
+fn wrong_entry<O: Office>(office: &mut O, entries: &[Again]) -> Option<usize> {
+    for (place, again) in entries.iter().enumerate() {
+        if !office.becomes(again) {
             return Some(place);
         }
     }
@@ -618,14 +637,14 @@ fn wrong_entry(core: &mut Core) -> Option<usize> {
 }
 
 /// The same in a new office, and how many entries it has then.
-fn come_again(alloc: Global) -> Option<(Option<usize>, u64)> {
-    let mut core = office(alloc)?;
-    let wrong = wrong_entry(&mut core);
-    Some((wrong, core.entries()))
+fn come_again<O: Office>(alloc: Global, entries: &[Again]) -> Option<(Option<usize>, u64)> {
+    let mut office = O::found(alloc)?;
+    let wrong = wrong_entry(&mut office, entries);
+    Some((wrong, office.entries()))
 }
 
 #[test]
 fn takes_entries_in_again(rt: HostRuntime) {
-    let came = come_again(rt.alloc());
+    let came = come_again::<Core>(rt.alloc(), AGAIN);
     assert_eq!(rt; came, Some((None, 3)));
 }

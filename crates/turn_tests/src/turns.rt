@@ -1,9 +1,9 @@
 //! Threads that take turns at one desk, over a disk whose syncs fail now and then.
 //!
-//! All but the test is over any disk or any keeper: the type of a disk in memory makes each proof that it stands in
-//! dear.
+//! All but the test and the function that makes its disk is over any disk or any keeper: the type of a disk in memory
+//! makes each proof that it stands in dear.
 
-ghost use Rattle.std.specs.Prelude.{◌≡◌, ◌-◌, ◌<◌, None, IfSome};
+ghost use Rattle.std.specs.Prelude.{◌≡◌, ◌-◌, ◌<◌, None};
 ghost use denote.Param.Send.{IsSend, IsSync};
 ghost use Rattle.intake_lock.specs.Views.{stem, branch};
 ghost use Rattle.turn_tests.specs.Roots.{IsRootFor};
@@ -121,8 +121,26 @@ fn run_threads<V: Clerk + Send, R: Abort + Threads + Wait + Sync>(
     (lock.join(root, branch), others)
 }
 
-// The keeper after all threads were joined, and how many acts of each were done; None where memory was refused.
-fn conducted<V: Keeper + Send, R: Abort + Threads + Wait + Sync>(
+// A keeper that can settle its act in doubt.
+trait Mend: Keeper {
+    // Settles it, where there is one; false where the disk failed.
+    fn mend(&mut self) -> bool;
+}
+
+impl<D: Disk> Mend for Desk<D> {
+    fn mend(&mut self) -> bool {
+        Desk::mend(self).is_ok()
+    }
+}
+
+fn mended<V: Mend>(keeper: V) -> Option<V> {
+    let mut keeper = keeper;
+    if keeper.mend() { Some(keeper) } else { None }
+}
+
+// The keeper after all threads were joined, without an act in doubt, and how many acts of each were done; None where
+// memory was refused or the disk failed.
+fn conducted<V: Mend + Send, R: Abort + Threads + Wait + Sync>(
     rt: &R,
     alloc: Global,
     keeper: V,
@@ -133,7 +151,7 @@ fn conducted<V: Keeper + Send, R: Abort + Threads + Wait + Sync>(
         return None;
     };
     let (root, counts) = run_threads(rt, alloc, &lock, root, THREADS);
-    Some((lock.close(root).keeper, counts))
+    Some((mended(lock.close(root).keeper)?, counts))
 }
 
 // The receipt of an act in the history; 0 where none has its number.
@@ -146,18 +164,61 @@ fn receipt_of<V: Keeper, R: Abort>(rt: &R, alloc: Global, desk: &V, number: u64)
     }
 }
 
-// Marks the entry of a receipt, which no other act may have.
-fn mark<R: Abort>(rt: &R, marks: &mut [bool], receipt: u64) {
+// Marks the entry of a receipt. False where there is no such entry, or another act has it.
+fn mark(marks: &mut [bool], receipt: u64) -> bool {
     match marks.get_mut((receipt as usize).wrapping_sub(1)) {
         Some(mark) => {
-            assert!(rt; !*mark, "receipt {receipt} twice");
+            let is_first = !*mark;
             *mark = true;
+            is_first
         }
-        None => panic!(rt; "receipt {receipt}"),
+        None => false,
     }
 }
 
-// Marks the entries of a thread's acts: those that were done, and the next one where its fault left it in the history.
+// Marks the entry of a thread's act, which must be in the history.
+fn mark_act<V: Keeper, R: Abort>(
+    rt: &R,
+    alloc: Global,
+    desk: &V,
+    number: u64,
+    marks: &mut [bool],
+) -> bool {
+    mark(marks, receipt_of(rt, alloc, desk, number))
+}
+
+// Marks the entries of a thread's acts that were done. The first that has no entry of its own, 0 where there is none.
+fn wrong_act<V: Keeper, R: Abort>(
+    rt: &R,
+    alloc: Global,
+    desk: &V,
+    thread: u64,
+    done: u64,
+    marks: &mut [bool],
+) -> u64 {
+    for act in 1..=done {
+        if !mark_act(rt, alloc, desk, number_of(thread, act), marks) {
+            return act;
+        }
+    }
+    0
+}
+
+// Marks the entry of the act after those that were done, where its fault left it in the history.
+fn mark_next<V: Keeper, R: Abort>(
+    rt: &R,
+    alloc: Global,
+    desk: &V,
+    thread: u64,
+    done: u64,
+    marks: &mut [bool],
+) -> bool {
+    let number = number_of(thread, done.saturating_add(1));
+    let receipt = receipt_of(rt, alloc, desk, number);
+    receipt == 0 || mark(marks, receipt)
+}
+
+// Marks the entries of a thread's acts. Whether it has done more than 100, and each has an entry of its own.
 fn mark_thread<V: Keeper, R: Abort>(
     rt: &R,
     alloc: Global,
@@ -165,94 +226,104 @@ fn mark_thread<V: Keeper, R: Abort>(
     thread: u64,
     done: u64,
     marks: &mut [bool],
-) {
-    assert!(rt; done > 100);
-    for act in 1..=done {
-        mark(
-            rt,
-            marks,
-            receipt_of(rt, alloc, desk, number_of(thread, act)),
-        );
-    }
-    let next = receipt_of(rt, alloc, desk, number_of(thread, done.saturating_add(1)));
-    if next > 0 {
-        mark(rt, marks, next);
-    }
+) -> bool {
+    done > 100
+        && wrong_act(rt, alloc, desk, thread, done, marks) == 0
+        && mark_next(rt, alloc, desk, thread, done, marks)
 }
 
-// A mark for each entry, of the acts that these threads have done.
-fn marked<V: Keeper, R: Abort>(rt: &R, alloc: Global, desk: &V, counts: &[u64]) -> Vec<bool> {
-    let mut marks = Vec::new(alloc);
-    marks
-        .resize(desk.entries() as usize, false)
-        .expect(rt, "memory");
+// Marks the entries of the acts of all threads. The first thread whose acts don't stand once each, counted from 1; 0
+// where there is none.
+fn wrong_thread<V: Keeper, R: Abort>(
+    rt: &R,
+    alloc: Global,
+    desk: &V,
+    counts: &[u64],
+    marks: &mut [bool],
+) -> u64 {
     for (place, done) in counts.iter().enumerate() {
         let thread = (place as u64).wrapping_add(1);
-        mark_thread(rt, alloc, desk, thread, *done, marks.as_mut_slice());
+        if !mark_thread(rt, alloc, desk, thread, *done, marks) {
+            return thread;
+        }
     }
-    marks
+    0
 }
 
-fn expect_tally<V: Keeper, R: Abort>(rt: &R, alloc: Global, desk: &V) {
-    let entries = desk.entries();
+// Whether each entry was marked.
+fn are_all(marks: &[bool]) -> bool {
+    marks.iter().all(|mark| *mark)
+}
+
+// Whether each act that was done stands in the history once, and nothing else does but acts that were in doubt.
+fn stands_once<V: Keeper, R: Abort>(rt: &R, alloc: Global, desk: &V, counts: &[u64]) -> bool {
+    let mut marks = Vec::new(alloc);
+    if marks.resize(desk.entries() as usize, false).is_err() {
+        return false;
+    }
+    wrong_thread(rt, alloc, desk, counts, marks.as_mut_slice()) == 0 && are_all(&marks)
+}
+
+// Whether the tally of a history of so many entries has them, and nothing else.
+fn is_tally(alloc: Global, reply: Option<Reply>, entries: u64) -> bool {
     let want = format!(in alloc;
         "entries {entries}\nisolated 0\nobjects 0\nretracted 0\naccepted 0\n"
-    ).expect(rt, "memory");
-    match answer(desk, &request(rt, alloc, 0, Verb::Tally, b"")) {
-        Some(Reply::Done(text)) => assert!(rt; text.as_slice() == want.as_bytes()),
-        _ => panic!(rt; "no tally"),
+    );
+    match (reply, want) {
+        (Some(Reply::Done(text)), Ok(want)) => text.as_slice() == want.as_bytes(),
+        _ => false,
     }
 }
 
-// Each act that was done stands in the history once, and nothing else does but acts that were in doubt.
-fn expect_history<V: Keeper, R: Abort>(rt: &R, alloc: Global, desk: &V, counts: &[u64]) {
-    assert_eq!(rt; counts.len() as u64, THREADS);
-    let marks = marked(rt, alloc, desk, counts);
-    assert!(rt; marks.iter().all(|mark| *mark));
-    expect_tally(rt, alloc, desk);
+fn has_tally<V: Keeper, R: Abort>(rt: &R, alloc: Global, desk: &V) -> bool {
+    let query = request(rt, alloc, 0, Verb::Tally, b"");
+    is_tally(alloc, answer(desk, &query), desk.entries())
 }
 
-fn opened<D: Disk>(alloc: Global, disk: D) -> Option<Desk<D>>
-    ensures { IfSome result (λ desk. desk.state.doubt ≡ None) }
+// Whether the history is that of as many acts as the threads have done.
+fn is_history<V: Keeper, R: Abort>(rt: &R, alloc: Global, desk: &V, counts: &[u64]) -> bool {
+    counts.len() as u64 == THREADS
+        && stands_once(rt, alloc, desk, counts)
+        && has_tally(rt, alloc, desk)
+}
+
+// Whether the history after all threads' turns is that of their acts; None where memory was refused or the disk failed.
+fn are_turns_kept<V: Mend + Send, R: Abort + Threads + Wait + Sync>(
+    rt: &R,
+    alloc: Global,
+    keeper: V,
+) -> Option<bool>
+    requires { (V.office keeper).state.doubt ≡ None }
 {
+    let (keeper, counts) = conducted(rt, alloc, keeper)?;
+    Some(is_history(rt, alloc, &keeper, &counts))
+}
+
+// The same at a desk over this disk.
+fn are_turns_kept_over<D: Disk + Send, R: Abort + Threads + Wait + Sync>(
+    rt: &R,
+    alloc: Global,
+    disk: D,
+) -> Option<bool> {
     match Desk::open(alloc, founder(), CAPACITY as u64, disk) {
-        Ok(desk) => Some(desk),
+        Ok(desk) => are_turns_kept(rt, alloc, desk),
         Err(_) => None,
     }
 }
 
-fn mended<D: Disk>(desk: Desk<D>) -> Option<Desk<D>> {
-    let mut desk = desk;
-    match desk.mend() {
-        Ok(_) => Some(desk),
+// The same over a disk in memory.
+fn are_turns_kept_in_memory<R: Abort + Threads + Wait + Sync>(
+    rt: &R,
+    alloc: Global,
+) -> Option<bool> {
+    match MemDisk::new(alloc, &[], CAPACITY, &FAILS) {
+        Ok(disk) => are_turns_kept_over(rt, alloc, disk),
         Err(_) => None,
-    }
-}
-
-// The desk over a disk after all threads were joined, without an act in doubt, and how many acts of each were done.
-fn conducted_over<D: Disk + Send, R: Abort + Threads + Wait + Sync>(
-    rt: &R,
-    alloc: Global,
-    disk: D,
-) -> Option<(Desk<D>, Vec<u64>)> {
-    let desk = opened(alloc, disk)?;
-    let (desk, counts) = conducted(rt, alloc, desk)?;
-    Some((mended(desk)?, counts))
-}
-
-fn expect_turns_over<D: Disk + Send, R: Abort + Threads + Wait + Sync>(
-    rt: &R,
-    alloc: Global,
-    disk: D,
-) {
-    match conducted_over(rt, alloc, disk) {
-        Some((desk, counts)) => expect_history(rt, alloc, &desk, &counts),
-        None => panic!(rt; "the desk opens, has memory and is mended"),
     }
 }
 
 #[test]
 fn turns_of_many_threads(rt: HostRuntime) {
-    let disk = MemDisk::new(rt.alloc(), &[], CAPACITY, &FAILS).expect(&rt, "memory");
-    expect_turns_over(&rt, rt.alloc(), disk);
+    let are_kept = are_turns_kept_in_memory(&rt, rt.alloc());
+    assert_eq!(rt; are_kept, Some(true));
 }

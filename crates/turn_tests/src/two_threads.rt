@@ -69,13 +69,24 @@ fn conducted<V: Keeper + Send, R: Abort + Threads + Wait + Sync>(
     Some((lock.close(root).keeper, one, other))
 }
 
-// What the tally has after the turns, and how often the receipts of each thread rose.
-fn outcome<R: Abort + Threads + Wait + Sync>(rt: &R, alloc: Global) -> Option<(u64, u64, u64)> {
-    let Ok(keeper) = PlainKeeper::new(alloc, founder()) else {
-        return None;
-    };
+// What the tally of this keeper has after the turns, and how often the receipts of each thread rose.
+fn outcome_at<V: Keeper + Send, R: Abort + Threads + Wait + Sync>(
+    rt: &R,
+    alloc: Global,
+    keeper: V,
+) -> Option<(u64, u64, u64)>
+    requires { (V.office keeper).state.doubt ≡ None }
+{
     let (keeper, one, other) = conducted(rt, alloc, keeper)?;
     Some((tally_of(rt, alloc, &keeper), one, other))
+}
+
+// The same at an office in memory.
+fn outcome<R: Abort + Threads + Wait + Sync>(rt: &R, alloc: Global) -> Option<(u64, u64, u64)> {
+    match PlainKeeper::new(alloc, founder()) {
+        Ok(keeper) => outcome_at(rt, alloc, keeper),
+        Err(_) => None,
+    }
 }
 
 // Each thread enrols ten callers. Each act is one entry, and each thread's receipts rise.
