@@ -1,4 +1,4 @@
-//! Tests of texts, numbers, angles, moments, names and ordered lists against values worked out by hand.
+//! Tests of texts, lines, numbers, angles and moments against values worked out by hand.
 //!
 //! A crate with tests is proved twice, with and without them, so they stand in a crate above those that they test.
 #![tactic(auto)]
@@ -7,10 +7,6 @@
 mod angles;
 #[cfg(test)]
 mod lines;
-#[cfg(test)]
-mod names;
-#[cfg(test)]
-mod orders;
 #[cfg(test)]
 mod tables;
 #[cfg(test)]

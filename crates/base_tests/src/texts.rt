@@ -8,20 +8,28 @@ use ascii_text::numbers::decimal_number;
 use ascii_text::reading::{Decimals, decimals_at, decimals_within, digits_at, number_at};
 use ascii_text::writing::{put_blanks, put_decimal, put_decimals, put_digits};
 
+/// The value of the digits that were read, without the text after them.
+fn value_of(found: Option<(u64, &[u8])>) -> Option<u64> {
+    match found {
+        Some((value, _)) => Some(value),
+        None => None,
+    }
+}
+
 fn three_digits(text: &[u8]) -> Option<u64> {
-    digits_at(Radix::Ten, 3, text).map(|x| x.0)
+    value_of(digits_at(Radix::Ten, 3, text))
 }
 
 fn two_digits(text: &[u8]) -> Option<u64> {
-    digits_at(Radix::Ten, 2, text).map(|x| x.0)
+    value_of(digits_at(Radix::Ten, 2, text))
 }
 
 fn one_of_sixty_two(text: &[u8]) -> Option<u64> {
-    digits_at(Radix::SixtyTwo, 1, text).map(|x| x.0)
+    value_of(digits_at(Radix::SixtyTwo, 1, text))
 }
 
 fn four_of_sixty_two(text: &[u8]) -> Option<u64> {
-    digits_at(Radix::SixtyTwo, 4, text).map(|x| x.0)
+    value_of(digits_at(Radix::SixtyTwo, 4, text))
 }
 
 /// The numbers of the Minor Planet Center's page on packed designations: `z` is 61, `zzzz` is 62^4 - 1.

@@ -74,6 +74,9 @@ fn wrong_place(list: &OrderedList<Entry>, rows: &[(u64, Option<u32>)]) -> Option
     None
 }
 
+/// The keys and the numbers of four entries, of which two have one key.
+const ENTRIES: &[(u32, u32)] = &[(30, 1), (10, 2), (20, 3), (10, 4)];
+
 const NUMBERS: &[(u32, Option<u32>)] = &[(10, Some(4)), (15, None), (20, Some(3)), (30, None)];
 
 const NEXT: &[(u32, Option<u32>)] = &[(5, Some(10)), (10, Some(20)), (15, Some(20)), (20, None)];
@@ -81,7 +84,7 @@ const NEXT: &[(u32, Option<u32>)] = &[(5, Some(10)), (10, Some(20)), (15, Some(2
 #[test]
 fn the_last_item_with_a_key_stands(rt: HostRuntime) -> Result<(), Fail> {
     let mut list = OrderedList::new(rt.alloc())?;
-    insert_all(&mut list, &[(30, 1), (10, 2), (20, 3), (10, 4)])?;
+    insert_all(&mut list, ENTRIES)?;
     assert_eq!(rt; list.len(), 3);
     assert_eq!(rt; removed(&mut list, 30), Some(1));
     expect_none_wrong(&rt, wrong_number(&list, NUMBERS));

@@ -1,0 +1,11 @@
+//! Tests of names and of ordered lists against values worked out by hand.
+//!
+//! A crate with tests is proved twice, with and without them, so they stand in a crate above those that they test.
+#![tactic(auto)]
+
+#[cfg(test)]
+mod names;
+#[cfg(test)]
+mod orders;
+#[cfg(test)]
+mod tables;
