@@ -1,6 +1,4 @@
-//! Tests of sources, sinks, clocks and doors, in memory and over the real things.
-
-mod tcp;
+//! Tests of sources, sinks, clocks and doors, in memory, over streams and over the system's clock.
 
 use crate::tables::expect_none_wrong;
 use desk_io::{

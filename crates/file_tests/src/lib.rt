@@ -1,9 +1,7 @@
-//! Tests of the files that an office keeps, each against a plain list that is walked: observations and designations.
+//! Tests of the file of observations and tracklets that an office keeps.
 //!
 //! A crate with tests is proved twice, with and without them, so they stand in a crate above those that they test.
 #![tactic(auto)]
 
-#[cfg(test)]
-mod designations;
 #[cfg(test)]
 mod observations;

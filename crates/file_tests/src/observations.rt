@@ -1,14 +1,12 @@
-//! Tests of the file of observations and tracklets, beside plain lists of them.
+//! Tests of the file of observations and tracklets, against what was worked out by hand.
 
 mod homes;
-mod plain;
 
 use angle_fixed::{Dec, Ra};
 use item_list::NoMemory;
 use obs_record::{Coded, Shape, Short, Sighting, TrackName};
 use obs_time::Instant;
 use packed_names::{Designation, HalfMonth, Provisional};
-use plain::Plain;
 use std::alloc::{AllocError, Global};
 use tracklet_file::*;
 
@@ -77,8 +75,8 @@ fn set_home(file: &mut TrackletFile, t: u64, home: Option<Designation>) {
 /// The numbers of tracklets, and their homes.
 const HOMES: &[(u64, Option<Designation>)] = &[(1, None), (2, Some(HOME))];
 
-fn begin_all(file: &mut TrackletFile) -> bool {
-    for &(number, home) in HOMES {
+fn begin_all(file: &mut TrackletFile, rows: &[(u64, Option<Designation>)]) -> bool {
+    for &(number, home) in rows {
         if begin_track(file, home).ok() != Some(number) {
             return false;
         }
@@ -96,8 +94,8 @@ const OBSERVED: &[(u64, i64, u64)] = &[
     (6, 6, 1),
 ];
 
-fn observe_all(file: &mut TrackletFile) -> bool {
-    for &(number, ns, track) in OBSERVED {
+fn observe_all(file: &mut TrackletFile, rows: &[(u64, i64, u64)]) -> bool {
+    for &(number, ns, track) in rows {
         if observe(file, track, ns).ok() != Some(number) {
             return false;
         }
@@ -108,7 +106,7 @@ fn observe_all(file: &mut TrackletFile) -> bool {
 // Tracklet 1, isolated, with the observations 1, 3, 5 and 6, and tracklet 2, which has a home, with 2 and 4. Then
 // observation 3 is retracted, tracklet 1 gets the home, and tracklet 2 loses it.
 fn fill(file: &mut TrackletFile) -> bool {
-    if !begin_all(file) || !observe_all(file) {
+    if !begin_all(file, HOMES) || !observe_all(file, OBSERVED) {
         return false;
     }
     retract(file, 3);
@@ -170,8 +168,8 @@ const OBSERVATIONS: &[(u64, Told)] = &[
 ];
 
 // The first of them of which something else is told, counted from 0; None where there is none. So are those below.
-fn wrong_observation(file: &TrackletFile) -> Option<usize> {
-    for (row, &(k, wanted)) in OBSERVATIONS.iter().enumerate() {
+fn wrong_observation(file: &TrackletFile, rows: &[(u64, Told)]) -> Option<usize> {
+    for (row, &(k, wanted)) in rows.iter().enumerate() {
         if observation(file, k) != wanted {
             return Some(row);
         }
@@ -182,7 +180,8 @@ fn wrong_observation(file: &TrackletFile) -> Option<usize> {
 // The first wrong observation, the entry of the sixth, and the counts; None where memory was refused.
 fn observations(alloc: Global) -> Option<(Option<usize>, Option<u64>, [u64; 5])> {
     let file = filled(alloc)?;
-    Some((wrong_observation(&file), file.entry_of(6), counts(&file)))
+    let wrong = wrong_observation(&file, OBSERVATIONS);
+    Some((wrong, file.entry_of(6), counts(&file)))
 }
 
 #[test]
@@ -191,8 +190,10 @@ fn observations_in_their_places(rt: HostRuntime) {
     assert_eq!(rt; found, Some((None, Some(ENTRY), [2, 3, 1, 6, 2])));
 }
 
-/// Tracklets, their first observations, their homes, and whether they are of station 703.
-const TRACKLETS: &[(u64, Option<u64>, Option<Designation>, bool)] = &[
+/// A tracklet, its first observation, its home, and whether it is of station 703.
+type TrackletRow = (u64, Option<u64>, Option<Designation>, bool);
+
+const TRACKLETS: &[TrackletRow] = &[
     (0, None, None, false),
     (1, Some(1), Some(HOME), true),
     (2, Some(2), None, true),
@@ -203,9 +204,14 @@ fn is_of_703(file: &TrackletFile, t: u64) -> bool {
     file.station(t) == Some(Short::new(b"703"))
 }
 
-fn wrong_tracklet(file: &TrackletFile) -> Option<usize> {
-    for (row, &(t, first, at, of_703)) in TRACKLETS.iter().enumerate() {
-        if file.first_of(t) != first || home(file, t) != at || is_of_703(file, t) != of_703 {
+fn is_told(file: &TrackletFile, tracklet: TrackletRow) -> bool {
+    let (t, first, at, of_703) = tracklet;
+    file.first_of(t) == first && home(file, t) == at && is_of_703(file, t) == of_703
+}
+
+fn wrong_tracklet(file: &TrackletFile, rows: &[TrackletRow]) -> Option<usize> {
+    for (row, &tracklet) in rows.iter().enumerate() {
+        if !is_told(file, tracklet) {
             return Some(row);
         }
     }
@@ -220,8 +226,8 @@ const POSITIONS: &[(&[u8], i64, bool)] = &[
     (b"703", 7, false),
 ];
 
-fn wrong_position(file: &TrackletFile) -> Option<usize> {
-    for (row, &(code, ns, wanted)) in POSITIONS.iter().enumerate() {
+fn wrong_position(file: &TrackletFile, rows: &[(&[u8], i64, bool)]) -> Option<usize> {
+    for (row, &(code, ns, wanted)) in rows.iter().enumerate() {
         if has_live(file, code, ns) != wanted {
             return Some(row);
         }
@@ -233,121 +239,12 @@ fn wrong_position(file: &TrackletFile) -> Option<usize> {
 fn tracklets(alloc: Global) -> Option<(Option<usize>, [bool; 2], Option<usize>)> {
     let file = filled(alloc)?;
     let none = [file.station(0).is_none(), file.station(3).is_none()];
-    Some((wrong_tracklet(&file), none, wrong_position(&file)))
+    let wrong = wrong_tracklet(&file, TRACKLETS);
+    Some((wrong, none, wrong_position(&file, POSITIONS)))
 }
 
 #[test]
 fn tracklets_and_positions(rt: HostRuntime) {
     let found = tracklets(rt.alloc());
     assert_eq!(rt; found, Some((None, [true; 2], None)));
-}
-
-/// A call that changes the file.
-#[derive(Clone, Copy)]
-enum Call {
-    Track(Option<Designation>),
-    Add(u64, i64),
-    Retract(u64),
-    Home(u64, Option<Designation>),
-}
-
-fn make(file: &mut TrackletFile, call: Call) -> Result<(), NoMemory> {
-    match call {
-        Call::Track(home) => {
-            let _number = begin_track(file, home)?;
-        }
-        Call::Add(track, ns) => {
-            let _number = observe(file, track, ns)?;
-        }
-        Call::Retract(k) => retract(file, k),
-        Call::Home(t, home) => set_home(file, t, home),
-    }
-    Ok(())
-}
-
-fn make_plain(plain: &mut Plain, call: Call) -> Result<(), NoMemory> {
-    match call {
-        Call::Track(home) => {
-            let station = Short::new(b"703");
-            plain.add_track(Tracklet {
-                name: name(),
-                station,
-                home,
-            })?;
-        }
-        Call::Add(track, ns) => {
-            if let Some(s) = seen(ns) {
-                plain.add(track, s, ENTRY)?;
-            }
-        }
-        Call::Retract(k) => plain.retract(k),
-        Call::Home(t, home) => plain.set_home(t, home),
-    }
-    Ok(())
-}
-
-// Whether the two answer every question alike, over numbers to 9 and times to 40.
-fn agree(file: &TrackletFile, plain: &Plain) -> bool {
-    let numbers = (0..10).all(|k| {
-        file.first_of(k) == plain.first_after(k, 0) && file.next_of(k) == plain.next_of(k)
-    });
-    let positions = (0..5).all(|tens: i64| match seen(tens * 10) {
-        Some(s) => file.has_live(s.station, s.time, s.ra, s.dec) == plain.has_live(&s),
-        None => false,
-    });
-    let homes = (0..5).all(|after| file.next_at(HOME, after) == plain.next_at(HOME, after));
-    numbers
-        && positions
-        && homes
-        && [file.isolated(), file.homed(), file.retracted()] == plain.counts()
-}
-
-/// Calls that are made on both forms, one after the other.
-const CALLS: &[Call] = &[
-    Call::Track(None),
-    Call::Add(1, 10),
-    Call::Track(Some(HOME)),
-    Call::Add(2, 10),
-    Call::Add(1, 10),
-    Call::Add(1, 20),
-    Call::Retract(1),
-    Call::Add(2, 30),
-    Call::Retract(3),
-    Call::Home(1, Some(HOME)),
-    Call::Retract(2),
-    Call::Add(1, 10),
-    Call::Home(2, None),
-    Call::Track(None),
-    Call::Add(3, 20),
-    Call::Retract(4),
-    Call::Retract(7),
-    Call::Add(2, 0),
-];
-
-fn is_made(file: &mut TrackletFile, plain: &mut Plain, call: Call) -> bool {
-    make(file, call).is_ok() && make_plain(plain, call).is_ok()
-}
-
-// The first call after which the two don't agree, counted from 0; None where there is none.
-fn wrong_call(file: &mut TrackletFile, plain: &mut Plain) -> Option<usize> {
-    for (row, &call) in CALLS.iter().enumerate() {
-        if !is_made(file, plain, call) || !agree(file, plain) {
-            return Some(row);
-        }
-    }
-    None
-}
-
-// The same over new ones, and the counts after all calls; None where memory was refused.
-fn called(alloc: Global) -> Option<(Option<usize>, [u64; 5])> {
-    let mut file = TrackletFile::new(alloc).ok()?;
-    let mut plain = Plain::new(alloc);
-    let wrong = wrong_call(&mut file, &mut plain);
-    Some((wrong, counts(&file)))
-}
-
-#[test]
-fn answers_as_the_plain_lists(rt: HostRuntime) {
-    let found = called(rt.alloc());
-    assert_eq!(rt; found, Some((None, [2, 1, 5, 8, 3])));
 }

@@ -1,6 +1,6 @@
 //! Tracklets that are given to designations and released, and what is found by designation after each call.
 
-use super::{Call, HOME, make, name, set_home};
+use super::{HOME, begin_track, name, set_home};
 use item_list::NoMemory;
 use obs_record::Short;
 use packed_names::{Designation, HalfMonth, Provisional};
@@ -15,6 +15,23 @@ const OTHER: Designation = Designation::Provisional(Provisional {
     },
     order: 2,
 });
+
+/// A call that changes which tracklets have homes.
+#[derive(Clone, Copy)]
+enum Call {
+    Track(Option<Designation>),
+    Home(u64, Option<Designation>),
+}
+
+fn make(file: &mut TrackletFile, call: Call) -> Result<(), NoMemory> {
+    match call {
+        Call::Track(home) => {
+            let _number = begin_track(file, home)?;
+        }
+        Call::Home(t, home) => set_home(file, t, home),
+    }
+    Ok(())
+}
 
 // The first tracklet of 2024 EA, the first of 1998 SB, and the one after 1 there.
 type Found = (Option<u64>, Option<u64>, Option<u64>);
@@ -42,8 +59,8 @@ fn found(file: &TrackletFile) -> Found {
 }
 
 // The first call after which something else is found, counted from 0; None where there is none.
-fn wrong_row(file: &mut TrackletFile) -> Option<usize> {
-    for (row, &(call, wanted)) in REHOMED.iter().enumerate() {
+fn wrong_row(file: &mut TrackletFile, rows: &[(Call, Found)]) -> Option<usize> {
+    for (row, &(call, wanted)) in rows.iter().enumerate() {
         if make(file, call).is_err() || found(file) != wanted {
             return Some(row);
         }
@@ -54,7 +71,7 @@ fn wrong_row(file: &mut TrackletFile) -> Option<usize> {
 // The first wrong row over a new file; None where memory was refused.
 fn rehomed(alloc: Global) -> Option<Option<usize>> {
     let mut file = TrackletFile::new(alloc).ok()?;
-    Some(wrong_row(&mut file))
+    Some(wrong_row(&mut file, REHOMED))
 }
 
 #[test]
@@ -73,24 +90,31 @@ fn add_isolated(file: &mut TrackletFile) -> Result<(), NoMemory> {
     Ok(())
 }
 
-// The tracklets of the designation, one after the other, once each of three isolated ones was given to it; None where
-// memory was refused.
-fn given_late(alloc: Global) -> Option<[Option<u64>; 4]> {
+// Gives each of the three to the designation.
+fn give_all(file: &mut TrackletFile) {
+    for t in 1..4 {
+        set_home(file, t, Some(HOME));
+    }
+}
+
+// Whether the designation has the tracklets 1 to 3, one after the other, and no further one.
+fn has_all(file: &TrackletFile) -> bool {
+    file.next_at(HOME, 0) == Some(1)
+        && file.next_at(HOME, 1) == Some(2)
+        && file.next_at(HOME, 2) == Some(3)
+        && file.next_at(HOME, 3).is_none()
+}
+
+// The same once each of three isolated ones was given to it; None where memory was refused.
+fn given_late(alloc: Global) -> Option<bool> {
     let mut file = TrackletFile::new(alloc).ok()?;
     add_isolated(&mut file).ok()?;
-    for t in 1..4 {
-        set_home(&mut file, t, Some(HOME));
-    }
-    Some([
-        file.next_at(HOME, 0),
-        file.next_at(HOME, 1),
-        file.next_at(HOME, 2),
-        file.next_at(HOME, 3),
-    ])
+    give_all(&mut file);
+    Some(has_all(&file))
 }
 
 #[test]
 fn given_long_after_they_came(rt: HostRuntime) {
-    let found = given_late(rt.alloc());
-    assert_eq!(rt; found, Some([Some(1), Some(2), Some(3), None]));
+    let given = given_late(rt.alloc());
+    assert_eq!(rt; given, Some(true));
 }

@@ -2,6 +2,7 @@
 
 use super::tables::expect_none_wrong;
 use desk_frames::{Front, put_reply, read_head};
+use std::alloc::{AllocError, Global};
 use std::test::Fail;
 
 /// What is to stand at the front: a whole head with its key, number, verb, length of the body and size; the part of
@@ -76,8 +77,8 @@ fn is_wanted(front: Front, want: Want) -> bool {
 }
 
 /// The first row at whose front something else stands, counted from 0; None where there is none.
-fn wrong_head() -> Option<usize> {
-    for (row, &(bytes, want)) in HEADS.iter().enumerate() {
+fn wrong_head(rows: &[(&[u8], Want)]) -> Option<usize> {
+    for (row, &(bytes, want)) in rows.iter().enumerate() {
         if !is_wanted(read_head(bytes), want) {
             return Some(row);
         }
@@ -87,14 +88,20 @@ fn wrong_head() -> Option<usize> {
 
 #[test]
 fn heads_at_the_front(rt: HostRuntime) {
-    expect_none_wrong(&rt, wrong_head());
+    expect_none_wrong(&rt, wrong_head(HEADS));
+}
+
+// Two replies, one at once after the other.
+fn two_replies(alloc: Global) -> Result<Vec<u8>, AllocError> {
+    let mut out = Vec::new(alloc);
+    put_reply(&mut out, 409, b"refused 3 OtherRequest receipt 1\n")?;
+    put_reply(&mut out, 200, b"")?;
+    Ok(out)
 }
 
 #[test]
 fn replies_one_behind_the_other(rt: HostRuntime) -> Result<(), Fail> {
-    let mut out = Vec::new(rt.alloc());
-    put_reply(&mut out, 409, b"refused 3 OtherRequest receipt 1\n")?;
-    put_reply(&mut out, 200, b"")?;
+    let out = two_replies(rt.alloc())?;
     let want = b"409 33\nrefused 3 OtherRequest receipt 1\n200 0\n";
     assert_eq!(rt; out.as_slice(), want.as_slice());
     Ok(())

@@ -1,0 +1,194 @@
+//! Calls on the file of observations and tracklets and on plain lists of them, and whether both answer alike.
+
+mod plain;
+
+use angle_fixed::{Dec, Ra};
+use item_list::NoMemory;
+use obs_record::{Coded, Shape, Short, Sighting, TrackName};
+use obs_time::Instant;
+use packed_names::{Designation, HalfMonth, Provisional};
+use plain::Plain;
+use std::alloc::{AllocError, Global};
+use tracklet_file::*;
+
+const ENTRY: u64 = 7;
+
+/// 2024 EA.
+const HOME: Designation = Designation::Provisional(Provisional {
+    half: HalfMonth {
+        year: 2024,
+        index: 4,
+    },
+    order: 1,
+});
+
+fn name() -> TrackName {
+    TrackName::Sub(Short::new(b"P10abcd"))
+}
+
+// An observation from station 703 at so many nanoseconds, one unit north of as many units of right ascension.
+fn seen(ns: i64) -> Option<Sighting> {
+    let time = Instant::new(ns)?;
+    let ra = Ra::new(ns)?;
+    let dec = Dec::new(1)?;
+    Some(Sighting {
+        perm: None,
+        prov: None,
+        sub: Some(Short::new(b"P10abcd")),
+        station: Short::new(b"703"),
+        time,
+        ra,
+        dec,
+        mag: None,
+        band: Coded::Nothing,
+        mode: Coded::Nothing,
+        catalogue: Coded::Nothing,
+        note1: b' ',
+        shape: Shape::Psv { mag: 0 },
+    })
+}
+
+fn begin_track(file: &mut TrackletFile, home: Option<Designation>) -> Result<u64, NoMemory> {
+    file.reserve(0, 1)?;
+    Ok(file.add_track(name(), Short::new(b"703"), home))
+}
+
+fn observe(file: &mut TrackletFile, track: u64, ns: i64) -> Result<u64, NoMemory> {
+    file.reserve(1, 0)?;
+    match (file.name(track), seen(ns)) {
+        (Some(_), Some(s)) => Ok(file.add(track, s, ENTRY)),
+        _ => Err(AllocError),
+    }
+}
+
+fn retract(file: &mut TrackletFile, k: u64) {
+    if file.sighting(k).is_some() && file.is_live(k) {
+        file.retract(k);
+    }
+}
+
+fn set_home(file: &mut TrackletFile, t: u64, home: Option<Designation>) {
+    if file.name(t).is_some() {
+        file.set_home(t, home);
+    }
+}
+
+fn counts(file: &TrackletFile) -> [u64; 5] {
+    [
+        file.isolated(),
+        file.homed(),
+        file.retracted(),
+        file.observations(),
+        file.tracks(),
+    ]
+}
+
+/// A call that changes the file.
+#[derive(Clone, Copy)]
+enum Call {
+    Track(Option<Designation>),
+    Add(u64, i64),
+    Retract(u64),
+    Home(u64, Option<Designation>),
+}
+
+fn make(file: &mut TrackletFile, call: Call) -> Result<(), NoMemory> {
+    match call {
+        Call::Track(home) => {
+            let _number = begin_track(file, home)?;
+        }
+        Call::Add(track, ns) => {
+            let _number = observe(file, track, ns)?;
+        }
+        Call::Retract(k) => retract(file, k),
+        Call::Home(t, home) => set_home(file, t, home),
+    }
+    Ok(())
+}
+
+fn make_plain(plain: &mut Plain, call: Call) -> Result<(), NoMemory> {
+    match call {
+        Call::Track(home) => {
+            let station = Short::new(b"703");
+            plain.add_track(Tracklet {
+                name: name(),
+                station,
+                home,
+            })?;
+        }
+        Call::Add(track, ns) => {
+            if let Some(s) = seen(ns) {
+                plain.add(track, s, ENTRY)?;
+            }
+        }
+        Call::Retract(k) => plain.retract(k),
+        Call::Home(t, home) => plain.set_home(t, home),
+    }
+    Ok(())
+}
+
+// Whether the two answer every question alike, over numbers to 9 and times to 40.
+fn agree(file: &TrackletFile, plain: &Plain) -> bool {
+    let numbers = (0..10).all(|k| {
+        file.first_of(k) == plain.first_after(k, 0) && file.next_of(k) == plain.next_of(k)
+    });
+    let positions = (0..5).all(|tens: i64| match seen(tens * 10) {
+        Some(s) => file.has_live(s.station, s.time, s.ra, s.dec) == plain.has_live(&s),
+        None => false,
+    });
+    let homes = (0..5).all(|after| file.next_at(HOME, after) == plain.next_at(HOME, after));
+    numbers
+        && positions
+        && homes
+        && [file.isolated(), file.homed(), file.retracted()] == plain.counts()
+}
+
+/// Calls that are made on both forms, one after the other.
+const CALLS: &[Call] = &[
+    Call::Track(None),
+    Call::Add(1, 10),
+    Call::Track(Some(HOME)),
+    Call::Add(2, 10),
+    Call::Add(1, 10),
+    Call::Add(1, 20),
+    Call::Retract(1),
+    Call::Add(2, 30),
+    Call::Retract(3),
+    Call::Home(1, Some(HOME)),
+    Call::Retract(2),
+    Call::Add(1, 10),
+    Call::Home(2, None),
+    Call::Track(None),
+    Call::Add(3, 20),
+    Call::Retract(4),
+    Call::Retract(7),
+    Call::Add(2, 0),
+];
+
+fn is_made(file: &mut TrackletFile, plain: &mut Plain, call: Call) -> bool {
+    make(file, call).is_ok() && make_plain(plain, call).is_ok()
+}
+
+// The first call after which the two don't agree, counted from 0; None where there is none.
+fn wrong_call(file: &mut TrackletFile, plain: &mut Plain, calls: &[Call]) -> Option<usize> {
+    for (row, &call) in calls.iter().enumerate() {
+        if !is_made(file, plain, call) || !agree(file, plain) {
+            return Some(row);
+        }
+    }
+    None
+}
+
+// The same over new ones, and the counts after all calls; None where memory was refused.
+fn called(alloc: Global) -> Option<(Option<usize>, [u64; 5])> {
+    let mut file = TrackletFile::new(alloc).ok()?;
+    let mut plain = Plain::new(alloc);
+    let wrong = wrong_call(&mut file, &mut plain, CALLS);
+    Some((wrong, counts(&file)))
+}
+
+#[test]
+fn answers_as_the_plain_lists(rt: HostRuntime) {
+    let found = called(rt.alloc());
+    assert_eq!(rt; found, Some((None, [2, 1, 5, 8, 3])));
+}
