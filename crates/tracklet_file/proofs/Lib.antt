@@ -5,5 +5,7 @@ mod ChangeLemmas
 mod AddedLemmas
 mod ChainLemmas
 mod PlaceLemmas
+mod PutLemmas
+mod IndexLemmas
 mod KeepingLemmas
 mod HomeLemmas

@@ -82,6 +82,13 @@ read_at items number item there read =
     let place : number ≡ number - 1 + 1 = omega arith in
     ap (numbered (reverse items)) place ∙ numbered_at items (number - 1) ∙ slice_get_read items (length items) (number - 1) item refl (omega arith) read
 
+-- what has a number stands at its place
+pub numbered_place : {A : Type 0} (items : List A) (number : ℕ) → IsSome (numbered (reverse items) number) → numbered (reverse items) number ≡ slice_get items (number - 1)
+numbered_place items number there =
+    let inside = numbered_within (reverse items) number there in
+    let place : number ≡ number - 1 + 1 = omega arith in
+    ap (numbered (reverse items)) place ∙ numbered_at items (number - 1)
+
 pub number_some : {A : Type 0} (items : List A) (number : ℕ) → IsSome (numbered (reverse items) number) → 1 ≤ number
 number_some items number there = (numbered_within (reverse items) number there).0
 

@@ -1,5 +1,5 @@
 -- The index of places, as live observations come and go.
-use Rattle.std.proofs.Common.{◌≡◌, ℕ, ℤ, ◌+◌, ◌<◌, ◌≤◌, Bool, true, false, cond, List, [], ◌∷◌, Option, Some, refl, ap, sym, subst, ◌∙◌, arith}
+use Rattle.std.proofs.Common.{◌≡◌, ℕ, ℤ, ◌+◌, Bool, true, false, cond, List, [], ◌∷◌, Option, Some, refl, ap, sym, ◌∙◌, arith}
 use Rattle.std.specs.Prelude.{◌&&◌, ◌||◌, ◌==◌, count_by, nat_lt, unwrap_or}
 use Rattle.std.specs.List.{list_any}
 use Rattle.std.specs.Ordering.{int_eq}
@@ -13,10 +13,7 @@ use Rattle.obs_record.specs.declared.sighting.Sighting.{Sighting}
 use Rattle.place_keys.specs.declared.place.PlaceKey.{PlaceKey}
 use Rattle.place_keys.specs.Places.{key_at, place_key, same_place}
 use Rattle.tracklet_file.specs.declared.observation.Observation.{Observation}
-use Rattle.tracklet_file.specs.Numbering.{numbered}
-use Rattle.tracklet_file.specs.Observations.{is_at, with_retraction}
-use Rattle.tracklet_file.specs.Places.{counts_at, KeptPlaces, IsIndexed}
-use Rattle.tracklet_file.proofs.CountLemmas.{count_changed, count_some}
+use Rattle.tracklet_file.specs.Observations.{is_at}
 
 -- ---- keys
 
@@ -28,7 +25,7 @@ all_true : (a b c d e : Bool) → a ≡ true → b ≡ true → c ≡ true → d
 all_true a b c d e first second third fourth fifth =
     ap (λ (x : Bool). x && (b && (c && (d && e)))) first ∙ ap (λ (x : Bool). x && (c && (d && e))) second ∙ ap (λ (x : Bool). x && (d && e)) third ∙ ap (λ (x : Bool). x && e) fourth ∙ fifth
 
-same_itself : (key : PlaceKey) → same_place key key ≡ true
+pub same_itself : (key : PlaceKey) → same_place key key ≡ true
 same_itself key =
     all_true (key.len == key.len) (bytes_eq key.bytes.bytes key.bytes.bytes) (int_eq key.time key.time) (key.ra == key.ra) (int_eq key.dec key.dec)
     (eq-eqb key.len key.len refl) ((bytes_decides key.bytes.bytes key.bytes.bytes).1 refl) ((Decides-int_eq key.time key.time).1 refl) (eq-eqb key.ra key.ra refl) ((Decides-int_eq key.dec key.dec).1 refl)
@@ -75,45 +72,15 @@ module _ (key : PlaceKey) (before after : PlaceKey → Option ℕ) (count : ℕ)
       by false differs =
           let stays = ap (λ (o : Option ℕ). unwrap_or o 0) (puts other ∙ ap (λ (b : Bool). cond b (Some count) (before other)) differs) in omega arith
 
-module _ (observations : List Observation) (places after : KeptPlaces) (key : PlaceKey) (o : Observation) (key_is : key ≡ place_key o.sighting) (alive : o.live ≡ true) (was : IsIndexed observations places) where
-  counts_own : (other : PlaceKey) → counts_at other o ≡ same_place key other
-  counts_own other = ap (λ (b : Bool). b && same_place (place_key o.sighting) other) alive ∙ ap (λ (own : PlaceKey). same_place own other) (sym key_is)
-
-  own_counts : (other : PlaceKey) → ◌≡◌ {A = ℕ} (cond (counts_at other o) 1 0) (cond (same_place key other) 1 0)
-  own_counts other = ap (λ (b : Bool). cond b 1 0) (counts_own other)
-
-  -- one live observation more
-  pub indexed_more : ((other : PlaceKey) → after.live other ≡ places.live other + cond (same_place key other) 1 0) → after.room ≤ after.spare → IsIndexed (o ∷ observations) after
-  indexed_more more enough = record {
-    enough = enough;
-    live_are = λ other. omega (arith, more other, was.live_are other, own_counts other, sum_by-cons (λ (o : Observation). cond (counts_at other o) 1 0) o observations);
-  }
-
-  -- it was there
-  pub live_some : (k : ℕ) → numbered observations k ≡ Some o → 0 < places.live key
-  live_some k at =
-      subst (λ (n : ℕ). 0 < n) (sym (was.live_are key)) (count_some (counts_at key) observations k o at (counts_own key ∙ same_itself key))
-
-  -- one live observation less
-  pub indexed_less : (k : ℕ) → numbered observations k ≡ Some o → ((other : PlaceKey) → after.live other + cond (same_place key other) 1 0 ≡ places.live other) → after.room ≤ after.spare → IsIndexed (with_retraction observations k) after
-  indexed_less k at less enough = record {
-    enough = enough;
-    live_are = λ other. omega (arith, less other, was.live_are other, own_counts other, count_changed (counts_at other) (λ (o : Observation). record o { live = false }) observations k o at);
-  }
-
 -- ---- whether there is one
 
-none_more : (n : ℕ) → 0 + n ≡ n
+pub none_more : (n : ℕ) → n ≡ 0 + n
 none_more n = omega arith
 
-pub any_counted : (p q : Observation → Bool) → ((o : Observation) → p o ≡ q o) → (observations : List Observation) → nat_lt 0 (count_by p observations) ≡ list_any q observations
-any_counted p q same [] = refl
-any_counted p q same (o ∷ older) = ap (nat_lt 0) (sum_by-cons (λ (o : Observation). cond (p o) 1 0) o older) ∙ by (p o) refl (any_counted p q same older)
+pub any_counted : (p : Observation → Bool) (observations : List Observation) → nat_lt 0 (count_by p observations) ≡ list_any p observations
+any_counted p [] = refl
+any_counted p (o ∷ others) = ap (nat_lt 0) (sum_by-cons (λ (o : Observation). cond (p o) 1 0) o others) ∙ by (p o) (any_counted p others)
   where
-    by : (b : Bool) → p o ≡ b → nat_lt 0 (count_by p older) ≡ list_any q older → nat_lt 0 (cond (p o) 1 0 + count_by p older) ≡ list_any q (o ∷ older)
-    by true is rest =
-        ap (λ (b : Bool). nat_lt 0 (cond b 1 0 + count_by p older)) is ∙ lt-ltb 0 (1 + count_by p older) (omega arith)
-        ∙ sym (ap (λ (b : Bool). b || list_any q older) (sym (same o) ∙ is))
-    by false is rest =
-        ap (λ (b : Bool). nat_lt 0 (cond b 1 0 + count_by p older)) is ∙ ap (nat_lt 0) (none_more (count_by p older)) ∙ rest
-        ∙ sym (ap (λ (b : Bool). b || list_any q older) (sym (same o) ∙ is))
+    by : (b : Bool) → nat_lt 0 (count_by p others) ≡ list_any p others → nat_lt 0 (cond b 1 0 + count_by p others) ≡ (b || list_any p others)
+    by true rest = lt-ltb 0 (1 + count_by p others) (omega arith)
+    by false rest = ap (nat_lt 0) (sym (none_more (count_by p others))) ∙ rest

@@ -1,5 +1,5 @@
 -- What the file keeps beside its observations and tracklets.
-use Rattle.std.specs.Prelude.{ℕ, List, length}
+use Rattle.std.specs.Prelude.{ℕ, List, length, reverse}
 use Rattle.std.specs.declared.cmp.Ordering.{Ordering}
 use Rattle.tracklet_file.specs.declared.observation.Observation.{Observation}
 use Rattle.tracklet_file.specs.declared.tracklet.Tracklet.{Tracklet}
@@ -22,9 +22,10 @@ pub record IsKept (tracklets : List Tracklet) (observations : List Observation) 
   pub counted : IsCounted tracklets observations kept.isolated kept.retracted
   pub chained : AreChained (length tracklets) observations kept.chains kept.links
 
--- beside them, the index of homes is that of the tracklets, and the index of places that of the observations
+-- beside them, the index of homes is that of the tracklets, and the index of places that of the observations. Those are
+-- filed oldest first
 pub record IsFiled (cmp : HomeEntry → HomeEntry → Ordering) (tracklets : List Tracklet)
-    (observations : List Observation) (held : Kept) (homes : KeptHomes) (places : KeptPlaces) : Type 0 where
-  pub kept : IsKept tracklets observations held
+    (filed : List Observation) (held : Kept) (homes : KeptHomes) (places : KeptPlaces) : Type 0 where
+  pub kept : IsKept tracklets (reverse filed) held
   pub homed : IsHomed cmp tracklets homes
-  pub indexed : IsIndexed observations places
+  pub indexed : IsIndexed filed places

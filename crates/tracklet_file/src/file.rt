@@ -14,18 +14,17 @@ use crate::chain::{Chain, extend, link, some_number};
 use crate::counting::{isolated_after, with_one, without_one};
 use crate::homes::{HomeEntry, enter, number_at, rehome, room_for};
 use crate::observation::Observation;
-use crate::places::{count_one, live_at, uncount_one};
+use crate::places::Places;
 use crate::searches::numbered;
 use crate::tracklet::Tracklet;
 use angle_fixed::{Dec, Ra};
-use indexmap::IndexMap;
 use item_list::NoMemory;
 use obs_record::{Short, Sighting, TrackName};
 use obs_time::Instant;
 use ordered_list::OrderedList;
 use packed_names::Designation;
 use packed_names::laws::orders;
-use place_keys::{PlaceKey, key_at, place_key};
+use place_keys::key_at;
 use std::alloc::Global;
 use std::marker::Model;
 
@@ -39,10 +38,7 @@ pub struct TrackletFile {
     links: Vec<u64>,
     tracklets: Vec<Tracklet>,
     chains: Vec<Chain>,
-    // How many live observations have each place. A place that has none any more keeps its entry.
-    index: IndexMap<PlaceKey, u64>,
-    // For so many more places there is room in the index, or for more.
-    index_room: u64,
+    places: Places,
     homes: OrderedList<HomeEntry>,
     isolated: u64,
     retracted: u64,
@@ -53,8 +49,6 @@ pub struct TrackletFile {
 impl Model for TrackletFile {
     ghost use Rattle.std.specs.Prelude.{◌-◌, min, reverse, vec_len, vec_capacity};
     ghost use Rattle.tracklet_file.specs.Contents.{Contents};
-    ghost use Rattle.indexmap.specs.IndexMap.{spare};
-    ghost use Rattle.tracklet_file.specs.Places.{live_at};
     ghost use Rattle.tracklet_file.specs.Keeping.{Kept, IsFiled};
 
     ghost Value = { Contents };
@@ -63,13 +57,13 @@ impl Model for TrackletFile {
       observations = reverse f.observations.items;
       tracklets = reverse f.tracklets.items;
       observation_room = min (vec_capacity f.observations - vec_len f.observations)
-          (min (vec_capacity f.links - vec_len f.links) f.index_room);
+          (min (vec_capacity f.links - vec_len f.links) f.places.room);
       tracklet_room = min (vec_capacity f.tracklets - vec_len f.tracklets)
           (min (vec_capacity f.chains - vec_len f.chains) (f.homes.room - f.isolated_tracks));
     } };
 
     ghost invariant = { λ f.
-        IsFiled ⟦<HomeEntry as Ord>⟧.cmp (reverse f.tracklets.items) (reverse f.observations.items) (record {
+        IsFiled ⟦<HomeEntry as Ord>⟧.cmp (reverse f.tracklets.items) f.observations.items (record {
           isolated = f.isolated;
           retracted = f.retracted;
           chains = f.chains.items;
@@ -78,11 +72,7 @@ impl Model for TrackletFile {
           entries = f.homes.items;
           room = f.homes.room;
           isolated = f.isolated_tracks;
-        }) (record {
-          live = live_at f.index;
-          room = f.index_room;
-          spare = spare f.index;
-        }) };
+        }) f.places };
 }
 
 impl TrackletFile {
@@ -100,8 +90,7 @@ impl TrackletFile {
             links: Vec::with_capacity(alloc, FIRST_ROOM)?,
             tracklets: Vec::with_capacity(alloc, FIRST_ROOM)?,
             chains: Vec::with_capacity(alloc, FIRST_ROOM)?,
-            index: IndexMap::new(alloc),
-            index_room: 0,
+            places: Places::new(alloc),
             homes: OrderedList::new(alloc)?,
             isolated: 0,
             retracted: 0,
@@ -124,8 +113,8 @@ impl TrackletFile {
     {
         self.observations.reserve(sightings as usize)?;
         self.links.reserve(sightings as usize)?;
-        self.index.reserve(sightings as usize)?;
-        self.index_room = self.index_room.max(sightings as u64);
+        self.places
+            .reserve(self.observations.as_slice(), sightings)?;
         self.tracklets.reserve(tracks as usize)?;
         self.chains.reserve(tracks as usize)?;
         self.homes.reserve(room_for(self.isolated_tracks, tracks)?)?;
@@ -172,17 +161,17 @@ impl TrackletFile {
         let number = self.observations.len() as u64 + 1;
         let isolated = self.home(track).is_none();
         self.isolated = with_one(self.isolated, isolated);
-        count_one(&mut self.index, place_key(&s));
-        self.index_room -= 1;
-        let chain = self.chains[(track - 1) as usize];
-        self.chains[(track - 1) as usize] = extend(chain, number);
-        link(&mut self.links, chain.last, number);
-        self.observations.push_reserved(Observation {
+        let newest = Observation {
             track,
             sighting: s,
             entry,
             live: true,
-        });
+        };
+        self.places.add(self.observations.as_slice(), &newest);
+        let chain = self.chains[(track - 1) as usize];
+        self.chains[(track - 1) as usize] = extend(chain, number);
+        link(&mut self.links, chain.last, number);
+        self.observations.push_reserved(newest);
         number
     }
 
@@ -198,7 +187,7 @@ impl TrackletFile {
         let isolated = self.home(o.track).is_none();
         self.isolated = without_one(self.isolated, isolated);
         self.retracted += 1;
-        uncount_one(&mut self.index, &place_key(&o.sighting));
+        self.places.retract(self.observations.as_slice(), place);
         self.chains[(o.track - 1) as usize].live -= 1;
         self.observations[place] = Observation { live: false, ..o };
     }
@@ -239,7 +228,14 @@ impl TrackletFile {
     pub fn has_live(&self, station: Short, time: Instant, ra: Ra, dec: Dec) -> bool
         ensures { result ≡ has_live self.now.observations station time ra dec }
     {
-        live_at(&self.index, &key_at(&station, time, ra, dec)) > 0
+        // A line that comes in the order of the times is told from all that is filed by its time alone.
+        if self.places.end_before(time) {
+            return false;
+        }
+        self.places.has(
+            self.observations.as_slice(),
+            &key_at(&station, time, ra, dec),
+        )
     }
 
     /// What was observed; None exactly for what isn't there.

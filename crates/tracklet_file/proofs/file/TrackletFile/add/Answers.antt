@@ -1,19 +1,17 @@
-use Rattle.std.proofs.Common.{◌≡◌, ◌+◌, ◌-◌, Bool, cond, List, ◌∷◌, set, true, refl, ap, sym, subst, ◌∙◌, arith}
+use Rattle.std.proofs.Common.{◌≡◌, ◌+◌, ◌-◌, Bool, cond, List, ◌∷◌, [], ◌++◌, set, true, refl, ap, sym, subst, ◌∙◌, arith}
 use Rattle.std.specs.Prelude.{reverse, is_none}
 use Rattle.std.proofs.lemmas.List.{length-reverse}
-use Rattle.indexmap.specs.IndexMap.{spare}
 use Rattle.tracklet_file.specs.declared.chain.Chain.{Chain}
 use Rattle.tracklet_file.specs.declared.observation.Observation.{Observation}
 use Rattle.tracklet_file.specs.Numbering.{next_number}
 use Rattle.tracklet_file.specs.Tracklets.{IsTracklet, home_of}
 use Rattle.tracklet_file.specs.Chains.{is_live_of, extended, linked}
 use Rattle.tracklet_file.specs.Contents.{Contents}
-use Rattle.tracklet_file.specs.Places.{live_at, counts_at, KeptPlaces, IsIndexed}
+use Rattle.tracklet_file.specs.Places.{IsIndexed}
 use Rattle.tracklet_file.proofs.NumberingLemmas.{numbered_within, place_within, reverse_push}
 use Rattle.tracklet_file.proofs.CountLemmas.{none_told, count_low}
 use Rattle.tracklet_file.proofs.ChainLemmas.{last_low}
 use Rattle.tracklet_file.proofs.KeepingLemmas.{chain_read, kept_added}
-use Rattle.tracklet_file.proofs.PlaceLemmas.{indexed_more}
 use Rattle.tracklet_file.proofs.file.TrackletFile.add.Goals as goal
 
 pub overflow_sub-track : goal.overflow_sub-track
@@ -49,18 +47,6 @@ link-requires-clause-there c =
     let chain = (chain_read _ _ _ c.self.invariant.kept c.args.track c.index-chain.result.now there c.index-chain.ensures).1 in
     omega (arith, last_low observations c.args.track, ap (λ (chain : Chain). chain.last) chain, c.self.invariant.kept.chained.as_many_links)
 
-pub count_one-requires-clause-room : goal.count_one-requires-clause-room
-count_one-requires-clause-room c =
-    omega (arith, c.requires.room, ap (λ (v : Contents). v.observation_room) c.self.view_is, c.self.invariant.indexed.enough)
-
-pub count_one-requires-clause-fits : goal.count_one-requires-clause-fits
-count_one-requires-clause-fits c =
-    let observations = reverse c.self.inside.observations.items in
-    omega (arith, c.self.invariant.indexed.live_are c.place_key.result, count_low (counts_at c.place_key.result) observations, length-reverse c.self.inside.observations.items)
-
-pub overflow_sub-self : goal.overflow_sub-self
-overflow_sub-self c = omega (arith, c.requires.room, ap (λ (v : Contents). v.observation_room) c.self.view_is)
-
 pub invariant_of-self : goal.invariant_of-self
 invariant_of-self c =
     let tracklets = reverse c.self.inside.tracklets.items in
@@ -71,13 +57,11 @@ invariant_of-self c =
     let isolated : c.is_none-isolated.result ≡ is_none (home_of tracklets c.args.track) = none_told c.home.result c.is_none-isolated.result c.is_none-isolated.ensures ∙ ap is_none home in
     let newest : Observation = record { track = c.args.track; sighting = c.args.s; entry = c.args.entry; live = true } in
     let pushed : reverse c.push_reserved.new.self.items ≡ newest ∷ observations = ap reverse c.push_reserved.ensures.items ∙ reverse_push c.self.inside.observations.items _ in
-    let before : KeptPlaces = record { live = live_at c.self.inside.index; room = c.self.inside.index_room; spare = spare c.self.inside.index } in
-    let after : KeptPlaces = record { live = live_at c.count_one.new.index; room = c.self.inside.index_room - 1; spare = spare c.count_one.new.index } in
     record {
       homed = c.self.invariant.homed;
-      indexed = subst (λ (os : List Observation). IsIndexed os after) (sym pushed)
-          (indexed_more observations before after c.place_key.result newest c.place_key.ensures refl c.self.invariant.indexed c.count_one.ensures.live
-          (omega (arith, c.count_one.ensures.room, c.self.invariant.indexed.enough)));
+      indexed =
+          subst (λ (os : List Observation). IsIndexed os c.add.new.self) (sym c.push_reserved.ensures.items)
+          (subst (λ (os : List Observation). IsIndexed (os ++ newest ∷ []) c.add.new.self) c.as_slice.ensures.value c.add.ensures.filed);
       kept =
           kept_added _ _ _ c.self.invariant.kept newest c.index-chain.result.now _ _ _ c.with_one-self-inside.result there refl c.index-chain.ensures
           pushed

@@ -1,15 +1,13 @@
-use Rattle.std.proofs.Common.{◌≡◌, ℕ, ◌+◌, ◌-◌, ◌<◌, true, false, Bool, cond, List, length, refl, ap, subst, sym, ◌∙◌, arith}
+use Rattle.std.proofs.Common.{◌≡◌, ℕ, ◌+◌, ◌-◌, ◌<◌, true, false, Bool, cond, List, set, slice_get, length, refl, ap, subst, sym, ◌∙◌, arith}
 use Rattle.std.specs.Prelude.{reverse, is_none}
 use Rattle.std.proofs.lemmas.List.{length-reverse}
-use Rattle.indexmap.specs.IndexMap.{spare}
 use Rattle.tracklet_file.specs.declared.observation.Observation.{Observation}
 use Rattle.tracklet_file.specs.Observations.{is_live, with_retraction}
 use Rattle.tracklet_file.specs.Tracklets.{IsTracklet, home_of}
 use Rattle.tracklet_file.specs.Contents.{Contents}
-use Rattle.tracklet_file.proofs.NumberingLemmas.{numbered_within, place_within, read_at, changed_in_place}
+use Rattle.tracklet_file.proofs.NumberingLemmas.{numbered_within, numbered_place, place_within, read_at, changed_in_place}
 use Rattle.tracklet_file.proofs.CountLemmas.{tracklet_at, none_told, live_there, live_at, some_isolated}
-use Rattle.tracklet_file.specs.Places.{live_at as live_by, KeptPlaces, IsIndexed}
-use Rattle.tracklet_file.proofs.PlaceLemmas.{live_some, indexed_less}
+use Rattle.tracklet_file.specs.Places.{IsIndexed}
 use Rattle.tracklet_file.proofs.KeepingLemmas.{chain_some, kept_retracted}
 use Rattle.tracklet_file.proofs.file.TrackletFile.retract.Goals as goal
 
@@ -17,8 +15,8 @@ pub overflow_sub-place : goal.overflow_sub-place
 overflow_sub-place c =
     (numbered_within c.args.self.now.observations c.args.k (live_there c.args.self.now.observations c.args.k c.requires)).0
 
-pub index-requires : goal.index-requires
-index-requires c =
+pub index-o-requires : goal.index-o-requires
+index-o-requires c =
     let observations = reverse c.self.inside.observations.items in
     let live : is_live observations c.args.k ≡ true = ap (λ (v : Contents). is_live v.observations c.args.k) c.self.view_is ∙ c.requires in
     let within : c.args.k - 1 < length c.self.inside.observations.items = place_within c.self.inside.observations.items c.args.k (live_there observations c.args.k live) in
@@ -28,53 +26,56 @@ pub home-requires : goal.home-requires
 home-requires c =
     let observations = reverse c.self.inside.observations.items in
     let live : is_live observations c.args.k ≡ true = ap (λ (v : Contents). is_live v.observations c.args.k) c.self.view_is ∙ c.requires in
-    let at = read_at c.self.inside.observations.items c.args.k c.index.result.now (live_there observations c.args.k live) c.index.ensures in
-    subst (λ (v : Contents). IsTracklet v.tracklets c.index.result.now.track) c.self.view_is
-    (tracklet_at (reverse c.self.inside.tracklets.items) observations c.args.k c.index.result.now c.self.invariant.kept.counted.in_tracklets at)
+    let at = read_at c.self.inside.observations.items c.args.k c.index-o.result.now (live_there observations c.args.k live) c.index-o.ensures in
+    subst (λ (v : Contents). IsTracklet v.tracklets c.index-o.result.now.track) c.self.view_is
+    (tracklet_at (reverse c.self.inside.tracklets.items) observations c.args.k c.index-o.result.now c.self.invariant.kept.counted.in_tracklets at)
 
 pub without_one-self-inside-requires : goal.without_one-self-inside-requires
 without_one-self-inside-requires c none =
     let observations = reverse c.self.inside.observations.items in
     let live : is_live observations c.args.k ≡ true = ap (λ (v : Contents). is_live v.observations c.args.k) c.self.view_is ∙ c.requires in
-    let at = read_at c.self.inside.observations.items c.args.k c.index.result.now (live_there observations c.args.k live) c.index.ensures in
-    let alive = live_at observations c.args.k c.index.result.now at live in
+    let at = read_at c.self.inside.observations.items c.args.k c.index-o.result.now (live_there observations c.args.k live) c.index-o.ensures in
+    let alive = live_at observations c.args.k c.index-o.result.now at live in
     let tracklets = reverse c.self.inside.tracklets.items in
-    let alone : is_none (home_of tracklets c.index.result.now.track) ≡ true =
-    ap (λ (v : Contents). is_none (home_of v.tracklets c.index.result.now.track)) c.self.view_is ∙ ap is_none (sym c.home.ensures) ∙ sym (none_told c.home.result c.is_none-isolated.result c.is_none-isolated.ensures) ∙ none in
-    subst (λ (n : ℕ). 0 < n) (sym c.self.invariant.kept.counted.isolated_are) (some_isolated tracklets observations c.args.k c.index.result.now at alive alone)
+    let alone : is_none (home_of tracklets c.index-o.result.now.track) ≡ true =
+    ap (λ (v : Contents). is_none (home_of v.tracklets c.index-o.result.now.track)) c.self.view_is ∙ ap is_none (sym c.home.ensures) ∙ sym (none_told c.home.result c.is_none-isolated.result c.is_none-isolated.ensures) ∙ none in
+    subst (λ (n : ℕ). 0 < n) (sym c.self.invariant.kept.counted.isolated_are) (some_isolated tracklets observations c.args.k c.index-o.result.now at alive alone)
 
-pub uncount_one-requires : goal.uncount_one-requires
-uncount_one-requires c =
+pub retract-requires-clause-within : goal.retract-requires-clause-within
+retract-requires-clause-within c =
+    let live : is_live (reverse c.self.inside.observations.items) c.args.k ≡ true = ap (λ (v : Contents). is_live v.observations c.args.k) c.self.view_is ∙ c.requires in
+    omega (arith, place_within c.self.inside.observations.items c.args.k (live_there (reverse c.self.inside.observations.items) c.args.k live), ap (λ (os : List Observation). length os) c.as_slice.ensures.value)
+
+pub retract-requires-clause-live : goal.retract-requires-clause-live
+retract-requires-clause-live c o at =
     let observations = reverse c.self.inside.observations.items in
     let live : is_live observations c.args.k ≡ true = ap (λ (v : Contents). is_live v.observations c.args.k) c.self.view_is ∙ c.requires in
-    let at = read_at c.self.inside.observations.items c.args.k c.index.result.now (live_there observations c.args.k live) c.index.ensures in
-    let alive = live_at observations c.args.k c.index.result.now at live in
-    let places : KeptPlaces = record { live = live_by c.self.inside.index; room = c.self.inside.index_room; spare = spare c.self.inside.index } in
-    live_some observations places places c.place_key.result c.index.result.now c.place_key.ensures alive c.self.invariant.indexed c.args.k at
+    let own = numbered_place c.self.inside.observations.items c.args.k (live_there observations c.args.k live) in
+    live_at observations c.args.k o (own ∙ ap (λ (os : List Observation). slice_get os (c.args.k - 1)) (sym c.as_slice.ensures.value) ∙ at) live
 
 pub overflow_sub-o : goal.overflow_sub-o
 overflow_sub-o c =
     let observations = reverse c.self.inside.observations.items in
     let live : is_live observations c.args.k ≡ true = ap (λ (v : Contents). is_live v.observations c.args.k) c.self.view_is ∙ c.requires in
-    let at = read_at c.self.inside.observations.items c.args.k c.index.result.now (live_there observations c.args.k live) c.index.ensures in
-    let there = tracklet_at (reverse c.self.inside.tracklets.items) observations c.args.k c.index.result.now c.self.invariant.kept.counted.in_tracklets at in
-    (numbered_within (reverse c.self.inside.tracklets.items) c.index.result.now.track there).0
+    let at = read_at c.self.inside.observations.items c.args.k c.index-o.result.now (live_there observations c.args.k live) c.index-o.ensures in
+    let there = tracklet_at (reverse c.self.inside.tracklets.items) observations c.args.k c.index-o.result.now c.self.invariant.kept.counted.in_tracklets at in
+    (numbered_within (reverse c.self.inside.tracklets.items) c.index-o.result.now.track there).0
 
 pub index_mut-requires : goal.index_mut-requires
 index_mut-requires c =
     let observations = reverse c.self.inside.observations.items in
     let live : is_live observations c.args.k ≡ true = ap (λ (v : Contents). is_live v.observations c.args.k) c.self.view_is ∙ c.requires in
-    let at = read_at c.self.inside.observations.items c.args.k c.index.result.now (live_there observations c.args.k live) c.index.ensures in
-    let there = tracklet_at (reverse c.self.inside.tracklets.items) observations c.args.k c.index.result.now c.self.invariant.kept.counted.in_tracklets at in
-    omega (arith, place_within c.self.inside.tracklets.items c.index.result.now.track there, c.self.invariant.kept.chained.as_many_chains, length-reverse c.self.inside.tracklets.items)
+    let at = read_at c.self.inside.observations.items c.args.k c.index-o.result.now (live_there observations c.args.k live) c.index-o.ensures in
+    let there = tracklet_at (reverse c.self.inside.tracklets.items) observations c.args.k c.index-o.result.now c.self.invariant.kept.counted.in_tracklets at in
+    omega (arith, place_within c.self.inside.tracklets.items c.index-o.result.now.track there, c.self.invariant.kept.chained.as_many_chains, length-reverse c.self.inside.tracklets.items)
 
 pub overflow_sub-index_mut : goal.overflow_sub-index_mut
 overflow_sub-index_mut c =
     let observations = reverse c.self.inside.observations.items in
     let live : is_live observations c.args.k ≡ true = ap (λ (v : Contents). is_live v.observations c.args.k) c.self.view_is ∙ c.requires in
-    let at = read_at c.self.inside.observations.items c.args.k c.index.result.now (live_there observations c.args.k live) c.index.ensures in
-    let alive = live_at observations c.args.k c.index.result.now at live in
-    chain_some _ _ _ c.self.invariant.kept c.args.k c.index.result.now at alive c.index_mut.result.now c.index_mut.ensures.value
+    let at = read_at c.self.inside.observations.items c.args.k c.index-o.result.now (live_there observations c.args.k live) c.index-o.ensures in
+    let alive = live_at observations c.args.k c.index-o.result.now at live in
+    chain_some _ _ _ c.self.invariant.kept c.args.k c.index-o.result.now at alive c.index_mut.result.now c.index_mut.ensures.value
 
 pub index_mut-requires-2 : goal.index_mut-requires-2
 index_mut-requires-2 c =
@@ -87,23 +88,22 @@ pub invariant_of-self : goal.invariant_of-self
 invariant_of-self c =
     let observations = reverse c.self.inside.observations.items in
     let live : is_live observations c.args.k ≡ true = ap (λ (v : Contents). is_live v.observations c.args.k) c.self.view_is ∙ c.requires in
-    let at = read_at c.self.inside.observations.items c.args.k c.index.result.now (live_there observations c.args.k live) c.index.ensures in
-    let alive = live_at observations c.args.k c.index.result.now at live in
+    let at = read_at c.self.inside.observations.items c.args.k c.index-o.result.now (live_there observations c.args.k live) c.index-o.ensures in
+    let alive = live_at observations c.args.k c.index-o.result.now at live in
     let tracklets = reverse c.self.inside.tracklets.items in
     let there = live_there observations c.args.k live in
-    let home : c.home.result ≡ home_of tracklets c.index.result.now.track = c.home.ensures ∙ sym (ap (λ (v : Contents). home_of v.tracklets c.index.result.now.track) c.self.view_is) in
-    let isolated : c.is_none-isolated.result ≡ is_none (home_of tracklets c.index.result.now.track) = none_told c.home.result c.is_none-isolated.result c.is_none-isolated.ensures ∙ ap is_none home in
-    let chain = chain_some _ _ _ c.self.invariant.kept c.args.k c.index.result.now at alive c.index_mut.result.now c.index_mut.ensures.value in
-    let changed = changed_in_place (λ (o : Observation). record o { live = false }) c.self.inside.observations.items c.args.k c.index.result.now there c.index.ensures in
-    let before : KeptPlaces = record { live = live_by c.self.inside.index; room = c.self.inside.index_room; spare = spare c.self.inside.index } in
-    let after : KeptPlaces = record { live = live_by c.uncount_one.new.index; room = c.self.inside.index_room; spare = spare c.uncount_one.new.index } in
+    let home : c.home.result ≡ home_of tracklets c.index-o.result.now.track = c.home.ensures ∙ sym (ap (λ (v : Contents). home_of v.tracklets c.index-o.result.now.track) c.self.view_is) in
+    let isolated : c.is_none-isolated.result ≡ is_none (home_of tracklets c.index-o.result.now.track) = none_told c.home.result c.is_none-isolated.result c.is_none-isolated.ensures ∙ ap is_none home in
+    let chain = chain_some _ _ _ c.self.invariant.kept c.args.k c.index-o.result.now at alive c.index_mut.result.now c.index_mut.ensures.value in
+    let changed = changed_in_place (λ (o : Observation). record o { live = false }) c.self.inside.observations.items c.args.k c.index-o.result.now there c.index-o.ensures in
     record {
       homed = c.self.invariant.homed;
-      indexed = subst (λ (os : List Observation). IsIndexed os after) changed
-          (indexed_less observations before after c.place_key.result c.index.result.now c.place_key.ensures alive c.self.invariant.indexed c.args.k at c.uncount_one.ensures.live
-          (omega (arith, c.uncount_one.ensures.room, c.self.invariant.indexed.enough)));
+      indexed =
+          let own = sym (numbered_place c.self.inside.observations.items c.args.k there) ∙ at in
+          subst (λ (os : List Observation). IsIndexed (set os (c.args.k - 1) (record c.index-o.result.now { live = false })) c.retract.new.self) c.as_slice.ensures.value
+          (c.retract.ensures.filed c.index-o.result.now (ap (λ (os : List Observation). slice_get os (c.args.k - 1)) c.as_slice.ensures.value ∙ own));
       kept =
-          kept_retracted _ _ _ c.self.invariant.kept c.args.k c.index.result.now c.index_mut.result.now _ _ c.without_one-self-inside.result (c.self.inside.retracted + 1)
+          kept_retracted _ _ _ c.self.invariant.kept c.args.k c.index-o.result.now c.index_mut.result.now _ _ c.without_one-self-inside.result (c.self.inside.retracted + 1)
           (c.index_mut.result.now.live - 1) at alive c.index_mut.ensures.value (omega (arith, chain))
           (sym changed) refl refl
           (ap (λ (b : Bool). c.without_one-self-inside.result + cond b 1 0) (sym isolated) ∙ c.without_one-self-inside.ensures);
@@ -113,5 +113,5 @@ pub returns-clause-retracted : goal.returns-clause-retracted
 returns-clause-retracted c =
     let observations = reverse c.self.inside.observations.items in
     let live : is_live observations c.args.k ≡ true = ap (λ (v : Contents). is_live v.observations c.args.k) c.self.view_is ∙ c.requires in
-    sym (changed_in_place (λ (o : Observation). record o { live = false }) c.self.inside.observations.items c.args.k c.index.result.now (live_there observations c.args.k live) c.index.ensures)
+    sym (changed_in_place (λ (o : Observation). record o { live = false }) c.self.inside.observations.items c.args.k c.index-o.result.now (live_there observations c.args.k live) c.index-o.ensures)
     ∙ ap (λ (v : Contents). with_retraction v.observations c.args.k) c.self.view_is
