@@ -29,7 +29,7 @@ AscendFrom first filed =
     → time_of (slice_index_or filed i d) <ℤ time_of (slice_index_or filed j d)
 
 -- the entries of the index, how many observations, the first ones, it counts, for how many more observations room was
--- taken, how many more places it can have without memory, and a time
+-- taken, how many more places it can have without memory, and the latest time
 pub record KeptPlaces : Type 0 where
   pub entries : List (PlaceKey × ℕ)
   pub indexed : ℕ
@@ -37,8 +37,8 @@ pub record KeptPlaces : Type 0 where
   pub spare : ℕ
   pub latest : ℤ
 
--- the index counts the first of them, the others ascend in time, none is later than the time that is kept, and there is
--- room for those that aren't in the index, beside the room for more
+-- the index counts the first of them, the others ascend in time, none is later than the latest time, and there is room
+-- for those that aren't in the index, beside the room for more
 pub record IsIndexed (filed : List Observation) (places : KeptPlaces) : Type 0 where
   pub within : places.indexed ≤ length filed
   pub live_are : (key : PlaceKey) → live_in places.entries key ≡ count_by (counts_at key) (take places.indexed filed)

@@ -20,8 +20,8 @@ use std::marker::Model;
 /// Which places the live observations of a file have.
 ///
 /// Most observations come in the order of their times, and to hash each costs more than all else that is done with it.
-/// So the newest ones, as long as each is later than all before it, stay out of the index: they are found by their times.
-/// They are put into it at once when one comes that isn't later.
+/// So the newest ones, as long as each is later than all before it, wait outside the index: they are found by their
+/// times. All of them are put into it when one comes that isn't later.
 #[derive(Debug, Drop)]
 pub(crate) struct Places {
     // How many live observations have each place. A place that has none any more keeps its entry.
@@ -89,6 +89,7 @@ impl Places {
         self.room -= 1;
         let time = newest.sighting.time.ns();
         if self.latest < time {
+            // It waits outside the index.
             self.latest = time;
             return;
         }
