@@ -1,4 +1,4 @@
-use Rattle.std.proofs.Common.{◌∷◌, List, take, ap, sym, subst, ◌∙◌, arith}
+use Rattle.std.proofs.Common.{◌∷◌, take, ap, sym, subst, ◌∙◌, arith}
 use Rattle.std.specs.Prelude.{reverse}
 use Rattle.std.proofs.lemmas.List.{take_all}
 use Rattle.obs_record.specs.declared.sighting.Sighting.{Sighting}
