@@ -1,10 +1,19 @@
--- The earlier lines of a batch, indexed or not.
-use Rattle.std.specs.Prelude.{List}
+-- What is found of the earlier lines of a batch.
+use Rattle.std.specs.Prelude.{◌≡◌, List, Option, Some, None, Result, Err}
+use Rattle.indexmap.specs.IndexSet.{contains}
 use Rattle.obs_record.specs.declared.sighting.Sighting.{Sighting}
-use Rattle.batch_rules.specs.declared.earlier.Earlier.{Earlier}
-use Rattle.batch_rules.specs.declared.earlier.Earlier.TheVariants as kept
+use Rattle.obs_record.specs.declared.rule.RuleCode.{RuleCode}
+use Rattle.place_keys.specs.Places.{place_key, same_place}
+use Rattle.batch_rules.specs.declared.index.Index.{Index}
+use Rattle.batch_rules.specs.Places.{moment_key}
+use Rattle.batch_rules.specs.PlaceTests.{same_moment, has_place, has_moment}
 
--- their observations, the newest first
-abbrev pub earlier_of : Earlier → List Sighting
-earlier_of (kept.InOrder passed) = passed
-earlier_of (kept.Indexed passed) = passed
+-- an index has the places and the moments of these observations, and no others
+pub record Finds (index : Index) (earlier : List Sighting) : Type 0 where
+  pub place : (s : Sighting) → contains same_place index.places (place_key s) ≡ has_place earlier s
+  pub moment : (s : Sighting) → contains same_moment index.moments (moment_key s) ≡ has_moment earlier s
+
+-- what a line says, or the rule that it breaks
+abbrev pub with_fault : Result Sighting RuleCode → Option RuleCode → Result Sighting RuleCode
+with_fault read None = read
+with_fault read (Some rule) = Err rule

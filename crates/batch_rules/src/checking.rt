@@ -1,8 +1,8 @@
 //! Each line by itself, and beside the earlier ones.
 
-ghost use Rattle.std.specs.Prelude.{◌≡◌, [], IfOk};
-ghost use Rattle.act_model.specs.BatchRules.{checked_reading, with_passed, checked_lines, passed_in, unless_broken};
-ghost use Rattle.batch_rules.specs.Earlier.{earlier_of};
+ghost use Rattle.std.specs.Prelude.{◌≡◌, [], IfOk, OnOk};
+ghost use Rattle.act_model.specs.BatchRules.{checked_reading, with_passed, checked_lines, passed_in};
+ghost use Rattle.batch_rules.specs.Earlier.{with_fault};
 
 use crate::earlier::Earlier;
 use crate::rules::line_fault;
@@ -13,42 +13,42 @@ use obs_time::Instant;
 use station_tables::Tables;
 use std::alloc::Global;
 
-// A line's reading, or the rule that it breaks by itself or beside the earlier ones; and the earlier ones of the lines
-// after it.
+// The rule that a line breaks as it was read, by itself or beside the earlier ones, to which its observation is added
+// where it breaks none.
 #[tactic(auto, unfolding(act_model::specs::BatchRules::checked_reading))]
-fn checked_reading<V: Known>(
+fn fault_of<V: Known>(
     tables: &Tables,
     known: &V,
     moment: Instant,
-    earlier: Earlier,
+    earlier: &mut Earlier,
     read: &Result<Sighting, RuleCode>,
-) -> Result<(Result<Sighting, RuleCode>, Earlier), NoMemory>
-    ensures read { IfOk result (λ checked.
-        checked.0 ≡ checked_reading (V.office known.now) tables.now moment (earlier_of earlier) read.now) }
-    ensures earlier { IfOk result (λ checked. earlier_of checked.1 ≡ with_passed checked.0 (earlier_of earlier)) }
+) -> Result<Option<RuleCode>, NoMemory>
+    ensures read { IfOk result (λ fault.
+        with_fault read.now fault ≡ checked_reading (V.office known.now) tables.now moment earlier.old read.now) }
+    ensures earlier { IfOk result (λ fault. earlier.new ≡ with_passed (with_fault read.now fault) earlier.old) }
 {
-    match read {
-        Ok(s) => {
-            let (beside, earlier) = earlier.beside(s)?;
-            let fault = line_fault(tables, known, moment, beside, s);
-            with_fault(earlier, s, fault)
-        }
-        Err(rule) => Ok((Err(*rule), earlier)),
+    let s = match read {
+        Ok(s) => s,
+        Err(rule) => return Ok(Some(*rule)),
+    };
+    let beside = earlier.beside(s)?;
+    let fault = line_fault(tables, known, moment, beside, s);
+    if fault.is_none() {
+        earlier.push(s)?;
     }
+    Ok(fault)
 }
 
-// The observation, or the rule that it breaks; and the earlier ones of the lines after it.
-fn with_fault(
-    earlier: Earlier,
-    s: &Sighting,
-    fault: Option<RuleCode>,
-) -> Result<(Result<Sighting, RuleCode>, Earlier), NoMemory>
-    ensures read { IfOk result (λ checked. checked.0 ≡ unless_broken s.now fault) }
-    ensures earlier { IfOk result (λ checked. earlier_of checked.1 ≡ with_passed checked.0 (earlier_of earlier)) }
+// The line as it was read, or with the rule that it breaks.
+fn with_fault(line: &Line, fault: Option<RuleCode>) -> Line
+    ensures { result ≡ record line.now { read = with_fault line.now.read fault } }
 {
     match fault {
-        None => Ok((Ok(*s), earlier.with(*s)?)),
-        Some(rule) => Ok((Err(rule), earlier)),
+        None => *line,
+        Some(rule) => Line {
+            number: line.number,
+            read: Err(rule),
+        },
     }
 }
 
@@ -68,12 +68,8 @@ pub(crate) fn checked_lines<V: Known>(
     let mut earlier = Earlier::with_capacity(alloc, lines.len())?;
     let mut checked = Vec::with_capacity(alloc, lines.len())?;
     for line in lines {
-        let (read, more) = checked_reading(tables, known, moment, earlier, &line.read)?;
-        earlier = more;
-        checked.push(Line {
-            number: line.number,
-            read,
-        })?;
+        let fault = fault_of(tables, known, moment, &mut earlier, &line.read)?;
+        checked.push(with_fault(line, fault))?;
     }
     Ok((checked, earlier.passed()))
 }

@@ -5,8 +5,7 @@
 mod checking;
 mod earlier;
 mod groups;
-mod in_order;
-mod indexed;
+mod index;
 mod judging;
 mod keys;
 mod names;

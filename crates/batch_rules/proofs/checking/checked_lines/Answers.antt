@@ -5,7 +5,7 @@ use Rattle.obs_record.specs.declared.line.Line.{Line}
 use Rattle.obs_record.specs.declared.sighting.Sighting.{Sighting}
 use Rattle.obs_record.specs.declared.rule.RuleCode.{RuleCode}
 use Rattle.act_model.specs.BatchRules.{with_passed, checked_lines, passed_in}
-use Rattle.batch_rules.specs.Earlier.{earlier_of}
+use Rattle.batch_rules.specs.Earlier.{with_fault}
 use Rattle.batch_rules.proofs.Passed.{passed_more}
 use Rattle.batch_rules.proofs.checking.checked_lines.Goals as goal
 
@@ -14,19 +14,23 @@ loop-line-preserved g c =
     let left = λ (earlier : List Sighting) (lines : List Line). checked_lines (g.V.Known.office c.args.known.now) c.args.tables.now c.args.moment earlier lines in
     let done = c.loop-line.checked.items in
     let line = c.line-item.result in
-    let earlier = earlier_of c.loop-line.earlier in
+    let earlier = c.loop-line.earlier in
+    let next = c.fault_of.new.earlier in
+    let read = with_fault line.read c.in_ok-fault.fault in
     let rest = drop (c.loop-line.line-index + 1) c.args.lines.now in
     let split : drop c.loop-line.line-index c.args.lines.now ≡ line ∷ rest =
-    drop_more c.args.lines.now c.loop-line.line-index line (omega arith) ∙ ap (λ (y : Line). y ∷ rest) (sym c.line-item.is) in record {
+    drop_more c.args.lines.now c.loop-line.line-index line (omega arith) ∙ ap (λ (y : Line). y ∷ rest) (sym c.line-item.is) in
+    let items : c.push.new.self.items ≡ done ++ record line { read = read } ∷ [] =
+    c.in_ok-push.ensures.items ∙ ap (λ (y : Line). done ++ y ∷ []) c.with_fault.ensures in record {
       lines =
-          ap (λ (xs : List Line). xs ++ left (earlier_of c.in_ok-read.more) rest) c.in_ok-push.ensures.items
-          ∙ append_assoc done (record line { read = c.in_ok-read.read } ∷ []) (left (earlier_of c.in_ok-read.more) rest)
-          ∙ ap (λ (e : List Sighting). done ++ record line { read = c.in_ok-read.read } ∷ left e rest) c.in_ok-read.ensures.earlier
-          ∙ ap (λ (r : Result Sighting RuleCode). done ++ record line { read = r } ∷ left (with_passed r earlier) rest) c.in_ok-read.ensures.read
+          ap (λ (xs : List Line). xs ++ left next rest) items
+          ∙ append_assoc done (record line { read = read } ∷ []) (left next rest)
+          ∙ ap (λ (e : List Sighting). done ++ record line { read = read } ∷ left e rest) c.in_ok-fault.ensures.earlier
+          ∙ ap (λ (r : Result Sighting RuleCode). done ++ record line { read = r } ∷ left (with_passed r earlier) rest) c.in_ok-fault.ensures.read
           ∙ ap (λ (lines : List Line). done ++ left earlier lines) (sym split)
           ∙ c.loop-line.invariant.lines;
       passed =
-          ap (λ (xs : List Sighting). reverse xs) c.in_ok-read.ensures.earlier
-          ∙ passed_more done (record line { read = c.in_ok-read.read }) c.in_ok-read.read earlier refl c.loop-line.invariant.passed
-          ∙ ap passed_in (sym c.in_ok-push.ensures.items);
+          ap reverse c.in_ok-fault.ensures.earlier
+          ∙ passed_more done (record line { read = read }) read earlier refl c.loop-line.invariant.passed
+          ∙ ap passed_in (sym items);
     }

@@ -1,7 +1,7 @@
 use Rattle.std.proofs.Common.{ap, sym, ◌∙◌}
 use Rattle.std.specs.Prelude.{reverse}
 use Rattle.std.proofs.lemmas.List.{reverse-reverse}
-use Rattle.batch_rules.proofs.in_order.InOrder.passed.Goals as goal
+use Rattle.batch_rules.proofs.earlier.Earlier.passed.Goals as goal
 
 pub returns : goal.returns
 returns c = sym (reverse-reverse c.self.inside.passed.items) ∙ ap reverse c.self.view_is
