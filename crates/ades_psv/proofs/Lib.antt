@@ -1,6 +1,5 @@
 pub mod CellLaws
 pub mod NameSets
-pub mod LawsBelow
 pub mod Judging
 pub mod FieldLaws
 pub mod LineLaws
