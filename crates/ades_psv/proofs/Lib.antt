@@ -5,7 +5,6 @@ pub mod FieldLaws
 pub mod LineLaws
 pub mod RangeLaws
 pub mod Cutting
-pub mod SaidLaws
 pub mod Walks
 pub mod Options
 pub mod Readers
