@@ -6,5 +6,4 @@ pub mod LineLaws
 pub mod RangeLaws
 pub mod Cutting
 pub mod Walks
-pub mod Options
 pub mod Readers

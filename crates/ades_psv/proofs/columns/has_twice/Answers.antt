@@ -10,6 +10,6 @@ names-init c = rw c.new-seen.ensures.empty (repeats_none (cells c.args.line.now)
 pub returns-in_default : goal.returns-in_default
 unfolding repeats
 returns-in_default c =
-    let last = rw c.in_default.is at c.first_cell.ensures.last in
+    let last = rw c.in_default.is at c.first_cell.ensures.exact in
     let said = rw c.if-branch.false at (c.in_ok-is_again.ensures []) in
     sym said ∙ ap (repeats (is_seen c.names.seen)) (sym last) ∙ c.names.invariant
