@@ -1,22 +1,19 @@
 -- The cells of a line, from the front.
-use Rattle.std.proofs.Common.{◌≡◌, ℕ, ◌+◌, Bool, true, false, eqb, List, [], ◌∷◌, ◌++◌, length, map, All, Option, Some, refl, sym, ap, ◌∙◌}
-use Rattle.std.specs.Prelude.{count_by, is_some, ◌||◌, cond}
+use Rattle.std.proofs.Common.{◌≡◌, ℕ, ◌+◌, Bool, true, false, eqb, List, [], ◌∷◌, ◌++◌, length, map, All, Option, Some, None, Bor, refl, ap, ◌∙◌}
+use Rattle.std.specs.Prelude.{count_by, is_some, ◌||◌, cond, IfSome, IfNone}
+use Rattle.std.specs.Option.{option_map_or}
 use Rattle.std.specs.List.{list_any, position_from}
 use Rattle.std.proofs.lemmas.List.{length-map}
 use Rattle.std.proofs.lemmas.List.Splits.{slice_split_none, slice_split_at, length-slice_split}
 use Rattle.ascii_text.specs.Blanks.{trimmed}
 use Rattle.ades_psv.specs.Cells.{pieces, cells}
 
--- the first cell ends at the first bar
-pub cells-cut : (line piece behind : List ℕ) → line ≡ piece ++ 124 ∷ behind → All (λ b. eqb b 124 ≡ false) piece → cells line ≡ trimmed piece ∷ cells behind
+-- the first cell ends at the first bar, or it is all there is
+pub cells_cut : (line piece cell : List ℕ) (behind : Option (Bor (List ℕ))) → cell ≡ trimmed piece → All (λ b. eqb b 124 ≡ false) piece → IfSome behind (λ rest. line ≡ piece ++ 124 ∷ rest.now)
+    → IfNone behind (piece ≡ line) → cells line ≡ cell ∷ option_map_or (λ rest. cells rest.now) behind []
 unfolding cells
-cells-cut line piece behind parts none =
-    ap cells parts ∙ ap (map trimmed) (slice_split_at (λ b. eqb b 124) piece 124 behind none refl)
-
--- a line without a bar is one cell
-pub cells-whole : (line piece : List ℕ) → piece ≡ line → All (λ b. eqb b 124 ≡ false) piece → cells line ≡ trimmed piece ∷ []
-unfolding cells
-cells-whole line piece is none = ap cells (sym is) ∙ ap (map trimmed) (slice_split_none (λ b. eqb b 124) piece none)
+cells_cut line piece cell None is none parts whole = rw (← whole, is) (ap (map trimmed) (slice_split_none (λ b. eqb b 124) piece none))
+cells_cut line piece cell (Some rest) is none parts whole = rw (parts, is) (ap (map trimmed) (slice_split_at (λ b. eqb b 124) piece 124 rest.now none refl))
 
 -- a line has one cell more than bars
 pub length-cells : (line : List ℕ) → length (cells line) ≡ count_by (λ b. eqb b 124) line + 1

@@ -31,7 +31,7 @@ use Rattle.ades_psv.specs.Magnitudes.{IsMagnitude, magnitude_from}
 use Rattle.ades_psv.specs.Names.{IsNumberText, IsDesignationText, IsTemporary, name_of, number_from, designation_from, temporary_from}
 use Rattle.ascii_text.specs.Bytes.{is_visible}
 use Rattle.ades_psv.specs.Rules.{IsTime, IsRa, IsDec}
-use Rattle.ades_psv.proofs.LawsBelow.{Laws}
+use Rattle.ades_psv.specs.LawsBelow.{Laws}
 use Rattle.ades_psv.proofs.Judging.{IsReadingOf, all_pass}
 
 -- ---- temporary designations

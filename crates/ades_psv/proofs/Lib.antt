@@ -1,12 +1,9 @@
 pub mod CellLaws
 pub mod NameSets
-pub mod LawsBelow
 pub mod Judging
 pub mod FieldLaws
 pub mod LineLaws
 pub mod RangeLaws
 pub mod Cutting
-pub mod SaidLaws
 pub mod Walks
-pub mod Options
 pub mod Readers

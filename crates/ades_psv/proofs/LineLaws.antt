@@ -23,7 +23,7 @@ use Rattle.ades_psv.specs.Magnitudes.{IsMagnitude, magnitude_in, value_of, place
 use Rattle.ades_psv.specs.Names.{IsNumberText, IsDesignationText, IsTemporary, number_in, designation_in, temporary_in}
 use Rattle.ades_psv.specs.Rules.{Keeps, IsTextByte, IsTime, IsRa, IsDec, HasFields, line_rules, IsSightingOf, IsReading}
 use Rattle.ades_psv.specs.Reading.{is_text_byte, names_in, time_in, ra_in, dec_in, stated_in, lacks_field, lacks_name, lacks_band, required, position_from, position_in, observed, reading_of}
-use Rattle.ades_psv.proofs.LawsBelow.{Laws}
+use Rattle.ades_psv.specs.LawsBelow.{Laws}
 use Rattle.ades_psv.proofs.Judging.{all_pass, empty_from, filled_from, filled_is, IsTold, field_told, judged_field, says_one, reads_one}
 use Rattle.ades_psv.proofs.FieldLaws.{number_field, designation_field, temporary_field, magnitude_field, time_field, ra_field, dec_field}
 

@@ -1,130 +1,138 @@
 -- Lines that are read one after another.
-use Rattle.std.proofs.Common.{◌≡◌, ℕ, ◌+◌, ◌≤◌, take, ◌||◌, List, [], ◌∷◌, ◌++◌, append_assoc, length, length-append, map, Result, Ok, Err, refl, sym, ap, ◌∙◌, arith}
+use Rattle.std.proofs.Common.{◌≡◌, ℕ, ◌+◌, ◌≤◌, take, List, [], ◌∷◌, ◌++◌, append_assoc, length, map, Result, Ok, Err, refl, sym, ap, ◌∙◌, arith}
 use Rattle.std.specs.List.{enumerate_from}
-use Rattle.std.proofs.lemmas.List.{append-nil, length-take, map-append, take-take}
-use Rattle.std.proofs.lemmas.Bool.{cond_both}
-use Rattle.ascii_text.specs.Blanks.{are_blanks}
+use Rattle.std.specs.Str.Lines.{lines}
+use Rattle.std.proofs.lemmas.List.{append-nil, length-take, take-take}
 use Rattle.obs_record.specs.declared.rule.HeaderFault.{HeaderFault}
-use Rattle.obs_record.specs.declared.rule.HeaderFault.TheVariants.{H1}
 use Rattle.obs_record.specs.declared.line.Line.{Line}
-use Rattle.ades_psv.specs.declared.columns.Columns.{Columns}
 use Rattle.ades_psv.specs.declared.fault.PsvFault.{PsvFault}
 use Rattle.ades_psv.specs.declared.fault.PsvFault.TheVariants as faults
 use Rattle.ades_psv.specs.declared.header.Place.{Place}
-use Rattle.ades_psv.specs.declared.header.Place.TheVariants.{Opening, Header, Listing}
+use Rattle.ades_psv.specs.declared.header.Place.TheVariants.{Listing}
 use Rattle.ades_psv.specs.declared.header.Step.{Step}
 use Rattle.ades_psv.specs.declared.header.Step.TheVariants.{On, Data, Fault}
 use Rattle.ades_psv.specs.declared.walking.Reached.{Reached}
 use Rattle.text_lines.specs.Steps.{◌>>=◌}
-use Rattle.ades_psv.specs.Columns.{columns_of}
-use Rattle.ades_psv.specs.Headers.{is_version, is_group, is_element, below_header, filled_step, step}
-use Rattle.ades_psv.specs.Batch.{Said, said_on, said_from, read_of}
-use Rattle.ades_psv.specs.Walking.{said_behind, HasRead, Fails}
-use Rattle.ades_psv.proofs.SaidLaws.{behind, said_join}
+use Rattle.text_lines.specs.Laws.{LineLaws}
+use Rattle.text_lines.specs.Pieces.{complete_lines, unfinished}
+use Rattle.ades_psv.specs.Headers.{step}
+use Rattle.ades_psv.specs.Batch.{DataLine, Said, before, said_on, said_from, read_of}
+use Rattle.ades_psv.specs.Feeding.{Progress, Fed, reached, read_lines, read_on, ended_at, read_end, finished, progress_of}
+use Rattle.ades_psv.specs.Walking.{IsAnswer, line_on, line_read}
 
--- ---- one line
+-- ---- steps
 
-pub one_said : (before : Reached) (line : List ℕ) (next : Step) → step before.place line ≡ next
-    → said_behind before (line ∷ []) ≡ said_on (before.count + 1) line (λ place. Ok (place, [])) next
-unfolding said_from
-one_said before line next is = rw is refl
+pub bind_bind : {A B C E : Type 0} (r : Result A E) (f : A → Result B E) (g : B → Result C E) → ((r >>= f) >>= g) ≡ (r >>= λ x. f x >>= g)
+bind_bind (Ok x) f g = refl
+bind_bind (Err fault) f g = refl
 
-no_data_below : (r : Result Columns HeaderFault) (columns : Columns) → below_header r ≡ Data columns → ⊥
-no_data_below (Ok known) columns is = cc
-no_data_below (Err fault) columns is = cc
+-- what may follow a step that fails
+pub fails_on : {A B : Type 0} (said : Result A (HeaderFault × ℕ)) (go : A → Result B (HeaderFault × ℕ)) (fault : PsvFault) → IsAnswer said (Err fault) → IsAnswer (said >>= go) (Err fault)
+fails_on said go (faults.Header fault line) is = rw is refl
+fails_on said go faults.NoMemory is = tt
 
-abbrev DataBelow : Place → Columns → Step → Type 0
-DataBelow place columns next = next ≡ Data columns → place ≡ Listing columns
+-- ---- a line, and lines behind it
 
-filled_data : (place : Place) (line : List ℕ) (columns : Columns) → DataBelow place columns (filled_step place line)
-unfolding filled_step
-filled_data Opening line columns = cond_both (is_version line) (On Header) (Fault H1) (DataBelow Opening columns) (λ v is. absurd cc) (λ v is. absurd cc)
-filled_data Header line columns =
-    cond_both (is_group line || is_element line) (On Header) (below_header (columns_of line)) (DataBelow Header columns) (λ g is. absurd cc)
-    (λ g is. absurd (no_data_below (columns_of line) columns is))
-filled_data (Listing known) line columns =
-    cond_both (is_group line) (On Header) _ (DataBelow (Listing known) columns) (λ g is. absurd cc) (λ g.
-    cond_both (is_element line) (On (Listing known)) (Data known) (DataBelow (Listing known) columns) (λ e is. absurd cc) (λ e is. cc))
+counted : (p : Progress) (line : List ℕ) (more : List (List ℕ)) (rest : List ℕ) (place : Place) (r : Said)
+    → (r >>= reached p (line ∷ more) rest) ≡ (r >>= reached (record p { place = place; count = p.count + 1 }) more rest)
+counted p line more rest place (Ok end) =
+    let count : p.count + length (line ∷ more) ≡ p.count + 1 + length more = omega arith in
+    rw count refl
+counted p line more rest place (Err fault) = refl
 
--- a data line stands below its columns
-data_below : (place : Place) (line : List ℕ) (columns : Columns) → DataBelow place columns (step place line)
-unfolding step
-data_below place line columns = cond_both (are_blanks line) (On place) (filled_step place line) (DataBelow place columns) (λ b is. absurd cc) (λ b. filled_data place line columns)
+listed : (p : Progress) (data_line : DataLine) (line : List ℕ) (more : List (List ℕ)) (rest : List ℕ) (place : Place) (r : Said)
+    → ((r >>= before data_line) >>= reached p (line ∷ more) rest) ≡ (r >>= reached (record p { place = place; count = p.count + 1; found = p.found ++ read_of data_line ∷ [] }) more rest)
+listed p data_line line more rest place (Ok end) =
+    let count : p.count + length (line ∷ more) ≡ p.count + 1 + length more = omega arith in
+    rw (count, append_assoc p.found (read_of data_line ∷ []) (map read_of end.1)) refl
+listed p data_line line more rest place (Err fault) = refl
 
--- a line that leads on
-pub reads_on : (before after : Reached) (line : List ℕ) (next : Place) → step before.place line ≡ On next → after.place ≡ next → after.count ≡ before.count + 1 → after.found ≡ before.found
-    → HasRead before (line ∷ []) after
-reads_on before after line next is place count same = record {
-  data_lines = [];
-  said = one_said before line (On next) is ∙ ap (λ (p : Place). Ok (p, [])) (sym place);
-  count = count;
-  found = same ∙ sym (append-nil before.found);
-}
+first_by : (p : Progress) (line : List ℕ) (more : List (List ℕ)) (rest : List ℕ) (next : Step)
+    → (said_on (p.count + 1) line (λ place. said_from place (enumerate_from (p.count + 1 + 1) more)) next >>= reached p (line ∷ more) rest) ≡ (line_on p line next >>= λ q. read_lines q more rest)
+unfolding read_lines
+first_by p line more rest (On next) = counted p line more rest next (said_from next (enumerate_from (p.count + 1 + 1) more))
+first_by p line more rest (Data columns) =
+    listed p (record { columns = columns; number = p.count + 1; text = line }) line more rest (Listing columns) (said_from (Listing columns) (enumerate_from (p.count + 1 + 1) more))
+first_by p line more rest (Fault fault) = refl
 
--- a data line
-pub reads_data : (before after : Reached) (line : List ℕ) (columns : Columns) (read : Line) → step before.place line ≡ Data columns
-    → read ≡ read_of (record { columns = columns; number = before.count + 1; text = line })
-    → after.place ≡ before.place → after.count ≡ before.count + 1 → after.found ≡ before.found ++ read ∷ [] → HasRead before (line ∷ []) after
-reads_data before after line columns read is is_read place count more = record {
-  data_lines = record { columns = columns; number = before.count + 1; text = line } ∷ [];
-  said = one_said before line (Data columns) is ∙ ap (λ (p : Place). Ok (p, record { columns = columns; number = before.count + 1; text = line } ∷ [])) (sym (place ∙ data_below before.place line columns is));
-  count = count;
-  found = more ∙ ap (λ (l : Line). before.found ++ l ∷ []) is_read;
-}
+pub read_first : (p : Progress) (line : List ℕ) (more : List (List ℕ)) (rest : List ℕ) → read_lines p (line ∷ more) rest ≡ (line_read p line >>= λ q. read_lines q more rest)
+unfolding read_lines said_from
+read_first p line more rest = first_by p line more rest (step p.place line)
 
--- ---- lines after lines
+pub read_none : (p : Progress) (rest : List ℕ) → read_lines p [] rest ≡ Ok (record p { rest = rest })
+unfolding read_lines said_from
+read_none p rest =
+    let count : p.count + length (let none : List (List ℕ) = [] in none) ≡ p.count = omega arith in
+    rw (count, append-nil p.found) refl
 
-pub reads_nothing : (reached : Reached) → HasRead reached [] reached
-unfolding said_from
-reads_nothing reached = record {
-  data_lines = [];
-  said = refl;
-  count = omega arith;
-  found = sym (append-nil reached.found);
-}
+-- lines after lines
+pub read_join : (p : Progress) (xs ys : List (List ℕ)) (old rest : List ℕ) → read_lines p (xs ++ ys) rest ≡ (read_lines p xs old >>= λ q. read_lines q ys rest)
+unfolding read_lines
+read_join p [] ys old rest = rw (read_none p old) refl
+read_join p (x ∷ xs) ys old rest =
+    read_first p x (xs ++ ys) rest ∙ ap (λ (f : Progress → Fed). line_read p x >>= f) (λ i q. read_join q xs ys old rest i)
+    ∙ sym (bind_bind (line_read p x) (λ q. read_lines q xs old) (λ q. read_lines q ys rest)) ∙ ap (λ (r : Fed). r >>= λ q. read_lines q ys rest) (sym (read_first p x xs old))
 
--- what lines say after lines that were read
-pub said_further : (before middle : Reached) (xs ys : List (List ℕ)) (read : HasRead before xs middle) → said_behind before (xs ++ ys) ≡ (said_behind middle ys >>= behind read.data_lines)
-said_further before middle xs ys read =
-    let number : before.count + 1 + length xs ≡ middle.count + 1 = omega (arith, read.count) in
-    said_join before.place (before.count + 1) xs ys
-    ∙ ap (λ (r : Said). r >>= λ end. said_from end.0 (enumerate_from (before.count + 1 + length xs) ys) >>= behind end.1) read.said
-    ∙ ap (λ (n : ℕ). said_from middle.place (enumerate_from n ys) >>= behind read.data_lines) number
+-- ---- texts
 
-pub reads_further : (before middle after : Reached) (xs ys : List (List ℕ)) → HasRead before xs middle → HasRead middle ys after → HasRead before (xs ++ ys) after
-reads_further before middle after xs ys first second = record {
-  data_lines = first.data_lines ++ second.data_lines;
-  said = said_further before middle xs ys first ∙ ap (λ (r : Said). r >>= behind first.data_lines) second.said;
-  count = omega (arith, first.count, second.count, length-append xs ys);
-  found = second.found ∙ ap (λ (ls : List Line). ls ++ map read_of second.data_lines) first.found
-      ∙ append_assoc before.found (map read_of first.data_lines) (map read_of second.data_lines)
-      ∙ ap (λ (ls : List Line). before.found ++ ls) (sym (map-append read_of first.data_lines second.data_lines));
-}
+rest_by : {B : Type 0} (p : Progress) (xs : List (List ℕ)) (rest : List ℕ) (r : Said) (F : Progress → List ℕ → Result B (HeaderFault × ℕ))
+    → ((r >>= reached p xs rest) >>= λ q. F q rest) ≡ ((r >>= reached p xs rest) >>= λ q. F q q.rest)
+rest_by p xs rest (Ok end) F = refl
+rest_by p xs rest (Err fault) F = refl
 
--- a fault after lines that were read
-pub fails_further : (before middle : Reached) (xs ys : List (List ℕ)) (fault : PsvFault) → HasRead before xs middle → Fails middle ys fault → Fails before (xs ++ ys) fault
-fails_further before middle xs ys (faults.Header fault line) first fails =
-    said_further before middle xs ys first ∙ ap (λ (r : Said). r >>= behind first.data_lines) fails
-fails_further before middle xs ys faults.NoMemory first fails = tt
+-- what is left is the rest
+pub rest_is : {B : Type 0} (p : Progress) (xs : List (List ℕ)) (rest : List ℕ) (F : Progress → List ℕ → Result B (HeaderFault × ℕ))
+    → (read_lines p xs rest >>= λ q. F q rest) ≡ (read_lines p xs rest >>= λ q. F q q.rest)
+unfolding read_lines
+rest_is p xs rest F = rest_by p xs rest (said_from p.place (enumerate_from (p.count + 1) xs)) F
 
--- what may follow a line with a fault
-said_after : (before : Reached) (line : List ℕ) (more : List (List ℕ)) (fault : HeaderFault × ℕ) (next : Step) → step before.place line ≡ next
-    → said_on (before.count + 1) line (λ place. Ok (place, [])) next ≡ Err fault → said_behind before (line ∷ more) ≡ Err fault
-unfolding said_from
-said_after before line more fault (On place) is fails = absurd cc
-said_after before line more fault (Data columns) is fails = absurd cc
-said_after before line more fault (Fault other) is fails = rw is fails
+-- a text after a text
+pub read_twice : (laws : LineLaws) (p : Progress) (first more : List ℕ) → read_on p (first ++ more) ≡ (read_on p first >>= λ q. read_on q more)
+unfolding read_on
+read_twice laws p first more =
+    let left = unfinished (p.rest ++ first) in
+    rw (← append_assoc p.rest first more, laws.complete_on (p.rest ++ first) more, laws.unfinished_on (p.rest ++ first) more)
+    (read_join p (complete_lines (p.rest ++ first)) (complete_lines (left ++ more)) left (unfinished (left ++ more))
+    ∙ rest_is p (complete_lines (p.rest ++ first)) left (λ q rest. read_lines q (complete_lines (rest ++ more)) (unfinished (rest ++ more))))
 
-pub fails_at : (before : Reached) (line : List ℕ) (more : List (List ℕ)) (fault : PsvFault) → Fails before (line ∷ []) fault → Fails before (line ∷ more) fault
-fails_at before line more (faults.Header fault number) fails =
-    said_after before line more (fault, number) (step before.place line) refl (sym (one_said before line (step before.place line) refl) ∙ fails)
-fails_at before line more faults.NoMemory fails = tt
+-- the first line of a text, and the text behind it
+pub read_cut : (before : Reached) (text line behind : List ℕ) → complete_lines text ≡ line ∷ complete_lines behind → unfinished text ≡ unfinished behind
+    → read_on (progress_of before []) text ≡ (line_read (progress_of before []) line >>= λ q. read_lines q (complete_lines behind) (unfinished behind))
+unfolding read_on
+read_cut before text line behind cut left = rw (cut, left) (read_first (progress_of before []) line (complete_lines behind) (unfinished behind))
 
--- lines that may follow those that fail
-pub fails_still : (before : Reached) (xs ys : List (List ℕ)) (fault : PsvFault) → Fails before xs fault → Fails before (xs ++ ys) fault
-fails_still before xs ys (faults.Header fault line) fails =
-    said_join before.place (before.count + 1) xs ys ∙ ap (λ (r : Said). r >>= λ end. said_from end.0 (enumerate_from (before.count + 1 + length xs) ys) >>= behind end.1) fails
-fails_still before xs ys faults.NoMemory fails = tt
+-- a text without a line feed
+pub read_uncut : (before : Reached) (rest text : List ℕ) → complete_lines (rest ++ text) ≡ [] → unfinished (rest ++ text) ≡ rest ++ text → read_on (progress_of before rest) text ≡ Ok (progress_of before (rest ++ text))
+unfolding read_on
+read_uncut before rest text none left = rw (none, left) (read_none (progress_of before rest) (rest ++ text))
+
+-- a line alone
+last_by : (before : Reached) (line : List ℕ) (next : Step) → (line_on (progress_of before []) line next >>= λ q. read_lines q [] []) ≡ line_on (progress_of before []) line next
+last_by before line (On place) = read_none _ []
+last_by before line (Data columns) = read_none _ []
+last_by before line (Fault fault) = refl
+
+pub read_one : (before : Reached) (line : List ℕ) → read_lines (progress_of before []) (line ∷ []) [] ≡ line_read (progress_of before []) line
+read_one before line = read_first (progress_of before []) line [] [] ∙ last_by before line (step before.place line)
+
+-- a piece whose front ends the unfinished line, which makes this text
+pub read_parts : (laws : LineLaws) (before : Reached) (rest front behind piece text : List ℕ) → piece ≡ front ++ behind → text ≡ rest ++ front
+    → read_on (progress_of before rest) piece ≡ (read_on (progress_of before []) text >>= λ q. read_on q behind)
+unfolding read_on read_lines
+read_parts laws before rest front behind piece text parts is = rw (parts, is) (read_twice laws (progress_of before rest) front behind)
+
+pub read_then : (laws : LineLaws) (before middle : Reached) (rest front behind piece text left : List ℕ) → piece ≡ front ++ behind → text ≡ rest ++ front
+    → read_on (progress_of before []) text ≡ Ok (progress_of middle left) → left ≡ unfinished text → unfinished (rest ++ front) ≡ []
+    → read_on (progress_of before rest) piece ≡ read_on (progress_of middle []) behind
+read_then laws before middle rest front behind piece text left parts is first over none =
+    let nothing : left ≡ [] = over ∙ ap unfinished is ∙ none in
+    read_parts laws before rest front behind piece text parts is ∙ ap (λ (r : Fed). r >>= λ q. read_on q behind) first ∙ rw nothing refl
+
+-- the end of a batch
+pub end_of : (reader : Fed) (before : Reached) (rest text : List ℕ) → reader ≡ Ok (progress_of before rest) → text ≡ rest
+    → finished reader ≡ (read_lines (progress_of before []) (lines text) [] >>= ended_at)
+unfolding read_end read_lines
+end_of reader before rest text is same = rw (is, same) refl
 
 -- ---- what was found before stays in front
 

@@ -1,6 +1,10 @@
 -- The columns that a column header names.
 use Rattle.std.specs.Prelude.{ℕ, Bool, false, not, ◌&&◌, ◌||◌, if◌then◌else◌, ◌==◌, List, [], ◌∷◌, length, codes}
 use Rattle.std.specs.Prelude.{Option, is_some, Result, Ok, Err}
+use Rattle.std.specs.Borrow.{Bor}
+use Rattle.std.specs.BTreeSet.{BTreeSet, contains_by}
+use Rattle.std.specs.Cmp.Lexicographic.{slice_cmp}
+use Rattle.std.specs.Ordering.{nat_cmp}
 use Rattle.std.specs.List.{list_any, position_from}
 use Rattle.obs_record.specs.declared.rule.HeaderFault.{HeaderFault}
 use Rattle.obs_record.specs.declared.rule.HeaderFault.TheVariants.{H3, H4, H5}
@@ -23,6 +27,15 @@ stands_again name others = not (length name == 0) && has_column name others
 unfoldable pub has_twice : List (List ℕ) → Bool
 has_twice [] = false
 has_twice (name ∷ names) = stands_again name names || has_twice names
+
+-- the set has this text
+abbrev pub is_seen : BTreeSet (Bor (List ℕ)) → List ℕ → Bool
+is_seen seen name = contains_by (λ key. slice_cmp nat_cmp name key.now) seen
+
+-- a name that isn't empty was seen before, or stands twice
+unfoldable pub repeats : (List ℕ → Bool) → List (List ℕ) → Bool
+repeats seen [] = false
+repeats seen (name ∷ names) = (not (length name == 0) && (seen name || has_column name names)) || repeats seen names
 
 -- where the columns that are read stand, and how many columns there are
 unfoldable pub columns_named : List (List ℕ) → Columns

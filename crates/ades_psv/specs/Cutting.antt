@@ -1,5 +1,6 @@
 -- A data line that was cut, as the code keeps it.
-use Rattle.std.specs.Prelude.{◌≡◌, ℕ, ◌<◌, List, length, option_map, slice_get}
+use Rattle.std.specs.Prelude.{◌≡◌, ℕ, ◌<◌, List, [], length, slice_index_or}
+use Rattle.std.specs.Borrow.{Bor}
 use Rattle.ades_psv.specs.declared.fields.CutLine.{CutLine}
 use Rattle.ades_psv.specs.declared.fields.Fields.{Fields as Cut}
 use Rattle.ades_psv.specs.Cells.{cells}
@@ -9,8 +10,8 @@ use Rattle.ades_psv.specs.Fields.{Fields}
 pub record AreCells (line : List ℕ) (cut : CutLine) : Type 0 where
   pub whole : cut.line.now ≡ line
   pub count : cut.count ≡ length (cells line)
-  pub first : (place : ℕ) → place < 16 → place < cut.count → option_map (λ cell. cell.now) (slice_get cut.first place)
-      ≡ slice_get (cells line) place
+  pub first : (place : ℕ) (d : Bor (List ℕ)) → place < 16 → place < cut.count
+      → (slice_index_or cut.first place d).now ≡ slice_index_or (cells line) place []
 
 -- what contracts see of the fields of a line
 abbrev pub seen : Cut → Fields

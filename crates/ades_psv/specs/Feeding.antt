@@ -12,7 +12,7 @@ use Rattle.ades_psv.specs.declared.header.Place.TheVariants.{Opening}
 use Rattle.ades_psv.specs.declared.walking.Reached.{Reached}
 use Rattle.text_lines.specs.Steps.{◌>>=◌}
 use Rattle.text_lines.specs.Pieces.{complete_lines, unfinished}
-use Rattle.ades_psv.specs.Batch.{DataLine, Said, said_from, ended, read_of, AreInRange}
+use Rattle.ades_psv.specs.Batch.{DataLine, said_from, ended, read_of, AreInRange}
 
 -- How far a batch was read whose headers have no fault so far.
 pub record Progress : Type 0 where
@@ -30,8 +30,11 @@ abbrev pub Fed : Type 0
 Fed = Result Progress (HeaderFault × ℕ)
 
 -- nothing was fed yet
+abbrev pub start : Progress
+start = record { place = Opening; count = 0; found = []; rest = [] }
+
 abbrev pub unfed : Fed
-unfed = Ok (record { place = Opening; count = 0; found = []; rest = [] })
+unfed = Ok start
 
 -- what is reached after these lines, which end those that were complete so far, and this rest
 abbrev pub reached : Progress → List (List ℕ) → List ℕ → Place × List DataLine → Fed
@@ -42,27 +45,31 @@ reached progress complete rest end = Ok (record {
   rest = rest;
 })
 
+-- lines that end here are read, the first of which stands where those end that were complete so far, before this rest
+unfoldable pub read_lines : Progress → List (List ℕ) → List ℕ → Fed
+read_lines progress complete rest =
+    said_from progress.place (enumerate_from (progress.count + 1) complete) >>= reached progress complete rest
+
 -- the unfinished line goes on with this text: the lines that are now complete are read
 unfoldable pub read_on : Progress → List ℕ → Fed
-read_on progress text =
-    said_from progress.place (enumerate_from (progress.count + 1) (complete_lines (progress.rest ++ text)))
-    >>= reached progress (complete_lines (progress.rest ++ text)) (unfinished (progress.rest ++ text))
+read_on progress text = read_lines progress (complete_lines (progress.rest ++ text)) (unfinished (progress.rest ++ text))
 
 -- One more piece was fed. Once there is a fault nothing changes.
 abbrev pub fed : Fed → List ℕ → Fed
-fed (Ok progress) piece = read_on progress piece
-fed (Err fault) piece = Err fault
+fed before piece = before >>= λ progress. read_on progress piece
 
 -- the pieces were fed, in their order
 abbrev pub fed_all : Fed → List (List ℕ) → Fed
 fed_all before [] = before
 fed_all before (piece ∷ pieces) = fed_all (fed before piece) pieces
 
+-- what is said of a batch that ends here
+abbrev pub ended_at : Progress → Result (List Line) (HeaderFault × ℕ)
+ended_at progress = ended progress.count (progress.place, progress.found)
+
 -- nothing follows: the unfinished line is one more line where it isn't empty
 unfoldable pub read_end : Progress → Result (List Line) (HeaderFault × ℕ)
-read_end progress = do
-  end ← said_from progress.place (enumerate_from (progress.count + 1) (lines progress.rest))
-  ended (progress.count + length (lines progress.rest)) (end.0, progress.found ++ map read_of end.1)
+read_end progress = read_lines progress (lines progress.rest) [] >>= ended_at
 
 -- The reader can take so many bytes more: the numbers of its lines have 32 bits then. Once there is a fault it lets go
 -- what is fed.
@@ -72,12 +79,11 @@ HasRoom (Err fault) more = Unit {0}
 
 -- what a reader says in the end
 abbrev pub finished : Fed → Result (List Line) (HeaderFault × ℕ)
-finished (Ok progress) = read_end progress
-finished (Err fault) = Err fault
+finished reader = reader >>= read_end
 
--- the fault of lines that have one, with its line
-abbrev pub fault_in : Said → Option (HeaderFault × ℕ)
-fault_in (Ok end) = None
+-- the fault where there is one, with its line
+abbrev pub fault_in : {A : Type 0} → Result A (HeaderFault × ℕ) → Option (HeaderFault × ℕ)
+fault_in (Ok x) = None
 fault_in (Err fault) = Some fault
 
 -- the first fault of the headers in the complete lines of a text, with its line, where they have one
@@ -91,14 +97,18 @@ Feeds before piece after (Ok _) = (after ≡ fed before piece) × IsOk after
 Feeds before piece after (Err (faults.Header fault line)) = (after ≡ fed before piece) × (after ≡ Err (fault, line))
 Feeds before piece after (Err faults.NoMemory) = after ≡ before
 
--- what a reader has come to, by what it keeps
-abbrev pub what_is_fed : Reached → List ℕ → Option (HeaderFault × ℕ) → Fed
-what_is_fed reached rest None = Ok (record {
+-- how far a batch was read, by what a reader keeps
+abbrev pub progress_of : Reached → List ℕ → Progress
+progress_of reached rest = record {
   place = reached.place;
   count = reached.count;
   found = reached.found;
   rest = rest;
-})
+}
+
+-- what a reader has come to
+abbrev pub what_is_fed : Reached → List ℕ → Option (HeaderFault × ℕ) → Fed
+what_is_fed reached rest None = Ok (progress_of reached rest)
 what_is_fed reached rest (Some fault) = Err fault
 
 -- the unfinished line has no line feed, its number and the next one's have 32 bits, and what was found is in range

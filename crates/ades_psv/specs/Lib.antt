@@ -6,6 +6,7 @@ pub mod Optional
 pub mod Magnitudes
 pub mod Names
 pub mod Rules
+pub mod LawsBelow
 pub mod Reading
 pub mod Batch
 pub mod Feeding

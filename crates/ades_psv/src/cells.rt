@@ -2,6 +2,7 @@
 
 ghost use Rattle.std.specs.Prelude.{◌≡◌, ◌==◌, ◌+◌, ◌<◌, ◌≤◌, [], ◌∷◌, ◌++◌, All, false, length, IfSome, IfNone};
 ghost use Rattle.std.specs.Prelude.{count_by};
+ghost use Rattle.std.specs.Option.{option_map_or};
 ghost use Rattle.ascii_text.specs.Bytes.{vertical_bar};
 ghost use Rattle.ades_psv.specs.Cells.{cells};
 ghost use Rattle.ades_psv.specs.Columns.{place_of};
@@ -27,8 +28,7 @@ fn cut_at_bar(text: &[u8]) -> (&[u8], Option<&[u8]>)
 
 /// The first cell of a line, and the line after its bar, if a bar stands there.
 pub(crate) fn first_cell(line: &[u8]) -> (&[u8], Option<&[u8]>)
-    ensures more { IfSome result.1 (λ behind. cells line.now ≡ result.0.now ∷ cells behind.now) }
-    ensures last { IfNone result.1 (cells line.now ≡ result.0.now ∷ []) }
+    ensures exact { cells line.now ≡ result.0.now ∷ option_map_or (λ behind. cells behind.now) result.1 [] }
     ensures shorter { IfSome result.1 (λ behind. length behind.now < length line.now) }
 {
     let (piece, behind) = cut_at_bar(line);

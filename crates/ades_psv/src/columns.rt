@@ -1,8 +1,9 @@
 //! The columns that a column header names.
 
-ghost use Rattle.std.specs.Prelude.{◌≡◌, IfOk};
+ghost use Rattle.std.specs.Prelude.{◌≡◌, ◌||◌, ℕ, List, ◌∷◌, IfOk};
 ghost use Rattle.ades_psv.specs.Cells.{cells};
-ghost use Rattle.ades_psv.specs.Columns.{has_column, has_twice, columns_named, columns_of};
+ghost use Rattle.ades_psv.specs.Columns.{has_column, has_twice, is_seen, repeats, columns_named};
+ghost use Rattle.ades_psv.specs.Columns.{columns_of};
 
 use crate::cells::{count_cells, first_cell, place_of};
 use item_list::NoMemory;
@@ -49,6 +50,19 @@ fn columns_named(line: &[u8]) -> Columns
     }
 }
 
+/// Whether the name isn't empty and was seen; if not, it is seen from then on. Takes memory.
+#[tactic(auto, unfolding(crate::specs::Columns::repeats))]
+fn is_again<'a>(seen: &mut BTreeSet<&'a [u8]>, name: &'a [u8]) -> Result<bool, NoMemory>
+    ensures { IfOk result (λ again. (names : List (List ℕ)) → repeats (is_seen seen.old) (name.now ∷ names)
+        ≡ again || repeats (is_seen seen.new) names) }
+{
+    if name.is_empty() {
+        return Ok(false);
+    }
+    let added = seen.insert(name)?;
+    Ok(!added)
+}
+
 /// Whether a name that isn't empty stands twice in a column header.
 fn has_twice(alloc: Global, line: &[u8]) -> Result<bool, NoMemory>
     ensures { IfOk result (λ twice. twice ≡ has_twice (cells line.now)) }
@@ -57,7 +71,7 @@ fn has_twice(alloc: Global, line: &[u8]) -> Result<bool, NoMemory>
     let mut rest = line;
     'names: loop {
         let (name, behind) = first_cell(rest);
-        if !name.is_empty() && !seen.insert(name)? {
+        if is_again(&mut seen, name)? {
             return Ok(true);
         }
         let Some(behind) = behind else {

@@ -1,7 +1,9 @@
 //! What a line of a batch is, by the place in which it stands.
 
-ghost use Rattle.std.specs.Prelude.{◌≡◌, IfOk};
+ghost use Rattle.std.specs.Prelude.{◌≡◌, ◌≢◌, IfOk};
+ghost use Rattle.ades_psv.specs.declared.columns.Columns.{Columns as Listed};
 ghost use Rattle.ades_psv.specs.declared.header.Place.TheVariants as places;
+ghost use Rattle.ades_psv.specs.declared.header.Step.TheVariants as steps;
 ghost use Rattle.ades_psv.specs.Headers.{is_version, is_group, is_element, filled_step, step};
 
 use crate::columns::{Columns, columns_of};
@@ -60,7 +62,8 @@ pub(crate) fn is_element(line: &[u8]) -> bool
 /// What a line is that stands in a header and isn't blank. Takes memory.
 #[tactic(auto, unfolding(crate::specs::Headers::filled_step))]
 fn header_step(alloc: Global, line: &[u8]) -> Result<Step, NoMemory>
-    ensures { IfOk result (λ next. next ≡ filled_step places.Header line.now) }
+    ensures exact { IfOk result (λ next. next ≡ filled_step places.Header line.now) }
+    ensures no_data { (columns : Listed) → IfOk result (λ next. next ≢ steps.Data columns) }
 {
     if is_group(line) || is_element(line) {
         return Ok(Step::On(Place::Header));
@@ -74,7 +77,9 @@ fn header_step(alloc: Global, line: &[u8]) -> Result<Step, NoMemory>
 /// What a line is that stands in this place. Takes memory while a column header is tested.
 #[tactic(auto, unfolding(crate::specs::Headers::step, crate::specs::Headers::filled_step))]
 pub(crate) fn step_at(alloc: Global, place: &Place, line: &[u8]) -> Result<Step, NoMemory>
-    ensures { IfOk result (λ next. next ≡ step place.now line.now) }
+    ensures exact { IfOk result (λ next. next ≡ step place.now line.now) }
+    ensures below { (columns : Listed) → IfOk result (λ next. next ≡ steps.Data columns
+        → place.now ≡ places.Listing columns) }
 {
     if are_blanks(line) {
         return Ok(Step::On(*place));

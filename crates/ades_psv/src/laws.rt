@@ -11,6 +11,7 @@ ghost use Rattle.obs_record.specs.Filed.{IsStated, AreStated};
 ghost use Rattle.ades_psv.specs.Fields.{Fields};
 ghost use Rattle.text_lines.specs.Pieces.{joined};
 ghost use Rattle.ades_psv.specs.Headers.{is_version};
+ghost use Rattle.ades_psv.specs.LawsBelow.{Laws};
 ghost use Rattle.ades_psv.specs.Rules.{IsReading};
 ghost use Rattle.text_lines.specs.Lines.{numbered_lines};
 ghost use Rattle.ades_psv.specs.Batch.{DataLine, data_lines_of, psv_lines_of};
@@ -18,6 +19,20 @@ ghost use Rattle.ades_psv.specs.Standing.{StandsBelow};
 ghost use Rattle.ades_psv.specs.Feeding.{unfed, fed, fed_all, HasRoom, finished};
 
 use text_lines::laws;
+
+/// The laws of the crates below, together.
+pub(crate) fn below()
+    ensures { Laws }
+{
+    ascii_text::laws::texts();
+    angle_fixed::laws::angles();
+    obs_time::laws::times();
+    packed_names::laws::names();
+    obs_record::laws::records();
+    obs_time::laws::moments_in_range();
+    angle_fixed::laws::angles_in_range();
+    obs_record::laws::own_names();
+}
 
 /// In whatever pieces a batch comes, it says the same.
 pub fn any_pieces()
@@ -69,11 +84,7 @@ pub fn one_reading()
     ensures only { (fields : Fields) (one other : Result Sighting RuleCode) → IsReading fields one
         → IsReading fields other → one ≡ other }
 {
-    ascii_text::laws::texts();
-    angle_fixed::laws::angles();
-    obs_time::laws::times();
-    packed_names::laws::names();
-    obs_record::laws::records();
+    below();
 }
 
 /// What a data line says that keeps every rule has its fields in their ranges, and a mode that is taken. So it is of
@@ -82,12 +93,5 @@ pub fn lines_in_range()
     ensures line { (fields : Fields) (s : Sighting) → IsReading fields (Ok s) → IsStated s }
     ensures batch { (body : List ℕ) (lines : List Line) → psv_lines_of body ≡ Ok lines → AreStated lines }
 {
-    ascii_text::laws::texts();
-    angle_fixed::laws::angles();
-    obs_time::laws::times();
-    packed_names::laws::names();
-    obs_record::laws::records();
-    obs_record::laws::own_names();
-    obs_time::laws::moments_in_range();
-    angle_fixed::laws::angles_in_range();
+    below();
 }

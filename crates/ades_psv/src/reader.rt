@@ -3,10 +3,11 @@
 ghost use Rattle.std.specs.Prelude.{◌≡◌, ℕ, List, [], Some, None, ◌+◌, ◌<◌, ◌≤◌, ◌++◌, length, take, IfOk, IfErr, OnOk};
 ghost use Rattle.std.specs.Prelude.{OnErr, Ok, Err};
 ghost use Rattle.text_lines.specs.Lines.{IsNumberable};
-ghost use Rattle.text_lines.specs.Pieces.{complete_lines, unfinished};
+ghost use Rattle.text_lines.specs.Pieces.{unfinished};
 ghost use Rattle.ades_psv.specs.declared.fault.PsvFault.TheVariants as faults;
 ghost use Rattle.ades_psv.specs.Batch.{psv_lines_of, AreReadFrom, AreInRange};
-ghost use Rattle.ades_psv.specs.Walking.{IsAnswer, Reads};
+ghost use Rattle.ades_psv.specs.Walking.{IsAnswer, Gives};
+ghost use Rattle.ades_psv.specs.Feeding.{progress_of, read_on};
 ghost use Rattle.ades_psv.specs.Feeding.{unfed, fed, complete_fault, HasRoom, Feeds, finished};
 ghost use Rattle.obs_record.specs.declared.rule.HeaderFault.{HeaderFault};
 
@@ -58,8 +59,8 @@ fn read_piece(
 ) -> Result<(), PsvFault>
     requires alone { unfinished rest.old ≡ rest.old }
     requires room { reached.old.count + length rest.old + length piece.now < 4294967295 }
-    ensures exact { Reads reached.old (complete_lines (rest.old ++ piece.now)) reached.new result }
-    ensures rest { OnOk result (rest.new ≡ unfinished (rest.old ++ piece.now)) }
+    ensures exact { Gives (λ _. progress_of reached.new rest.new) (read_on (progress_of reached.old rest.old)
+        piece.now) result }
     ensures alone { OnOk result (unfinished rest.new ≡ rest.new) }
     ensures few { OnOk result (reached.new.count + length rest.new ≤ reached.old.count + length rest.old
         + length piece.now) }

@@ -1,9 +1,7 @@
 //! The reading of a data line.
 
-ghost use Rattle.std.specs.Prelude.{◌≡◌, ◌<◌, ◌≤◌, IfOk, pos, neg_ℤ, ◌≤ℤ◌};
+ghost use Rattle.std.specs.Prelude.{◌≡◌, ◌≤◌, IfOk};
 ghost use Rattle.std.specs.List.{list_all};
-ghost use Rattle.angle_fixed.specs.Angles.{circle, quarter};
-ghost use Rattle.obs_time.specs.Instants.{IsInstantNs};
 ghost use Rattle.obs_record.specs.declared.sighting.Coded.TheVariants.{Word};
 ghost use Rattle.obs_record.specs.Short.{kept_short};
 ghost use Rattle.obs_record.specs.Sighting.{IsSighting};
@@ -14,6 +12,7 @@ ghost use Rattle.ades_psv.specs.Reading.{is_text_byte, names_in, lacks_field, la
 ghost use Rattle.ades_psv.specs.Reading.{observed, reading_of};
 
 use crate::fields::Fields;
+use crate::laws::below;
 use crate::magnitude::magnitude_in;
 use crate::names::{Names, designation_in, number_in, temporary_in};
 use crate::position::{Position, Stated, position_from, stated_in};
@@ -139,9 +138,7 @@ fn observed(
 /// What a data line says.
 #[tactic(auto, unfolding(crate::specs::Reading::reading_of))]
 fn reading(fields: &Fields) -> Result<Sighting, RuleCode>
-    ensures exact { result ≡ reading_of (seen fields.now) }
-    ensures time { IfOk result (λ s. IsInstantNs s.time) }
-    ensures angles { IfOk result (λ s. (s.ra < circle) × (neg_ℤ (pos quarter) ≤ℤ s.dec) × (s.dec ≤ℤ pos quarter)) }
+    ensures { result ≡ reading_of (seen fields.now) }
 {
     let names = names_in(fields)?;
     let stated = stated_in(fields)?;
@@ -159,21 +156,15 @@ pub(crate) fn read_fields(fields: &Fields) -> Result<Sighting, RuleCode>
     ensures exact { result ≡ reading_of (seen fields.now) }
     ensures range { IfOk result IsSighting }
 {
-    ascii_text::laws::texts();
-    angle_fixed::laws::angles();
-    obs_time::laws::times();
-    packed_names::laws::names();
-    obs_record::laws::records();
+    reads_right();
     reading(fields)
 }
 
-/// What is read from a data line is its reading. Nothing runs here: what the function promises is the law.
+/// What is read from a data line is its reading, and is in range. Nothing runs here: what the function promises is the
+/// law.
 pub(crate) fn reads_right()
-    ensures { (fields : Texts) → IsReading fields (reading_of fields) }
+    ensures reading { (fields : Texts) → IsReading fields (reading_of fields) }
+    ensures range { (fields : Texts) → IfOk (reading_of fields) IsSighting }
 {
-    ascii_text::laws::texts();
-    angle_fixed::laws::angles();
-    obs_time::laws::times();
-    packed_names::laws::names();
-    obs_record::laws::records();
+    below();
 }

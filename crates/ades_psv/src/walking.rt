@@ -1,10 +1,12 @@
 //! The lines of a batch, read one after another.
 
-ghost use Rattle.std.specs.Prelude.{◌≡◌, ◌+◌, ◌<◌, ◌≤◌, [], ◌∷◌, length, take, IfOk};
+ghost use Rattle.std.specs.Prelude.{◌≡◌, ◌+◌, ◌<◌, ◌≤◌, List, [], length, take, IfOk, OnOk};
 ghost use Rattle.std.specs.Str.Lines.{lines};
-ghost use Rattle.text_lines.specs.Pieces.{complete_lines, unfinished};
+ghost use Rattle.text_lines.specs.Pieces.{unfinished};
+ghost use Rattle.obs_record.specs.declared.line.Line.{Line as SeenLine};
 ghost use Rattle.ades_psv.specs.Batch.{ended, AreInRange};
-ghost use Rattle.ades_psv.specs.Walking.{IsAnswer, Reads};
+ghost use Rattle.ades_psv.specs.Feeding.{progress_of, read_lines, read_on};
+ghost use Rattle.ades_psv.specs.Walking.{Gives, line_read};
 
 use crate::fault::PsvFault;
 use crate::fields::cut_fields;
@@ -30,26 +32,28 @@ impl Reached {
     /// Reads one more line. Takes memory.
     pub(crate) fn read_line(&mut self, alloc: Global, line: &[u8]) -> Result<(), PsvFault>
         requires { self.old.count < 4294967295 }
-        ensures exact { Reads self.old (line.now ∷ []) self.new result }
+        ensures exact { Gives (λ _. progress_of self.new []) (line_read (progress_of self.old []) line.now) result }
+        ensures count { OnOk result (self.new.count ≡ self.old.count + 1) }
         ensures kept { take (length self.old.found) self.new.found ≡ self.old.found }
         ensures range { AreInRange self.old.found → AreInRange self.new.found }
     {
         let number = self.count + 1;
+        self.count = number;
         match step_at(alloc, &self.place, line)? {
-            Step::On(place) => self.place = place,
+            Step::On(place) => {
+                self.place = place;
+                Ok(())
+            }
             Step::Data(columns) => {
                 let read = read_fields(&cut_fields(&columns, line));
                 self.found.push(Line { number, read })?;
+                Ok(())
             }
-            Step::Fault(fault) => {
-                return Err(PsvFault::Header {
-                    fault,
-                    line: number,
-                });
-            }
+            Step::Fault(fault) => Err(PsvFault::Header {
+                fault,
+                line: number,
+            }),
         }
-        self.count = number;
-        Ok(())
     }
 
     /// Reads the lines of a text that line feeds end; what stands after the last line feed is left. Takes memory.
@@ -59,7 +63,7 @@ impl Reached {
         text: &'a [u8],
     ) -> Result<&'a [u8], PsvFault>
         requires { self.old.count + length text.now ≤ 4294967295 }
-        ensures exact { Reads self.old (complete_lines text.now) self.new result }
+        ensures exact { Gives (λ rest. progress_of self.new rest.now) (read_on (progress_of self.old []) text.now) result }
         ensures rest { IfOk result (λ rest. rest.now ≡ unfinished text.now) }
         ensures few { IfOk result (λ rest. self.new.count + length rest.now ≤ self.old.count + length text.now) }
         ensures kept { take (length self.old.found) self.new.found ≡ self.old.found }
@@ -77,7 +81,8 @@ impl Reached {
     pub(crate) fn read_last(&mut self, alloc: Global, line: &[u8]) -> Result<(), PsvFault>
         requires alone { unfinished line.now ≡ line.now }
         requires room { self.old.count < 4294967295 }
-        ensures exact { Reads self.old (lines line.now) self.new result }
+        ensures exact { Gives (λ _. progress_of self.new []) (read_lines (progress_of self.old []) (lines line.now) [])
+            result }
         ensures range { AreInRange self.old.found → AreInRange self.new.found }
     {
         laws::lines();
@@ -90,7 +95,7 @@ impl Reached {
 
 /// The fault of a batch without a faulty line that ends in this place, its last line having this number.
 pub(crate) fn ended(place: &Place, last: u32) -> Result<(), PsvFault>
-    ensures { IsAnswer (ended last (place.now, tt)) result }
+    ensures { (found : List SeenLine) → Gives (λ _. found) (ended last (place.now, found)) result }
 {
     match place {
         Place::Opening => Err(PsvFault::Header {

@@ -1,13 +1,13 @@
 use Rattle.std.proofs.Common.{◌≡◌, ℕ, ◌+◌, ◌-◌, List, Bor, length, length-drop, length-set, ap, ◌∙◌, arith}
+use Rattle.std.proofs.lemmas.Grind.{common_steps}
 use Rattle.ades_psv.specs.Cells.{cells}
 use Rattle.ades_psv.proofs.CellLaws.{length-cells}
-use Rattle.ades_psv.proofs.Options.{none_from}
-use Rattle.ades_psv.proofs.Cutting.{reached, all_passed, kept_more}
+use Rattle.ades_psv.proofs.Cutting.{reached, all_passed}
 use Rattle.ades_psv.proofs.fields.cut_cells.Goals as goal
 
 pub cells-preserved : goal.cells-preserved
 cells-preserved c =
-    let more = rw c.in-Some.is at c.first_cell.ensures.more in
+    let more = rw c.in-Some.is at c.first_cell.ensures.exact in
     let shorter = rw c.in-Some.is at c.first_cell.ensures.shorter in
     let at = reached (cells c.args.cut.now.line.now) c.cells.place c.first_cell.result.0.now (cells c.in-Some.behind.now) (c.cells.invariant.rest ∙ more) in
     record {
@@ -15,18 +15,18 @@ cells-preserved c =
       rest = at.after;
       within = omega (arith, shorter, c.cells.invariant.within);
       kept = simp length-set c.cells.invariant.kept;
-      first = kept_more c.cells.cut.first c.first_cell.result.0 (cells c.args.cut.now.line.now) c.cells.place (omega (arith, c.cells.invariant.kept)) at.here c.cells.invariant.first;
+      first = λ k d below. grind (arith, common_steps, c.cells.invariant.first k d);
     }
 
 pub returns-in_default-clause-cells : goal.returns-in_default-clause-cells
 returns-in_default-clause-cells c =
-    let last = rw (none_from c.first_cell.result.1 c.in_default.not-Some) at c.first_cell.ensures.last in
+    let last = rw c.in_default.is at c.first_cell.ensures.exact in
     let at = reached (cells c.args.cut.now.line.now) c.cells.place c.first_cell.result.0.now _ (c.cells.invariant.rest ∙ last) in
     let all = all_passed (cells c.args.cut.now.line.now) (c.cells.place + 1) at.after in
     record {
       whole = ap (λ (t : Bor (List ℕ)). t.now) c.cells.invariant.same;
       count = omega (arith, all, at.within);
-      first = λ k few below. kept_more c.cells.cut.first c.first_cell.result.0 (cells c.args.cut.now.line.now) c.cells.place (omega (arith, c.cells.invariant.kept)) at.here c.cells.invariant.first k below;
+      first = λ k d few below. grind (arith, common_steps, c.cells.invariant.first k d);
     }
 
 pub overflow_add-cut-2 : goal.overflow_add-cut-2
@@ -41,5 +41,5 @@ returns-clause-cells c =
     record {
       whole = ap (λ (t : Bor (List ℕ)). t.now) c.cells.invariant.same;
       count = omega (arith, left, length-cells c.cells.rest.now, c.count_cells.ensures.exact);
-      first = λ k few below. c.cells.invariant.first k (omega arith);
+      first = λ k d few below. c.cells.invariant.first k d (omega arith);
     }

@@ -1,5 +1,4 @@
-use Rattle.std.proofs.Common.{◌≡◌, ℕ, ◌<◌, ◌≤◌, drop, length}
-use Rattle.std.specs.Prelude.{option_map, slice_get}
+use Rattle.std.proofs.Common.{◌≡◌, ℕ, ◌<◌, ◌≤◌, List, [], drop, length, get_or, Bor}
 use Rattle.ades_psv.specs.Cells.{cells}
 use Rattle.ades_psv.proofs.fields.cut_cells.Given as goal
 
@@ -9,5 +8,5 @@ invariant-cells l = record {
   rest : drop l.place (cells l.initial.cut.line.now) ≡ cells l.rest;
   within : length l.rest ≤ length l.initial.cut.line.now;
   kept : length l.cut.first ≡ 16;
-  first : (k : ℕ) → k < l.place → option_map (λ cell. cell.now) (slice_get l.cut.first k) ≡ slice_get (cells l.initial.cut.line.now) k;
+  first : (k : ℕ) (d : Bor (List ℕ)) → k < l.place → (get_or l.cut.first k d).now ≡ get_or (cells l.initial.cut.line.now) k [];
 }

@@ -3,13 +3,14 @@ use Rattle.std.specs.Str.Lines.{lines}
 use Rattle.text_lines.specs.Pieces.{complete_lines, unfinished}
 use Rattle.std.proofs.lemmas.Bool.Decides.{nat_tests}
 use Rattle.std.proofs.lemmas.List.{nil_from_length}
-use Rattle.ades_psv.proofs.Walks.{reads_nothing}
+use Rattle.ades_psv.specs.Feeding.{progress_of}
+use Rattle.ades_psv.proofs.Walks.{read_none, read_one}
 use Rattle.ades_psv.proofs.walking.Reached.read_last.Goals as goal
 
 pub returns-then-is_empty-clause-exact : goal.returns-then-is_empty-clause-exact
 returns-then-is_empty-clause-exact c =
     let short : length c.args.line.now ≡ 0 = grind (arith, nat_tests) in
-    rw (nil_from_length c.args.line.now short) (reads_nothing c.args.self.now)
+    rw (nil_from_length c.args.line.now short) (read_none (progress_of c.args.self.now []) [])
 
 pub returns-clause-exact : goal.returns-clause-exact
 returns-clause-exact c =
@@ -18,4 +19,4 @@ returns-clause-exact c =
     let some : 0 < length (unfinished text) = grind (arith, nat_tests, ap length alone) in
     let none : complete_lines text ≡ [] = ap complete_lines (sym alone) ∙ c.lines.ensures.rest_alone text in
     let one : lines text ≡ text ∷ [] = c.lines.ensures.last_line text some ∙ ap (λ (ls : List (List ℕ)). ls ++ unfinished text ∷ []) none ∙ ap (λ (t : List ℕ). t ∷ []) alone in
-    rw one c.read_line.ensures.exact
+    rw (one, read_one c.args.self.now text) c.read_line.ensures.exact
