@@ -1,4 +1,4 @@
-//! Tests of what people write: the bodies of acts, the tables of stations and codes, the command line and its usage.
+//! Tests of what people write in requests: the bodies of acts, and the tables of stations and codes that they fill.
 //!
 //! A crate with tests is proved twice, with and without them, so they stand in a crate above those that they test.
 #![tactic(auto)]
@@ -6,10 +6,6 @@
 #[cfg(test)]
 mod bodies;
 #[cfg(test)]
-mod commands;
-#[cfg(test)]
 mod stations;
 #[cfg(test)]
 mod tables;
-#[cfg(test)]
-mod usage;
