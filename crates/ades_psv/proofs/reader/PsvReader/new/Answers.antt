@@ -11,6 +11,3 @@ pub invariant_of-result : goal.invariant_of-result
 unfolding unfinished
 invariant_of-result c = λ none.
     rw (c.new.ensures, c.new-2.ensures) (record { rest_alone = refl; room = lit< tt; range = All-nil (λ (l : Line). IfOk l.read IsSighting) })
-
-pub returns-clause-text : goal.returns-clause-text
-returns-clause-text c = rw (c.new.ensures, c.new-2.ensures) (sym (fed_nothing c.lines.ensures))
