@@ -151,6 +151,7 @@ impl PsvReader {
     /// # Errors
     ///
     /// `Header` with the first fault of the headers and its line, and `NoMemory` where memory was refused.
+    #[tactic(auto, using(crate::proofs::Readers::feeds_text))]
     pub fn feed(&mut self, piece: &[u8]) -> Result<(), PsvFault>
         requires { HasRoom self.old (length piece.now) }
         ensures exact { Feeds self.old piece.now self.new result }
@@ -200,7 +201,7 @@ impl PsvReader {
     /// # Errors
     ///
     /// `Header` with the first fault of the headers and its line, and `NoMemory` where memory was refused.
-    #[tactic(auto, using(crate::proofs::Readers::finish_text))]
+    #[tactic(auto, using(crate::proofs::Readers::finish_text, crate::proofs::Readers::answer_lines))]
     pub fn finish(self) -> Result<Lines, PsvFault>
         ensures exact { IsAnswer (finished self) result }
         // The answer is what the text that was fed says.
