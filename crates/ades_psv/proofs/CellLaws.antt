@@ -16,15 +16,15 @@ cells_cut line piece cell None is none parts whole = rw (← whole, is) (ap (map
 cells_cut line piece cell (Some rest) is none parts whole = rw (parts, is) (ap (map trimmed) (slice_split_at (λ b. eqb b 124) piece 124 rest.now none refl))
 
 -- a line has one cell more than bars
-pub length-cells : (line : List ℕ) → length (cells line) ≡ count_by (λ b. eqb b 124) line + 1
+pub length_cells : (line : List ℕ) → length (cells line) ≡ count_by (λ b. eqb b 124) line + 1
 unfolding cells
-length-cells line = length-map (pieces line) trimmed ∙ length-slice_split (λ b. eqb b 124) line
+length_cells line = length-map (pieces line) trimmed ∙ length-slice_split (λ b. eqb b 124) line
 
 some_or : (b : Bool) (n : ℕ) (o : Option ℕ) (any : Bool) → is_some o ≡ any → is_some (cond b (Some n) o) ≡ b || any
 some_or true n o any is = refl
 some_or false n o any is = is
 
 -- a place is found where one of the texts passes
-pub is_some-position_from : {X : Type 0} (test : X → Bool) (n : ℕ) (xs : List X) → is_some (position_from test n xs) ≡ list_any test xs
-is_some-position_from test n [] = refl
-is_some-position_from test n (x ∷ xs) = some_or (test x) n (position_from test (n + 1) xs) (list_any test xs) (is_some-position_from test (n + 1) xs)
+pub found_in_any : {X : Type 0} (test : X → Bool) (n : ℕ) (xs : List X) → is_some (position_from test n xs) ≡ list_any test xs
+found_in_any test n [] = refl
+found_in_any test n (x ∷ xs) = some_or (test x) n (position_from test (n + 1) xs) (list_any test xs) (found_in_any test (n + 1) xs)

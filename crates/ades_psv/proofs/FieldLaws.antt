@@ -1,13 +1,11 @@
 -- The fields of a data line: what is read from one is what it says, and what it says is read.
-use Rattle.std.proofs.Common.{◌≡◌, ◌≢◌, ℕ, ◌+◌, ◌≤◌, Bool, true, false, cond, leb, ltb, ◌&&◌, List, [], ◌∷◌, length, length-append, All, Option, Some, None, Result, Ok, Err, refl, sym, ap, subst, ◌∙◌, arith}
+use Rattle.std.proofs.Common.{◌≡◌, ◌≢◌, ℕ, ◌≤◌, Bool, true, false, cond, leb, ltb, ◌&&◌, List, [], ◌∷◌, length, All, Option, Some, None, Result, Ok, Err, refl, sym, ap, subst, ◌∙◌, arith}
 use Rattle.std.specs.Prelude.{◌↔◌, option_map, MatchResult}
 use Rattle.std.specs.List.{list_all}
 use Rattle.std.proofs.lemmas.Bool.{and_parts, leb-true, le-leb}
 use Rattle.std.proofs.lemmas.Bool.Decides.{nat_tests}
 use Rattle.std.proofs.lemmas.Result.{MatchResult-weaker}
-use Rattle.ascii_text.specs.declared.digits.Radix.TheVariants.{Ten}
-use Rattle.ascii_text.specs.Digits.{digits_text, decimals_text}
-use Rattle.ascii_text.specs.DecimalNumbers.{NumberParts, IsSpelledNumber, number_spelling, number_parts_at, within, whole_at}
+use Rattle.ascii_text.specs.DecimalNumbers.{NumberParts, IsSpelledNumber, number_parts_at, within, whole_at}
 use Rattle.ascii_text.specs.Reading.{digits_at, digit_run, run_at, number_at, behind, more_digits, digit_at}
 use Rattle.ascii_text.specs.Judged.{answer_of}
 use Rattle.angle_fixed.specs.declared.fault.AngleFault.TheVariants as angles
@@ -55,14 +53,11 @@ temporary_found : (text : List ℕ) (short : Short) → IsTemporary text short �
 temporary_found text short is =
     rw (le-leb (length text) 8 is.few, (visible text).1 is.visible) (ap (λ (s : Short). Ok s) (sym is.kept))
 
-filled : (text : List ℕ) → 1 ≤ length text → text ≢ []
-filled text some none = omega (arith, ap length none)
-
 pub temporary_field : IsReadingOf S12 IsTemporary temporary_from
 temporary_field = record {
   told = λ text some. temporary_told text (leb (length text) 8 && list_all is_visible text) some refl;
   found = temporary_found;
-  some = λ text short is. filled text is.some;
+  none = λ short is. omega (arith, is.some);
 }
 
 -- ---- numbers and designations
@@ -107,14 +102,15 @@ magnitude_found text read is spelled =
     rw (spelled, few, le-leb (magnitude_of p.whole p.count p.value) greatest_magnitude low)
     (ap (λ (v : ℕ). Ok (v, p.count)) (sym is.value) ∙ ap (λ (n : ℕ). Ok (read.0, n)) (sym is.places))
 
+no_magnitude : number_parts_at 2 [] ≡ None
+unfolding number_parts_at whole_at run_at digit_run answer_of
+no_magnitude = refl
+
 -- ---- readings whose own faults all break one rule
 
 breaks_told : {A E : Type 0} (rule : RuleCode) (Reads : A → Type 0) (r : Result A E) → ((x : A) → r ≡ Ok x → Reads x) → MatchResult (or_breaks rule r) Reads (λ other. other ≡ rule)
 breaks_told rule Reads (Ok x) given = given x refl
 breaks_told rule Reads (Err fault) given = refl
-
-no_ok : {A E : Type 0} (r : Result A E) (fault : E) (x : A) → r ≡ Err fault → r ≡ Ok x → ⊥
-no_ok r fault x e f = cc
 
 -- what is read is right, what is right is read, and nothing is read from an empty text
 breaks_field : {A E : Type 0} (rule : RuleCode) (Reads : List ℕ → A → Type 0) (read : List ℕ → Result A E) (fault : E) → ((text : List ℕ) (x : A) → read text ≡ Ok x → Reads text x)
@@ -122,7 +118,7 @@ breaks_field : {A E : Type 0} (rule : RuleCode) (Reads : List ℕ → A → Type
 breaks_field rule Reads read fault given found none_read = record {
   told = λ text some. breaks_told rule (Reads text) (read text) (given text);
   found = λ text x is. ap (or_breaks rule) (found text x is);
-  some = λ text x is none. no_ok (read text) fault x (ap read none ∙ none_read) (found text x is);
+  none = λ x is. (let right = found [] x is in cc);
 }
 
 no_time : iso_of [] ≡ Err times.Spelling
@@ -138,7 +134,7 @@ unfolding dec_degrees_of signed_degrees_at past_sign number_parts_at whole_at ru
 no_dec = refl
 
 module _ (laws : Laws) where
-  open laws use {texts.{reads_number, length-digits_text}, angles.{ra_degrees_reads, ra_degrees_only, dec_degrees_reads, dec_degrees_only}, times.{iso_answered, iso_answer_only}, names.{printed_exactly}}
+  open laws use {texts.{reads_number}, angles.{ra_degrees_reads, ra_degrees_only, dec_degrees_reads, dec_degrees_only}, times.{iso_answered, iso_answer_only}, names.{printed_exactly}}
 
   -- reading gives exactly the name whose printed form the text is
   named_exactly : (text : List ℕ) (name : Name) → (name_of text ≡ Ok name) ↔ IsPrintedAs name text
@@ -153,7 +149,7 @@ module _ (laws : Laws) where
         MatchResult-weaker (from (name_of text)) {P = λ x. name_of text ≡ Ok (name x)} {P' = λ x. IsPrintedAs (name x) text} {Q = λ other. other ≡ S3} {Q' = λ other. other ≡ S3}
         (told (name_of text)) (λ x. (named_exactly text (name x)).0) (λ other same. same);
     found = λ text x is. ap from ((named_exactly text (name x)).1 is) ∙ kept x;
-    some = λ text x is none. no_ok (name_of text) Spelling (name x) (ap name_of none ∙ no_name) ((named_exactly text (name x)).1 is);
+    none = λ x is. (let right = (named_exactly [] (name x)).1 is in cc no_name);
   }
 
   pub number_field : IsReadingOf S3 IsNumberText (λ text. number_from (name_of text))
@@ -162,19 +158,11 @@ module _ (laws : Laws) where
   pub designation_field : IsReadingOf S3 IsDesignationText (λ text. designation_from (name_of text))
   designation_field = name_field (λ designation. names.Designation designation) designation_from designation_told (λ designation. refl)
 
-  spelled_filled : (text : List ℕ) (p : NumberParts) → IsSpelledNumber 2 p text → text ≢ []
-  unfolding number_spelling
-  spelled_filled text p is none =
-      let long : length text ≡ p.digits + length (decimals_text p.count p.value)
-      = ap length is.text_is ∙ length-append (digits_text Ten p.digits p.whole) (decimals_text p.count p.value) ∙ ap (λ (n : ℕ). n + length (decimals_text p.count p.value)) (length-digits_text Ten p.digits p.whole) in
-      let some = is.some in
-      omega (arith, ap length none)
-
   pub magnitude_field : IsReadingOf S9 IsMagnitude (λ text. magnitude_from (option_map (λ p. within 6 p) (number_parts_at 2 text)))
   magnitude_field = record {
     told = λ text some. some_told text (number_parts_at 2 text) (λ p e. (reads_number 2).takes text p e);
     found = λ text read is. magnitude_found text read is ((reads_number 2).again is.parts text is.spelled);
-    some = λ text read is. spelled_filled text is.parts is.spelled;
+    none = λ read is. (let right = (reads_number 2).again is.parts [] is.spelled in cc no_magnitude);
   }
 
   pub time_field : IsReadingOf S5 IsTime (λ text. or_breaks S5 (iso_of text))

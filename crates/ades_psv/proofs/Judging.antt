@@ -1,5 +1,5 @@
 -- Fields that one rule is of.
-use Rattle.std.proofs.Common.{◌≡◌, ◌≢◌, ℕ, Bool, true, false, cond, List, [], ◌∷◌, Option, Some, None, Result, Ok, Err, length, get_or, All, refl, sym, ap, ◌∙◌, inl, arith}
+use Rattle.std.proofs.Common.{◌≡◌, ◌≢◌, ℕ, Bool, true, false, cond, List, [], ◌∷◌, Option, Some, None, Result, Ok, Err, length, get_or, All, refl, ap, subst, inl, arith}
 use Rattle.std.specs.Prelude.{◌↔◌, MatchResult}
 use Rattle.std.specs.List.{list_all}
 use Rattle.std.proofs.lemmas.Bool.{eqb-true}
@@ -39,13 +39,7 @@ filled_is (byte ∷ text) some = grind (arith, nat_tests)
 pub record IsReadingOf {A : Type 0} (rule : RuleCode) (Reads : List ℕ → A → Type 0) (read : List ℕ → Result A RuleCode) : Type 0 where
   pub told : (text : List ℕ) → text ≢ [] → MatchResult (read text) (Reads text) (λ other. other ≡ rule)
   pub found : (text : List ℕ) (x : A) → Reads text x → read text ≡ Ok x
-  pub some : (text : List ℕ) (x : A) → Reads text x → text ≢ []
-
-abbrev ok : {A : Type 0} → A → Result A RuleCode
-ok x = Ok x
-
-same_Ok : {A : Type 0} (x y : A) → ok x ≡ ok y → x ≡ y
-same_Ok x y e = cc
+  pub none : (x : A) → Reads [] x → ⊥
 
 -- what is read from a field that may be empty is what it says; or the field breaks the rule
 abbrev pub IsTold : {A : Type 0} → RuleCode → (List ℕ → A → Type 0) → List ℕ → Result (Option A) RuleCode → Type 0
@@ -75,12 +69,16 @@ module _ {A : Type 0} {rule : RuleCode} {Reads : List ℕ → A → Type 0} {rea
       → Judges (Keeps fields) (rule ∷ []) (Says Reads text) (unless_empty text (read text))
   judged_field fields text keeps kept = judged_by fields text (unless_empty text (read text)) keeps kept (field_told text)
 
+  -- what says something isn't empty
+  pub some : (text : List ℕ) (x : A) → Reads text x → text ≢ []
+  some text x says none = is.none x (subst (λ (t : List ℕ). Reads t x) none says)
+
   -- a text says one thing
   pub reads_one : (text : List ℕ) (one other : A) → Reads text one → Reads text other → one ≡ other
-  reads_one text one other first second = same_Ok one other (sym (is.found text one first) ∙ is.found text other second)
+  reads_one text one other first second = (let a = is.found text one first in let b = is.found text other second in cc)
 
   pub says_one : (text : List ℕ) (one other : Option A) → Says Reads text one → Says Reads text other → one ≡ other
   says_one text None None first second = refl
-  says_one text None (Some y) first second = absurd (is.some text y second first)
-  says_one text (Some x) None first second = absurd (is.some text x first second)
+  says_one text None (Some y) first second = absurd (some text y second first)
+  says_one text (Some x) None first second = absurd (some text x first second)
   says_one text (Some x) (Some y) first second = ap (λ (z : A). Some z) (reads_one text x y first second)

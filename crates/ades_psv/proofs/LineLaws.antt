@@ -24,7 +24,7 @@ use Rattle.ades_psv.specs.Names.{IsNumberText, IsDesignationText, IsTemporary, n
 use Rattle.ades_psv.specs.Rules.{Keeps, IsTextByte, IsTime, IsRa, IsDec, HasFields, line_rules, IsSightingOf, IsReading}
 use Rattle.ades_psv.specs.Reading.{is_text_byte, names_in, time_in, ra_in, dec_in, stated_in, lacks_field, lacks_name, lacks_band, required, position_from, position_in, observed, reading_of}
 use Rattle.ades_psv.specs.LawsBelow.{Laws}
-use Rattle.ades_psv.proofs.Judging.{all_pass, empty_from, filled_from, filled_is, IsTold, field_told, judged_field, says_one, reads_one}
+use Rattle.ades_psv.proofs.Judging.{all_pass, empty_from, filled_from, filled_is, IsTold, field_told, judged_field, some, says_one, reads_one}
 use Rattle.ades_psv.proofs.FieldLaws.{number_field, designation_field, temporary_field, magnitude_field, time_field, ra_field, dec_field}
 
 -- ---- parts of a line
@@ -154,7 +154,7 @@ module _ (laws : Laws) where
   position_by fields (Some time) None dec nothing t r d = inl (λ has. has.ra r, refl)
   position_by fields (Some time) (Some ra) None nothing t r d = inl (λ has. has.dec d, refl)
   position_by fields (Some time) (Some ra) (Some dec) nothing t r d =
-      let has = has_from fields nothing ((time_field laws).some fields.time time t) ((ra_field laws).some fields.ra ra r) ((dec_field laws).some fields.dec dec d) in
+      let has = has_from fields nothing (some (time_field laws) fields.time time t) (some (ra_field laws) fields.ra ra r) (some (dec_field laws) fields.dec dec d) in
       ((has, tt), record { has = has; time = t; ra = r; dec = d })
 
   complete_by : (fields : Fields) (stated : Stated) (lacks : Bool) → AreStated fields stated → lacks_field fields || (lacks_name fields || lacks_band fields) ≡ lacks

@@ -44,6 +44,7 @@ fn count_bars(line: &[u8]) -> usize
 }
 
 /// How many cells a line has.
+#[tactic(auto, using(crate::proofs::CellLaws::length_cells))]
 pub(crate) fn count_cells(line: &[u8]) -> usize
     ensures exact { result ≡ length (cells line.now) }
     ensures few { result ≤ length line.now + 1 }

@@ -51,7 +51,7 @@ fn columns_named(line: &[u8]) -> Columns
 }
 
 /// Whether the name isn't empty and was seen; if not, it is seen from then on. Takes memory.
-#[tactic(auto, unfolding(crate::specs::Columns::repeats))]
+#[tactic(auto, using(crate::proofs::NameSets::note_name), unfolding(crate::specs::Columns::repeats))]
 fn is_again<'a>(seen: &mut BTreeSet<&'a [u8]>, name: &'a [u8]) -> Result<bool, NoMemory>
     ensures { IfOk result (λ again. (names : List (List ℕ)) → repeats (is_seen seen.old) (name.now ∷ names)
         ≡ again || repeats (is_seen seen.new) names) }
@@ -82,6 +82,7 @@ fn has_twice(alloc: Global, line: &[u8]) -> Result<bool, NoMemory>
 }
 
 /// Whether a column has this name.
+#[tactic(auto, using(crate::proofs::CellLaws::found_in_any))]
 fn has_column(name: &[u8], line: &[u8]) -> bool
     ensures { result ≡ has_column name.now (cells line.now) }
 {

@@ -35,6 +35,7 @@ pub(crate) fn below()
 }
 
 /// In whatever pieces a batch comes, it says the same.
+#[tactic(auto, using(crate::proofs::Readers::one_text, crate::proofs::Readers::finished_text))]
 pub fn any_pieces()
     ensures { (pieces : List (List ℕ)) → finished (fed_all unfed pieces) ≡ psv_lines_of (joined pieces) }
 {
@@ -42,6 +43,7 @@ pub fn any_pieces()
 }
 
 /// What a reader has come to rests on the text that was fed, and not on its pieces.
+#[tactic(auto, using(crate::proofs::Readers::one_text))]
 pub fn one_text()
     ensures { (pieces : List (List ℕ)) → fed_all unfed pieces ≡ fed unfed (joined pieces) }
 {
@@ -49,6 +51,7 @@ pub fn one_text()
 }
 
 /// A reader can take so many bytes more where they and those that were fed are together fewer than 4,294,967,295.
+#[tactic(auto, using(crate::proofs::Readers::text_room))]
 pub fn room()
     ensures { (text : List ℕ) (more : ℕ) → length text + more < 4294967295 → HasRoom (fed unfed text) more }
 {
@@ -56,6 +59,7 @@ pub fn room()
 }
 
 /// The first fault in the complete lines of the front of a batch is the fault of the batch, whatever may follow.
+#[tactic(auto, using(crate::proofs::Readers::fault_stays))]
 pub fn faults_stay()
     ensures { (text more : List ℕ) (fault : HeaderFault × ℕ) → fed unfed text ≡ Err fault → psv_lines_of (text ++ more)
         ≡ Err fault }
@@ -89,6 +93,7 @@ pub fn one_reading()
 
 /// What a data line says that keeps every rule has its fields in their ranges, and a mode that is taken. So it is of
 /// each line of a batch.
+#[tactic(auto, using(crate::proofs::RangeLaws::batch_stated))]
 pub fn lines_in_range()
     ensures line { (fields : Fields) (s : Sighting) → IsReading fields (Ok s) → IsStated s }
     ensures batch { (body : List ℕ) (lines : List Line) → psv_lines_of body ≡ Ok lines → AreStated lines }

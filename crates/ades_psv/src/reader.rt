@@ -86,6 +86,7 @@ impl PsvReader {
     /// # Errors
     ///
     /// Memory was refused.
+    #[tactic(auto, using(crate::proofs::Readers::fed_nothing))]
     pub fn new(alloc: Global) -> Result<PsvReader, NoMemory>
         ensures exact { IfOk result (λ reader. reader ≡ unfed) }
         // No text came.
@@ -150,6 +151,7 @@ impl PsvReader {
     /// # Errors
     ///
     /// `Header` with the first fault of the headers and its line, and `NoMemory` where memory was refused.
+    #[tactic(auto, using(crate::proofs::Readers::feeds_text))]
     pub fn feed(&mut self, piece: &[u8]) -> Result<(), PsvFault>
         requires { HasRoom self.old (length piece.now) }
         ensures exact { Feeds self.old piece.now self.new result }
@@ -199,6 +201,7 @@ impl PsvReader {
     /// # Errors
     ///
     /// `Header` with the first fault of the headers and its line, and `NoMemory` where memory was refused.
+    #[tactic(auto, using(crate::proofs::Readers::finish_text, crate::proofs::Readers::answer_lines))]
     pub fn finish(self) -> Result<Lines, PsvFault>
         ensures exact { IsAnswer (finished self) result }
         // The answer is what the text that was fed says.

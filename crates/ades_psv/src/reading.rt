@@ -162,6 +162,7 @@ pub(crate) fn read_fields(fields: &Fields) -> Result<Sighting, RuleCode>
 
 /// What is read from a data line is its reading, and is in range. Nothing runs here: what the function promises is the
 /// law.
+#[tactic(auto, using(crate::proofs::LineLaws::reading_is, crate::proofs::RangeLaws::in_range))]
 pub(crate) fn reads_right()
     ensures reading { (fields : Texts) → IsReading fields (reading_of fields) }
     ensures range { (fields : Texts) → IfOk (reading_of fields) IsSighting }

@@ -57,6 +57,7 @@ impl Reached {
     }
 
     /// Reads the lines of a text that line feeds end; what stands after the last line feed is left. Takes memory.
+    #[tactic(auto, using(crate::proofs::Walks::read_uncut))]
     pub(crate) fn read_complete<'a>(
         &mut self,
         alloc: Global,
@@ -78,6 +79,7 @@ impl Reached {
     }
 
     /// Reads the last line, which no line feed ends; there is none where it is empty. Takes memory.
+    #[tactic(auto, using(crate::proofs::Walks::read_none))]
     pub(crate) fn read_last(&mut self, alloc: Global, line: &[u8]) -> Result<(), PsvFault>
         requires alone { unfinished line.now ≡ line.now }
         requires room { self.old.count < 4294967295 }

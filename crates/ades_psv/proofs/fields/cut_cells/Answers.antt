@@ -1,7 +1,7 @@
 use Rattle.std.proofs.Common.{◌≡◌, ℕ, ◌+◌, ◌-◌, List, Bor, length, length-drop, length-set, ap, ◌∙◌, arith}
 use Rattle.std.proofs.lemmas.Grind.{common_steps}
 use Rattle.ades_psv.specs.Cells.{cells}
-use Rattle.ades_psv.proofs.CellLaws.{length-cells}
+use Rattle.ades_psv.proofs.CellLaws.{length_cells}
 use Rattle.ades_psv.proofs.Cutting.{reached, all_passed}
 use Rattle.ades_psv.proofs.fields.cut_cells.Goals as goal
 
@@ -29,9 +29,6 @@ returns-in_default-clause-cells c =
       first = λ k d few below. grind (arith, common_steps, c.cells.invariant.first k d);
     }
 
-pub overflow_add-cut-2 : goal.overflow_add-cut-2
-overflow_add-cut-2 c = omega (arith, c.count_cells.ensures.few, c.cells.invariant.within)
-
 pub returns-clause-cells : goal.returns-clause-cells
 returns-clause-cells c =
     let left : length (cells c.cells.rest.now) ≡ length (cells c.args.cut.now.line.now) - 16 =
@@ -40,6 +37,6 @@ returns-clause-cells c =
     omega (arith, ap length rest, length-drop 16 (cells c.args.cut.now.line.now))) in
     record {
       whole = ap (λ (t : Bor (List ℕ)). t.now) c.cells.invariant.same;
-      count = omega (arith, left, length-cells c.cells.rest.now, c.count_cells.ensures.exact);
+      count = omega (arith, left, length_cells c.cells.rest.now, c.count_cells.ensures.exact);
       first = λ k d few below. c.cells.invariant.first k d (omega arith);
     }

@@ -1,9 +1,9 @@
 -- The data lines of a batch are the lines that stand below a column header.
-use Rattle.std.proofs.Common.{◌≡◌, ◌⊎◌, ℕ, zero, suc, true, false, ◌||◌, eqb, List, [], ◌∷◌, ◌++◌, append_assoc, length, All, Result, Ok, Err, refl, sym, ap, subst, ◌∙◌, inl, inr, arith}
+use Rattle.std.proofs.Common.{◌≡◌, ◌⊎◌, ℕ, zero, suc, true, false, ◌||◌, eqb, List, [], ◌∷◌, ◌++◌, append_assoc, length, All, Result, Ok, Err, refl, sym, ap, subst, inl, inr, arith}
 use Rattle.std.specs.List.{Contains, list_all, enumerate_from}
 use Rattle.std.specs.Str.Lines.{lines}
 use Rattle.std.proofs.lemmas.Bool.{cases_Bool, cond_both, eqb-true, and_parts, or_parts, or_from, or_left, or_right}
-use Rattle.std.proofs.lemmas.List.Elements.{All-nil, All-head, All-tail, All-push}
+use Rattle.std.proofs.lemmas.List.Elements.{All-nil, All-cons, All-head, All-tail}
 use Rattle.ascii_text.specs.Blanks.{are_blanks}
 use Rattle.obs_record.specs.declared.rule.HeaderFault.{HeaderFault}
 use Rattle.obs_record.specs.declared.rule.HeaderFault.TheVariants.{H1}
@@ -79,70 +79,44 @@ not_passed line listed =
 
 -- ---- from the data lines to where they stand
 
--- the lines of a header whose column header is still to come, with those above it
-record InHeader : Type 0 where
-  above : Numbered
-  opening : ℕ × List ℕ
-  group : Numbered
-  opens : is_group opening.1 ≡ true
-  passed : All (λ line. is_passed line.1 ≡ true) group
+-- lines below these columns: whatever follows that opens no group, a line behind it stands below them
+abbrev AreListed : Columns → Numbered → Type 0
+AreListed known front = (between : Numbered) (line : ℕ × List ℕ) (more : Numbered) → All (λ l. is_group l.1 ≡ false) between → is_passed line.1 ≡ false
+    → StandsBelow (front ++ (between ++ line ∷ more)) (listed_as known line)
 
-abbrev header_lines : InHeader → Numbered
-header_lines is = is.above ++ is.opening ∷ is.group
-
--- lines below these columns, with those of their header and above it
-record InListing (known : Columns) : Type 0 where
-  headed : InHeader
-  header : ℕ × List ℕ
-  between : Numbered
-  names : is_passed header.1 ≡ false
-  columns : columns_of header.1 ≡ Ok known
-  nearest : All (λ line. is_group line.1 ≡ false) between
-
--- the lines end in this place
+-- the lines end in this place; in a header the column header is still to come
 abbrev EndsIn : Place → Numbered → Type 0
 EndsIn Opening front = Unit {0}
-EndsIn Header front = (is : InHeader) × (front ≡ header_lines is)
-EndsIn (Listing known) front = (is : InListing known) × (front ≡ header_lines is.headed ++ is.header ∷ is.between)
+EndsIn Header front = (group : Numbered) (header : ℕ × List ℕ) (known : Columns) → All (λ l. is_passed l.1 ≡ true) group → is_passed header.1 ≡ false → columns_of header.1 ≡ Ok known
+    → AreListed known (front ++ (group ++ header ∷ []))
+EndsIn (Listing known) front = AreListed known front
 
 opened : (front : Numbered) (line : ℕ × List ℕ) → is_group line.1 ≡ true → EndsIn Header (front ++ line ∷ [])
-opened front line opens = (record { above = front; opening = line; group = []; opens = opens; passed = All-nil _ }, refl)
+opened front opening opens = λ group header known passed names columns between line more nearest listed. record {
+  above = front;
+  opening = opening;
+  group = group;
+  header = header;
+  between = between;
+  below = more;
+  are = simp append_assoc;
+  opens = opens;
+  passed = passed;
+  names = names;
+  columns = columns;
+  nearest = nearest;
+  listed = listed;
+}
 
 header_on : (front : Numbered) (line : ℕ × List ℕ) → EndsIn Header front → is_passed line.1 ≡ true → EndsIn Header (front ++ line ∷ [])
-header_on front line (is, are) passed = (
-  record is { group = is.group ++ line ∷ []; passed = All-push (λ (l : ℕ × List ℕ). is_passed l.1 ≡ true) is.group line is.passed passed },
-  ap (λ (ls : Numbered). ls ++ line ∷ []) are ∙ append_assoc is.above (is.opening ∷ is.group) (line ∷ []),
-)
-
-headed : (front : Numbered) (line : ℕ × List ℕ) (known : Columns) → EndsIn Header front → is_passed line.1 ≡ false → columns_of line.1 ≡ Ok known → EndsIn (Listing known) (front ++ line ∷ [])
-headed front line known (is, are) names columns =
-    (record { headed = is; header = line; between = []; names = names; columns = columns; nearest = All-nil _ }, ap (λ (ls : Numbered). ls ++ line ∷ []) are)
+header_on front line at passed = λ group header known all names columns.
+    subst (AreListed known) (sym (append_assoc front (line ∷ []) (group ++ header ∷ [])))
+    (at (line ∷ group) header known (All-cons (λ l. is_passed l.1 ≡ true) line group passed all) names columns)
 
 listing_on : (front : Numbered) (line : ℕ × List ℕ) (known : Columns) → EndsIn (Listing known) front → is_group line.1 ≡ false → EndsIn (Listing known) (front ++ line ∷ [])
-listing_on front line known (is, are) other = (
-  record is { between = is.between ++ line ∷ []; nearest = All-push (λ (l : ℕ × List ℕ). is_group l.1 ≡ false) is.between line is.nearest other },
-  ap (λ (ls : Numbered). ls ++ line ∷ []) are ∙ append_assoc (header_lines is.headed) (is.header ∷ is.between) (line ∷ []),
-)
-
--- a line that isn't passed over, behind those that end below columns
-found_below : (front : Numbered) (line : ℕ × List ℕ) (more : Numbered) (known : Columns) → EndsIn (Listing known) front → is_passed line.1 ≡ false → StandsBelow (front ++ line ∷ more) (listed_as known line)
-found_below front line more known (is, are) listed =
-    let head = is.headed in
-    record {
-      above = head.above;
-      opening = head.opening;
-      group = head.group;
-      header = is.header;
-      between = is.between;
-      below = more;
-      are = rw are (simp append_assoc);
-      opens = head.opens;
-      passed = head.passed;
-      names = is.names;
-      columns = is.columns;
-      nearest = is.nearest;
-      listed = listed;
-    }
+listing_on front line known at other = λ between next more nearest listed.
+    subst (λ (ls : Numbered). StandsBelow ls (listed_as known next)) (sym (append_assoc front (line ∷ []) (between ++ next ∷ more)))
+    (at (line ∷ between) next more (All-cons (λ l. is_group l.1 ≡ false) line between other nearest) listed)
 
 -- one line behind those that end in a place, where what the lines behind it lead to is known
 module _ (front : Numbered) (line : ℕ × List ℕ) (more : Numbered) (end : Place) (ds : List DataLine) (d : DataLine)
@@ -151,14 +125,14 @@ module _ (front : Numbered) (line : ℕ × List ℕ) (more : Numbered) (end : Pl
   Leads next = said_on line.0 line.1 (λ place. said_from place more) next ≡ Ok (end, ds) → Contains ds d → StandsBelow (front ++ line ∷ more) d
 
   named_by : (named : Result Columns HeaderFault) → columns_of line.1 ≡ named → is_passed line.1 ≡ false → EndsIn Header front → Leads (below_header named)
-  named_by (Ok known) n names at = further (Listing known) ds (headed front line known at names n)
+  named_by (Ok known) n names at = further (Listing known) ds (at [] line known (All-nil _) names n)
   named_by (Err fault) n names at = λ said is. absurd cc
 
   listed_by : (known : Columns) → EndsIn (Listing known) front → is_passed line.1 ≡ false → is_group line.1 ≡ false → Leads (Data known)
   listed_by known at listed g said is =
       let rest = before_said (listed_as known line) (said_from (Listing known) more) end ds said in
       elim (first_or_later (listed_as known line) d rest.0 (subst (λ (ls : List DataLine). Contains ls d) (sym rest.2) is)) [
-        | inl same ↦ subst (StandsBelow (front ++ line ∷ more)) same (found_below front line more known at listed)
+        | inl same ↦ subst (StandsBelow (front ++ line ∷ more)) same (at [] line more (All-nil _) listed)
         | inr behind ↦ further (Listing known) rest.0 (listing_on front line known at g) rest.1 behind
       ]
 

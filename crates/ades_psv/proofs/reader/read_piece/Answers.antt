@@ -34,10 +34,5 @@ returns-clause-exact c =
     c.in-Some.ensures.parts text c.in_ok-read_complete.ensures.exact c.in_ok-read_complete.ensures.rest (c.in-Some.ensures.ended c.args.rest.now) in
     rw (then, c.in_ok-rest.ensures) c.in_ok-unfinished.ensures.exact
 
-pub returns-clause-alone : goal.returns-clause-alone
-returns-clause-alone c =
-    let is = c.in_ok-rest.ensures ∙ c.in_ok-unfinished.ensures.rest in
-    rw is (c.lines.ensures.rest_again c.in-Some.behind.now)
-
 pub returns-clause-range : goal.returns-clause-range
 returns-clause-range c = λ before. c.in_ok-unfinished.ensures.range (c.in_ok-read_complete.ensures.range before)

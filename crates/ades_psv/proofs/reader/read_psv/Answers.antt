@@ -1,4 +1,3 @@
-use Rattle.std.proofs.Common.{[]}
 use Rattle.std.proofs.lemmas.Result.{err_from_is_err_and}
 use Rattle.ades_psv.proofs.Readers.{whole_answer}
 use Rattle.ades_psv.proofs.reader.read_psv.Goals as goal
@@ -7,9 +6,3 @@ pub returns-in_err-feed-clause-exact : goal.returns-in_err-feed-clause-exact
 returns-in_err-feed-clause-exact c =
     let p = err_from_is_err_and c.from_residual-in_err-feed.result c.from_residual-in_err-feed.ensures.1 in
     rw (p.1, p.2) (whole_answer c.lines.ensures c.args.body.now c.in_ok-reader.reader c.feed.new.self c.in_err-feed.field-0.0 c.in_ok-reader.ensures.exact c.in_err-feed.ensures.exact)
-
-pub returns-clause-exact : goal.returns-clause-exact
-returns-clause-exact c = c.finish.ensures.text c.args.body.now (c.in_ok-feed.ensures.ok [] c.in_ok-reader.ensures.text).0
-
-pub returns-clause-lines : goal.returns-clause-lines
-returns-clause-lines c = c.finish.ensures.lines c.args.body.now (c.in_ok-feed.ensures.ok [] c.in_ok-reader.ensures.text).0

@@ -4,7 +4,7 @@ use Rattle.text_lines.specs.Pieces.{complete_lines, unfinished}
 use Rattle.text_lines.specs.Steps.{◌>>=◌}
 use Rattle.ades_psv.specs.Feeding.{Fed, read_lines, read_on, progress_of}
 use Rattle.ades_psv.specs.Walking.{line_read}
-use Rattle.ades_psv.proofs.Walks.{fails_on, read_cut, read_uncut, kept_again}
+use Rattle.ades_psv.proofs.Walks.{fails_on, read_cut, kept_again}
 use Rattle.ades_psv.proofs.walking.Reached.read_complete.Goals as goal
 
 pub returns-in_err-read_line-clause-exact : goal.returns-in_err-read_line-clause-exact
@@ -26,6 +26,3 @@ lines-preserved c =
       kept = kept_again c.args.self.now.found c.lines.self.found c.read_line.new.self.found so_far.kept c.in_ok-read_line.ensures.kept;
       range = λ range. c.in_ok-read_line.ensures.range (so_far.range range);
     }
-
-pub returns-clause-exact : goal.returns-clause-exact
-returns-clause-exact c = sym c.lines.invariant.left ∙ read_uncut c.lines.self [] c.lines.rest.now c.in_default.ensures.no_line c.in_default.ensures.all_left

@@ -2,15 +2,8 @@ use Rattle.std.proofs.Common.{◌≡◌, ◌<◌, ◌∷◌, [], ◌++◌, ℕ, 
 use Rattle.std.specs.Str.Lines.{lines}
 use Rattle.text_lines.specs.Pieces.{complete_lines, unfinished}
 use Rattle.std.proofs.lemmas.Bool.Decides.{nat_tests}
-use Rattle.std.proofs.lemmas.List.{nil_from_length}
-use Rattle.ades_psv.specs.Feeding.{progress_of}
-use Rattle.ades_psv.proofs.Walks.{read_none, read_one}
+use Rattle.ades_psv.proofs.Walks.{read_one}
 use Rattle.ades_psv.proofs.walking.Reached.read_last.Goals as goal
-
-pub returns-then-is_empty-clause-exact : goal.returns-then-is_empty-clause-exact
-returns-then-is_empty-clause-exact c =
-    let short : length c.args.line.now ≡ 0 = grind (arith, nat_tests) in
-    rw (nil_from_length c.args.line.now short) (read_none (progress_of c.args.self.now []) [])
 
 pub returns-clause-exact : goal.returns-clause-exact
 returns-clause-exact c =
