@@ -1,5 +1,6 @@
 -- What is found of the earlier lines of a batch.
-use Rattle.std.specs.Prelude.{◌≡◌, List, Option, Some, None, Result, Err}
+use Rattle.std.specs.Prelude.{◌≡◌, List, map, Option, Some, None, Result, Err}
+use Rattle.std.specs.Borrow.{Bor}
 use Rattle.indexmap.specs.IndexSet.{contains}
 use Rattle.obs_record.specs.declared.sighting.Sighting.{Sighting}
 use Rattle.obs_record.specs.declared.rule.RuleCode.{RuleCode}
@@ -7,6 +8,10 @@ use Rattle.place_keys.specs.Places.{place_key, same_place}
 use Rattle.batch_rules.specs.declared.index.Index.{Index}
 use Rattle.batch_rules.specs.Places.{moment_key}
 use Rattle.batch_rules.specs.PlaceTests.{same_moment, has_place, has_moment}
+
+-- the observations that references point to
+abbrev pub pointed : List (Bor Sighting) → List Sighting
+pointed = map (λ s. s.now)
 
 -- an index has the places and the moments of these observations, and no others
 pub record Finds (index : Index) (earlier : List Sighting) : Type 0 where

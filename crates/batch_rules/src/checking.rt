@@ -2,7 +2,7 @@
 
 ghost use Rattle.std.specs.Prelude.{◌≡◌, [], IfOk, OnOk};
 ghost use Rattle.act_model.specs.BatchRules.{checked_reading, with_passed, checked_lines, passed_in};
-ghost use Rattle.batch_rules.specs.Earlier.{with_fault};
+ghost use Rattle.batch_rules.specs.Earlier.{pointed, with_fault};
 
 use crate::earlier::Earlier;
 use crate::rules::line_fault;
@@ -16,12 +16,12 @@ use std::alloc::Global;
 // The rule that a line breaks as it was read, by itself or beside the earlier ones, to which its observation is added
 // where it breaks none.
 #[tactic(auto, unfolding(act_model::specs::BatchRules::checked_reading))]
-fn fault_of<V: Known>(
+fn fault_of<'a, V: Known>(
     tables: &Tables,
     known: &V,
     moment: Instant,
-    earlier: &mut Earlier,
-    read: &Result<Sighting, RuleCode>,
+    earlier: &mut Earlier<'a>,
+    read: &'a Result<Sighting, RuleCode>,
 ) -> Result<Option<RuleCode>, NoMemory>
     ensures read { IfOk result (λ fault.
         with_fault read.now fault ≡ checked_reading (V.office known.now) tables.now moment earlier.old read.now) }
@@ -54,16 +54,16 @@ fn with_fault(line: &Line, fault: Option<RuleCode>) -> Line
 
 /// Each line with its observation, or with the first rule that it breaks by itself or beside the earlier ones; and the
 /// observations that the lines then have, in their order.
-pub(crate) fn checked_lines<V: Known>(
+pub(crate) fn checked_lines<'a, V: Known>(
     alloc: Global,
     tables: &Tables,
     known: &V,
     moment: Instant,
-    lines: &[Line],
-) -> Result<(Vec<Line>, Vec<Sighting>), NoMemory>
+    lines: &'a [Line],
+) -> Result<(Vec<Line>, Vec<&'a Sighting>), NoMemory>
     ensures lines { IfOk result (λ checked.
         checked.0.items ≡ checked_lines (V.office known.now) tables.now moment [] lines.now) }
-    ensures passed { IfOk result (λ checked. checked.1.items ≡ passed_in checked.0.items) }
+    ensures passed { IfOk result (λ checked. pointed checked.1.items ≡ passed_in checked.0.items) }
 {
     let mut earlier = Earlier::with_capacity(alloc, lines.len())?;
     let mut checked = Vec::with_capacity(alloc, lines.len())?;
