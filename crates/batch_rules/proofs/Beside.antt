@@ -10,7 +10,6 @@ use Rattle.obs_record.specs.declared.sighting.Sighting.{Sighting}
 use Rattle.obs_record.specs.declared.rule.RuleCode.{RuleCode}
 use Rattle.obs_record.specs.declared.rule.RuleCode.TheVariants.{B4, B5}
 use Rattle.tracklet_file.specs.Observations.{same_station, is_at}
-use Rattle.act_model.specs.Rows.{first_row}
 use Rattle.act_model.specs.BatchRules.{name_of, same_track, is_elsewhere, stands_elsewhere}
 use Rattle.place_keys.specs.Places.{place_key, same_place}
 use Rattle.batch_rules.specs.Places.{moment_key}

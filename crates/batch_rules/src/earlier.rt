@@ -75,6 +75,7 @@ impl<'a> Earlier<'a> {
     }
 
     /// The rule that an observation breaks beside them. They are indexed where it isn't later than all of them.
+    #[tactic(auto, using(crate::proofs::Beside::none_beside))]
     pub(crate) fn beside(&mut self, s: &Sighting) -> Result<Option<RuleCode>, NoMemory>
         ensures rule { IfOk result (λ rule. rule ≡ rule_beside self.old s.now) }
         ensures same { self.new ≡ self.old }
