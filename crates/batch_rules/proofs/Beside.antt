@@ -10,7 +10,6 @@ use Rattle.obs_record.specs.declared.sighting.Sighting.{Sighting}
 use Rattle.obs_record.specs.declared.rule.RuleCode.{RuleCode}
 use Rattle.obs_record.specs.declared.rule.RuleCode.TheVariants.{B4, B5}
 use Rattle.tracklet_file.specs.Observations.{same_station, is_at}
-use Rattle.act_model.specs.Rows.{first_row}
 use Rattle.act_model.specs.BatchRules.{name_of, same_track, is_elsewhere, stands_elsewhere}
 use Rattle.place_keys.specs.Places.{place_key, same_place}
 use Rattle.batch_rules.specs.Places.{moment_key}
@@ -88,14 +87,16 @@ module _ (time : ℤ) (s : Sighting) (later : time <ℤ s.time) where
           ∙ not_both (same_station o.station s.station) (same_track (name_of o) (name_of s) && not ((o.ra == s.ra) && int_eq o.dec s.dec))
 
 -- the rules that are broken, by the keys
-pub broken_told : (s : Sighting) (earlier : List Sighting) (place moment : Bool) → place ≡ has_place earlier s → moment ≡ has_moment earlier s
-    → first_row ((place, B4) ∷ (moment, B5) ∷ []) ≡ first_row ((list_any (is_at s.station s.time s.ra s.dec) earlier, B4) ∷ (stands_elsewhere earlier s, B5) ∷ [])
-broken_told s earlier place moment placed timed =
-    ap (λ (b : Bool). cond b (Some B4) (cond moment (Some B5) None)) (placed ∙ places_told s earlier) ∙ by (list_any (is_at s.station s.time s.ra s.dec) earlier) refl
-  where
-    by : (b : Bool) → list_any (is_at s.station s.time s.ra s.dec) earlier ≡ b → cond b (Some B4) (cond moment (Some B5) None) ≡ cond b (Some B4) (cond (stands_elsewhere earlier s) (Some B5) None)
-    by true is = refl
-    by false is = ap (λ (b : Bool). cond b (Some B5) None) (timed ∙ moments_told s earlier is)
+pub told_elsewhere : (s : Sighting) (earlier : List Sighting) → has_place earlier s ≡ false → (moment : Bool) → moment ≡ has_moment earlier s → cond moment (Some B5) None ≡ rule_beside earlier s
+told_elsewhere s earlier none moment timed =
+    let free = sym (places_told s earlier) ∙ none in
+    ap (λ (b : Bool). cond b (Some B5) None) (timed ∙ moments_told s earlier free) ∙ sym (ap (λ (b : Bool). cond b (Some B4) (cond (stands_elsewhere earlier s) (Some B5) None)) free)
+
+pub told_B5 : (s : Sighting) (earlier : List Sighting) → has_place earlier s ≡ false → has_moment earlier s ≡ true → Some B5 ≡ rule_beside earlier s
+told_B5 s earlier none timed = told_elsewhere s earlier none true (sym timed)
+
+pub told_none : (s : Sighting) (earlier : List Sighting) → has_place earlier s ≡ false → has_moment earlier s ≡ false → None ≡ rule_beside earlier s
+told_none s earlier none timed = told_elsewhere s earlier none false (sym timed)
 
 -- the rules for a line after these two
 pub beside_rows : (already other : Bool) (broken rest : Option RuleCode) (rule : RuleCode) → broken ≡ cond already (Some B4) (cond other (Some B5) None) → broken ≡ Some rule

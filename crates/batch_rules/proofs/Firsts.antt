@@ -122,22 +122,6 @@ abbrev pub ruling : ℕ → Option RuleCode → ℕ → Ruling
 ruling line fault group = record { line = line; fault = fault; group = group }
 
 module _ (found : GroupKey → Option Summary) where
-  -- the keys with one more observation, and its number, by the rule that it breaks
-  pub keys_more : (keys : List GroupKey) (line : Line) (s : Sighting) (later : List Line) (fault : Option RuleCode) → line.read ≡ Ok s → fault ≡ fault_by (found (group_key s)) s
-      → keys_after found (cond (is_none fault) (insert_key same_key keys (group_key s)) keys) later ≡ keys_after found keys (line ∷ later)
-  keys_more keys line s later fault is told =
-      ap (λ (o : Option RuleCode). keys_after found (cond (is_none o) (insert_key same_key keys (group_key s)) keys) later) told
-      ∙ by (is_none (fault_by (found (group_key s)) s))
-      ∙ ap (λ (read : Result Sighting RuleCode). keys_after found keys (record line { read = read } ∷ later)) (sym is)
-    where
-      by : (b : Bool) → keys_after found (cond b (insert_key same_key keys (group_key s)) keys) later
-          ≡ insert_all same_key keys (map group_key (cond b (s ∷ accepted_by found (passed_in later)) (accepted_by found (passed_in later))))
-      by true = refl
-      by false = refl
-
-  pub keys_still : (keys : List GroupKey) (line : Line) (rule : RuleCode) (later : List Line) → line.read ≡ Err rule → keys_after found keys later ≡ keys_after found keys (line ∷ later)
-  keys_still keys line rule later is = ap (λ (read : Result Sighting RuleCode). keys_after found keys (record line { read = read } ∷ later)) (sym is)
-
   pub place_final : (keys : List GroupKey) (s : Sighting) (later : List Line) (fault : Option RuleCode)
       → cond (is_none fault) (position_or_len (same_key (group_key s)) keys) 0
       ≡ number_by (keys_after found (cond (is_none fault) (insert_key same_key keys (group_key s)) keys) later) fault (Ok s)

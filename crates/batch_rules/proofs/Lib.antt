@@ -9,6 +9,7 @@ mod Apart
 mod Firsts
 mod Rows
 mod Passed
+mod Pointed
 mod Puts
 mod Standing
 mod Beside

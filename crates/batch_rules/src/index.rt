@@ -32,6 +32,7 @@ impl Index {
 
     /// The rule that an observation breaks beside those that are found: B4 where one of them has its station, time and
     /// position, B5 where one of them has its station, time and name, and another position.
+    #[tactic(auto, using(crate::proofs::Beside::told_B5, crate::proofs::Beside::told_none))]
     pub(crate) fn broken_by(&self, s: &Sighting) -> Option<RuleCode>
         ensures { (earlier : List Sighting) → Finds self.now earlier → result ≡ rule_beside earlier s.now }
     {

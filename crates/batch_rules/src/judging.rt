@@ -7,18 +7,19 @@ ghost use Rattle.indexmap.specs.IndexSet.{insert_key};
 ghost use Rattle.obs_record.specs.declared.line.Line.{Line as Line};
 ghost use Rattle.batch_rules.specs.declared.keys.GroupKey.{GroupKey as Key};
 ghost use Rattle.batch_rules.specs.KeyTests.{same_key};
+ghost use Rattle.batch_rules.specs.Earlier.{line_of};
 ghost use Rattle.batch_rules.specs.Groups.{group_key, fault_by};
 ghost use Rattle.batch_rules.specs.Numbers.{StandsIn, keys_after, ruling_by};
 ghost use Rattle.act_model.specs.BatchRules.{batch_rulings, groups_of};
 
-use crate::checking::checked_lines;
+use crate::checking::{Checked, checked_lines};
 use crate::groups::{Groups, fault_by, summaries, summary_of};
 use crate::keys::{GroupKey, group_key};
 use crate::rulings::Rulings;
 use act_model::{Known, Ruling};
 use indexmap::IndexSet;
 use item_list::{ItemList, NoMemory};
-use obs_record::{Line, Lines, RuleCode, Sighting};
+use obs_record::{Lines, RuleCode, Sighting};
 use obs_time::Instant;
 use station_tables::Tables;
 use std::alloc::{AllocError, Global};
@@ -89,18 +90,18 @@ fn ruling(
     groups: &Groups,
     firsts: &mut IndexSet<GroupKey>,
     last: &mut Last,
-    line: &Line,
+    line: &Checked,
 ) -> Result<Ruling, NoMemory>
     ensures keys { OnOk result ((later : List Line) →
         keys_after (λ (key : Key). get same_key groups.now key) firsts.new.keys later
-        ≡ keys_after (λ (key : Key). get same_key groups.now key) firsts.old.keys (line.now ∷ later)) }
+        ≡ keys_after (λ (key : Key). get same_key groups.now key) firsts.old.keys (line_of line.now ∷ later)) }
     ensures ruling { IfOk result (λ ruling. (later : List Line) →
         ruling ≡ ruling_by (λ (key : Key). get same_key groups.now key)
-        (keys_after (λ (key : Key). get same_key groups.now key) firsts.new.keys later) line.now) }
+        (keys_after (λ (key : Key). get same_key groups.now key) firsts.new.keys later) (line_of line.now)) }
 {
-    let (fault, group) = match &line.read {
+    let (fault, group) = match line.read {
         Ok(s) => ruled(groups, firsts, last, s)?,
-        Err(rule) => (Some(*rule), 0),
+        Err(rule) => (Some(rule), 0),
     };
     Ok(Ruling {
         line: line.number,
@@ -121,11 +122,11 @@ fn count(firsts: &IndexSet<GroupKey>) -> Result<u32, NoMemory>
 }
 
 // The rulings on all lines, by the summaries of their groups.
-fn rulings(alloc: Global, groups: &Groups, checked: &[Line]) -> Result<Rulings, NoMemory>
+fn rulings(alloc: Global, groups: &Groups, checked: &[Checked]) -> Result<Rulings, NoMemory>
     ensures list { IfOk result (λ judged. judged.list ≡ map (ruling_by (λ (key : Key). get same_key groups.now key)
-        (keys_after (λ (key : Key). get same_key groups.now key) [] checked.now)) checked.now) }
+        (keys_after (λ (key : Key). get same_key groups.now key) [] (map line_of checked.now))) (map line_of checked.now)) }
     ensures groups { IfOk result (λ judged.
-        judged.groups ≡ length (keys_after (λ (key : Key). get same_key groups.now key) [] checked.now)) }
+        judged.groups ≡ length (keys_after (λ (key : Key). get same_key groups.now key) [] (map line_of checked.now))) }
 {
     let mut firsts = IndexSet::new(alloc);
     let mut last = Last { group: 0, first: 0 };

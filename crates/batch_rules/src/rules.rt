@@ -113,6 +113,7 @@ fn is_of_two_objects<V: Known>(known: &V, s: &Sighting) -> bool
 
 /// The first rule that an observation breaks by itself, or beside the earlier ones of its batch, by the one that it
 /// breaks beside these.
+#[tactic(auto, using(crate::proofs::Beside::beside_none))]
 pub(crate) fn line_fault<V: Known>(
     tables: &Tables,
     known: &V,

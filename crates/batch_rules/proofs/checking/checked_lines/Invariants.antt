@@ -1,12 +1,13 @@
-use Rattle.std.proofs.Common.{◌≡◌, [], ◌++◌, drop}
+use Rattle.std.proofs.Common.{◌≡◌, [], ◌++◌, map, drop}
 use Rattle.std.specs.Prelude.{reverse}
 use Rattle.act_model.specs.BatchRules.{checked_lines, passed_in}
+use Rattle.batch_rules.specs.Earlier.{line_of}
 use Rattle.batch_rules.proofs.checking.checked_lines.Given as goal
 
 -- the lines that were checked, before those that are left, are all; and the earlier ones are what they have
 abbrev pub invariant-loop-line : goal.invariant-loop-line
 invariant-loop-line g l =
     let office = g.V.Known.office l.known in record {
-      lines : l.checked.items ++ checked_lines office l.tables l.moment l.earlier (drop l.line-index l.lines) ≡ checked_lines office l.tables l.moment [] l.lines;
-      passed : reverse l.earlier ≡ passed_in l.checked.items;
+      lines : map line_of l.checked.items ++ checked_lines office l.tables l.moment l.earlier (drop l.line-index l.lines) ≡ checked_lines office l.tables l.moment [] l.lines;
+      passed : reverse l.earlier ≡ passed_in (map line_of l.checked.items);
     }

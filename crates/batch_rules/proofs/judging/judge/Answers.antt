@@ -6,6 +6,7 @@ use Rattle.obs_record.specs.declared.sighting.Sighting.{Sighting}
 use Rattle.act_model.specs.BatchRules.{group_fault, firsts_of, checked_lines, passed_in, rulings_among, batch_rulings}
 use Rattle.batch_rules.specs.declared.keys.GroupKey.{GroupKey}
 use Rattle.batch_rules.specs.declared.groups.Summary.{Summary}
+use Rattle.batch_rules.specs.Earlier.{pointed, line_of}
 use Rattle.batch_rules.specs.KeyTests.{same_key}
 use Rattle.batch_rules.specs.Groups.{AreApart}
 use Rattle.batch_rules.specs.Numbers.{keys_after, ruling_by}
@@ -16,7 +17,7 @@ use Rattle.batch_rules.proofs.judging.judge.Goals as goal
 pub summaries-requires : goal.summaries-requires
 summaries-requires g c =
     let office = g.V.Known.office c.args.known.now in
-    let passed_is : c.in_ok-checked.passed.items ≡ passed_in (checked_lines office c.args.tables.now c.args.moment [] c.args.batch.now) =
+    let passed_is : pointed c.in_ok-checked.passed.items ≡ passed_in (checked_lines office c.args.tables.now c.args.moment [] c.args.batch.now) =
     c.in_ok-checked.ensures.passed ∙ ap passed_in (c.in_ok-checked.ensures.lines ∙ ap (checked_lines office c.args.tables.now c.args.moment []) c.as_slice.ensures) in
     subst AreApart (sym passed_is) (passed_apart office c.args.tables.now c.args.moment c.args.batch.now)
 
@@ -26,9 +27,9 @@ unfolding batch_rulings
 returns-clause-rulings g c =
     let office = g.V.Known.office c.args.known.now in
     let found : GroupKey → Option Summary = λ (key : GroupKey). get same_key c.in_ok-summed.summed key in
-    let checked = c.in_ok-checked.checked.items in
+    let checked = map line_of c.in_ok-checked.checked.items in
     IfOk-weaker c.rulings.result _ _ (λ judged is.
-    is ∙ ap (λ (lines : List Line). map (ruling_by found (keys_after found [] lines)) lines) c.as_slice-2.ensures.value
+    is ∙ ap (λ (lines : List Line). map (ruling_by found (keys_after found [] lines)) lines) (ap (map line_of) c.as_slice-2.ensures.value)
     ∙ rulings_told found checked (λ s. c.in_ok-summed.ensures s ∙ ap (λ (xs : List Sighting). group_fault xs s) c.in_ok-checked.ensures.passed)
     ∙ ap rulings_among (c.in_ok-checked.ensures.lines ∙ ap (checked_lines office c.args.tables.now c.args.moment []) c.as_slice.ensures)) c.rulings.ensures.list
 
@@ -36,8 +37,8 @@ pub returns-clause-groups : goal.returns-clause-groups
 returns-clause-groups g c =
     let office = g.V.Known.office c.args.known.now in
     let found : GroupKey → Option Summary = λ (key : GroupKey). get same_key c.in_ok-summed.summed key in
-    let checked = c.in_ok-checked.checked.items in
+    let checked = map line_of c.in_ok-checked.checked.items in
     IfOk-weaker c.rulings.result _ _ (λ judged is.
-    is ∙ ap (λ (lines : List Line). length (keys_after found [] lines)) c.as_slice-2.ensures.value
+    is ∙ ap (λ (lines : List Line). length (keys_after found [] lines)) (ap (map line_of) c.as_slice-2.ensures.value)
     ∙ groups_told found checked (λ s. c.in_ok-summed.ensures s ∙ ap (λ (xs : List Sighting). group_fault xs s) c.in_ok-checked.ensures.passed)
     ∙ ap (λ (lines : List Line). length (firsts_of (passed_in lines))) (c.in_ok-checked.ensures.lines ∙ ap (checked_lines office c.args.tables.now c.args.moment []) c.as_slice.ensures)) c.rulings.ensures.groups

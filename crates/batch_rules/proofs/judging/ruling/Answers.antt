@@ -3,6 +3,7 @@ use Rattle.indexmap.specs.IndexMap.{get}
 use Rattle.obs_record.specs.declared.rule.RuleCode.{RuleCode}
 use Rattle.std.specs.Prelude.{ℕ}
 use Rattle.batch_rules.specs.declared.keys.GroupKey.{GroupKey}
+use Rattle.batch_rules.specs.Earlier.{reading_of, line_of}
 use Rattle.batch_rules.specs.KeyTests.{same_key}
 use Rattle.batch_rules.proofs.Firsts.{ruling, ruling_more, ruling_still}
 use Rattle.batch_rules.proofs.judging.ruling.Goals as goal
@@ -13,7 +14,7 @@ returns-clause-ruling c later =
     let found = λ (key : GroupKey). get same_key c.args.groups.now key in
     elim c.match-line.branch [
       | in-Ok+in_ok-ruled-in-Ok w ↦ ap (λ (told : Option RuleCode × ℕ). ruling c.args.line.now.number told.0 told.1) w.fault-is
-          ∙ ruling_more found c.args.firsts.now.keys c.match-line.firsts.keys c.args.line.now w.in-Ok.s later (w.in_ok-ruled-in-Ok.fault, w.in_ok-ruled-in-Ok.group) w.in-Ok.is w.in_ok-ruled-in-Ok.ensures.fault
+          ∙ ruling_more found c.args.firsts.now.keys c.match-line.firsts.keys (line_of c.args.line.now) w.in-Ok.s.now later (w.in_ok-ruled-in-Ok.fault, w.in_ok-ruled-in-Ok.group) (ap reading_of w.in-Ok.is) w.in_ok-ruled-in-Ok.ensures.fault
           (ap (λ firsts. firsts.keys) w.firsts-is ∙ w.in_ok-ruled-in-Ok.ensures.keys) w.in_ok-ruled-in-Ok.ensures.place
-      | in-Err w ↦ ap (λ (told : Option RuleCode × ℕ). ruling c.args.line.now.number told.0 told.1) w.fault-is ∙ ruling_still found _ c.args.line.now w.in-Err.rule w.in-Err.is
+      | in-Err w ↦ ap (λ (told : Option RuleCode × ℕ). ruling c.args.line.now.number told.0 told.1) w.fault-is ∙ ruling_still found _ (line_of c.args.line.now) w.in-Err.rule (ap reading_of w.in-Err.is)
     ]
