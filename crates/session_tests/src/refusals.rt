@@ -1,7 +1,6 @@
 //! Refusals in the order of the office's table.
 
-use super::exchange::Exchange;
-use super::setup::{MODE, OBSERVER, STATION};
+use session_calls::{Exchange, MODE, OBSERVER, STATION};
 
 pub(super) const ROLE: &str = "403 15\nrefused 4 Role\n";
 

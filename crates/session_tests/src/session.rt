@@ -2,11 +2,9 @@
 
 use super::ades::ADES;
 use super::batches::BATCHES;
-use super::calls::put;
-use super::exchange::Exchange;
 use super::places::PLACES;
 use super::refusals::REFUSALS;
-use super::setup::SETUP;
+use session_calls::{Exchange, SETUP, put};
 use std::alloc::Global;
 use std::process::Abort;
 
