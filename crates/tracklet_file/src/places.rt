@@ -74,7 +74,7 @@ impl Places {
         ensures room_stays { self.old.room ≤ self.new.room }
     {
         let waiting = filed.len() - self.indexed;
-        self.index.reserve(waiting + more as usize)?;
+        grow(&mut self.index, waiting + more as usize)?;
         self.room = self.room.max(more as u64);
         Ok(())
     }
@@ -128,6 +128,27 @@ impl Places {
     {
         has_by_time(&filed[self.indexed..], key) || live_at(&self.index, key) > 0
     }
+}
+
+/// Takes the memory for so many more places. Where there is too little, the index grows to four times its size, if the
+/// memory is there, since each of its entries is put into the new table.
+///
+/// # Errors
+///
+/// Memory was refused.
+fn grow(index: &mut IndexMap<PlaceKey, u64>, more: usize) -> Result<(), NoMemory>
+    ensures entries { index.new.entries ≡ index.old.entries }
+    ensures room { OnOk result (more ≤ spare index.new) }
+    ensures room_stays { spare index.old ≤ spare index.new }
+{
+    let filled = index.len();
+    if more <= index.capacity() - filled {
+        return Ok(());
+    }
+    if index.reserve(more.max(filled.saturating_mul(3))).is_ok() {
+        return Ok(());
+    }
+    index.reserve(more)
 }
 
 /// Whether a live observation of these, which ascend in time, has the place.
