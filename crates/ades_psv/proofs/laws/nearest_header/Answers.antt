@@ -151,7 +151,8 @@ module _ (front : Numbered) (line : ℕ × List ℕ) (more : Numbered) (end : Pl
       cond_both (is_element line.1) (On (Listing known)) (Data known) Leads (λ e. further (Listing known) ds (listing_on front line known at g)) (λ e.
       listed_by known at (or_from (are_blanks line.1) _ b (or_from (is_group line.1) _ g e)) g)))
 
-stands : (place : Place) (front numbered : Numbered) (end : Place) (ds : List DataLine) (d : DataLine) → EndsIn place front → said_from place numbered ≡ Ok (end, ds) → Contains ds d → StandsBelow (front ++ numbered) d
+stands : (place : Place) (front numbered : Numbered) (end : Place) (ds : List DataLine) (d : DataLine) → EndsIn place front → said_from place numbered ≡ Ok (end, ds)
+    → Contains ds d → StandsBelow (front ++ numbered) d
 unfolding said_from
 stands place front [] end ds d at said is =
     let none : length ds ≡ 0 = sym (ap (λ (x : Place × List DataLine). length x.1) (same_well (place, []) (end, ds) said)) in
@@ -232,7 +233,8 @@ unfolding step filled_step
 into_listing known line names columns = let tests = not_passed line names in rw (tests.0, tests.1, tests.2, columns) refl
 
 -- a line that isn't passed over, below columns
-listed_first : (known : Columns) (line : ℕ × List ℕ) (more : Numbered) (end : Place) (ds : List DataLine) → is_passed line.1 ≡ false → said_from (Listing known) (line ∷ more) ≡ Ok (end, ds) → Contains ds (listed_as known line)
+listed_first : (known : Columns) (line : ℕ × List ℕ) (more : Numbered) (end : Place) (ds : List DataLine) → is_passed line.1 ≡ false
+    → said_from (Listing known) (line ∷ more) ≡ Ok (end, ds) → Contains ds (listed_as known line)
 unfolding said_from step filled_step
 listed_first known line more end ds listed said =
     let tests = not_passed line.1 listed in
