@@ -35,19 +35,13 @@ first_or_later one d ds (suc k, lt, same) = inr (k, omega arith, same)
 later : (one d : DataLine) (ds : List DataLine) → Contains ds d → Contains (one ∷ ds) d
 later one d ds is = (suc is.0, (let lt = is.1 in omega arith), is.2)
 
-abbrev well : {A : Type 0} → A → Result A (HeaderFault × ℕ)
-well x = Ok x
-
-same_well : {A : Type 0} (x y : A) → well x ≡ well y → x ≡ y
-same_well x y e = cc
-
 -- what is said behind a data line
 before_said : (one : DataLine) (r : Said) (end : Place) (ds : List DataLine) → (r >>= before one) ≡ Ok (end, ds)
     → (rest : List DataLine) × (r ≡ Ok (end, rest)) × (one ∷ rest ≡ ds)
 before_said one (Err fault) end ds said = absurd cc
-before_said one (Ok found) end ds said =
-    let same = same_well (found.0, one ∷ found.1) (end, ds) said in
-    (found.1, ap (λ (x : Place × List DataLine). well (x.0, found.1)) same, ap (λ (x : Place × List DataLine). x.1) same)
+before_said one (Ok (place, found)) end ds said =
+    let same : (place, one ∷ found) ≡ (end, ds) = cc in
+    (found, ap (λ (x : Place × List DataLine). Ok (x.0, found)) same, ap (λ (x : Place × List DataLine). x.1) same)
 
 -- ---- single lines
 
@@ -155,8 +149,9 @@ stands : (place : Place) (front numbered : Numbered) (end : Place) (ds : List Da
     → Contains ds d → StandsBelow (front ++ numbered) d
 unfolding said_from
 stands place front [] end ds d at said is =
-    let none : length ds ≡ 0 = sym (ap (λ (x : Place × List DataLine). length x.1) (same_well (place, []) (end, ds) said)) in
-    absurd (let lt = is.1 in omega arith)
+    let none : Place × List DataLine = (place, []) in
+    let same : (end, ds) ≡ none = cc in
+    absurd (omega (arith, is.1, ap (λ (x : Place × List DataLine). length x.1) same))
 stands place front (line ∷ more) end ds d at said is =
     stands_by front line more end ds d
     (λ next rest ends s i. subst (λ (ls : Numbered). StandsBelow ls d) (append_assoc front (line ∷ []) more) (stands next (front ++ line ∷ []) more end rest d ends s i)) place at said is
