@@ -93,7 +93,8 @@ some_told text None spelled = refl
 some_told text (Some p) spelled =
     magnitude_told text p (ltb 6 p.count) (leb (magnitude_of p.whole p.count p.value) greatest_magnitude) (spelled p refl) refl refl
 
-magnitude_found : (text : List ℕ) (read : ℕ × ℕ) (is : IsMagnitude text read) → number_parts_at 2 text ≡ Some is.parts → magnitude_from (option_map (λ p. within 6 p) (number_parts_at 2 text)) ≡ Ok read
+magnitude_found : (text : List ℕ) (read : ℕ × ℕ) (is : IsMagnitude text read) → number_parts_at 2 text ≡ Some is.parts
+    → magnitude_from (option_map (λ p. within 6 p) (number_parts_at 2 text)) ≡ Ok read
 magnitude_found text read is spelled =
     let p = is.parts in
     let few_parts = is.few in

@@ -8,6 +8,8 @@ use Rattle.std.proofs.lemmas.List.{nil_from_length}
 use Rattle.std.proofs.lemmas.List.Sums.{AllPass-from_list_all, list_all-from_AllPass}
 use Rattle.obs_record.specs.declared.rule.RuleCode.{RuleCode}
 use Rattle.text_lines.specs.Rules.{Judges}
+use Rattle.text_lines.specs.Judging.{judged_on}
+use Rattle.text_lines.specs.Steps.{◌>>=◌}
 use Rattle.ades_psv.specs.Fields.{Fields}
 use Rattle.ades_psv.specs.Optional.{Says, IsEmptyOr, is_empty, some_of, unless_empty}
 use Rattle.ades_psv.specs.Rules.{Keeps}
@@ -64,10 +66,12 @@ module _ {A : Type 0} {rule : RuleCode} {Reads : List ℕ → A → Type 0} {rea
   judged_by fields text (Ok said) keeps kept says = ((keeps (said, says), tt), says)
   judged_by fields text (Err other) keeps kept broken = inl (λ k. broken.0 (kept k), broken.1)
 
-  -- a field that the rule is of is judged
-  pub judged_field : (fields : Fields) (text : List ℕ) → (IsEmptyOr Reads text → Keeps fields rule) → (Keeps fields rule → IsEmptyOr Reads text)
-      → Judges (Keeps fields) (rule ∷ []) (Says Reads text) (unless_empty text (read text))
-  judged_field fields text keeps kept = judged_by fields text (unless_empty text (read text)) keeps kept (field_told text)
+  -- a field that the rule is of is judged, and then the rules after it
+  pub field_then : {B : Type 0} (fields : Fields) (text : List ℕ) → (IsEmptyOr Reads text → Keeps fields rule) → (Keeps fields rule → IsEmptyOr Reads text)
+      → (more : List RuleCode) (IsRight : B → Type 0) (f : Option A → Result B RuleCode)
+      → ((said : Option A) → Says Reads text said → Judges (Keeps fields) more IsRight (f said)) → Judges (Keeps fields) (rule ∷ more) IsRight (unless_empty text (read text) >>= f)
+  field_then fields text keeps kept more IsRight f next =
+      judged_on (Keeps fields) (rule ∷ []) more (Says Reads text) IsRight (unless_empty text (read text)) f (judged_by fields text (unless_empty text (read text)) keeps kept (field_told text)) next
 
   -- what says something isn't empty
   pub some : (text : List ℕ) (x : A) → Reads text x → text ≢ []

@@ -24,7 +24,7 @@ use Rattle.ades_psv.specs.Names.{IsNumberText, IsDesignationText, IsTemporary, n
 use Rattle.ades_psv.specs.Rules.{Keeps, IsTextByte, IsTime, IsRa, IsDec, HasFields, line_rules, IsSightingOf, IsReading}
 use Rattle.ades_psv.specs.Reading.{is_text_byte, names_in, time_in, ra_in, dec_in, stated_in, lacks_field, lacks_name, lacks_band, required, position_from, position_in, observed, reading_of}
 use Rattle.ades_psv.specs.LawsBelow.{Laws}
-use Rattle.ades_psv.proofs.Judging.{all_pass, empty_from, filled_from, filled_is, IsTold, field_told, judged_field, some, says_one, reads_one}
+use Rattle.ades_psv.proofs.Judging.{all_pass, empty_from, filled_from, filled_is, IsTold, field_told, field_then, some, says_one, reads_one}
 use Rattle.ades_psv.proofs.FieldLaws.{number_field, designation_field, temporary_field, magnitude_field, time_field, ra_field, dec_field}
 
 -- ---- parts of a line
@@ -125,8 +125,8 @@ observed_is fields names mag at sub is_names is_mag is_at is_sub = record {
 
 -- ---- whole lines
 
-names_by : (fields : Fields) (perm : Result (Option Number) RuleCode) (prov : Result (Option Designation) RuleCode) → IsTold S3 IsNumberText fields.perm perm → IsTold S3 IsDesignationText fields.prov prov
-    → Judges (Keeps fields) (S3 ∷ []) (AreNames fields) (perm >>= λ number. prov >>= λ designation. Ok (record { perm = number; prov = designation }))
+names_by : (fields : Fields) (perm : Result (Option Number) RuleCode) (prov : Result (Option Designation) RuleCode)
+    → IsTold S3 IsNumberText fields.perm perm → IsTold S3 IsDesignationText fields.prov prov → Judges (Keeps fields) (S3 ∷ []) (AreNames fields) (perm >>= λ number. prov >>= λ designation. Ok (record { perm = number; prov = designation }))
 names_by fields (Err rule) prov p d = inl (λ kept. p.0 kept.0, p.1)
 names_by fields (Ok number) (Err rule) p d = inl (λ kept. d.0 kept.1, d.1)
 names_by fields (Ok number) (Ok designation) p d = ((((number, p), (designation, d)), tt), record { perm = p; prov = d })
@@ -142,9 +142,9 @@ module _ (laws : Laws) where
   stated_judged : (fields : Fields) → Judges (Keeps fields) (S5 ∷ S6 ∷ S7 ∷ []) (AreStated fields) (stated_in fields)
   unfolding stated_in time_in ra_in dec_in
   stated_judged fields =
-      judged_on (Keeps fields) (S5 ∷ []) (S6 ∷ S7 ∷ []) (Says IsTime fields.time) (AreStated fields) (time_in fields.time) _ (judged_field (time_field laws) fields fields.time (λ k. k) (λ k. k)) (λ time is_time.
-      judged_on (Keeps fields) (S6 ∷ []) (S7 ∷ []) (Says IsRa fields.ra) (AreStated fields) (ra_in fields.ra) _ (judged_field (ra_field laws) fields fields.ra (λ k. k) (λ k. k)) (λ ra is_ra.
-      judged_on (Keeps fields) (S7 ∷ []) [] (Says IsDec fields.dec) (AreStated fields) (dec_in fields.dec) _ (judged_field (dec_field laws) fields fields.dec (λ k. k) (λ k. k)) (λ dec is_dec.
+      field_then (time_field laws) fields fields.time (λ k. k) (λ k. k) (S6 ∷ S7 ∷ []) (AreStated fields) _ (λ time is_time.
+      field_then (ra_field laws) fields fields.ra (λ k. k) (λ k. k) (S7 ∷ []) (AreStated fields) _ (λ ra is_ra.
+      field_then (dec_field laws) fields fields.dec (λ k. k) (λ k. k) [] (AreStated fields) _ (λ dec is_dec.
       (tt, record { time = is_time; ra = is_ra; dec = is_dec }))))
 
   position_by : (fields : Fields) (time : Option ℤ) (ra : Option ℕ) (dec : Option ℤ) → lacks_field fields || (lacks_name fields || lacks_band fields) ≡ false
@@ -176,9 +176,9 @@ module _ (laws : Laws) where
   reading_is fields =
       judged_on (Keeps fields) (S2 ∷ S3 ∷ []) (S5 ∷ S6 ∷ S7 ∷ S9 ∷ S10 ∷ S11 ∷ S12 ∷ []) (AreNames fields) (IsSightingOf fields) (names_in fields) _ (names_judged fields) (λ names is_names.
       judged_on (Keeps fields) (S5 ∷ S6 ∷ S7 ∷ []) (S9 ∷ S10 ∷ S11 ∷ S12 ∷ []) (AreStated fields) (IsSightingOf fields) (stated_in fields) _ (stated_judged fields) (λ stated is_stated.
-      judged_on (Keeps fields) (S9 ∷ []) (S10 ∷ S11 ∷ S12 ∷ []) (Says IsMagnitude fields.mag) (IsSightingOf fields) (magnitude_in fields.mag) _ (judged_field (magnitude_field laws) fields fields.mag (λ k. k) (λ k. k)) (λ mag is_mag.
+      field_then (magnitude_field laws) fields fields.mag (λ k. k) (λ k. k) (S10 ∷ S11 ∷ S12 ∷ []) (IsSightingOf fields) _ (λ mag is_mag.
       judged_on (Keeps fields) (S10 ∷ S11 ∷ []) (S12 ∷ []) (IsPosition fields) (IsSightingOf fields) (position_in fields stated) _ (position_judged fields stated is_stated) (λ at is_at.
-      judged_on (Keeps fields) (S12 ∷ []) [] (Says IsTemporary fields.sub) (IsSightingOf fields) (temporary_in fields.sub) _ (judged_field temporary_field fields fields.sub (λ k. k) (λ k. k)) (λ sub is_sub.
+      field_then temporary_field fields fields.sub (λ k. k) (λ k. k) [] (IsSightingOf fields) _ (λ sub is_sub.
       (tt, observed_is fields names mag at sub is_names is_mag is_at is_sub))))))
 
   -- ---- no other reading

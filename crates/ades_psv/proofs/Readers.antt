@@ -115,7 +115,8 @@ feeds_fault laws text piece before after result fault line feeds is told =
     (new, fault_of (text ++ piece) ∙ ap fault_in (sym new ∙ fails.1))
 
 -- what is said at the end is what the text says
-pub finish_text : (laws : LineLaws) (text : List ℕ) (reader : Fed) (result : Result (List Line) PsvFault) → reader ≡ fed unfed text → IsAnswer (finished reader) result → IsAnswer (psv_lines_of text) result
+pub finish_text : (laws : LineLaws) (text : List ℕ) (reader : Fed) (result : Result (List Line) PsvFault) → reader ≡ fed unfed text → IsAnswer (finished reader) result
+    → IsAnswer (psv_lines_of text) result
 finish_text laws text reader result is said = rw (← finished_text laws text, ← is) said
 
 -- a fault of a batch in one piece
@@ -131,7 +132,8 @@ zip_read : ((fields : Fields) → IsReading fields (reading_of fields)) → (dat
 zip_read reads [] = tt
 zip_read reads (line ∷ data_lines) = ((refl, reads (fields_of line.columns line.text)), zip_read reads data_lines)
 
-pub answer_lines : ((fields : Fields) → IsReading fields (reading_of fields)) → (body : List ℕ) (result : Result (List Line) PsvFault) → IsAnswer (psv_lines_of body) result → IfOk result (λ found. AreReadFrom body found)
+pub answer_lines : ((fields : Fields) → IsReading fields (reading_of fields)) → (body : List ℕ) (result : Result (List Line) PsvFault) → IsAnswer (psv_lines_of body) result
+    → IfOk result (λ found. AreReadFrom body found)
 unfolding psv_lines_of
 answer_lines reads body (Ok found) said =
     let lines_found = bind_ok (data_lines_of body) all_read found said in

@@ -102,7 +102,8 @@ unfolding read_on
 read_cut before text line behind cut left = rw (cut, left) (read_first (progress_of before []) line (complete_lines behind) (unfinished behind))
 
 -- a text without a line feed
-pub read_uncut : (before : Reached) (rest text : List ℕ) → complete_lines (rest ++ text) ≡ [] → unfinished (rest ++ text) ≡ rest ++ text → read_on (progress_of before rest) text ≡ Ok (progress_of before (rest ++ text))
+pub read_uncut : (before : Reached) (rest text : List ℕ) → complete_lines (rest ++ text) ≡ [] → unfinished (rest ++ text) ≡ rest ++ text
+    → read_on (progress_of before rest) text ≡ Ok (progress_of before (rest ++ text))
 unfolding read_on
 read_uncut before rest text none left = rw (none, left) (read_none (progress_of before rest) (rest ++ text))
 

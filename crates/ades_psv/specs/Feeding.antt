@@ -36,7 +36,7 @@ start = record { place = Opening; count = 0; found = []; rest = [] }
 abbrev pub unfed : Fed
 unfed = Ok start
 
--- what is reached after these lines, which end those that were complete so far, and this rest
+-- what is reached after these lines, which follow those that were complete so far, and this rest
 abbrev pub reached : Progress → List (List ℕ) → List ℕ → Place × List DataLine → Fed
 reached progress complete rest end = Ok (record {
   place = end.0;
@@ -45,14 +45,15 @@ reached progress complete rest end = Ok (record {
   rest = rest;
 })
 
--- lines that end here are read, the first of which stands where those end that were complete so far, before this rest
+-- These lines are read, which follow those that were complete so far, and which this rest follows.
 unfoldable pub read_lines : Progress → List (List ℕ) → List ℕ → Fed
 read_lines progress complete rest =
     said_from progress.place (enumerate_from (progress.count + 1) complete) >>= reached progress complete rest
 
 -- the unfinished line goes on with this text: the lines that are now complete are read
 unfoldable pub read_on : Progress → List ℕ → Fed
-read_on progress text = read_lines progress (complete_lines (progress.rest ++ text)) (unfinished (progress.rest ++ text))
+read_on progress text =
+    read_lines progress (complete_lines (progress.rest ++ text)) (unfinished (progress.rest ++ text))
 
 -- One more piece was fed. Once there is a fault nothing changes.
 abbrev pub fed : Fed → List ℕ → Fed

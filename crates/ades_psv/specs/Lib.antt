@@ -10,6 +10,5 @@ pub mod LawsBelow
 pub mod Reading
 pub mod Batch
 pub mod Feeding
-pub mod Cutting
 pub mod Walking
 pub mod Standing

@@ -2,8 +2,7 @@
 
 ghost use Rattle.std.specs.Prelude.{◌≡◌, ℕ, ◌<◌, ◌≤◌, length, slice_get, unwrap_or, []};
 ghost use Rattle.ades_psv.specs.Cells.{cells, cell_in};
-ghost use Rattle.ades_psv.specs.Fields.{fields_of};
-ghost use Rattle.ades_psv.specs.Cutting.{AreCells, seen};
+ghost use Rattle.ades_psv.specs.Fields.{AreCells, seen, fields_of};
 
 use crate::cells::{count_cells, first_cell};
 use crate::columns::Columns;

@@ -1,7 +1,7 @@
 //! When and where something was observed.
 
 ghost use Rattle.std.specs.Prelude.{◌≡◌};
-ghost use Rattle.ades_psv.specs.Cutting.{seen};
+ghost use Rattle.ades_psv.specs.Fields.{seen};
 ghost use Rattle.ades_psv.specs.Reading.{time_in, ra_in, dec_in, stated_in, position_from};
 
 use crate::fields::Fields;

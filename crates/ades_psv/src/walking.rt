@@ -64,7 +64,8 @@ impl Reached {
         text: &'a [u8],
     ) -> Result<&'a [u8], PsvFault>
         requires { self.old.count + length text.now ≤ 4294967295 }
-        ensures exact { Gives (λ rest. progress_of self.new rest.now) (read_on (progress_of self.old []) text.now) result }
+        ensures exact { Gives (λ rest. progress_of self.new rest.now) (read_on (progress_of self.old []) text.now)
+            result }
         ensures rest { IfOk result (λ rest. rest.now ≡ unfinished text.now) }
         ensures few { IfOk result (λ rest. self.new.count + length rest.now ≤ self.old.count + length text.now) }
         ensures kept { take (length self.old.found) self.new.found ≡ self.old.found }

@@ -35,19 +35,13 @@ first_or_later one d ds (suc k, lt, same) = inr (k, omega arith, same)
 later : (one d : DataLine) (ds : List DataLine) → Contains ds d → Contains (one ∷ ds) d
 later one d ds is = (suc is.0, (let lt = is.1 in omega arith), is.2)
 
-abbrev well : {A : Type 0} → A → Result A (HeaderFault × ℕ)
-well x = Ok x
-
-same_well : {A : Type 0} (x y : A) → well x ≡ well y → x ≡ y
-same_well x y e = cc
-
 -- what is said behind a data line
 before_said : (one : DataLine) (r : Said) (end : Place) (ds : List DataLine) → (r >>= before one) ≡ Ok (end, ds)
     → (rest : List DataLine) × (r ≡ Ok (end, rest)) × (one ∷ rest ≡ ds)
 before_said one (Err fault) end ds said = absurd cc
-before_said one (Ok found) end ds said =
-    let same = same_well (found.0, one ∷ found.1) (end, ds) said in
-    (found.1, ap (λ (x : Place × List DataLine). well (x.0, found.1)) same, ap (λ (x : Place × List DataLine). x.1) same)
+before_said one (Ok (place, found)) end ds said =
+    let same : (place, one ∷ found) ≡ (end, ds) = cc in
+    (found, ap (λ (x : Place × List DataLine). Ok (x.0, found)) same, ap (λ (x : Place × List DataLine). x.1) same)
 
 -- ---- single lines
 
@@ -151,11 +145,13 @@ module _ (front : Numbered) (line : ℕ × List ℕ) (more : Numbered) (end : Pl
       cond_both (is_element line.1) (On (Listing known)) (Data known) Leads (λ e. further (Listing known) ds (listing_on front line known at g)) (λ e.
       listed_by known at (or_from (are_blanks line.1) _ b (or_from (is_group line.1) _ g e)) g)))
 
-stands : (place : Place) (front numbered : Numbered) (end : Place) (ds : List DataLine) (d : DataLine) → EndsIn place front → said_from place numbered ≡ Ok (end, ds) → Contains ds d → StandsBelow (front ++ numbered) d
+stands : (place : Place) (front numbered : Numbered) (end : Place) (ds : List DataLine) (d : DataLine) → EndsIn place front → said_from place numbered ≡ Ok (end, ds)
+    → Contains ds d → StandsBelow (front ++ numbered) d
 unfolding said_from
 stands place front [] end ds d at said is =
-    let none : length ds ≡ 0 = sym (ap (λ (x : Place × List DataLine). length x.1) (same_well (place, []) (end, ds) said)) in
-    absurd (let lt = is.1 in omega arith)
+    let none : Place × List DataLine = (place, []) in
+    let same : (end, ds) ≡ none = cc in
+    absurd (omega (arith, is.1, ap (λ (x : Place × List DataLine). length x.1) same))
 stands place front (line ∷ more) end ds d at said is =
     stands_by front line more end ds d
     (λ next rest ends s i. subst (λ (ls : Numbered). StandsBelow ls d) (append_assoc front (line ∷ []) more) (stands next (front ++ line ∷ []) more end rest d ends s i)) place at said is
@@ -232,7 +228,8 @@ unfolding step filled_step
 into_listing known line names columns = let tests = not_passed line names in rw (tests.0, tests.1, tests.2, columns) refl
 
 -- a line that isn't passed over, below columns
-listed_first : (known : Columns) (line : ℕ × List ℕ) (more : Numbered) (end : Place) (ds : List DataLine) → is_passed line.1 ≡ false → said_from (Listing known) (line ∷ more) ≡ Ok (end, ds) → Contains ds (listed_as known line)
+listed_first : (known : Columns) (line : ℕ × List ℕ) (more : Numbered) (end : Place) (ds : List DataLine) → is_passed line.1 ≡ false
+    → said_from (Listing known) (line ∷ more) ≡ Ok (end, ds) → Contains ds (listed_as known line)
 unfolding said_from step filled_step
 listed_first known line more end ds listed said =
     let tests = not_passed line.1 listed in

@@ -18,8 +18,12 @@ spelled texts [] is = absurd cc
 spelled texts (first ∷ rest) is =
     let tests = and_parts (eqb first 35) (is_word (codes "version=2017") (trimmed rest)) is in
     let middle : trimmed rest ≡ codes "version=2017" = same_text (trimmed rest) (codes "version=2017") (sym tests.1) in
-    let text : IsTrimmed rest (trimmed rest) = texts.trimmed_is rest in
-    (text.before, text.after, ap (λ (b : ℕ). b ∷ rest) (eqb-true first 35 tests.0) ∙ ap (λ (t : List ℕ). 35 ∷ t) (text.parts ∙ ap (λ (m : List ℕ). blanks text.before ++ (m ++ blanks text.after)) middle))
+    let text : IsTrimmed rest (trimmed rest) = texts.trimmed_is rest in (
+      text.before,
+      text.after,
+      ap (λ (b : ℕ). b ∷ rest) (eqb-true first 35 tests.0)
+          ∙ ap (λ (t : List ℕ). 35 ∷ t) (text.parts ∙ ap (λ (m : List ℕ). blanks text.before ++ (m ++ blanks text.after)) middle),
+    )
 
 alone : (before after : ℕ) → IsTrimmed (blanks before ++ (codes "version=2017" ++ blanks after)) (codes "version=2017")
 alone before after = record { before = before; after = after; parts = refl; first = λ h. cc; last = λ h. cc }

@@ -22,16 +22,16 @@ returns-in_err-read_complete-clause-exact c =
 pub returns-in_err-unfinished-clause-exact : goal.returns-in_err-unfinished-clause-exact
 returns-in_err-unfinished-clause-exact c =
     let text : c.as_slice.result.now ≡ c.args.rest.now ++ c.in-Some.front.now = c.as_slice.ensures ∙ c.in_ok-extend_from_slice-2.ensures.ok in
-    let then = read_then c.lines.ensures c.args.reached.now c.read_complete.new.self c.args.rest.now c.in-Some.front.now c.in-Some.behind.now c.args.piece.now c.as_slice.result.now c.in_ok-read_complete.field-0.now
-    c.in-Some.ensures.parts text c.in_ok-read_complete.ensures.exact c.in_ok-read_complete.ensures.rest (c.in-Some.ensures.ended c.args.rest.now) in
+    let then = read_then c.lines.ensures c.args.reached.now c.read_complete.new.self c.args.rest.now c.in-Some.front.now c.in-Some.behind.now c.args.piece.now c.as_slice.result.now
+    c.in_ok-read_complete.field-0.now c.in-Some.ensures.parts text c.in_ok-read_complete.ensures.exact c.in_ok-read_complete.ensures.rest (c.in-Some.ensures.ended c.args.rest.now) in
     let p = err_from_is_err_and c.from_residual-in_err-unfinished.result c.from_residual-in_err-unfinished.ensures.1 in
     rw (then, p.1, p.2) c.in_err-unfinished.ensures.exact
 
 pub returns-clause-exact : goal.returns-clause-exact
 returns-clause-exact c =
     let text : c.as_slice.result.now ≡ c.args.rest.now ++ c.in-Some.front.now = c.as_slice.ensures ∙ c.in_ok-extend_from_slice-2.ensures.ok in
-    let then = read_then c.lines.ensures c.args.reached.now c.read_complete.new.self c.args.rest.now c.in-Some.front.now c.in-Some.behind.now c.args.piece.now c.as_slice.result.now c.in_ok-read_complete.field-0.now
-    c.in-Some.ensures.parts text c.in_ok-read_complete.ensures.exact c.in_ok-read_complete.ensures.rest (c.in-Some.ensures.ended c.args.rest.now) in
+    let then = read_then c.lines.ensures c.args.reached.now c.read_complete.new.self c.args.rest.now c.in-Some.front.now c.in-Some.behind.now c.args.piece.now c.as_slice.result.now
+    c.in_ok-read_complete.field-0.now c.in-Some.ensures.parts text c.in_ok-read_complete.ensures.exact c.in_ok-read_complete.ensures.rest (c.in-Some.ensures.ended c.args.rest.now) in
     rw (then, c.in_ok-rest.ensures) c.in_ok-unfinished.ensures.exact
 
 pub returns-clause-range : goal.returns-clause-range
