@@ -17,17 +17,14 @@ head_used pending ahead rest head same used read =
 
 module _ {S : Type 0} (left : S → Option (List ℕ)) (gives : Passes S) (a b c : S) (start pending ahead last : List ℕ) (grows : Grows left gives IsAwaited a b start ahead)
     (once : ReadsOnce left gives b c ahead last) (same : pending ≡ ahead) (awaited : IsAwaited pending) where
-  here : IsAwaited ahead
-  here = subst IsAwaited same awaited
-
   -- the source is at its end where no head stands at the front
   pub ended : (ending : Ending) → length last ≡ length ahead + 0 → IsAtEnd (left c) → ((rest : Option (List ℕ)) → IsAtEnd rest → NoFrame last → Ends last last rest ending)
       → (piece : List ℕ) × Comes left gives (AwaitsFrame start) a c piece × Ends (start ++ piece) last (left c) ending
   ended ending none end why =
       let unchanged : last ≡ ahead = nothing_more left gives b c ahead last once none in
-      of_last left gives IsAwaited (λ front. Ends front last (left c) ending) a b c start ahead last grows here once unchanged
-      (subst (λ (t : List ℕ). Ends t last (left c) ending) unchanged (why (left c) end (subst NoFrame (sym unchanged) here.0)))
+      of_last left gives IsAwaited (λ front. Ends front last (left c) ending) a b c start ahead last grows (subst IsAwaited same awaited) once unchanged
+      (subst (λ (t : List ℕ). Ends t last (left c) ending) unchanged (why (left c) end (subst NoFrame (sym unchanged) (subst IsAwaited same awaited).0)))
 
   -- the source failed where no head stands at the front
   pub failed : last ≡ ahead → (piece : List ℕ) × Comes left gives (AwaitsFrame start) a c piece × NoFrame (start ++ piece)
-  failed unchanged = of_last left gives IsAwaited NoFrame a b c start ahead last grows here once unchanged here.0
+  failed unchanged = of_last left gives IsAwaited NoFrame a b c start ahead last grows (subst IsAwaited same awaited) once unchanged (subst IsAwaited same awaited).0

@@ -20,10 +20,8 @@ module _ (old new : Option (List ℕ)) (head text frame : List ℕ) (joined : fr
   -- a part of the head is a part of the frame
   pub part_of_head : AppendsPart old new head → AppendsPart old new frame
   part_of_head part =
-      let n : ℕ = part.0 in
-      let few : n ≤ length head = omega (arith, part.1) in
-      let same : take n frame ≡ take n head = ap (take n) joined ∙ take-append-le n head text few in
-      (n, omega (arith, part.1, ap length joined, length-append head text), subst (Appends old new) (sym same) part.2)
+      let same : take part.0 frame ≡ take part.0 head = ap (take part.0) joined ∙ take-append-le part.0 head text (omega (arith, part.1)) in
+      (part.0, omega (arith, part.1, ap length joined, length-append head text), subst (Appends old new) (sym same) part.2)
 
   -- the head and a part of the text are a part of the frame
   pub part_behind_head : (mid : Option (List ℕ)) → Appends old mid head → AppendsPart mid new text → AppendsPart old new frame

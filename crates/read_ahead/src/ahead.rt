@@ -183,6 +183,7 @@ fn move_to_front(buffer: &mut [u8], start: usize, end: usize)
 }
 
 // Reads once into a buffer, after the bytes that it keeps at its front.
+#[tactic(auto, using(crate::proofs::Buffers::read_once, crate::proofs::Buffers::failed_once))]
 fn read_behind<S: Source>(source: &mut S, buffer: &mut [u8], kept: usize) -> Result<usize, Failed>
     requires { kept < length buffer.old }
     ensures came { IfOk result (λ n. ReadsOnce S.left S.gives source.old source.new
