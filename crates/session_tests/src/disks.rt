@@ -1,13 +1,14 @@
 //! Runs over a disk: an empty one, one that an earlier run left, one whose calls fail, and files that are no journal.
 
 use super::batches::BATCHES;
+use super::calls::{
+    APRIL, FIRST, FIRST_ANSWER, RUN, Want, call_on, done, expect_end, put, words_of,
+};
+use super::exchange::Exchange;
+use super::setup::SETUP;
 use command_ends::Ended;
 use desk_io::MemSink;
 use disk_model::{Disk, MemDisk};
-use session_calls::{
-    APRIL, Exchange, FIRST, FIRST_ANSWER, RUN, SETUP, Want, call_on, done, expect_end, put,
-    words_of,
-};
 use std::alloc::Global;
 use std::process::Abort;
 

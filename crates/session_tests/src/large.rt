@@ -1,6 +1,9 @@
 //! Large bodies, long batches and long refusals.
 
-use session_calls::{BATCH, FIRST, NONE, begun, done, expect_run, put, put_number, put_reply};
+use super::batches::BATCH;
+use super::calls::{FIRST, NONE, done, expect_run, put, put_number, put_reply};
+use super::session::answers;
+use super::setup::SETUP;
 use std::alloc::Global;
 use std::process::Abort;
 
@@ -131,8 +134,13 @@ fn strangers_text<R: Abort>(rt: &R, alloc: Global, lines: u64) -> Vec<u8> {
 
 #[test]
 fn batch_of_1200_lines(rt: HostRuntime) {
-    let (mut bytes, mut taken) = begun(&rt, rt.alloc());
+    let mut bytes = Vec::new(rt.alloc());
+    for next in SETUP {
+        put(&rt, &mut bytes, next.head);
+        put(&rt, &mut bytes, next.body);
+    }
     batch_of(&rt, rt.alloc(), &mut bytes, 1_200);
+    let mut taken = answers(&rt, rt.alloc(), 5);
     let text = batch_text(&rt, rt.alloc(), 1_200);
     put_reply(&rt, rt.alloc(), &mut taken, "200 ", &text);
     expect_run(&rt, rt.alloc(), &bytes, 65_536, NONE, done(6), &taken);

@@ -1,6 +1,7 @@
 //! Refusals in the order of the office's table.
 
-use session_calls::{Exchange, MODE, OBSERVER, STATION};
+use super::exchange::Exchange;
+use super::setup::{MODE, OBSERVER, STATION};
 
 pub(super) const ROLE: &str = "403 15\nrefused 4 Role\n";
 

@@ -1,10 +1,10 @@
 //! The ends of a run, in pieces of every size, and with each read and each write failing in turn.
 
-use super::session::{FRAMES, answers, entries, session, whole_in};
-use desk_io::MemSink;
-use session_calls::{
+use super::calls::{
     FIRST, FIRST_ANSWER, Faults, NONE, RUN, Want, call, done, expect_end, expect_run, words_of,
 };
+use super::session::{FRAMES, answers, entries, session, whole_in};
+use desk_io::MemSink;
 use std::alloc::Global;
 use std::process::Abort;
 

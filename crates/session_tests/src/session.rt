@@ -2,9 +2,11 @@
 
 use super::ades::ADES;
 use super::batches::BATCHES;
+use super::calls::put;
+use super::exchange::Exchange;
 use super::places::PLACES;
 use super::refusals::REFUSALS;
-use session_calls::{Exchange, SETUP, put};
+use super::setup::SETUP;
 use std::alloc::Global;
 use std::process::Abort;
 

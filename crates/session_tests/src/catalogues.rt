@@ -1,10 +1,11 @@
 //! The catalogue: after sessions that show each of its rules, as the answer to a query and as what `export` writes.
 
+use super::calls::{RUN, call_on, done, empty_disk, expect_end, words_of};
 use super::objects::{MIDNIGHT, MIDNIGHT_TEXT, NIGHT, NIGHT_TEXT};
 use super::rows::{FOUNDER, OBSERVER, Row, put_rows, session_of};
+use super::setup::STATION;
 use desk_io::MemSink;
 use disk_model::Disk;
-use session_calls::{RUN, STATION, call_on, done, empty_disk, expect_end, words_of};
 use std::alloc::Global;
 use std::process::Abort;
 

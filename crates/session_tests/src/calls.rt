@@ -11,26 +11,32 @@ use obs_time::Instant;
 use std::alloc::Global;
 use std::process::Abort;
 
-pub fn put<R: Abort>(rt: &R, bytes: &mut Vec<u8>, text: &str) {
+pub(super) fn put<R: Abort>(rt: &R, bytes: &mut Vec<u8>, text: &str) {
     bytes
         .extend_from_slice(text.as_bytes())
         .expect(rt, "memory");
 }
 
-pub fn put_number<R: Abort>(rt: &R, alloc: Global, bytes: &mut Vec<u8>, number: u64) {
+pub(super) fn put_number<R: Abort>(rt: &R, alloc: Global, bytes: &mut Vec<u8>, number: u64) {
     let text = format!(in alloc; "{number}").expect(rt, "memory");
     put(rt, bytes, text.as_str());
 }
 
 /// A reply with this status and text after other replies.
-pub fn put_reply<R: Abort>(rt: &R, alloc: Global, bytes: &mut Vec<u8>, status: &str, text: &[u8]) {
+pub(super) fn put_reply<R: Abort>(
+    rt: &R,
+    alloc: Global,
+    bytes: &mut Vec<u8>,
+    status: &str,
+    text: &[u8],
+) {
     put(rt, bytes, status);
     put_number(rt, alloc, bytes, text.len() as u64);
     put(rt, bytes, "\n");
     bytes.extend_from_slice(text).expect(rt, "memory");
 }
 
-pub fn words_of<R: Abort>(rt: &R, alloc: Global, texts: &[&str]) -> Words {
+pub(super) fn words_of<R: Abort>(rt: &R, alloc: Global, texts: &[&str]) -> Words {
     let mut words = Words::new(alloc);
     for text in texts {
         let word = Bytes::from_slice(alloc, text.as_bytes()).expect(rt, "memory");
@@ -41,22 +47,22 @@ pub fn words_of<R: Abort>(rt: &R, alloc: Global, texts: &[&str]) -> Words {
 
 /// The read and the write that fail, counted from 1; for 0 none fails.
 #[derive(Clone, Copy)]
-pub struct Faults {
-    pub read: u64,
-    pub write: u64,
+pub(super) struct Faults {
+    pub(super) read: u64,
+    pub(super) write: u64,
 }
 
-pub const NONE: Faults = Faults { read: 0, write: 0 };
+pub(super) const NONE: Faults = Faults { read: 0, write: 0 };
 
 /// The end that is wanted: the status as it is printed, its number, and the entries.
 #[derive(Clone, Copy)]
-pub struct Want {
-    pub status: &'static str,
-    pub number: u8,
-    pub added: u64,
+pub(super) struct Want {
+    pub(super) status: &'static str,
+    pub(super) number: u8,
+    pub(super) added: u64,
 }
 
-pub const fn done(added: u64) -> Want {
+pub(super) const fn done(added: u64) -> Want {
     Want {
         status: "Done",
         number: 0,
@@ -65,17 +71,17 @@ pub const fn done(added: u64) -> Want {
 }
 
 /// The words of `run` with the founder's key.
-pub const RUN: [&str; 3] = ["run", "--key", "+founder-1"];
+pub(super) const RUN: [&str; 3] = ["run", "--key", "+founder-1"];
 
 /// The founder's first request, and its answer.
-pub const FIRST: &str = concat!(
+pub(super) const FIRST: &str = concat!(
     "+founder-1 1 station 70\n",
     "{\"code\":\"703\",\"from\":\"1998-01-01\",\"name\":\"Catalina\",\"to\":\"2199-12-31\"}",
 );
 
-pub const FIRST_ANSWER: &str = "200 10\nreceipt 1\n";
+pub(super) const FIRST_ANSWER: &str = "200 10\nreceipt 1\n";
 
-pub fn expect_end<D: Disk, R: Abort>(rt: &R, alloc: Global, ended: &Ended<D>, want: Want) {
+pub(super) fn expect_end<D: Disk, R: Abort>(rt: &R, alloc: Global, ended: &Ended<D>, want: Want) {
     let text = format!(in alloc; "{}", ended.status).expect(rt, "memory");
     assert_eq!(rt; text.as_str(), want.status);
     assert_eq!(rt; ended.status.number(), want.number);
@@ -104,16 +110,16 @@ fn called<S: Source, K: Sink, D: Disk, C: Clock>(
 }
 
 /// 2024-04-01T00:00:00Z, at which the clocks of most tests begin.
-pub const APRIL: i64 = 1_711_929_600_000_000_000;
+pub(super) const APRIL: i64 = 1_711_929_600_000_000_000;
 
-pub fn clock_from<R: Abort>(rt: &R, ns: i64) -> TickClock {
+pub(super) fn clock_from<R: Abort>(rt: &R, ns: i64) -> TickClock {
     let first = Instant::new(ns).expect(rt, "in range");
     TickClock::new(first, 1_000_000_000)
 }
 
 /// A call over these bytes, of which a read gives at most `greatest` and the read with the number `fails` fails, on
 /// this disk, with a clock that begins at this moment.
-pub fn call_on<D: Disk, R: Abort>(
+pub(super) fn call_on<D: Disk, R: Abort>(
     rt: &R,
     alloc: Global,
     words: &Words,
@@ -130,7 +136,7 @@ pub fn call_on<D: Disk, R: Abort>(
 }
 
 /// An empty disk with room for so many bytes.
-pub fn empty_disk<R: Abort>(rt: &R, alloc: Global, capacity: usize) -> MemDisk {
+pub(super) fn empty_disk<R: Abort>(rt: &R, alloc: Global, capacity: usize) -> MemDisk {
     MemDisk::new(alloc, &[], capacity, &[]).expect(rt, "memory")
 }
 
@@ -138,7 +144,7 @@ pub fn empty_disk<R: Abort>(rt: &R, alloc: Global, capacity: usize) -> MemDisk {
 const DISK_BYTES: usize = 1_048_576;
 
 /// A call over these bytes on an empty disk.
-pub fn call<R: Abort>(
+pub(super) fn call<R: Abort>(
     rt: &R,
     alloc: Global,
     words: &Words,
@@ -163,7 +169,7 @@ pub fn call<R: Abort>(
 
 /// Runs the program over these bytes, of which a read gives at most `greatest`, and looks at its end and at what it
 /// wrote.
-pub fn expect_run<R: Abort>(
+pub(super) fn expect_run<R: Abort>(
     rt: &R,
     alloc: Global,
     bytes: &[u8],
@@ -176,7 +182,7 @@ pub fn expect_run<R: Abort>(
 }
 
 /// The same for a call with any words, whose sink takes what these tests write.
-pub fn expect_call<R: Abort>(
+pub(super) fn expect_call<R: Abort>(
     rt: &R,
     alloc: Global,
     texts: &[&str],

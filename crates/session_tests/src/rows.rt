@@ -1,6 +1,8 @@
 //! Requests with their replies as rows of a table, and sessions of them.
 
-use session_calls::{NONE, begun, done, expect_run, put, put_number, put_reply};
+use super::calls::{NONE, done, expect_run, put, put_number, put_reply};
+use super::session::answers;
+use super::setup::SETUP;
 use std::alloc::Global;
 use std::process::Abort;
 
@@ -40,9 +42,20 @@ pub(super) fn put_rows<R: Abort>(
     }
 }
 
+/// A session that begins with the founder's five requests.
+pub(super) fn begin<R: Abort>(rt: &R, alloc: Global) -> Vec<u8> {
+    let mut bytes = Vec::new(alloc);
+    for next in SETUP {
+        put(rt, &mut bytes, next.head);
+        put(rt, &mut bytes, next.body);
+    }
+    bytes
+}
+
 /// A session of the founder's five requests and of these tables, and the replies to it.
 pub(super) fn session_of<R: Abort>(rt: &R, alloc: Global, tables: &[&[Row]]) -> (Vec<u8>, Vec<u8>) {
-    let (mut bytes, mut taken) = begun(rt, alloc);
+    let mut bytes = begin(rt, alloc);
+    let mut taken = answers(rt, alloc, 5);
     for rows in tables {
         put_rows(rt, alloc, &mut bytes, &mut taken, rows);
     }
