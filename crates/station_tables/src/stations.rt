@@ -10,6 +10,7 @@ use crate::keys::StationCode;
 use crate::serving::Serving;
 use indexmap::IndexMap;
 use item_list::NoMemory;
+use key_hasher::KeyHashing;
 use obs_record::Short;
 use std::alloc::Global;
 use std::marker::Model;
@@ -56,7 +57,7 @@ impl Clone for CodeRows {
 #[derive(Debug, Drop)]
 pub(crate) struct StationRows {
     rows: Vec<Row>,
-    by_code: IndexMap<StationCode, CodeRows>,
+    by_code: IndexMap<StationCode, CodeRows, KeyHashing>,
 }
 
 impl Model for StationRows {
@@ -117,7 +118,7 @@ impl StationRows {
     {
         Ok(StationRows {
             rows: Vec::with_capacity(alloc, FIRST_ROOM)?,
-            by_code: IndexMap::with_capacity(alloc, FIRST_ROOM)?,
+            by_code: IndexMap::with_capacity_and_hasher(alloc, FIRST_ROOM, KeyHashing)?,
         })
     }
 
