@@ -7,8 +7,6 @@
 #[cfg(test)]
 mod asking;
 #[cfg(test)]
-mod clerks;
-#[cfg(test)]
 mod turns;
 #[cfg(test)]
 mod two_threads;

@@ -1,20 +1,17 @@
 //! Two threads that enrol callers at one office in memory, in turns.
 
-ghost use Rattle.std.specs.Prelude.{◌≡◌, None};
+ghost use Rattle.std.specs.Prelude.{◌≡◌};
 
-use super::asking::{enrolment, founder, new_clock, number_of_reply, take_turn, tally_of};
-use super::clerks::Unstamped;
-use act_model::Keeper;
+use super::asking::{enrolment, new_clock, number_asked, number_of_reply, take_turn};
+use act_model::{Keeper, Verb};
 use intake_lock::{Clerk, Pass, TurnLock};
-use mpc_desk::PlainKeeper;
 use std::alloc::Global;
-use std::process::Abort;
 use std::sync::Wait;
-use std::thread::{Threads, join};
+use turn_visits::{Turns, told_of_office};
 
 // Ten turns, in each of which a caller is enrolled, under the numbers from this one on. How many of them had a greater
-// receipt than the one before.
-fn take_ten_turns<V: Clerk, R: Abort + Wait>(
+// receipt than the one before; 0 where memory was refused.
+fn take_ten_turns<V: Clerk, R: Wait>(
     rt: &R,
     alloc: Global,
     lock: &TurnLock<V>,
@@ -24,12 +21,16 @@ fn take_ten_turns<V: Clerk, R: Abort + Wait>(
     requires { pass.lock ≡ lock.now.id }
     ensures { (result.0.lock ≡ pass.lock) × (result.0.view.role ≡ pass.view.role) }
 {
-    let mut clock = new_clock(rt);
+    let Some(mut clock) = new_clock() else {
+        return (pass, 0);
+    };
     let mut mine = pass;
     let mut rises = 0u64;
     let mut last = 0u64;
     'turns: for more in 0..10u64 {
-        let request = enrolment(rt, alloc, first.wrapping_add(more));
+        let Some(request) = enrolment(alloc, first.wrapping_add(more)) else {
+            return (mine, 0);
+        };
         let (next, reply) = take_turn(rt, alloc, lock, mine, &request, &mut clock);
         let receipt = number_of_reply(&reply);
         mine = next;
@@ -39,58 +40,40 @@ fn take_ten_turns<V: Clerk, R: Abort + Wait>(
     (mine, rises)
 }
 
-// The office after two threads took ten turns each, and how often the receipts of each rose.
-fn conducted<V: Keeper + Send, R: Abort + Threads + Wait + Sync>(
-    rt: &R,
-    alloc: Global,
-    keeper: V,
-) -> Option<(V, u64, u64)>
-    requires { (V.office keeper).state.doubt ≡ None }
-{
-    let Ok((lock, root)) = TurnLock::new(alloc, Unstamped { keeper }) else {
-        return None;
-    };
-    let Ok((root, branch)) = lock.split(root) else {
-        return None;
-    };
-    let shared = &lock;
-    let ((root, one), (branch, other)) = join(
-        rt,
-        move || -> (Pass, u64)
-            requires { root.lock ≡ shared.now.id }
-            ensures { (result.0.lock ≡ root.lock) × (result.0.view.role ≡ root.view.role) }
-        { take_ten_turns(rt, alloc, shared, root, 1) },
-        move || -> (Pass, u64)
-            requires { branch.lock ≡ shared.now.id }
-            ensures { (result.0.lock ≡ branch.lock) × (result.0.view.role ≡ branch.view.role) }
-        { take_ten_turns(rt, alloc, shared, branch, 11) },
-    );
-    let root = lock.join(root, branch);
-    Some((lock.close(root).keeper, one, other))
-}
+// Ten turns of each thread, under the numbers from 1 on and from 11 on; what the tally of the office has after them, and
+// how often the receipts of each thread rose.
+#[derive(Clone, Copy)]
+struct TenTurns;
 
-// What the tally of this keeper has after the turns, and how often the receipts of each thread rose.
-fn outcome_at<V: Keeper + Send, R: Abort + Threads + Wait + Sync>(
-    rt: &R,
-    alloc: Global,
-    keeper: V,
-) -> Option<(u64, u64, u64)>
-    requires { (V.office keeper).state.doubt ≡ None }
-{
-    let (keeper, one, other) = conducted(rt, alloc, keeper)?;
-    Some((tally_of(rt, alloc, &keeper), one, other))
-}
+impl Turns for TenTurns {
+    type Told = (u64, Option<u64>, Option<u64>);
 
-// The same at an office in memory.
-fn outcome<R: Abort + Threads + Wait + Sync>(rt: &R, alloc: Global) -> Option<(u64, u64, u64)> {
-    match PlainKeeper::new(alloc, founder()) {
-        Ok(keeper) => outcome_at(rt, alloc, keeper),
-        Err(_) => None,
+    fn take<V: Clerk, R: Wait>(
+        &self,
+        rt: &R,
+        alloc: Global,
+        lock: &TurnLock<V>,
+        pass: Pass,
+        thread: u64,
+    ) -> (Pass, u64) {
+        let first = if thread == 1 { 1 } else { 11 };
+        take_ten_turns(rt, alloc, lock, pass, first)
+    }
+
+    fn tell<K: Keeper>(
+        &self,
+        alloc: Global,
+        keeper: &K,
+        came: &[u64],
+    ) -> (u64, Option<u64>, Option<u64>) {
+        let entries = number_asked(alloc, keeper, Verb::Tally, b"");
+        (entries, came.first().copied(), came.get(1).copied())
     }
 }
 
 // Each thread enrols ten callers. Each act is one entry, and each thread's receipts rise.
 #[test]
 fn enrolments_of_two_threads(rt: HostRuntime) {
-    assert_eq!(&rt; outcome(&rt, rt.alloc()), Some((20, 10, 10)));
+    let told = told_of_office(&rt, rt.alloc(), &TenTurns);
+    assert_eq!(rt; told, Some((20, Some(10), Some(10))));
 }
