@@ -4,12 +4,13 @@
 
 ghost use Rattle.std.specs.Prelude.{◌≡◌};
 
-use super::asking::{asked, enrolment, new_clock, number_asked, request, take_turn};
 use act_model::{Keeper, Reply, Request, Verb};
 use intake_lock::{Clerk, Pass, TurnLock};
 use std::alloc::Global;
 use std::sync::Wait;
-use turn_visits::{THREADS, Turns, told_of_desk};
+use turn_visits::{
+    THREADS, Turns, asked, enrolment, new_clock, number_asked, request, take_turn, told_of_desk,
+};
 
 // How often each thread enters, each fourth time for the tally and else with an act.
 const TURNS: u64 = 200;

@@ -2,12 +2,13 @@
 
 ghost use Rattle.std.specs.Prelude.{◌≡◌};
 
-use super::asking::{enrolment, new_clock, number_asked, number_of_reply, take_turn};
 use act_model::{Keeper, Verb};
 use intake_lock::{Clerk, Pass, TurnLock};
 use std::alloc::Global;
 use std::sync::Wait;
-use turn_visits::{Turns, told_of_office};
+use turn_visits::{
+    Turns, enrolment, new_clock, number_asked, number_of_reply, take_turn, told_of_office,
+};
 
 // Ten turns, in each of which a caller is enrolled, under the numbers from this one on. How many of them had a greater
 // receipt than the one before; 0 where memory was refused.
@@ -40,8 +41,8 @@ fn take_ten_turns<V: Clerk, R: Wait>(
     (mine, rises)
 }
 
-// Ten turns of each thread, under the numbers from 1 on and from 11 on; what the tally of the office has after them, and
-// how often the receipts of each thread rose.
+// Ten turns of each thread, under the numbers from 1 on and from 11 on; how many entries the office has after them, by
+// its tally, and how often the receipts of each thread rose.
 #[derive(Clone, Copy)]
 struct TenTurns;
 

@@ -12,7 +12,7 @@ use std::alloc::Global;
 use std::sync::Wait;
 
 /// A request of the founder; None where memory was refused, here and below.
-pub(super) fn request(alloc: Global, number: u64, verb: Verb, body: &[u8]) -> Option<Request> {
+pub fn request(alloc: Global, number: u64, verb: Verb, body: &[u8]) -> Option<Request> {
     let body = Bytes::from_slice(alloc, body).ok()?;
     Some(Request {
         key: Key::new(b"+founder-1"),
@@ -23,7 +23,7 @@ pub(super) fn request(alloc: Global, number: u64, verb: Verb, body: &[u8]) -> Op
 }
 
 /// The founder enrols an observer, another one under each number.
-pub(super) fn enrolment(alloc: Global, number: u64) -> Option<Request> {
+pub fn enrolment(alloc: Global, number: u64) -> Option<Request> {
     let body = format!(in alloc;
         "{{\"key\":\"observer-{number}\",\"name\":\"Ann\",\"role\":\"observer\"}}"
     ).ok()?;
@@ -31,13 +31,13 @@ pub(super) fn enrolment(alloc: Global, number: u64) -> Option<Request> {
 }
 
 /// A clock that goes by seconds.
-pub(super) fn new_clock() -> Option<TickClock> {
+pub fn new_clock() -> Option<TickClock> {
     let first = Instant::new(1_711_929_600_000_000_000)?;
     Some(TickClock::new(first, 1_000_000_000))
 }
 
 /// One turn at the lock.
-pub(super) fn take_turn<V: Clerk, R: Wait>(
+pub fn take_turn<V: Clerk, R: Wait>(
     rt: &R,
     alloc: Global,
     lock: &TurnLock<V>,
@@ -52,7 +52,7 @@ pub(super) fn take_turn<V: Clerk, R: Wait>(
 }
 
 /// The number after the first word of a text's first line.
-pub(super) fn number_in(text: &[u8]) -> u64 {
+fn number_in(text: &[u8]) -> u64 {
     let mut number = 0u64;
     for byte in text {
         if *byte == b'\n' {
@@ -76,7 +76,7 @@ fn answer<V: Keeper>(keeper: &V, request: &Request) -> Option<Reply> {
 }
 
 /// The number in the first line of what is done; 0 where it is refused.
-pub(super) fn number_of_reply(reply: &Reply) -> u64 {
+pub fn number_of_reply(reply: &Reply) -> u64 {
     match reply {
         Reply::Done(text) => number_in(text.as_slice()),
         Reply::Refused(_) => 0,
@@ -84,18 +84,13 @@ pub(super) fn number_of_reply(reply: &Reply) -> u64 {
 }
 
 /// What a keeper answers to a query with this body.
-pub(super) fn asked<V: Keeper>(
-    alloc: Global,
-    keeper: &V,
-    verb: Verb,
-    body: &[u8],
-) -> Option<Reply> {
+pub fn asked<V: Keeper>(alloc: Global, keeper: &V, verb: Verb, body: &[u8]) -> Option<Reply> {
     let query = request(alloc, 0, verb, body)?;
     answer(keeper, &query)
 }
 
 /// The number in the first line of what a keeper answers to a query; 0 where it is refused or memory was.
-pub(super) fn number_asked<V: Keeper>(alloc: Global, keeper: &V, verb: Verb, body: &[u8]) -> u64 {
+pub fn number_asked<V: Keeper>(alloc: Global, keeper: &V, verb: Verb, body: &[u8]) -> u64 {
     match asked(alloc, keeper, verb, body) {
         Some(reply) => number_of_reply(&reply),
         None => 0,
