@@ -1,11 +1,8 @@
 //! A journal at its limit.
 
-ghost use Rattle.act_model.specs.Roster.{IsFounder};
-
 use act_model::{Body, Keeper, Key, Reply, Request, Verb, reply_text};
-use disk_model::{Disk, MemDisk};
+use desk_visits::{Visit, visit_desk};
 use item_list::Bytes;
-use mpc_desk::Desk;
 use obs_time::Instant;
 use std::alloc::Global;
 
@@ -43,12 +40,6 @@ const MOMENT: i64 = 1_711_929_600_000_000_000;
 
 // Enough for each disk of the tests.
 const CAPACITY: usize = 8_192;
-
-fn founder() -> Key
-    ensures { IsFounder result }
-{
-    Key::new(FOUNDER)
-}
 
 /// The request; None where memory was refused.
 fn request(alloc: Global, asks: &Asks) -> Option<Request> {
@@ -126,26 +117,25 @@ fn is_second<V: Keeper>(
     wrong_answer(alloc, keeper, reading, &[ANN, (ENROLS_BOB, text), ANN]).is_none()
 }
 
-/// Whether it is, at a desk on this disk, whose journal may have so many bytes.
-fn is_second_over<D: Disk>(
-    alloc: Global,
-    disk: D,
-    limit: u64,
+/// Whether the second act is answered so, where each act is read at that moment.
+#[derive(Clone, Copy)]
+struct Second {
     reading: Instant,
     text: &'static str,
-) -> bool {
-    match Desk::open(alloc, founder(), limit, disk) {
-        Ok(mut desk) => is_second(alloc, &mut desk, reading, text),
-        Err(_) => false,
+}
+
+impl Visit for Second {
+    type Told = bool;
+
+    fn visit<K: Keeper>(&self, alloc: Global, keeper: K) -> bool {
+        let mut keeper = keeper;
+        is_second(alloc, &mut keeper, self.reading, self.text)
     }
 }
 
-/// Whether it is, at a desk on an empty disk.
+/// Whether it is, at a desk on an empty disk, whose journal may have so many bytes.
 fn is_second_within(alloc: Global, limit: u64, reading: Instant, text: &'static str) -> bool {
-    match MemDisk::new(alloc, &[], CAPACITY, &[]) {
-        Ok(disk) => is_second_over(alloc, disk, limit, reading, text),
-        Err(_) => false,
-    }
+    visit_desk(alloc, limit, CAPACITY, &Second { reading, text }) == Some(true)
 }
 
 /// The first of these limits under which it is answered otherwise, counted from 0.

@@ -1,24 +1,12 @@
 //! What becomes of requests, kind by kind, with ample memory.
 //!
-//! All but the impl is over any office: the type of the office in memory makes each proof that it stands in dear.
+//! All is over any office: the type of the office in memory makes each proof that it stands in dear.
 
-ghost use Rattle.std.specs.Prelude.{◌≡◌, true};
-ghost use Rattle.act_model.specs.Requests.{is_act};
-ghost use Rattle.act_model.specs.Roster.{IsFounder};
-
-use act_model::{Body, Key, Reply, Request, Text, Verb, line_feeds, reply_text};
-use desk_core::{Core, Prep, ReplayFault};
+use act_model::{Body, Key, Request, Text, Verb, line_feeds, reply_text};
 use item_list::Bytes;
 use obs_time::Instant;
+use office_visits::{Kind, Office, ReplayFault, Visit, visit_office};
 use std::alloc::Global;
-
-/// Which answer `prepare` gave; a query's answer counts as refused.
-#[derive(Clone, Copy, PartialEq, Eq)]
-enum Kind {
-    Kept,
-    Refused,
-    Ready,
-}
 
 /// A request, its body or None for one without room, and what it is answered.
 #[derive(Clone, Copy)]
@@ -413,60 +401,6 @@ const ROSTER: &[Case] = &[
     },
 ];
 
-fn founder() -> Key
-    ensures { IsFounder result }
-{
-    Key::new(FOUNDER)
-}
-
-/// An office that is asked.
-trait Office: Sized + Drop {
-    /// One without entries; None where memory was refused, here and below.
-    fn found(alloc: Global) -> Option<Self>;
-
-    /// The answer to a request, with its kind; an act that is ready is added.
-    fn take(&mut self, request: &Request, reading: Instant) -> (Kind, Reply);
-
-    /// Whether an entry that is taken in again becomes what it must.
-    fn becomes(&mut self, again: &Again) -> bool;
-
-    /// How many entries it has.
-    fn entries(&self) -> u64;
-}
-
-impl Office for Core {
-    fn found(alloc: Global) -> Option<Core> {
-        Core::new(alloc, founder()).ok()
-    }
-
-    fn take(&mut self, request: &Request, reading: Instant) -> (Kind, Reply) {
-        if request.verb.is_act() {
-            return act(self, request, reading);
-        }
-        (Kind::Refused, self.answer(request))
-    }
-
-    fn becomes(&mut self, again: &Again) -> bool {
-        let &(caller, number, moment, verb, body, want) = again;
-        self.replay(caller, number, moment, verb, body.as_bytes()) == want
-    }
-
-    fn entries(&self) -> u64 {
-        Core::entries(self)
-    }
-}
-
-/// The answer to an act, with its kind; one that is ready is added.
-fn act(core: &mut Core, request: &Request, reading: Instant) -> (Kind, Reply)
-    requires { is_act request.now.verb ≡ true }
-{
-    match core.prepare(request, reading, None) {
-        Prep::Kept(reply) => (Kind::Kept, reply),
-        Prep::Refused(refusal) => (Kind::Refused, Reply::Refused(refusal)),
-        Prep::Ready(prepared) => (Kind::Ready, core.commit(prepared)),
-    }
-}
-
 fn body(alloc: Global, text: Option<&str>) -> Option<Body> {
     match text {
         Some(text) => Some(Body::Whole(Bytes::from_slice(alloc, text.as_bytes()).ok()?)),
@@ -518,21 +452,35 @@ fn roster() -> &'static [Case] {
     ROSTER
 }
 
+/// The first of these cases that an office answers otherwise.
+#[derive(Clone, Copy)]
+struct WrongAnswer {
+    cases: &'static [Case],
+}
+
+impl Visit for WrongAnswer {
+    type Told = Option<usize>;
+
+    fn visit<O: Office>(&self, alloc: Global, office: O) -> Option<usize> {
+        let mut office = office;
+        wrong_of(alloc, &mut office, self.cases)
+    }
+}
+
 /// The first of these cases that a new office answers otherwise.
-fn wrong_answer<O: Office>(alloc: Global, cases: &[Case]) -> Option<Option<usize>> {
-    let mut office = O::found(alloc)?;
-    Some(wrong_of(alloc, &mut office, cases))
+fn wrong_answer(alloc: Global, cases: &'static [Case]) -> Option<Option<usize>> {
+    visit_office(alloc, &WrongAnswer { cases })
 }
 
 #[test]
 fn answers_each_kind(rt: HostRuntime) {
-    let wrong = wrong_answer::<Core>(rt.alloc(), days());
+    let wrong = wrong_answer(rt.alloc(), days());
     assert_eq!(rt; wrong, Some(None));
 }
 
 #[test]
 fn hears_each_caller(rt: HostRuntime) {
-    let wrong = wrong_answer::<Core>(rt.alloc(), roster());
+    let wrong = wrong_answer(rt.alloc(), roster());
     assert_eq!(rt; wrong, Some(None));
 }
 
@@ -590,18 +538,32 @@ fn accepts_long<O: Office>(alloc: Global, office: &mut O) -> Option<bool> {
     Some(is_long(text.as_slice()))
 }
 
-/// Whether a new office accepts it after these cases.
-fn takes_long<O: Office>(alloc: Global, cases: &[Case]) -> Option<bool> {
-    let mut office = O::found(alloc)?;
-    if wrong_of(alloc, &mut office, cases).is_some() {
-        return None;
+/// Whether an office accepts it after these cases; None where one of them is answered otherwise.
+#[derive(Clone, Copy)]
+struct TakesLong {
+    cases: &'static [Case],
+}
+
+impl Visit for TakesLong {
+    type Told = Option<bool>;
+
+    fn visit<O: Office>(&self, alloc: Global, office: O) -> Option<bool> {
+        let mut office = office;
+        if wrong_of(alloc, &mut office, self.cases).is_some() {
+            return None;
+        }
+        accepts_long(alloc, &mut office)
     }
-    accepts_long(alloc, &mut office)
+}
+
+/// Whether a new office accepts it after these cases.
+fn takes_long(alloc: Global, cases: &'static [Case]) -> Option<bool> {
+    visit_office(alloc, &TakesLong { cases })?
 }
 
 #[test]
 fn takes_a_long_batch(rt: HostRuntime) {
-    let taken = takes_long::<Core>(rt.alloc(), days());
+    let taken = takes_long(rt.alloc(), days());
     assert_eq!(rt; taken, Some(true));
 }
 
@@ -626,25 +588,45 @@ const AGAIN: &[Again] = &[
     (0, 3, DAY + 1, 3, BAND, Ok(())),
 ];
 
+/// Whether an entry that is taken in again becomes what it must.
+fn becomes<O: Office>(office: &mut O, again: &Again) -> bool {
+    let &(caller, number, moment, verb, body, want) = again;
+    office.replay(caller, number, moment, verb, body.as_bytes()) == want
+}
+
 /// The first of these entries that becomes something else, counted from 0; None where there is none.
 fn wrong_entry<O: Office>(office: &mut O, entries: &[Again]) -> Option<usize> {
     for (place, again) in entries.iter().enumerate() {
-        if !office.becomes(again) {
+        if !becomes(office, again) {
             return Some(place);
         }
     }
     None
 }
 
-/// The same in a new office, and how many entries it has then.
-fn come_again<O: Office>(alloc: Global, entries: &[Again]) -> Option<(Option<usize>, u64)> {
-    let mut office = O::found(alloc)?;
-    let wrong = wrong_entry(&mut office, entries);
-    Some((wrong, office.entries()))
+/// The same, and how many entries the office has then.
+#[derive(Clone, Copy)]
+struct ComeAgain {
+    entries: &'static [Again],
+}
+
+impl Visit for ComeAgain {
+    type Told = (Option<usize>, u64);
+
+    fn visit<O: Office>(&self, _alloc: Global, office: O) -> (Option<usize>, u64) {
+        let mut office = office;
+        let wrong = wrong_entry(&mut office, self.entries);
+        (wrong, office.entries())
+    }
+}
+
+/// The same in a new office.
+fn come_again(alloc: Global, entries: &'static [Again]) -> Option<(Option<usize>, u64)> {
+    visit_office(alloc, &ComeAgain { entries })
 }
 
 #[test]
 fn takes_entries_in_again(rt: HostRuntime) {
-    let came = come_again::<Core>(rt.alloc(), AGAIN);
+    let came = come_again(rt.alloc(), AGAIN);
     assert_eq!(rt; came, Some((None, 3)));
 }

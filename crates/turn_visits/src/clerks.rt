@@ -9,8 +9,8 @@ use intake_lock::Clerk;
 use obs_time::Instant;
 
 #[derive(Drop)]
-pub(super) struct Unstamped<K: Keeper> {
-    pub(super) keeper: K,
+pub(crate) struct Unstamped<K: Keeper> {
+    pub(crate) keeper: K,
 }
 
 impl<K: Keeper> Clerk for Unstamped<K> {

@@ -1,7 +1,6 @@
 //! Requests of the founder, and what a keeper answers to them.
 
 ghost use Rattle.std.specs.Prelude.{◌≡◌};
-ghost use Rattle.act_model.specs.Roster.{IsFounder};
 
 use act_model::{Body, Keeper, Key, Reply, Request, Verb};
 use desk_io::TickClock;
@@ -10,45 +9,35 @@ use item_list::Bytes;
 use link_desk::answer_one;
 use obs_time::Instant;
 use std::alloc::Global;
-use std::process::Abort;
 use std::sync::Wait;
 
-pub(super) fn founder() -> Key
-    ensures { IsFounder result }
-{
-    Key::new(b"+founder-1")
-}
-
-pub(super) fn request<R: Abort>(
-    rt: &R,
-    alloc: Global,
-    number: u64,
-    verb: Verb,
-    body: &[u8],
-) -> Request {
-    Request {
-        key: founder(),
+/// A request of the founder; None where memory was refused, here and below.
+pub fn request(alloc: Global, number: u64, verb: Verb, body: &[u8]) -> Option<Request> {
+    let body = Bytes::from_slice(alloc, body).ok()?;
+    Some(Request {
+        key: Key::new(b"+founder-1"),
         number: Some(number),
         verb,
-        body: Body::Whole(Bytes::from_slice(alloc, body).expect(rt, "memory")),
-    }
+        body: Body::Whole(body),
+    })
 }
 
 /// The founder enrols an observer, another one under each number.
-pub(super) fn enrolment<R: Abort>(rt: &R, alloc: Global, number: u64) -> Request {
+pub fn enrolment(alloc: Global, number: u64) -> Option<Request> {
     let body = format!(in alloc;
         "{{\"key\":\"observer-{number}\",\"name\":\"Ann\",\"role\":\"observer\"}}"
-    ).expect(rt, "memory");
-    request(rt, alloc, number, Verb::Enrol, body.as_bytes())
+    ).ok()?;
+    request(alloc, number, Verb::Enrol, body.as_bytes())
 }
 
-pub(super) fn new_clock<R: Abort>(rt: &R) -> TickClock {
-    let first = Instant::new(1_711_929_600_000_000_000).expect(rt, "in range");
-    TickClock::new(first, 1_000_000_000)
+/// A clock that goes by seconds.
+pub fn new_clock() -> Option<TickClock> {
+    let first = Instant::new(1_711_929_600_000_000_000)?;
+    Some(TickClock::new(first, 1_000_000_000))
 }
 
 /// One turn at the lock.
-pub(super) fn take_turn<V: Clerk, R: Wait>(
+pub fn take_turn<V: Clerk, R: Wait>(
     rt: &R,
     alloc: Global,
     lock: &TurnLock<V>,
@@ -63,7 +52,7 @@ pub(super) fn take_turn<V: Clerk, R: Wait>(
 }
 
 /// The number after the first word of a text's first line.
-pub(super) fn number_in(text: &[u8]) -> u64 {
+fn number_in(text: &[u8]) -> u64 {
     let mut number = 0u64;
     for byte in text {
         if *byte == b'\n' {
@@ -79,7 +68,7 @@ pub(super) fn number_in(text: &[u8]) -> u64 {
 }
 
 /// What a keeper answers to a query.
-pub(super) fn answer<V: Keeper>(keeper: &V, request: &Request) -> Option<Reply> {
+fn answer<V: Keeper>(keeper: &V, request: &Request) -> Option<Reply> {
     if request.verb.is_act() {
         return None;
     }
@@ -87,16 +76,22 @@ pub(super) fn answer<V: Keeper>(keeper: &V, request: &Request) -> Option<Reply> 
 }
 
 /// The number in the first line of what is done; 0 where it is refused.
-pub(super) fn number_of_reply(reply: &Reply) -> u64 {
+pub fn number_of_reply(reply: &Reply) -> u64 {
     match reply {
         Reply::Done(text) => number_in(text.as_slice()),
         Reply::Refused(_) => 0,
     }
 }
 
-/// How many entries the tally of a keeper has.
-pub(super) fn tally_of<R: Abort, V: Keeper>(rt: &R, alloc: Global, keeper: &V) -> u64 {
-    match answer(keeper, &request(rt, alloc, 0, Verb::Tally, b"")) {
+/// What a keeper answers to a query with this body.
+pub fn asked<V: Keeper>(alloc: Global, keeper: &V, verb: Verb, body: &[u8]) -> Option<Reply> {
+    let query = request(alloc, 0, verb, body)?;
+    answer(keeper, &query)
+}
+
+/// The number in the first line of what a keeper answers to a query; 0 where it is refused or memory was.
+pub fn number_asked<V: Keeper>(alloc: Global, keeper: &V, verb: Verb, body: &[u8]) -> u64 {
+    match asked(alloc, keeper, verb, body) {
         Some(reply) => number_of_reply(&reply),
         None => 0,
     }

@@ -1,0 +1,44 @@
+//! Desks over disks in memory that are opened for tests and handed to them as any keeper of the office.
+//!
+//! Tests over them meet the large type of a desk nowhere, so that they are proved at little cost.
+#![tactic(auto)]
+
+ghost use Rattle.act_model.specs.Roster.{IsFounder};
+
+use act_model::{Keeper, Key};
+use disk_model::{Disk, MemDisk};
+use mpc_desk::Desk;
+use std::alloc::Global;
+
+/// What is done with an office.
+pub trait Visit {
+    /// What is told of it.
+    type Told;
+
+    /// Does it.
+    fn visit<K: Keeper>(&self, alloc: Global, keeper: K) -> Self::Told;
+}
+
+/// The founding officer of each office.
+fn founder() -> Key
+    ensures { IsFounder result }
+{
+    Key::new(b"+founder-1")
+}
+
+/// What a visit tells of a desk over this disk.
+fn visit_over<D: Disk, V: Visit>(alloc: Global, limit: u64, disk: D, visit: &V) -> Option<V::Told> {
+    match Desk::open(alloc, founder(), limit, disk) {
+        Ok(desk) => Some(visit.visit(alloc, desk)),
+        Err(_) => None,
+    }
+}
+
+/// What a visit tells of a desk whose journal may have so many bytes, on an empty disk in memory that has room for
+/// `room` bytes; None where memory was refused.
+pub fn visit_desk<V: Visit>(alloc: Global, limit: u64, room: usize, visit: &V) -> Option<V::Told> {
+    match MemDisk::new(alloc, &[], room, &[]) {
+        Ok(disk) => visit_over(alloc, limit, disk, visit),
+        Err(_) => None,
+    }
+}
