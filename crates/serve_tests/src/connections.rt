@@ -1,9 +1,9 @@
 //! Connections that come through a door in memory.
 
-use super::calls::{Want, expect_end, serve_at};
+use super::calls::{Want, expect_call};
 use desk_io::{MemDoor, MemSink, MemSource};
 use desk_serve::LinkEnds;
-use link_desk::Left;
+use program_call::Left;
 use std::alloc::Global;
 use std::process::Abort;
 use std::sync::Wait;
@@ -114,11 +114,8 @@ fn expect_served<R: Abort + Threads + Wait + Sync>(
     want: Want,
     taken: &str,
 ) {
-    let mut sink = MemSink::new(alloc, 64, &[]).expect(rt, "memory");
     let mut door = door_of(rt, alloc, links, fails);
-    let (ended, ends) = serve_at(rt, alloc, &SERVE, &mut sink, &mut door);
-    expect_end(rt, alloc, &ended, want);
-    assert_eq!(rt; sink.bytes(), taken.as_bytes());
+    let ends = expect_call(rt, alloc, &SERVE, &mut door, want, taken);
     expect_links(rt, &ends, links);
 }
 

@@ -1,13 +1,9 @@
 //! Connections that wait for one another, so that only a server that attends them side by side answers them all.
 
-use super::calls::{done, expect_end, words_of};
+use super::calls::{done, expect_call};
 use super::held::{Held, HeldDoor, HeldSink, HeldSource};
-use crate::top;
-use desk_io::{MemSink, MemSource, TickClock};
 use desk_serve::LinkEnds;
-use disk_model::MemDisk;
-use link_desk::Left;
-use obs_time::Instant;
+use program_call::Left;
 use std::alloc::Global;
 use std::process::Abort;
 use std::sync::Wait;
@@ -118,25 +114,9 @@ fn expect_answers<R: Abort>(rt: &R, ends: &LinkEnds<HeldSource, HeldSink>) {
 }
 
 fn expect_served<R: Abort + Threads + Wait + Sync>(rt: &R, alloc: Global) {
-    let words = words_of(rt, alloc, &SERVE);
-    let mut source = MemSource::new(alloc, b"", 1, &[]).expect(rt, "memory");
-    let mut sink = MemSink::new(alloc, 64, &[]).expect(rt, "memory");
-    let first = Instant::new(1_711_929_600_000_000_000).expect(rt, "in range");
-    let mut clock = TickClock::new(first, 1_000_000_000);
-    let disk = MemDisk::new(alloc, &[], 65_536, &[]).expect(rt, "memory");
     let mut door = HeldDoor::new(rt, alloc, &SENT);
-    let (ended, ends) = top(
-        rt,
-        alloc,
-        &words,
-        &mut source,
-        &mut sink,
-        disk,
-        &mut clock,
-        &mut door,
-    );
-    expect_end(rt, alloc, &ended, done(2));
-    assert_eq!(rt; sink.bytes(), b"connections 4\nentries 2\n".as_slice());
+    let taken = "connections 4\nentries 2\n";
+    let ends = expect_call(rt, alloc, &SERVE, &mut door, done(2), taken);
     expect_answers(rt, &ends);
 }
 
