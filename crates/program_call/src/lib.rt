@@ -4,10 +4,9 @@
 //! `top` carries the theorem; the program, mpc_cli, hands it the real ones.
 #![tactic(auto)]
 
-mod top;
+pub mod top;
 
 pub use act_model as model;
 pub use command_ends::{Ended, Status};
 pub use command_line::Words;
 pub use link_desk::{Left, answer_one, attend};
-pub use top::{single, top};

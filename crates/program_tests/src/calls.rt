@@ -4,7 +4,8 @@ use desk_io::{Clock, MemSink, MemSource, Sink, Source, TickClock};
 use disk_model::{Disk, MemDisk};
 use item_list::Bytes;
 use obs_time::Instant;
-use program_call::{Ended, Words, single};
+use program_call::top::single;
+use program_call::{Ended, Words};
 use std::alloc::Global;
 use std::process::Abort;
 
