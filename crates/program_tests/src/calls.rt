@@ -1,6 +1,6 @@
 //! Calls of the program over a source, a sink, a disk and a clock in memory.
 
-use desk_io::{Clock, MemSink, MemSource, Sink, Source, TickClock};
+use desk_io::{Clock, MemSink, MemSource, NoMemory, Sink, Source, TickClock};
 use disk_model::{Disk, MemDisk};
 use item_list::Bytes;
 use obs_time::Instant;
@@ -9,13 +9,12 @@ use program_call::{Ended, Words};
 use std::alloc::Global;
 use std::process::Abort;
 
-fn words_of<R: Abort>(rt: &R, alloc: Global, texts: &[&str]) -> Words {
+fn words_of(alloc: Global, texts: &[&str]) -> Result<Words, NoMemory> {
     let mut words = Words::new(alloc);
     for text in texts {
-        let word = Bytes::from_slice(alloc, text.as_bytes()).expect(rt, "memory");
-        words.push(word).expect(rt, "memory");
+        words.push(Bytes::from_slice(alloc, text.as_bytes())?)?;
     }
-    words
+    Ok(words)
 }
 
 /// The end that is wanted: the status as it is printed, its number, and the entries.
@@ -70,7 +69,7 @@ pub(super) fn expect_call<R: Abort>(
     want: Want,
     taken: &str,
 ) {
-    let words = words_of(rt, alloc, texts);
+    let words = words_of(alloc, texts).expect(rt, "memory");
     let mut source = MemSource::new(alloc, bytes.as_bytes(), 4096, &[]).expect(rt, "memory");
     let mut sink = MemSink::new(alloc, 65_536, &[fails]).expect(rt, "memory");
     let disk = MemDisk::new(alloc, &[], 1_048_576, &[]).expect(rt, "memory");

@@ -1,24 +1,23 @@
 //! Calls of `serve` over a door, on an empty disk in memory.
 
-use desk_io::{Clock, Door, MemSink, MemSource, Sink, Source, TickClock};
+use desk_io::{Clock, Door, MemSink, MemSource, NoMemory, Sink, Source, TickClock};
 use desk_serve::LinkEnds;
 use disk_model::{Disk, MemDisk};
 use item_list::Bytes;
 use obs_time::Instant;
 use program_call::top::top;
-use program_call::{Ended, Words};
+use program_call::{Ended, Left, Words};
 use std::alloc::Global;
 use std::process::Abort;
 use std::sync::Wait;
 use std::thread::Threads;
 
-fn words_of<R: Abort>(rt: &R, alloc: Global, texts: &[&str]) -> Words {
+fn words_of(alloc: Global, texts: &[&str]) -> Result<Words, NoMemory> {
     let mut words = Words::new(alloc);
     for text in texts {
-        let word = Bytes::from_slice(alloc, text.as_bytes()).expect(rt, "memory");
-        words.push(word).expect(rt, "memory");
+        words.push(Bytes::from_slice(alloc, text.as_bytes())?)?;
     }
-    words
+    Ok(words)
 }
 
 /// The end that is wanted: the status as it is printed, its number, and the entries.
@@ -74,7 +73,7 @@ pub(super) fn expect_call<G: Door, R: Abort + Threads + Wait + Sync>(
     want: Want,
     taken: &str,
 ) -> LinkEnds<G::In, G::Out> {
-    let words = words_of(rt, alloc, texts);
+    let words = words_of(alloc, texts).expect(rt, "memory");
     let mut source = MemSource::new(alloc, b"", 1, &[]).expect(rt, "memory");
     let mut sink = MemSink::new(alloc, 64, &[]).expect(rt, "memory");
     let disk = MemDisk::new(alloc, &[], 65_536, &[]).expect(rt, "memory");
@@ -92,4 +91,34 @@ pub(super) fn expect_call<G: Door, R: Abort + Threads + Wait + Sync>(
     expect_end(rt, alloc, &ended, want);
     assert_eq!(rt; sink.bytes(), taken.as_bytes());
     ends
+}
+
+/// A sink of a link that tells what it took.
+pub(super) trait Took {
+    /// The bytes that it took.
+    fn bytes(&self) -> &[u8];
+}
+
+impl Took for MemSink {
+    fn bytes(&self) -> &[u8] {
+        MemSink::bytes(self)
+    }
+}
+
+/// How a link ends: why it is left, and what it was answered.
+pub(super) type End = (Left, &'static str);
+
+/// The place of the first link that ended otherwise than it is wanted, or how many are wanted where there are others.
+pub(super) fn wrong_end<I, O: Took>(ends: &LinkEnds<I, O>, wanted: &[End]) -> Option<usize> {
+    if ends.len() != wanted.len() as u64 {
+        return Some(wanted.len());
+    }
+    for (place, (left, answers)) in wanted.iter().enumerate() {
+        if let Some(end) = ends.get(place as u64) {
+            if end.left != *left || end.sink.bytes() != answers.as_bytes() {
+                return Some(place);
+            }
+        }
+    }
+    None
 }

@@ -1,8 +1,7 @@
 //! Connections that come through a door in memory.
 
-use super::calls::{Want, expect_call};
-use desk_io::{MemDoor, MemSink, MemSource};
-use desk_serve::LinkEnds;
+use super::calls::{End, Want, expect_call, wrong_end};
+use desk_io::{MemDoor, MemSink, MemSource, NoMemory};
 use program_call::Left;
 use std::alloc::Global;
 use std::process::Abort;
@@ -50,83 +49,83 @@ const UNREAD: &str = concat!(
     "refused 1 Unread head\n",
 );
 
-/// What is sent on a link, the read of it that fails (0 for none), why it is left, and what it was answered.
-type Link = (&'static str, u64, Left, &'static str);
+/// What is sent on a link, and the read of it that fails (0 for none).
+type Sent = (&'static str, u64);
 
-/// The links of a call, the call of the door that fails, the status and its number, the entries, and what is written.
-const ROWS: &[(&[Link], u64, &str, u8, u64, &str)] = &[
+/// The links of a call, the call of the door that fails, the status and its number, the entries, what is written, and
+/// how the links end.
+const ROWS: &[(&[Sent], u64, &str, u8, u64, &str, &[End])] = &[
     (
-        &[(ENROL, 0, Left::Ended, ENROLLED)],
+        &[(ENROL, 0)],
         0,
         "Done",
         0,
         1,
         "connections 1\nentries 1\n",
+        &[(Left::Ended, ENROLLED)],
     ),
     (
-        &[
-            (TALLY, 0, Left::Ended, TALLIED),
-            (ENROL, 1, Left::ReadFault, ""),
-            (TALLY, 0, Left::Ended, TALLIED),
-        ],
+        &[(TALLY, 0), (ENROL, 1), (TALLY, 0)],
         0,
         "Done",
         0,
         0,
         "connections 3\nentries 0\n",
+        &[
+            (Left::Ended, TALLIED),
+            (Left::ReadFault, ""),
+            (Left::Ended, TALLIED),
+        ],
     ),
     (
-        &[(CHUNKED, 0, Left::Unread, UNREAD)],
+        &[(CHUNKED, 0)],
         0,
         "Done",
         0,
         0,
         "connections 1\nentries 0\n",
+        &[(Left::Unread, UNREAD)],
     ),
-    (&[("", 0, Left::Ended, "")], 2, "DoorFault", 9, 0, ""),
+    (&[("", 0)], 2, "DoorFault", 9, 0, "", &[(Left::Ended, "")]),
 ];
 
-fn door_of<R: Abort>(rt: &R, alloc: Global, links: &[Link], fails: u64) -> MemDoor {
-    let mut made = Vec::new(alloc);
-    for (sent, read, _, _) in links {
-        let source = MemSource::new(alloc, sent.as_bytes(), 7, &[*read]).expect(rt, "memory");
-        let sink = MemSink::new(alloc, 4_096, &[]).expect(rt, "memory");
-        made.push((source, sink)).expect(rt, "memory");
-    }
-    MemDoor::new(alloc, made, &[fails]).expect(rt, "memory")
+fn link_of(alloc: Global, sent: &str, fails: u64) -> Result<(MemSource, MemSink), NoMemory> {
+    let source = MemSource::new(alloc, sent.as_bytes(), 7, &[fails])?;
+    let sink = MemSink::new(alloc, 4_096, &[])?;
+    Ok((source, sink))
 }
 
-fn expect_links<R: Abort>(rt: &R, ends: &LinkEnds<MemSource, MemSink>, links: &[Link]) {
-    assert_eq!(rt; ends.len(), links.len() as u64);
-    for (place, (_, _, left, answered)) in links.iter().enumerate() {
-        if let Some(end) = ends.get(place as u64) {
-            assert_eq!(rt; end.left, *left);
-            assert_eq!(rt; end.sink.bytes(), answered.as_bytes());
-        }
+// A door with these links, of which the call with the number `fails` fails (for 0 none does).
+fn door_of(alloc: Global, links: &[Sent], fails: u64) -> Result<MemDoor, NoMemory> {
+    let mut made = Vec::new(alloc);
+    for (sent, read) in links {
+        made.push(link_of(alloc, sent, *read)?)?;
     }
+    MemDoor::new(alloc, made, &[fails])
 }
 
 fn expect_served<R: Abort + Threads + Wait + Sync>(
     rt: &R,
     alloc: Global,
-    links: &[Link],
+    links: &[Sent],
     fails: u64,
     want: Want,
     taken: &str,
+    wanted: &[End],
 ) {
-    let mut door = door_of(rt, alloc, links, fails);
+    let mut door = door_of(alloc, links, fails).expect(rt, "memory");
     let ends = expect_call(rt, alloc, &SERVE, &mut door, want, taken);
-    expect_links(rt, &ends, links);
+    assert_eq!(rt; wrong_end(&ends, wanted), None);
 }
 
 #[test]
 fn connections(rt: HostRuntime) {
-    for &(links, fails, status, number, added, taken) in ROWS {
+    for &(links, fails, status, number, added, taken, wanted) in ROWS {
         let want = Want {
             status,
             number,
             added,
         };
-        expect_served(&rt, rt.alloc(), links, fails, want, taken);
+        expect_served(&rt, rt.alloc(), links, fails, want, taken, wanted);
     }
 }

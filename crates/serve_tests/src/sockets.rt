@@ -10,6 +10,8 @@ use std::process::Abort;
 use std::sync::Wait;
 use std::thread::{Threads, join, yield_now};
 
+const SERVE: [&str; 5] = ["serve", "--connections", "1", "--key", "+founder-1"];
+
 /// The port of the program's door.
 const PORT: u16 = 8017;
 
@@ -64,10 +66,9 @@ fn serve_one<
     R: Abort + Threads + Wait + Sync,
     N: Net<Listener = TcpListener, Stream = TcpStream> + Copy,
 >(rt: &R, net: N, alloc: Global) {
-    let words = ["serve", "--connections", "1", "--key", "+founder-1"];
     let mut door = TcpDoor::new(net, alloc);
     let taken = "connections 1\nentries 0\n";
-    let ends = expect_call(rt, alloc, &words, &mut door, done(0), taken);
+    let ends = expect_call(rt, alloc, &SERVE, &mut door, done(0), taken);
     assert_eq!(rt; ends.len(), 1);
 }
 

@@ -1,8 +1,7 @@
 //! Connections that wait for one another, so that only a server that attends them side by side answers them all.
 
-use super::calls::{done, expect_call};
-use super::held::{Held, HeldDoor, HeldSink, HeldSource};
-use desk_serve::LinkEnds;
+use super::calls::{End, done, expect_call, wrong_end};
+use super::held::{Held, HeldDoor};
 use program_call::Left;
 use std::alloc::Global;
 use std::process::Abort;
@@ -101,23 +100,18 @@ const SENT: &[Held] = &[
     (FOURTH, 0, 0),
 ];
 
-const ANSWERS: &[&str] = &[FIRST_ANSWERS, SECOND_ANSWERS, THIRD_ANSWER, FOURTH_ANSWER];
-
-fn expect_answers<R: Abort>(rt: &R, ends: &LinkEnds<HeldSource, HeldSink>, wanted: &[&str]) {
-    assert_eq!(rt; ends.len(), wanted.len() as u64);
-    for (place, answers) in wanted.iter().enumerate() {
-        if let Some(end) = ends.get(place as u64) {
-            assert_eq!(rt; end.left, Left::Ended);
-            assert_eq!(rt; end.sink.bytes(), answers.as_bytes());
-        }
-    }
-}
+const WANTED: &[End] = &[
+    (Left::Ended, FIRST_ANSWERS),
+    (Left::Ended, SECOND_ANSWERS),
+    (Left::Ended, THIRD_ANSWER),
+    (Left::Ended, FOURTH_ANSWER),
+];
 
 fn expect_served<R: Abort + Threads + Wait + Sync>(rt: &R, alloc: Global) {
     let mut door = HeldDoor::new(rt, alloc, SENT);
     let taken = "connections 4\nentries 2\n";
     let ends = expect_call(rt, alloc, &SERVE, &mut door, done(2), taken);
-    expect_answers(rt, &ends, ANSWERS);
+    assert_eq!(rt; wrong_end(&ends, WANTED), None);
 }
 
 #[test]
