@@ -2,8 +2,8 @@
 //! and writes reply frames to standard output, `serve --key K --connections N` attends connections at port 8017,
 //! `export` writes the catalogue. The office stands on the journal in the current folder.
 //!
-//! `top` does all that the program does, over any source, sink, disk, clock and door, and carries the theorem. `main`
-//! hands it the real ones.
+//! `top` of program_call does all that the program does, over any source, sink, disk, clock and door, and carries the
+//! theorem. `main` hands it the real ones.
 #![tactic(auto)]
 
 ghost use Rattle.std.specs.Prelude.{◌≡◌, List, map, IfOk, string_bytes};
@@ -11,15 +11,11 @@ ghost use Rattle.std.specs.Iterator.{IsFinite, Drains};
 ghost use Rattle.std.specs.Process.{exit_status};
 ghost use Rattle.command_ends.specs.Statuses.{number_of};
 
-mod top;
-
-pub use act_model as model;
-pub use command_ends::{Ended, Status};
-pub use command_line::Words;
 use desk_io::{NoMemory, StreamSink, StreamSource, SystemClock, TcpDoor};
 use disk_model::FileDisk;
 use item_list::Bytes;
-pub use link_desk::{Left, answer_one, attend};
+pub use program_call::top::{single, top};
+pub use program_call::{Ended, Left, Status, Words, answer_one, attend, model};
 use std::alloc::Global;
 use std::env;
 use std::io::ErrorKind;
@@ -27,7 +23,6 @@ use std::net::{Net, TcpListener, TcpStream};
 use std::process::ExitCode;
 use std::sync::Wait;
 use std::thread::Threads;
-pub use top::{single, top};
 use usage_text::usage_text;
 
 /// The words that an iterator gives: all of them, in their order.
@@ -108,6 +103,3 @@ fn main(rt: HostRuntime) -> ExitCode {
     }
     exit_code(&status)
 }
-
-#[cfg(test)]
-mod tests;

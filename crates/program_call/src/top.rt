@@ -19,7 +19,7 @@ ghost use Rattle.office_workload.specs.Summaries.{summary};
 ghost use Rattle.desk_serve.specs.Gathering.{door_of};
 ghost use Rattle.desk_serve.specs.Links.{link_words};
 ghost use Rattle.desk_serve.specs.Runs.{Ends as EndsService};
-ghost use Rattle.mpc_cli.specs.Jobs.{is_done_alone, is_done};
+ghost use Rattle.program_call.specs.Jobs.{is_done_alone, is_done};
 
 use command_ends::{Ended, Status, not_begun};
 use command_line::{Command, Words, command_of};

@@ -4,7 +4,7 @@ use Rattle.act_model.specs.Legal.{IsLegal}
 use Rattle.command_line.specs.declared.command.Command.{Command}
 use Rattle.command_line.specs.declared.command.Command.TheVariants.{Serve}
 use Rattle.command_line.specs.Commands.{command_of}
-use Rattle.mpc_cli.proofs.top.top.Goals as goal
+use Rattle.program_call.proofs.top.top.Goals as goal
 
 -- the words name one key
 one_key : (words : List (List ℕ)) (result : Option Command) (command : Command) (one key : Key) (n m : ℕ) → result ≡ command_of words → result ≡ Some command → command ≡ Serve one n → command_of words ≡ Some (Serve key m) → one ≡ key

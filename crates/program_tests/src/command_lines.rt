@@ -1,20 +1,23 @@
 //! Good and bad words of the command line.
 
-use super::calls::{FIRST, FIRST_ANSWER, NONE, RUN, Want, done, expect_call};
-use std::alloc::Global;
-use std::process::Abort;
+use super::calls::{Want, done, expect_call};
 
-/// Runs the program with these words over the founder's first request.
-fn expect_words<R: Abort>(rt: &R, alloc: Global, texts: &[&str], want: Want, taken: &str) {
-    let bytes = FIRST.as_bytes();
-    expect_call(rt, alloc, texts, bytes, 4096, NONE, want, taken.as_bytes());
-}
+/// The words of `run` with the founder's key.
+const RUN: [&str; 3] = ["run", "--key", "+founder-1"];
+
+/// The founder's first request, and its answer.
+const FIRST: &str = concat!(
+    "+founder-1 1 station 70\n",
+    "{\"code\":\"703\",\"from\":\"1998-01-01\",\"name\":\"Catalina\",\"to\":\"2199-12-31\"}",
+);
+
+const FIRST_ANSWER: &str = "200 10\nreceipt 1\n";
 
 #[test]
 fn words_of_run(rt: HostRuntime) {
     let good: [&[&str]; 2] = [&RUN, &["run", "--key=+founder-1"]];
     for texts in good {
-        expect_words(&rt, rt.alloc(), texts, done(1), FIRST_ANSWER);
+        expect_call(&rt, rt.alloc(), texts, FIRST, 0, done(1), FIRST_ANSWER);
     }
     let bad: [&[&str]; 7] = [
         &["run"],
@@ -31,6 +34,6 @@ fn words_of_run(rt: HostRuntime) {
         added: 0,
     };
     for texts in bad {
-        expect_words(&rt, rt.alloc(), texts, usage, "");
+        expect_call(&rt, rt.alloc(), texts, FIRST, 0, usage, "");
     }
 }

@@ -1,13 +1,8 @@
 //! Connections that wait for one another, so that only a server that attends them side by side answers them all.
 
-use super::calls::{done, expect_end, words_of};
-use super::held::{Held, HeldDoor, HeldSink, HeldSource};
-use crate::top;
-use desk_io::{MemSink, MemSource, TickClock};
-use desk_serve::LinkEnds;
-use disk_model::MemDisk;
-use link_desk::Left;
-use obs_time::Instant;
+use super::calls::{End, done, expect_call, wrong_end};
+use super::held::{Held, HeldDoor};
+use program_call::Left;
 use std::alloc::Global;
 use std::process::Abort;
 use std::sync::Wait;
@@ -98,46 +93,25 @@ const FOURTH_ANSWER: &str = concat!(
 );
 
 /// The connections. The fourth one's answer has 96 bytes, the second one's answers have 168 and the first one's too.
-const SENT: [Held; 4] = [
+const SENT: &[Held] = &[
     (FIRST, 264, 0),
     (SECOND, 0, 96),
     (THIRD, 432, 0),
     (FOURTH, 0, 0),
 ];
 
-const ANSWERS: [&str; 4] = [FIRST_ANSWERS, SECOND_ANSWERS, THIRD_ANSWER, FOURTH_ANSWER];
-
-fn expect_answers<R: Abort>(rt: &R, ends: &LinkEnds<HeldSource, HeldSink>) {
-    assert_eq!(rt; ends.len(), 4);
-    for (place, answers) in ANSWERS.iter().enumerate() {
-        if let Some(end) = ends.get(place as u64) {
-            assert_eq!(rt; end.left, Left::Ended);
-            assert_eq!(rt; end.sink.bytes(), answers.as_bytes());
-        }
-    }
-}
+const WANTED: &[End] = &[
+    (Left::Ended, FIRST_ANSWERS),
+    (Left::Ended, SECOND_ANSWERS),
+    (Left::Ended, THIRD_ANSWER),
+    (Left::Ended, FOURTH_ANSWER),
+];
 
 fn expect_served<R: Abort + Threads + Wait + Sync>(rt: &R, alloc: Global) {
-    let words = words_of(rt, alloc, &SERVE);
-    let mut source = MemSource::new(alloc, b"", 1, &[]).expect(rt, "memory");
-    let mut sink = MemSink::new(alloc, 64, &[]).expect(rt, "memory");
-    let first = Instant::new(1_711_929_600_000_000_000).expect(rt, "in range");
-    let mut clock = TickClock::new(first, 1_000_000_000);
-    let disk = MemDisk::new(alloc, &[], 65_536, &[]).expect(rt, "memory");
-    let mut door = HeldDoor::new(rt, alloc, &SENT);
-    let (ended, ends) = top(
-        rt,
-        alloc,
-        &words,
-        &mut source,
-        &mut sink,
-        disk,
-        &mut clock,
-        &mut door,
-    );
-    expect_end(rt, alloc, &ended, done(2));
-    assert_eq!(rt; sink.bytes(), b"connections 4\nentries 2\n".as_slice());
-    expect_answers(rt, &ends);
+    let mut door = HeldDoor::new(rt, alloc, SENT);
+    let taken = "connections 4\nentries 2\n";
+    let ends = expect_call(rt, alloc, &SERVE, &mut door, done(2), taken);
+    assert_eq!(rt; wrong_end(&ends, WANTED), None);
 }
 
 #[test]

@@ -4,7 +4,7 @@ use Rattle.act_model.specs.Legal.{IsLegal}
 use Rattle.command_line.specs.declared.command.Command.{Command}
 use Rattle.command_line.specs.declared.command.Command.TheVariants.{Run}
 use Rattle.command_line.specs.Commands.{command_of}
-use Rattle.mpc_cli.proofs.top.single.Goals as goal
+use Rattle.program_call.proofs.top.single.Goals as goal
 
 -- the words name one key
 one_key : (words : List (List ℕ)) (result : Option Command) (command : Command) (one key : Key) → result ≡ command_of words → result ≡ Some command → command ≡ Run one → command_of words ≡ Some (Run key) → one ≡ key

@@ -1,7 +1,7 @@
 //! One connection over a real socket of this machine.
 
-use super::calls::{done, expect_end, serve_at};
-use desk_io::{MemSink, TcpDoor};
+use super::calls::{done, expect_call};
+use desk_io::TcpDoor;
 use std::alloc::Global;
 use std::io;
 use std::io::{ErrorKind, Read, Write};
@@ -9,6 +9,8 @@ use std::net::{Ipv4Addr, Net, TcpListener, TcpStream};
 use std::process::Abort;
 use std::sync::Wait;
 use std::thread::{Threads, join, yield_now};
+
+const SERVE: [&str; 5] = ["serve", "--connections", "1", "--key", "+founder-1"];
 
 /// The port of the program's door.
 const PORT: u16 = 8017;
@@ -64,12 +66,9 @@ fn serve_one<
     R: Abort + Threads + Wait + Sync,
     N: Net<Listener = TcpListener, Stream = TcpStream> + Copy,
 >(rt: &R, net: N, alloc: Global) {
-    let words = ["serve", "--connections", "1", "--key", "+founder-1"];
-    let mut sink = MemSink::new(alloc, 64, &[]).expect(rt, "memory");
     let mut door = TcpDoor::new(net, alloc);
-    let (ended, ends) = serve_at(rt, alloc, &words, &mut sink, &mut door);
-    expect_end(rt, alloc, &ended, done(0));
-    assert_eq!(rt; sink.bytes(), b"connections 1\nentries 0\n".as_slice());
+    let taken = "connections 1\nentries 0\n";
+    let ends = expect_call(rt, alloc, &SERVE, &mut door, done(0), taken);
     assert_eq!(rt; ends.len(), 1);
 }
 

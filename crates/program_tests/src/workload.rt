@@ -1,6 +1,6 @@
 //! The made-up workload: its summary, a sink that fails, and words that are no workload.
 
-use super::calls::{Faults, NONE, Want, done, expect_call};
+use super::calls::{Want, done, expect_call};
 use std::alloc::Global;
 use std::process::Abort;
 
@@ -17,24 +17,24 @@ const SUMMARY: &str = concat!(
     "catalogue 1170 bytes\n",
 );
 
-/// Runs the program with these words over nothing.
+/// Runs the program with these words over nothing, where the write with the number `fails` fails (0 for none).
 fn expect_workload<R: Abort>(
     rt: &R,
     alloc: Global,
     texts: &[&str],
-    faults: Faults,
+    fails: u64,
     want: Want,
     taken: &str,
 ) {
-    expect_call(rt, alloc, texts, b"", 4096, faults, want, taken.as_bytes());
+    expect_call(rt, alloc, texts, "", fails, want, taken);
 }
 
 #[test]
 fn three_objects(rt: HostRuntime) {
     let words = ["workload", "--seed", "7", "--count", "3"];
-    expect_workload(&rt, rt.alloc(), &words, NONE, done(0), SUMMARY);
+    expect_workload(&rt, rt.alloc(), &words, 0, done(0), SUMMARY);
     let other_order = ["workload", "--count=3", "--seed=7"];
-    expect_workload(&rt, rt.alloc(), &other_order, NONE, done(0), SUMMARY);
+    expect_workload(&rt, rt.alloc(), &other_order, 0, done(0), SUMMARY);
 }
 
 #[test]
@@ -45,8 +45,7 @@ fn a_sink_that_fails(rt: HostRuntime) {
         number: 7,
         added: 0,
     };
-    let first = Faults { read: 0, write: 1 };
-    expect_workload(&rt, rt.alloc(), &words, first, want, "");
+    expect_workload(&rt, rt.alloc(), &words, 1, want, "");
 }
 
 #[test]
@@ -65,6 +64,6 @@ fn words_of_no_workload(rt: HostRuntime) {
         &["workload", "--seed", "7", "--seed", "7"],
     ];
     for texts in bad {
-        expect_workload(&rt, rt.alloc(), texts, NONE, want, "");
+        expect_workload(&rt, rt.alloc(), texts, 0, want, "");
     }
 }

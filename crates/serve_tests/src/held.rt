@@ -2,6 +2,7 @@
 
 ghost use Rattle.std.specs.Prelude.{length, None};
 
+use super::calls::Took;
 use desk_io::{Door, Failed, MemSink, MemSource, Next, Sink, Source};
 use std::alloc::Global;
 use std::collections::VecDeque;
@@ -77,9 +78,8 @@ pub(super) struct HeldSink {
     faults: u64,
 }
 
-impl HeldSink {
-    /// The bytes that it took.
-    pub(super) fn bytes(&self) -> &[u8] {
+impl Took for HeldSink {
+    fn bytes(&self) -> &[u8] {
         self.sink.bytes()
     }
 }

@@ -1,0 +1,15 @@
+//! Tests of the program's command `serve`: over doors in memory, and over a port of this machine.
+//!
+//! A crate with tests is proved twice, with and without them, so they stand in a crate above those that they test.
+#![tactic(auto)]
+
+#[cfg(test)]
+mod calls;
+#[cfg(test)]
+mod connections;
+#[cfg(test)]
+mod held;
+#[cfg(test)]
+mod sockets;
+#[cfg(test)]
+mod waiting;
