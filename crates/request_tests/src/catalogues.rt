@@ -1,9 +1,7 @@
 //! The catalogue: after sessions that show each of its rules, as the answer to a query and as what `export` writes.
 
 use super::objects::{MIDNIGHT, MIDNIGHT_TEXT, NIGHT, NIGHT_TEXT};
-use session_calls::{
-    Call, Drive, FOUNDER, OBSERVER, Row, STATION, Wrong, call_in_turn, put_rows, session_of,
-};
+use session_calls::{FOUNDER, OBSERVER, Row, STATION, Wrong, catalogue_alone, catalogue_of};
 use std::alloc::Global;
 
 /// A declination of zero with a minus, and one of a tenth of an arcsecond below it.
@@ -502,98 +500,43 @@ const MADE: &[Row] = &[
     ),
 ];
 
-/// 2025-02-01T00:00:00Z.
-const LATE: i64 = 1_738_368_000_000_000_000;
-
-/// Runs the session, asks for the catalogue, and writes it out: both texts are this one.
-fn catalogue(
-    alloc: Global,
-    session: (Vec<u8>, Vec<u8>),
-    mark: usize,
-    added: u64,
-    text: &'static str,
-) -> Result<(), Wrong> {
-    let (mut bytes, mut taken) = session;
-    let query = (FOUNDER, 0, "catalogue", "", "200 ", text);
-    put_rows(alloc, &mut bytes, &mut taken, &[query])?;
-    let run = Call {
-        mark,
-        start: LATE,
-        ..Call::run(&bytes, added, &taken)
-    };
-    let export = Call {
-        mark,
-        words: &["export"],
-        start: LATE,
-        ..Call::run(b"", 0, text.as_bytes())
-    };
-    let drive = Drive {
-        file: b"",
-        fails: &[],
-        length: None,
-    };
-    call_in_turn(alloc, &drive, &[run, export])
-}
-
-/// The same for the founder's five requests and these tables.
-fn catalogue_of(
-    alloc: Global,
-    tables: &[&[Row]],
-    mark: usize,
-    added: u64,
-    text: &'static str,
-) -> Result<(), Wrong> {
-    let session = session_of(alloc, tables)?;
-    catalogue(alloc, session, mark, added, text)
-}
-
 /// Each batch by its place in the table.
 fn after_batches(alloc: Global) -> Result<(), Wrong> {
     for (place, &(verb, body, text, after)) in BATCHES.iter().enumerate() {
         let row = (OBSERVER, 1, verb, body, "200 ", text);
-        catalogue_of(alloc, &[&[row]], place, 6, after)?;
+        catalogue_of(alloc, &[&[row]], 6, after, place)?;
     }
     Ok(())
 }
 
 #[test]
 fn catalogues_of_batches(rt: HostRuntime) {
-    assert_eq!(rt; after_batches(rt.alloc()), Ok(()));
+    after_batches(rt.alloc()).expect(&rt, "as wanted");
 }
 
 /// What comes after the object, by its place in the table.
 fn after_an_object(alloc: Global) -> Result<(), Wrong> {
     for (place, &(later, after)) in LATER.iter().enumerate() {
         let added = (later.len() as u64).saturating_add(7);
-        catalogue_of(alloc, &[OBJECT, later], place, added, after)?;
+        catalogue_of(alloc, &[OBJECT, later], added, after, place)?;
     }
     Ok(())
 }
 
 #[test]
 fn catalogues_of_an_object(rt: HostRuntime) {
-    assert_eq!(rt; after_an_object(rt.alloc()), Ok(()));
+    after_an_object(rt.alloc()).expect(&rt, "as wanted");
 }
 
 #[test]
 fn catalogue_of_a_numbered_tracklet(rt: HostRuntime) {
     let tables = [OBJECT, NUMBERING, FREED];
-    assert_eq!(rt;
-        catalogue_of(rt.alloc(), &tables, 0, 11, FREED_CATALOGUE),
-        Ok(())
-    );
+    catalogue_of(rt.alloc(), &tables, 11, FREED_CATALOGUE, 0).expect(&rt, "as wanted");
 }
 
-/// The session of the three objects, without the founder's five requests.
-fn made(alloc: Global) -> Result<(), Wrong> {
-    let mut bytes = Vec::new(alloc);
-    let mut taken = Vec::new(alloc);
-    put_rows(alloc, &mut bytes, &mut taken, MADE)?;
-    catalogue(alloc, (bytes, taken), 0, 7, MADE_CATALOGUE)
-}
-
+// Without the founder's five requests.
 #[test]
 fn catalogue_of_three_objects(rt: HostRuntime) {
     assert_eq!(rt; MADE_CATALOGUE.len(), 1_170);
-    assert_eq!(rt; made(rt.alloc()), Ok(()));
+    catalogue_alone(rt.alloc(), MADE, 7, MADE_CATALOGUE).expect(&rt, "as wanted");
 }

@@ -473,5 +473,5 @@ const OBSERVED: &[Row] = &[
 #[test]
 fn places_members_and_numbers(rt: HostRuntime) {
     let tables = [PLACES, MEMBERS, NUMBERED, OBSERVED];
-    assert_eq!(rt; session(rt.alloc(), &tables, 38), Ok(()));
+    session(rt.alloc(), &tables, 38).expect(&rt, "as wanted");
 }

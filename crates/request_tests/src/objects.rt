@@ -443,5 +443,5 @@ const RELEASES: &[Row] = &[
 #[test]
 fn designations_objects_and_numbers(rt: HostRuntime) {
     let tables = [DESIGNATIONS, IDENTIFICATIONS, NUMBERS, RELEASES];
-    assert_eq!(rt; session(rt.alloc(), &tables, 25), Ok(()));
+    session(rt.alloc(), &tables, 25).expect(&rt, "as wanted");
 }

@@ -566,21 +566,21 @@ const NAMES: &[Row] = &[
 
 #[test]
 fn tells_of_a_tracklet_in_columns(rt: HostRuntime) {
-    assert_eq!(rt; session(rt.alloc(), &[OF_COLUMNS], 6), Ok(()));
+    session(rt.alloc(), &[OF_COLUMNS], 6).expect(&rt, "as wanted");
 }
 
 #[test]
 fn tells_of_half_months_and_names(rt: HostRuntime) {
-    assert_eq!(rt; session(rt.alloc(), &[OF_MIDNIGHT], 7), Ok(()));
+    session(rt.alloc(), &[OF_MIDNIGHT], 7).expect(&rt, "as wanted");
 }
 
 #[test]
 fn tells_of_identified_objects(rt: HostRuntime) {
-    assert_eq!(rt; session(rt.alloc(), &[OF_PLACES], 12), Ok(()));
+    session(rt.alloc(), &[OF_PLACES], 12).expect(&rt, "as wanted");
 }
 
 #[test]
 fn tells_of_everything(rt: HostRuntime) {
     let tables = [ACTS, OBJECTS, TRACKLETS, NAMES];
-    assert_eq!(rt; session(rt.alloc(), &tables, 19), Ok(()));
+    session(rt.alloc(), &tables, 19).expect(&rt, "as wanted");
 }

@@ -124,6 +124,13 @@ pub struct Drive<'a> {
 const DISK_BYTES: usize = 1_048_576;
 
 impl Drive<'_> {
+    /// An empty file on a disk that doesn't fail.
+    pub const EMPTY: Drive<'static> = Drive {
+        file: b"",
+        fails: &[],
+        length: None,
+    };
+
     fn disk(&self, alloc: Global) -> Result<MemDisk, NoMemory> {
         let capacity = self.file.len().max(DISK_BYTES);
         MemDisk::new(alloc, self.file, capacity, self.fails)
@@ -182,12 +189,7 @@ fn call_on<D: Disk>(alloc: Global, call: &Call, disk: D) -> Result<D, Wrong> {
 ///
 /// What is wrong with it.
 pub fn call_alone(alloc: Global, call: &Call) -> Result<(), Wrong> {
-    let drive = Drive {
-        file: b"",
-        fails: &[],
-        length: None,
-    };
-    call_on(alloc, call, drive.disk(alloc)?)?;
+    call_on(alloc, call, Drive::EMPTY.disk(alloc)?)?;
     Ok(())
 }
 

@@ -24,6 +24,23 @@ pub fn put_number(alloc: Global, bytes: &mut Vec<u8>, number: u64) -> Result<(),
     put(bytes, text.as_str())
 }
 
+/// A number between two texts after other bytes.
+///
+/// # Errors
+///
+/// Memory was refused.
+pub fn put_between(
+    alloc: Global,
+    bytes: &mut Vec<u8>,
+    before: &str,
+    number: u64,
+    behind: &str,
+) -> Result<(), NoMemory> {
+    put(bytes, before)?;
+    put_number(alloc, bytes, number)?;
+    put(bytes, behind)
+}
+
 /// A reply with this status and text after other replies.
 ///
 /// # Errors

@@ -3,14 +3,14 @@
 use crate::pieces::NoMemory;
 
 /// The first thing in which a call was not as wanted, and the mark of the call.
-#[derive(Debug, Drop, PartialEq, Eq)]
+#[derive(Debug, Drop)]
 pub struct Wrong {
     pub mark: usize,
     pub found: Found,
 }
 
 /// What was found in place of what was wanted.
-#[derive(Debug, Drop, PartialEq, Eq)]
+#[derive(Debug, Drop)]
 pub enum Found {
     /// Nothing, for memory was refused to the test.
     NoMemory,

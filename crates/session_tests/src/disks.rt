@@ -6,24 +6,18 @@ use session_calls::{
 };
 use std::alloc::Global;
 
-const EMPTY: Drive = Drive {
-    file: b"",
-    fails: &[],
-    length: None,
-};
-
 // An empty disk gets its first gate, a byte.
 fn first_gate(alloc: Global) -> Result<(), Wrong> {
     let drive = Drive {
         length: Some(1),
-        ..EMPTY
+        ..Drive::EMPTY
     };
     call_in_turn(alloc, &drive, &[Call::run(b"", 0, b"")])
 }
 
 #[test]
 fn empty_disk(rt: HostRuntime) {
-    assert_eq!(rt; first_gate(rt.alloc()), Ok(()));
+    first_gate(rt.alloc()).expect(&rt, "as wanted");
 }
 
 const TALLY: Exchange = Exchange {
@@ -85,12 +79,16 @@ fn answered_twice(alloc: Global) -> Result<(), Wrong> {
         mark: 1,
         ..Call::run(&evening, 0, &resent)
     };
-    call_in_turn(alloc, &EMPTY, &[Call::run(&morning, 6, &replies), second])
+    call_in_turn(
+        alloc,
+        &Drive::EMPTY,
+        &[Call::run(&morning, 6, &replies), second],
+    )
 }
 
 #[test]
 fn second_run(rt: HostRuntime) {
-    assert_eq!(rt; answered_twice(rt.alloc()), Ok(()));
+    answered_twice(rt.alloc()).expect(&rt, "as wanted");
 }
 
 // The sink fails at the head of the reply after so many, whose act is in the journal: a reply is written in two pieces.
@@ -112,7 +110,7 @@ fn stopped_after(alloc: Global, count: usize) -> Result<(), Wrong> {
         mark: count,
         ..Call::run(&day, entries(FRAMES).saturating_sub(kept), &replies)
     };
-    call_in_turn(alloc, &EMPTY, &[stopped, again])
+    call_in_turn(alloc, &Drive::EMPTY, &[stopped, again])
 }
 
 fn stopped_everywhere(alloc: Global) -> Result<(), Wrong> {
@@ -124,7 +122,7 @@ fn stopped_everywhere(alloc: Global) -> Result<(), Wrong> {
 
 #[test]
 fn stopped_and_sent_again(rt: HostRuntime) {
-    assert_eq!(rt; stopped_everywhere(rt.alloc()), Ok(()));
+    stopped_everywhere(rt.alloc()).expect(&rt, "as wanted");
 }
 
 const TWICE: &str = concat!(
@@ -173,7 +171,7 @@ fn on_failing_disks(alloc: Global) -> Result<(), Wrong> {
     for (mark, &(bytes, fails, status, number, added, taken)) in DISKS.iter().enumerate() {
         let drive = Drive {
             fails: &fails,
-            ..EMPTY
+            ..Drive::EMPTY
         };
         let call = Call {
             mark,
@@ -188,7 +186,7 @@ fn on_failing_disks(alloc: Global) -> Result<(), Wrong> {
 
 #[test]
 fn failing_disks(rt: HostRuntime) {
-    assert_eq!(rt; on_failing_disks(rt.alloc()), Ok(()));
+    on_failing_disks(rt.alloc()).expect(&rt, "as wanted");
 }
 
 // The journal of one act: the founder's enrolment of an observer on 2024-04-01.
@@ -237,5 +235,5 @@ fn on_files(alloc: Global) -> Result<(), Wrong> {
 
 #[test]
 fn files(rt: HostRuntime) {
-    assert_eq!(rt; on_files(rt.alloc()), Ok(()));
+    on_files(rt.alloc()).expect(&rt, "as wanted");
 }

@@ -1,7 +1,7 @@
 //! Large bodies, long batches and long refusals.
 
 use session_calls::{
-    BATCH, Call, FIRST, NoMemory, Wrong, begun, call_alone, put, put_number, put_reply,
+    BATCH, Call, FIRST, NoMemory, Wrong, begun, call_alone, put, put_between, put_reply,
 };
 use std::alloc::Global;
 
@@ -24,7 +24,7 @@ fn without_rows(alloc: Global) -> Result<(), Wrong> {
 
 #[test]
 fn office_without_rows(rt: HostRuntime) {
-    assert_eq!(rt; without_rows(rt.alloc()), Ok(()));
+    without_rows(rt.alloc()).expect(&rt, "as wanted");
 }
 
 /// Heads, the number of bytes of the body, the byte, and the answers to both frames.
@@ -81,55 +81,57 @@ fn larges(alloc: Global) -> Result<(), Wrong> {
 
 #[test]
 fn large_bodies(rt: HostRuntime) {
-    assert_eq!(rt; larges(rt.alloc()), Ok(()));
+    larges(rt.alloc()).expect(&rt, "as wanted");
 }
 
 /// A frame of the founder's sixth request, a batch of so many lines of station 703, each a little later than the one
 /// before.
 fn put_batch(alloc: Global, bytes: &mut Vec<u8>, lines: u64) -> Result<(), NoMemory> {
-    put(bytes, "+founder-1 6 submit80 ")?;
-    put_number(alloc, bytes, lines.saturating_mul(81))?;
-    put(bytes, "\n")?;
+    let length = lines.saturating_mul(81);
+    put_between(alloc, bytes, "+founder-1 6 submit80 ", length, "\n")?;
     for line in 0..lines {
-        put(bytes, "     P10abcd  C2024 03 15.")?;
-        put_number(alloc, bytes, line.saturating_add(10_000))?;
-        put(bytes, " 06 12 34.56 +23 45 01.2          19.5 V      703\n")?;
+        let day = line.saturating_add(10_000);
+        put_between(alloc, bytes, BEFORE_DAY, day, BEHIND_DAY)?;
     }
     Ok(())
 }
 
+/// What stands before and after the decimals of a line's day.
+const BEFORE_DAY: &str = "     P10abcd  C2024 03 15.";
+
+const BEHIND_DAY: &str = " 06 12 34.56 +23 45 01.2          19.5 V      703\n";
+
 /// The answer to that batch, where each line is accepted.
-fn batch_text(alloc: Global, lines: u64) -> Result<Vec<u8>, NoMemory> {
-    let mut text = Vec::new(alloc);
-    put(&mut text, "receipt 6\naccepted ")?;
-    put_number(alloc, &mut text, lines)?;
-    put(&mut text, " refused 0\n")?;
+fn put_accepted(alloc: Global, text: &mut Vec<u8>, lines: u64) -> Result<(), NoMemory> {
+    put_between(alloc, text, "receipt 6\naccepted ", lines, " refused 0\n")?;
     for line in 0..lines {
-        put(&mut text, "line ")?;
-        put_number(alloc, &mut text, line.saturating_add(1))?;
-        put(&mut text, " obs ")?;
-        put_number(alloc, &mut text, line.saturating_add(1))?;
-        put(&mut text, " track 1\n")?;
+        let number = line.saturating_add(1);
+        put_between(alloc, text, "line ", number, " obs ")?;
+        put_between(alloc, text, "", number, " track 1\n")?;
     }
-    Ok(text)
+    Ok(())
 }
 
 /// The text of a batch of so many lines, of which each is of an unknown station.
-fn strangers_text(alloc: Global, lines: u64) -> Result<Vec<u8>, NoMemory> {
-    let mut text = Vec::new(alloc);
-    put(&mut text, "refused 7 NoLine\n")?;
+fn put_strangers(alloc: Global, text: &mut Vec<u8>, lines: u64) -> Result<(), NoMemory> {
+    put(text, "refused 7 NoLine\n")?;
     for line in 0..lines {
-        put(&mut text, "line ")?;
-        put_number(alloc, &mut text, line.saturating_add(1))?;
-        put(&mut text, " refused T1\n")?;
+        put_between(
+            alloc,
+            text,
+            "line ",
+            line.saturating_add(1),
+            " refused T1\n",
+        )?;
     }
-    Ok(text)
+    Ok(())
 }
 
 fn accepted(alloc: Global) -> Result<(), Wrong> {
     let (mut bytes, mut taken) = begun(alloc)?;
     put_batch(alloc, &mut bytes, 1_200)?;
-    let text = batch_text(alloc, 1_200)?;
+    let mut text = Vec::new(alloc);
+    put_accepted(alloc, &mut text, 1_200)?;
     put_reply(alloc, &mut taken, "200 ", &text)?;
     let call = Call {
         greatest: 65_536,
@@ -140,14 +142,15 @@ fn accepted(alloc: Global) -> Result<(), Wrong> {
 
 #[test]
 fn batch_of_1200_lines(rt: HostRuntime) {
-    assert_eq!(rt; accepted(rt.alloc()), Ok(()));
+    accepted(rt.alloc()).expect(&rt, "as wanted");
 }
 
 fn refused(alloc: Global) -> Result<(), Wrong> {
     let mut bytes = Vec::new(alloc);
     put_batch(alloc, &mut bytes, 12)?;
     let mut taken = Vec::new(alloc);
-    let text = strangers_text(alloc, 12)?;
+    let mut text = Vec::new(alloc);
+    put_strangers(alloc, &mut text, 12)?;
     put_reply(alloc, &mut taken, "422 ", &text)?;
     let call = Call {
         greatest: 65_536,
@@ -158,5 +161,5 @@ fn refused(alloc: Global) -> Result<(), Wrong> {
 
 #[test]
 fn refusal_with_12_faults(rt: HostRuntime) {
-    assert_eq!(rt; refused(rt.alloc()), Ok(()));
+    refused(rt.alloc()).expect(&rt, "as wanted");
 }

@@ -43,7 +43,7 @@ fn ends(alloc: Global) -> Result<(), Wrong> {
 
 #[test]
 fn ends_of_a_run(rt: HostRuntime) {
-    assert_eq!(rt; ends(rt.alloc()), Ok(()));
+    ends(rt.alloc()).expect(&rt, "as wanted");
 }
 
 /// The session, of which a read gives at most so many bytes.
@@ -63,7 +63,7 @@ fn in_pieces(alloc: Global) -> Result<(), Wrong> {
 
 #[test]
 fn session_in_pieces(rt: HostRuntime) {
-    assert_eq!(rt; in_pieces(rt.alloc()), Ok(()));
+    in_pieces(rt.alloc()).expect(&rt, "as wanted");
 }
 
 /// Runs the session where the read after so many fails. Each read gives 7 bytes, or what is left of the session.
@@ -91,7 +91,7 @@ fn stopped_at_reads(alloc: Global) -> Result<(), Wrong> {
 
 #[test]
 fn each_read_fails_in_turn(rt: HostRuntime) {
-    assert_eq!(rt; stopped_at_reads(rt.alloc()), Ok(()));
+    stopped_at_reads(rt.alloc()).expect(&rt, "as wanted");
 }
 
 /// Runs the session where the write after so many fails. A reply is written in two pieces, its head and its text, so
@@ -122,5 +122,5 @@ fn stopped_at_writes(alloc: Global) -> Result<(), Wrong> {
 
 #[test]
 fn each_write_fails_in_turn(rt: HostRuntime) {
-    assert_eq!(rt; stopped_at_writes(rt.alloc()), Ok(()));
+    stopped_at_writes(rt.alloc()).expect(&rt, "as wanted");
 }
