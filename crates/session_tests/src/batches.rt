@@ -1,20 +1,6 @@
 //! Batches of the observer in 80 columns.
 
-use super::exchange::Exchange;
-
-/// Six header lines, and four lines of one object.
-pub(super) const BATCH: &str = concat!(
-    "COD 703\n",
-    "OBS A. Observer\n",
-    "MEA A. Observer\n",
-    "TEL 0.68-m Schmidt + CCD\n",
-    "ACK Batch 1\n",
-    "NET Gaia2\n",
-    "     P10abcd  C2024 03 15.12345 06 12 34.56 +23 45 01.2          19.5 V      703\n",
-    "     P10abcd  C2024 03 15.13345 06 12 35.10 +23 45 05.0          19.4 V      703\n",
-    "     P10abcd  C2024 03 15.14345 06 12 35.64 +23 45 08.8          19.6 V      703\n",
-    "     P10abcd  C2024 03 15.15345 06 12 36.18 +23 45 12.6          19.5 V      703\n",
-);
+use session_calls::{BATCH, Exchange};
 
 pub(super) const BATCH_ANSWER: &str = concat!(
     "200 116\n",

@@ -1,65 +1,23 @@
 //! Runs over a disk: an empty one, one that an earlier run left, one whose calls fail, and files that are no journal.
 
 use super::batches::BATCHES;
-use super::calls::{
-    APRIL, FIRST, FIRST_ANSWER, RUN, Want, call_on, done, expect_end, put, words_of,
+use session_calls::{
+    Call, Drive, Exchange, FIRST, FIRST_ANSWER, NoMemory, SETUP, Wrong, call_in_turn, put,
 };
-use super::exchange::Exchange;
-use super::setup::SETUP;
-use command_ends::Ended;
-use desk_io::MemSink;
-use disk_model::{Disk, MemDisk};
 use std::alloc::Global;
-use std::process::Abort;
-
-// Enough for each disk of these tests.
-const CAPACITY: usize = 65_536;
-
-fn disk_of<R: Abort>(rt: &R, alloc: Global, file: &[u8], fails: &[u64]) -> MemDisk {
-    assert!(rt; file.len() <= CAPACITY);
-    MemDisk::new(alloc, file, CAPACITY, fails).expect(rt, "memory")
-}
-
-fn run_on<R: Abort>(
-    rt: &R,
-    alloc: Global,
-    bytes: &[u8],
-    disk: MemDisk,
-    sink: &mut MemSink,
-) -> Ended<MemDisk> {
-    let words = words_of(rt, alloc, &RUN);
-    call_on(rt, alloc, &words, bytes, 4_096, 0, sink, disk, APRIL)
-}
-
-// Runs the program over these bytes and this disk, where the write with this number fails, looks at its end and at
-// what it wrote, and gives the disk.
-fn expect_on<R: Abort>(
-    rt: &R,
-    alloc: Global,
-    bytes: &[u8],
-    write: u64,
-    disk: MemDisk,
-    want: Want,
-    taken: &[u8],
-) -> MemDisk {
-    let mut sink = MemSink::new(alloc, 65_536, &[write]).expect(rt, "memory");
-    let ended = run_on(rt, alloc, bytes, disk, &mut sink);
-    expect_end(rt, alloc, &ended, want);
-    assert_eq!(rt; sink.bytes(), taken);
-    ended.disk
-}
-
-fn expect_length<R: Abort>(rt: &R, disk: MemDisk, want: u64) {
-    let mut disk = disk;
-    assert_eq!(rt; disk.len(), Ok(want));
-}
 
 // An empty disk gets its first gate, a byte.
+fn first_gate(alloc: Global) -> Result<(), Wrong> {
+    let drive = Drive {
+        length: Some(1),
+        ..Drive::EMPTY
+    };
+    call_in_turn(alloc, &drive, &[Call::run(b"", 0, b"")])
+}
+
 #[test]
 fn empty_disk(rt: HostRuntime) {
-    let disk = disk_of(&rt, rt.alloc(), b"", &[]);
-    let disk = expect_on(&rt, rt.alloc(), b"", 0, disk, done(0), b"");
-    expect_length(&rt, disk, 1);
+    first_gate(rt.alloc()).expect(&rt, "as wanted");
 }
 
 const TALLY: Exchange = Exchange {
@@ -82,25 +40,25 @@ fn frame_at(place: usize) -> Option<Exchange> {
     Some(TALLY)
 }
 
-fn frames<R: Abort>(rt: &R, alloc: Global, from: usize, to: usize) -> Vec<u8> {
+fn frames(alloc: Global, from: usize, to: usize) -> Result<Vec<u8>, NoMemory> {
     let mut bytes = Vec::new(alloc);
     for place in from..to {
         if let Some(next) = frame_at(place) {
-            put(rt, &mut bytes, next.head);
-            put(rt, &mut bytes, next.body);
+            put(&mut bytes, next.head)?;
+            put(&mut bytes, next.body)?;
         }
     }
-    bytes
+    Ok(bytes)
 }
 
-fn answers<R: Abort>(rt: &R, alloc: Global, from: usize, to: usize) -> Vec<u8> {
+fn answers(alloc: Global, from: usize, to: usize) -> Result<Vec<u8>, NoMemory> {
     let mut bytes = Vec::new(alloc);
     for place in from..to {
         if let Some(next) = frame_at(place) {
-            put(rt, &mut bytes, next.answer);
+            put(&mut bytes, next.answer)?;
         }
     }
-    bytes
+    Ok(bytes)
 }
 
 // How many entries the first so many frames of the day leave.
@@ -111,51 +69,60 @@ fn entries(count: usize) -> u64 {
     }
 }
 
-// Runs the program over these frames of the day, of which all are answered.
-fn expect_part<R: Abort>(
-    rt: &R,
-    alloc: Global,
-    from: usize,
-    to: usize,
-    disk: MemDisk,
-    added: u64,
-) -> MemDisk {
-    let bytes = frames(rt, alloc, from, to);
-    let taken = answers(rt, alloc, from, to);
-    expect_on(rt, alloc, &bytes, 0, disk, done(added), &taken)
+// The batch is answered in one run, and in the next one over the same disk it is a resend.
+fn answered_twice(alloc: Global) -> Result<(), Wrong> {
+    let morning = frames(alloc, 0, 6)?;
+    let replies = answers(alloc, 0, 6)?;
+    let evening = frames(alloc, 6, FRAMES)?;
+    let resent = answers(alloc, 6, FRAMES)?;
+    let second = Call {
+        mark: 1,
+        ..Call::run(&evening, 0, &resent)
+    };
+    call_in_turn(
+        alloc,
+        &Drive::EMPTY,
+        &[Call::run(&morning, 6, &replies), second],
+    )
 }
 
-// The batch is answered in one run, and in the next one over the same disk it is a resend.
 #[test]
 fn second_run(rt: HostRuntime) {
-    let disk = disk_of(&rt, rt.alloc(), b"", &[]);
-    let disk = expect_part(&rt, rt.alloc(), 0, 6, disk, 6);
-    expect_part(&rt, rt.alloc(), 6, FRAMES, disk, 0);
+    answered_twice(rt.alloc()).expect(&rt, "as wanted");
 }
 
 // The sink fails at the head of the reply after so many, whose act is in the journal: a reply is written in two pieces.
-// Then a crash takes all that isn't safe.
-fn stopped_after<R: Abort>(rt: &R, alloc: Global, count: usize) -> MemDisk {
-    let bytes = frames(rt, alloc, 0, FRAMES);
-    let taken = answers(rt, alloc, 0, count);
-    let want = Want {
+// Then a crash takes all that isn't safe, and the whole day is sent again: the replies are those of one session.
+fn stopped_after(alloc: Global, count: usize) -> Result<(), Wrong> {
+    let day = frames(alloc, 0, FRAMES)?;
+    let before = answers(alloc, 0, count)?;
+    let kept = entries(count.saturating_add(1));
+    let stopped = Call {
+        mark: count,
+        write: (count as u64).saturating_mul(2).saturating_add(1),
         status: "WriteFault",
         number: 7,
-        added: entries(count.saturating_add(1)),
+        crashes: true,
+        ..Call::run(&day, kept, &before)
     };
-    let write = (count as u64).saturating_mul(2).saturating_add(1);
-    let disk = disk_of(rt, alloc, b"", &[]);
-    expect_on(rt, alloc, &bytes, write, disk, want, &taken).crash(0)
+    let replies = answers(alloc, 0, FRAMES)?;
+    let again = Call {
+        mark: count,
+        ..Call::run(&day, entries(FRAMES).saturating_sub(kept), &replies)
+    };
+    call_in_turn(alloc, &Drive::EMPTY, &[stopped, again])
 }
 
-// The whole day is sent again: the replies are those of one session.
+fn stopped_everywhere(alloc: Global) -> Result<(), Wrong> {
+    for count in 0..FRAMES {
+        stopped_after(alloc, count)?;
+    }
+    Ok(())
+}
+
 #[test]
 fn stopped_and_sent_again(rt: HostRuntime) {
-    for count in 0..FRAMES {
-        let disk = stopped_after(&rt, rt.alloc(), count);
-        let added = entries(FRAMES).saturating_sub(entries(count.saturating_add(1)));
-        expect_part(&rt, rt.alloc(), 0, FRAMES, disk, added);
-    }
+    stopped_everywhere(rt.alloc()).expect(&rt, "as wanted");
 }
 
 const TWICE: &str = concat!(
@@ -199,28 +166,27 @@ const DISKS: &[(&str, [u64; 2], &str, u8, u64, &str)] = &[
     (FIRST, [9, 0], "Done", 0, 1, FIRST_ANSWER),
 ];
 
-fn expect_failing<R: Abort>(
-    rt: &R,
-    alloc: Global,
-    bytes: &str,
-    fails: [u64; 2],
-    want: Want,
-    taken: &str,
-) {
-    let disk = disk_of(rt, alloc, b"", &fails);
-    expect_on(rt, alloc, bytes.as_bytes(), 0, disk, want, taken.as_bytes());
+// Each disk by its place in the table.
+fn on_failing_disks(alloc: Global) -> Result<(), Wrong> {
+    for (mark, &(bytes, fails, status, number, added, taken)) in DISKS.iter().enumerate() {
+        let drive = Drive {
+            fails: &fails,
+            ..Drive::EMPTY
+        };
+        let call = Call {
+            mark,
+            status,
+            number,
+            ..Call::run(bytes.as_bytes(), added, taken.as_bytes())
+        };
+        call_in_turn(alloc, &drive, &[call])?;
+    }
+    Ok(())
 }
 
 #[test]
 fn failing_disks(rt: HostRuntime) {
-    for &(bytes, fails, status, number, added, taken) in DISKS {
-        let want = Want {
-            status,
-            number,
-            added,
-        };
-        expect_failing(&rt, rt.alloc(), bytes, fails, want, taken);
-    }
+    on_failing_disks(rt.alloc()).expect(&rt, "as wanted");
 }
 
 // The journal of one act: the founder's enrolment of an observer on 2024-04-01.
@@ -240,38 +206,34 @@ const FILES: &[(usize, u8, &str, u8, &str)] = &[
     (40, 0, "Damaged at 0", 5, ""),
 ];
 
-fn expect_opened<R: Abort>(
-    rt: &R,
-    alloc: Global,
-    length: usize,
-    last: u8,
-    want: Want,
-    taken: &str,
-) {
+// So many bytes of the file, of which the last one of all is this, stay as they are.
+fn opened(alloc: Global, length: usize, last: u8, call: Call) -> Result<(), Wrong> {
     let mut file = FILE;
     file[77] = last;
     let (front, _) = file.split_at(length.min(78));
-    let disk = disk_of(rt, alloc, front, &[]);
-    let left = expect_on(
-        rt,
-        alloc,
-        ENROLS.as_bytes(),
-        0,
-        disk,
-        want,
-        taken.as_bytes(),
-    );
-    expect_length(rt, left, length as u64);
+    let drive = Drive {
+        file: front,
+        fails: &[],
+        length: Some(length as u64),
+    };
+    call_in_turn(alloc, &drive, &[call])
+}
+
+// Each file by its place in the table.
+fn on_files(alloc: Global) -> Result<(), Wrong> {
+    for (mark, &(length, last, status, number, taken)) in FILES.iter().enumerate() {
+        let call = Call {
+            mark,
+            status,
+            number,
+            ..Call::run(ENROLS.as_bytes(), 0, taken.as_bytes())
+        };
+        opened(alloc, length, last, call)?;
+    }
+    Ok(())
 }
 
 #[test]
 fn files(rt: HostRuntime) {
-    for &(length, last, status, number, taken) in FILES {
-        let want = Want {
-            status,
-            number,
-            added: 0,
-        };
-        expect_opened(&rt, rt.alloc(), length, last, want, taken);
-    }
+    on_files(rt.alloc()).expect(&rt, "as wanted");
 }

@@ -1,11 +1,9 @@
 //! Large bodies, long batches and long refusals.
 
-use super::batches::BATCH;
-use super::calls::{FIRST, NONE, done, expect_run, put, put_number, put_reply};
-use super::session::answers;
-use super::setup::SETUP;
+use session_calls::{
+    BATCH, Call, FIRST, NoMemory, Wrong, begun, call_alone, put, put_between, put_reply,
+};
 use std::alloc::Global;
-use std::process::Abort;
 
 /// Without rows no station is known.
 const STRANGERS: &str = concat!(
@@ -17,20 +15,16 @@ const STRANGERS: &str = concat!(
     "line 10 refused T1\n",
 );
 
+fn without_rows(alloc: Global) -> Result<(), Wrong> {
+    let mut bytes = Vec::new(alloc);
+    put(&mut bytes, "+founder-1 1 submit80 411\n")?;
+    put(&mut bytes, BATCH)?;
+    call_alone(alloc, &Call::run(&bytes, 0, STRANGERS.as_bytes()))
+}
+
 #[test]
 fn office_without_rows(rt: HostRuntime) {
-    let mut bytes = Vec::new(rt.alloc());
-    put(&rt, &mut bytes, "+founder-1 1 submit80 411\n");
-    put(&rt, &mut bytes, BATCH);
-    expect_run(
-        &rt,
-        rt.alloc(),
-        &bytes,
-        4096,
-        NONE,
-        done(0),
-        STRANGERS.as_bytes(),
-    );
+    without_rows(rt.alloc()).expect(&rt, "as wanted");
 }
 
 /// Heads, the number of bytes of the body, the byte, and the answers to both frames.
@@ -62,96 +56,110 @@ const LARGE: &[(&str, usize, u8, &str)] = &[
 ];
 
 /// A head with a body of so many bytes of one kind, and the founder's first request.
-fn large<R: Abort>(rt: &R, alloc: Global, head: &str, count: usize, byte: u8) -> Vec<u8> {
+fn large(alloc: Global, head: &str, count: usize, byte: u8) -> Result<Vec<u8>, NoMemory> {
     let mut bytes = Vec::new(alloc);
-    put(rt, &mut bytes, head);
+    put(&mut bytes, head)?;
     let end = bytes.len().saturating_add(count);
-    bytes.resize(end, byte).expect(rt, "memory");
-    put(rt, &mut bytes, FIRST);
-    bytes
+    bytes.resize(end, byte)?;
+    put(&mut bytes, FIRST)?;
+    Ok(bytes)
+}
+
+/// Each large body by its place in the table.
+fn larges(alloc: Global) -> Result<(), Wrong> {
+    for (mark, &(head, count, byte, taken)) in LARGE.iter().enumerate() {
+        let bytes = large(alloc, head, count, byte)?;
+        let call = Call {
+            mark,
+            greatest: 65_536,
+            ..Call::run(&bytes, 1, taken.as_bytes())
+        };
+        call_alone(alloc, &call)?;
+    }
+    Ok(())
 }
 
 #[test]
 fn large_bodies(rt: HostRuntime) {
-    for &(head, count, byte, taken) in LARGE {
-        let bytes = large(&rt, rt.alloc(), head, count, byte);
-        expect_run(
-            &rt,
-            rt.alloc(),
-            &bytes,
-            65_536,
-            NONE,
-            done(1),
-            taken.as_bytes(),
-        );
-    }
+    larges(rt.alloc()).expect(&rt, "as wanted");
 }
 
 /// A frame of the founder's sixth request, a batch of so many lines of station 703, each a little later than the one
 /// before.
-fn batch_of<R: Abort>(rt: &R, alloc: Global, bytes: &mut Vec<u8>, lines: u64) {
-    put(rt, bytes, "+founder-1 6 submit80 ");
-    put_number(rt, alloc, bytes, lines.saturating_mul(81));
-    put(rt, bytes, "\n");
+fn put_batch(alloc: Global, bytes: &mut Vec<u8>, lines: u64) -> Result<(), NoMemory> {
+    let length = lines.saturating_mul(81);
+    put_between(alloc, bytes, "+founder-1 6 submit80 ", length, "\n")?;
     for line in 0..lines {
-        put(rt, bytes, "     P10abcd  C2024 03 15.");
-        put_number(rt, alloc, bytes, line.saturating_add(10_000));
-        put(
-            rt,
-            bytes,
-            " 06 12 34.56 +23 45 01.2          19.5 V      703\n",
-        );
+        let day = line.saturating_add(10_000);
+        put_between(alloc, bytes, BEFORE_DAY, day, BEHIND_DAY)?;
     }
+    Ok(())
 }
 
+/// What stands before and after the decimals of a line's day.
+const BEFORE_DAY: &str = "     P10abcd  C2024 03 15.";
+
+const BEHIND_DAY: &str = " 06 12 34.56 +23 45 01.2          19.5 V      703\n";
+
 /// The answer to that batch, where each line is accepted.
-fn batch_text<R: Abort>(rt: &R, alloc: Global, lines: u64) -> Vec<u8> {
-    let mut text = Vec::new(alloc);
-    put(rt, &mut text, "receipt 6\naccepted ");
-    put_number(rt, alloc, &mut text, lines);
-    put(rt, &mut text, " refused 0\n");
+fn put_accepted(alloc: Global, text: &mut Vec<u8>, lines: u64) -> Result<(), NoMemory> {
+    put_between(alloc, text, "receipt 6\naccepted ", lines, " refused 0\n")?;
     for line in 0..lines {
-        put(rt, &mut text, "line ");
-        put_number(rt, alloc, &mut text, line.saturating_add(1));
-        put(rt, &mut text, " obs ");
-        put_number(rt, alloc, &mut text, line.saturating_add(1));
-        put(rt, &mut text, " track 1\n");
+        let number = line.saturating_add(1);
+        put_between(alloc, text, "line ", number, " obs ")?;
+        put_between(alloc, text, "", number, " track 1\n")?;
     }
-    text
+    Ok(())
 }
 
 /// The text of a batch of so many lines, of which each is of an unknown station.
-fn strangers_text<R: Abort>(rt: &R, alloc: Global, lines: u64) -> Vec<u8> {
-    let mut text = Vec::new(alloc);
-    put(rt, &mut text, "refused 7 NoLine\n");
+fn put_strangers(alloc: Global, text: &mut Vec<u8>, lines: u64) -> Result<(), NoMemory> {
+    put(text, "refused 7 NoLine\n")?;
     for line in 0..lines {
-        put(rt, &mut text, "line ");
-        put_number(rt, alloc, &mut text, line.saturating_add(1));
-        put(rt, &mut text, " refused T1\n");
+        put_between(
+            alloc,
+            text,
+            "line ",
+            line.saturating_add(1),
+            " refused T1\n",
+        )?;
     }
-    text
+    Ok(())
+}
+
+fn accepted(alloc: Global) -> Result<(), Wrong> {
+    let (mut bytes, mut taken) = begun(alloc)?;
+    put_batch(alloc, &mut bytes, 1_200)?;
+    let mut text = Vec::new(alloc);
+    put_accepted(alloc, &mut text, 1_200)?;
+    put_reply(alloc, &mut taken, "200 ", &text)?;
+    let call = Call {
+        greatest: 65_536,
+        ..Call::run(&bytes, 6, &taken)
+    };
+    call_alone(alloc, &call)
 }
 
 #[test]
 fn batch_of_1200_lines(rt: HostRuntime) {
-    let mut bytes = Vec::new(rt.alloc());
-    for next in SETUP {
-        put(&rt, &mut bytes, next.head);
-        put(&rt, &mut bytes, next.body);
-    }
-    batch_of(&rt, rt.alloc(), &mut bytes, 1_200);
-    let mut taken = answers(&rt, rt.alloc(), 5);
-    let text = batch_text(&rt, rt.alloc(), 1_200);
-    put_reply(&rt, rt.alloc(), &mut taken, "200 ", &text);
-    expect_run(&rt, rt.alloc(), &bytes, 65_536, NONE, done(6), &taken);
+    accepted(rt.alloc()).expect(&rt, "as wanted");
+}
+
+fn refused(alloc: Global) -> Result<(), Wrong> {
+    let mut bytes = Vec::new(alloc);
+    put_batch(alloc, &mut bytes, 12)?;
+    let mut taken = Vec::new(alloc);
+    let mut text = Vec::new(alloc);
+    put_strangers(alloc, &mut text, 12)?;
+    put_reply(alloc, &mut taken, "422 ", &text)?;
+    let call = Call {
+        greatest: 65_536,
+        ..Call::run(&bytes, 0, &taken)
+    };
+    call_alone(alloc, &call)
 }
 
 #[test]
 fn refusal_with_12_faults(rt: HostRuntime) {
-    let mut bytes = Vec::new(rt.alloc());
-    batch_of(&rt, rt.alloc(), &mut bytes, 12);
-    let mut taken = Vec::new(rt.alloc());
-    let text = strangers_text(&rt, rt.alloc(), 12);
-    put_reply(&rt, rt.alloc(), &mut taken, "422 ", &text);
-    expect_run(&rt, rt.alloc(), &bytes, 65_536, NONE, done(0), &taken);
+    refused(rt.alloc()).expect(&rt, "as wanted");
 }

@@ -1,8 +1,8 @@
 //! Rules beside the observations that are there, retractions, and queries.
 
-use super::batches::{BATCH, BATCH_ANSWER};
-use super::exchange::Exchange;
+use super::batches::BATCH_ANSWER;
 use super::refusals::ROLE;
+use session_calls::{BATCH, Exchange};
 
 /// The observer's first batch under a further number: its observations are there already.
 const AGAIN_ANSWER: &str = concat!(

@@ -1,7 +1,6 @@
 //! Refusals in the order of the office's table.
 
-use super::exchange::Exchange;
-use super::setup::{MODE, OBSERVER, STATION};
+use session_calls::{ENROLMENT, Exchange, MODE, STATION};
 
 pub(super) const ROLE: &str = "403 15\nrefused 4 Role\n";
 
@@ -41,7 +40,7 @@ pub(super) const REFUSALS: &[Exchange] = &[
     },
     Exchange {
         head: "observer-1 3 enrol 51\n",
-        body: OBSERVER,
+        body: ENROLMENT,
         answer: ROLE,
         entries: 7,
     },
@@ -59,7 +58,7 @@ pub(super) const REFUSALS: &[Exchange] = &[
     },
     Exchange {
         head: "observer-1 1 enrol 51\n",
-        body: OBSERVER,
+        body: ENROLMENT,
         answer: "409 33\nrefused 3 OtherRequest receipt 6\n",
         entries: 7,
     },
@@ -71,7 +70,7 @@ pub(super) const REFUSALS: &[Exchange] = &[
     },
     Exchange {
         head: "+founder-1 7 enrol 51\n",
-        body: OBSERVER,
+        body: ENROLMENT,
         answer: THERE,
         entries: 7,
     },

@@ -1,12 +1,8 @@
 //! The ends of a run, in pieces of every size, and with each read and each write failing in turn.
 
-use super::calls::{
-    FIRST, FIRST_ANSWER, Faults, NONE, RUN, Want, call, done, expect_end, expect_run, words_of,
-};
 use super::session::{FRAMES, answers, entries, session, whole_in};
-use desk_io::MemSink;
+use session_calls::{Call, FIRST, FIRST_ANSWER, Wrong, call_alone};
 use std::alloc::Global;
-use std::process::Abort;
 
 /// The founder's first request, and after it a length with a leading zero.
 const SECOND_IS_BAD: &str = concat!(
@@ -29,90 +25,102 @@ const ENDS: &[(&str, u64, u64, &str, u8, u64, &str)] = &[
     (FIRST, 0, 1, "WriteFault", 7, 1, ""),
 ];
 
-#[test]
-fn ends_of_a_run(rt: HostRuntime) {
-    for &(bytes, read, write, status, number, added, taken) in ENDS {
-        let want = Want {
+/// Each end by its place in the table.
+fn ends(alloc: Global) -> Result<(), Wrong> {
+    for (mark, &(bytes, read, write, status, number, added, taken)) in ENDS.iter().enumerate() {
+        let call = Call {
+            mark,
+            read,
+            write,
             status,
             number,
-            added,
+            ..Call::run(bytes.as_bytes(), added, taken.as_bytes())
         };
-        let faults = Faults { read, write };
-        expect_run(
-            &rt,
-            rt.alloc(),
-            bytes.as_bytes(),
-            4096,
-            faults,
-            want,
-            taken.as_bytes(),
-        );
+        call_alone(alloc, &call)?;
     }
+    Ok(())
+}
+
+#[test]
+fn ends_of_a_run(rt: HostRuntime) {
+    ends(rt.alloc()).expect(&rt, "as wanted");
+}
+
+/// The session, of which a read gives at most so many bytes.
+fn in_pieces(alloc: Global) -> Result<(), Wrong> {
+    let bytes = session(alloc)?;
+    let taken = answers(alloc, FRAMES)?;
+    for greatest in [1usize, 2, 3, 7, 64, 4096] {
+        let call = Call {
+            mark: greatest,
+            greatest,
+            ..Call::run(&bytes, entries(FRAMES), &taken)
+        };
+        call_alone(alloc, &call)?;
+    }
+    Ok(())
 }
 
 #[test]
 fn session_in_pieces(rt: HostRuntime) {
-    let bytes = session(&rt, rt.alloc());
-    let taken = answers(&rt, rt.alloc(), FRAMES);
-    for greatest in [1usize, 2, 3, 7, 64, 4096] {
-        expect_run(
-            &rt,
-            rt.alloc(),
-            &bytes,
-            greatest,
-            NONE,
-            done(entries(FRAMES)),
-            &taken,
-        );
-    }
+    in_pieces(rt.alloc()).expect(&rt, "as wanted");
 }
 
-// Each read gives 7 bytes, or what is left of the session.
+/// Runs the session where the read after so many fails. Each read gives 7 bytes, or what is left of the session.
+fn stopped_at_read(alloc: Global, bytes: &[u8], reads: usize) -> Result<(), Wrong> {
+    let whole = whole_in(reads.saturating_mul(7).min(bytes.len()));
+    let taken = answers(alloc, whole)?;
+    let call = Call {
+        mark: reads,
+        greatest: 7,
+        read: (reads as u64).saturating_add(1),
+        status: "ReadFault",
+        number: 6,
+        ..Call::run(bytes, entries(whole), &taken)
+    };
+    call_alone(alloc, &call)
+}
+
+fn stopped_at_reads(alloc: Global) -> Result<(), Wrong> {
+    let bytes = session(alloc)?;
+    for reads in 0..=bytes.len().div_ceil(7) {
+        stopped_at_read(alloc, &bytes, reads)?;
+    }
+    Ok(())
+}
+
 #[test]
 fn each_read_fails_in_turn(rt: HostRuntime) {
-    let bytes = session(&rt, rt.alloc());
-    for reads in 0..=bytes.len().div_ceil(7) {
-        let whole = whole_in(reads.saturating_mul(7).min(bytes.len()));
-        let want = Want {
-            status: "ReadFault",
-            number: 6,
-            added: entries(whole),
-        };
-        let faults = Faults {
-            read: (reads as u64).saturating_add(1),
-            write: 0,
-        };
-        let taken = answers(&rt, rt.alloc(), whole);
-        expect_run(&rt, rt.alloc(), &bytes, 7, faults, want, &taken);
-    }
+    stopped_at_reads(rt.alloc()).expect(&rt, "as wanted");
 }
 
 /// Runs the session where the write after so many fails. A reply is written in two pieces, its head and its text, so
 /// the write tells the frame.
-fn expect_cut<R: Abort>(rt: &R, alloc: Global, bytes: &[u8], before: usize) {
+fn stopped_at_write(alloc: Global, bytes: &[u8], before: usize) -> Result<(), Wrong> {
     let frame = before / 2;
-    let failing = (before as u64).saturating_add(1);
-    let words = words_of(rt, alloc, &RUN);
-    let mut sink = MemSink::new(alloc, 65_536, &[failing]).expect(rt, "memory");
-    let ended = call(rt, alloc, &words, bytes, 4096, NONE, &mut sink);
-    let want = Want {
+    let after = frame.saturating_add(1);
+    let whole = answers(alloc, frame)?;
+    let more = answers(alloc, after)?;
+    let call = Call {
+        mark: before,
+        write: (before as u64).saturating_add(1),
         status: "WriteFault",
         number: 7,
-        added: entries(frame.saturating_add(1)),
+        least: Some(whole.len()),
+        ..Call::run(bytes, entries(after), &more)
     };
-    expect_end(rt, alloc, &ended, want);
-    let whole = answers(rt, alloc, frame);
-    let more = answers(rt, alloc, frame.saturating_add(1));
-    let count = sink.bytes().len();
-    assert!(rt; whole.len() <= count && count < more.len(), "{before}");
-    let (front, _) = more.split_at(count);
-    assert_eq!(rt; sink.bytes(), front, "{before}");
+    call_alone(alloc, &call)
+}
+
+fn stopped_at_writes(alloc: Global) -> Result<(), Wrong> {
+    let bytes = session(alloc)?;
+    for before in 0..2 * FRAMES {
+        stopped_at_write(alloc, &bytes, before)?;
+    }
+    Ok(())
 }
 
 #[test]
 fn each_write_fails_in_turn(rt: HostRuntime) {
-    let bytes = session(&rt, rt.alloc());
-    for before in 0..2 * FRAMES {
-        expect_cut(&rt, rt.alloc(), &bytes, before);
-    }
+    stopped_at_writes(rt.alloc()).expect(&rt, "as wanted");
 }

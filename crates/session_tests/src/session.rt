@@ -2,13 +2,10 @@
 
 use super::ades::ADES;
 use super::batches::BATCHES;
-use super::calls::put;
-use super::exchange::Exchange;
 use super::places::PLACES;
 use super::refusals::REFUSALS;
-use super::setup::SETUP;
+use session_calls::{Exchange, NoMemory, SETUP, put};
 use std::alloc::Global;
-use std::process::Abort;
 
 /// How many frames the session has: the office is set up, batches come, refusals, retractions and queries.
 pub(super) const FRAMES: usize = 52;
@@ -31,15 +28,15 @@ fn exchange_at(place: usize) -> Option<Exchange> {
 }
 
 /// The bytes of all frames, one at once after the other.
-pub(super) fn session<R: Abort>(rt: &R, alloc: Global) -> Vec<u8> {
+pub(super) fn session(alloc: Global) -> Result<Vec<u8>, NoMemory> {
     let mut bytes = Vec::new(alloc);
     for place in 0..FRAMES {
         if let Some(next) = exchange_at(place) {
-            put(rt, &mut bytes, next.head);
-            put(rt, &mut bytes, next.body);
+            put(&mut bytes, next.head)?;
+            put(&mut bytes, next.body)?;
         }
     }
-    bytes
+    Ok(bytes)
 }
 
 /// How many bytes the frame at a place has.
@@ -64,14 +61,14 @@ pub(super) fn whole_in(count: usize) -> usize {
 }
 
 /// The answers to the first so many frames.
-pub(super) fn answers<R: Abort>(rt: &R, alloc: Global, count: usize) -> Vec<u8> {
+pub(super) fn answers(alloc: Global, count: usize) -> Result<Vec<u8>, NoMemory> {
     let mut bytes = Vec::new(alloc);
     for place in 0..count {
         if let Some(next) = exchange_at(place) {
-            put(rt, &mut bytes, next.answer);
+            put(&mut bytes, next.answer)?;
         }
     }
-    bytes
+    Ok(bytes)
 }
 
 /// How many entries the history has after the first so many frames.

@@ -1,6 +1,6 @@
 //! Designations, objects, verdicts and numbers in one session.
 
-use super::rows::{FOUNDER, OBSERVER, Row, expect_session};
+use session_calls::{FOUNDER, OBSERVER, Row, session};
 
 /// Two tracklets of one object, of which the first observation falls a thousandth of a second before midnight.
 pub(super) const MIDNIGHT: &str = concat!(
@@ -442,10 +442,6 @@ const RELEASES: &[Row] = &[
 
 #[test]
 fn designations_objects_and_numbers(rt: HostRuntime) {
-    expect_session(
-        &rt,
-        rt.alloc(),
-        &[DESIGNATIONS, IDENTIFICATIONS, NUMBERS, RELEASES],
-        25,
-    );
+    let tables = [DESIGNATIONS, IDENTIFICATIONS, NUMBERS, RELEASES];
+    session(rt.alloc(), &tables, 25).expect(&rt, "as wanted");
 }

@@ -1,9 +1,8 @@
 //! What the office tells of its tracklets, objects, half-months and names, in whole sessions.
 
-use super::batches::BATCH;
 use super::members::{EA_EB, EA_EC, FIVE, FIVE_TEXT, TWO};
 use super::objects::{MIDNIGHT, MIDNIGHT_TEXT};
-use super::rows::{FOUNDER, OBSERVER, Row, expect_session};
+use session_calls::{BATCH, FOUNDER, OBSERVER, Row, session};
 
 /// A tracklet of lines of 80 columns. Its first line has the day 15.12345, which is 2 h 57 m 46.08 s, the right
 /// ascension 06 12 34.56 and the declination +23 45 01.2.
@@ -567,20 +566,21 @@ const NAMES: &[Row] = &[
 
 #[test]
 fn tells_of_a_tracklet_in_columns(rt: HostRuntime) {
-    expect_session(&rt, rt.alloc(), &[OF_COLUMNS], 6);
+    session(rt.alloc(), &[OF_COLUMNS], 6).expect(&rt, "as wanted");
 }
 
 #[test]
 fn tells_of_half_months_and_names(rt: HostRuntime) {
-    expect_session(&rt, rt.alloc(), &[OF_MIDNIGHT], 7);
+    session(rt.alloc(), &[OF_MIDNIGHT], 7).expect(&rt, "as wanted");
 }
 
 #[test]
 fn tells_of_identified_objects(rt: HostRuntime) {
-    expect_session(&rt, rt.alloc(), &[OF_PLACES], 12);
+    session(rt.alloc(), &[OF_PLACES], 12).expect(&rt, "as wanted");
 }
 
 #[test]
 fn tells_of_everything(rt: HostRuntime) {
-    expect_session(&rt, rt.alloc(), &[ACTS, OBJECTS, TRACKLETS, NAMES], 19);
+    let tables = [ACTS, OBJECTS, TRACKLETS, NAMES];
+    session(rt.alloc(), &tables, 19).expect(&rt, "as wanted");
 }

@@ -1,13 +1,8 @@
 //! The catalogue: after sessions that show each of its rules, as the answer to a query and as what `export` writes.
 
-use super::calls::{RUN, call_on, done, empty_disk, expect_end, words_of};
 use super::objects::{MIDNIGHT, MIDNIGHT_TEXT, NIGHT, NIGHT_TEXT};
-use super::rows::{FOUNDER, OBSERVER, Row, put_rows, session_of};
-use super::setup::STATION;
-use desk_io::MemSink;
-use disk_model::Disk;
+use session_calls::{FOUNDER, OBSERVER, Row, STATION, Wrong, catalogue_alone, catalogue_of};
 use std::alloc::Global;
-use std::process::Abort;
 
 /// A declination of zero with a minus, and one of a tenth of an arcsecond below it.
 const ZERO_80: &str = concat!(
@@ -505,100 +500,43 @@ const MADE: &[Row] = &[
     ),
 ];
 
-/// 2025-02-01T00:00:00Z.
-const LATE: i64 = 1_738_368_000_000_000_000;
-
-/// A call with these words over this disk, whose clock begins in 2025, that ends in `Done`. Gives the disk.
-fn expect_done<D: Disk, R: Abort>(
-    rt: &R,
-    alloc: Global,
-    words: &[&str],
-    bytes: &[u8],
-    disk: D,
-    added: u64,
-    taken: &[u8],
-) -> D {
-    let words = words_of(rt, alloc, words);
-    let mut sink = MemSink::new(alloc, 65_536, &[]).expect(rt, "memory");
-    let ended = call_on(rt, alloc, &words, bytes, 4_096, 0, &mut sink, disk, LATE);
-    expect_end(rt, alloc, &ended, done(added));
-    assert_eq!(rt; sink.bytes(), taken);
-    ended.disk
-}
-
-/// Runs the session, and writes the catalogue out.
-fn expect_written<R: Abort>(
-    rt: &R,
-    alloc: Global,
-    bytes: &[u8],
-    taken: &[u8],
-    added: u64,
-    catalogue: &'static str,
-) {
-    let disk = empty_disk(rt, alloc, 65_536);
-    let disk = expect_done(rt, alloc, &RUN, bytes, disk, added, taken);
-    expect_done(rt, alloc, &["export"], b"", disk, 0, catalogue.as_bytes());
-}
-
-/// Runs the session, asks for the catalogue, and writes it out: both texts are this one.
-fn expect_catalogue<R: Abort>(
-    rt: &R,
-    alloc: Global,
-    session: (Vec<u8>, Vec<u8>),
-    added: u64,
-    catalogue: &'static str,
-) {
-    let (mut bytes, mut taken) = session;
-    let query = (FOUNDER, 0, "catalogue", "", "200 ", catalogue);
-    put_rows(rt, alloc, &mut bytes, &mut taken, &[query]);
-    expect_written(rt, alloc, &bytes, &taken, added, catalogue);
-}
-
-/// The same for the founder's five requests and these tables.
-fn expect_catalogue_of<R: Abort>(
-    rt: &R,
-    alloc: Global,
-    tables: &[&[Row]],
-    added: u64,
-    catalogue: &'static str,
-) {
-    let session = session_of(rt, alloc, tables);
-    expect_catalogue(rt, alloc, session, added, catalogue);
+/// Each batch by its place in the table.
+fn after_batches(alloc: Global) -> Result<(), Wrong> {
+    for (place, &(verb, body, text, after)) in BATCHES.iter().enumerate() {
+        let row = (OBSERVER, 1, verb, body, "200 ", text);
+        catalogue_of(alloc, &[&[row]], 6, after, place)?;
+    }
+    Ok(())
 }
 
 #[test]
 fn catalogues_of_batches(rt: HostRuntime) {
-    for &(verb, body, text, catalogue) in BATCHES {
-        let row = (OBSERVER, 1, verb, body, "200 ", text);
-        expect_catalogue_of(&rt, rt.alloc(), &[&[row]], 6, catalogue);
+    after_batches(rt.alloc()).expect(&rt, "as wanted");
+}
+
+/// What comes after the object, by its place in the table.
+fn after_an_object(alloc: Global) -> Result<(), Wrong> {
+    for (place, &(later, after)) in LATER.iter().enumerate() {
+        let added = (later.len() as u64).saturating_add(7);
+        catalogue_of(alloc, &[OBJECT, later], added, after, place)?;
     }
+    Ok(())
 }
 
 #[test]
 fn catalogues_of_an_object(rt: HostRuntime) {
-    for &(later, catalogue) in LATER {
-        let added = (later.len() as u64).saturating_add(7);
-        expect_catalogue_of(&rt, rt.alloc(), &[OBJECT, later], added, catalogue);
-    }
+    after_an_object(rt.alloc()).expect(&rt, "as wanted");
 }
 
 #[test]
 fn catalogue_of_a_numbered_tracklet(rt: HostRuntime) {
     let tables = [OBJECT, NUMBERING, FREED];
-    expect_catalogue_of(&rt, rt.alloc(), &tables, 11, FREED_CATALOGUE);
+    catalogue_of(rt.alloc(), &tables, 11, FREED_CATALOGUE, 0).expect(&rt, "as wanted");
 }
 
-/// The session of the three objects, without the founder's five requests.
-fn made<R: Abort>(rt: &R, alloc: Global) -> (Vec<u8>, Vec<u8>) {
-    let mut bytes = Vec::new(alloc);
-    let mut taken = Vec::new(alloc);
-    put_rows(rt, alloc, &mut bytes, &mut taken, MADE);
-    (bytes, taken)
-}
-
+// Without the founder's five requests.
 #[test]
 fn catalogue_of_three_objects(rt: HostRuntime) {
     assert_eq!(rt; MADE_CATALOGUE.len(), 1_170);
-    let session = made(&rt, rt.alloc());
-    expect_catalogue(&rt, rt.alloc(), session, 7, MADE_CATALOGUE);
+    catalogue_alone(rt.alloc(), MADE, 7, MADE_CATALOGUE).expect(&rt, "as wanted");
 }

@@ -1,6 +1,6 @@
 //! Places of observations, members of objects, and numbers that go on, in one session.
 
-use super::rows::{FOUNDER, OBSERVER, Row, expect_session};
+use session_calls::{FOUNDER, OBSERVER, Row, session};
 
 /// Five tracklets of two observations each, of which each second one is 13 hours after the one before.
 pub(super) const FIVE: &str = concat!(
@@ -472,5 +472,6 @@ const OBSERVED: &[Row] = &[
 
 #[test]
 fn places_members_and_numbers(rt: HostRuntime) {
-    expect_session(&rt, rt.alloc(), &[PLACES, MEMBERS, NUMBERED, OBSERVED], 38);
+    let tables = [PLACES, MEMBERS, NUMBERED, OBSERVED];
+    session(rt.alloc(), &tables, 38).expect(&rt, "as wanted");
 }

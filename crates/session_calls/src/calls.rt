@@ -1,0 +1,218 @@
+//! Calls of `run` and of `export` over a source, a sink, a disk and a clock in memory.
+
+use crate::pieces::NoMemory;
+use crate::wrong::{Found, Wrong};
+use command_ends::{Ended, Status};
+use command_line::{Command, Words, command_of};
+use desk_io::{Clock, MemSink, MemSource, Sink, Source, TickClock};
+use disk_model::{Disk, MemDisk};
+use export_desk::export;
+use frame_desk::run;
+use item_list::Bytes;
+use obs_time::Instant;
+use std::alloc::Global;
+
+/// A call of the program: what it is given, and what is wanted of it.
+#[derive(Clone, Copy)]
+pub struct Call<'a> {
+    /// By this number the call is told where it is wrong.
+    pub mark: usize,
+    pub words: &'a [&'a str],
+    /// What its source gives.
+    pub bytes: &'a [u8],
+    /// How many bytes a read gives at most.
+    pub greatest: usize,
+    /// The read and the write that fail, counted from 1; for 0 none fails.
+    pub read: u64,
+    pub write: u64,
+    /// The moment at which its clock begins, in nanoseconds since 1970.
+    pub start: i64,
+    /// The status as it is printed, its number, and by how many entries the history grows.
+    pub status: &'a str,
+    pub number: u8,
+    pub added: u64,
+    /// What its sink takes: all of these bytes, or where `least` is given the first ones, at least so many and not all.
+    pub taken: &'a [u8],
+    pub least: Option<usize>,
+    /// Whether a crash comes then, which takes all that isn't safe on the disk.
+    pub crashes: bool,
+}
+
+/// The words of `run` with the founder's key.
+const RUN: &[&str] = &["run", "--key", "+founder-1"];
+
+/// 2024-04-01T00:00:00Z.
+const APRIL: i64 = 1_711_929_600_000_000_000;
+
+impl<'a> Call<'a> {
+    /// A run over these bytes on 2024-04-01 that is done.
+    pub const fn run(bytes: &'a [u8], added: u64, taken: &'a [u8]) -> Call<'a> {
+        Call {
+            mark: 0,
+            words: RUN,
+            bytes,
+            greatest: 4_096,
+            read: 0,
+            write: 0,
+            start: APRIL,
+            status: "Done",
+            number: 0,
+            added,
+            taken,
+            least: None,
+            crashes: false,
+        }
+    }
+
+    /// That this was found.
+    fn wrong(&self, found: Found) -> Result<(), Wrong> {
+        Err(Wrong {
+            mark: self.mark,
+            found,
+        })
+    }
+
+    /// Whether the call ended as is wanted.
+    fn ended_in(&self, alloc: Global, status: &Status, added: u64) -> Result<(), Wrong> {
+        let text = format!(in alloc; "{status}")?;
+        if text.as_str() != self.status {
+            return self.wrong(Found::Status(text));
+        }
+        if status.number() != self.number {
+            return self.wrong(Found::Number(status.number()));
+        }
+        if added != self.added {
+            return self.wrong(Found::Entries(added));
+        }
+        Ok(())
+    }
+
+    /// Whether it wrote what is wanted.
+    fn wrote(&self, taken: &[u8]) -> Result<(), Wrong> {
+        let count = taken.len();
+        let is_enough = match self.least {
+            Some(least) => least <= count && count < self.taken.len(),
+            None => count == self.taken.len(),
+        };
+        let same = same_bytes(taken, self.taken);
+        if !is_enough || same != count {
+            return self.wrong(Found::BytesFrom(same));
+        }
+        Ok(())
+    }
+}
+
+/// How many bytes two texts begin with alike.
+fn same_bytes(left: &[u8], right: &[u8]) -> usize {
+    let mut pairs = left.iter().zip(right);
+    match pairs.position(|(left, right)| left != right) {
+        Some(at) => at,
+        None => left.len().min(right.len()),
+    }
+}
+
+/// A disk in memory: what its file has at first, which of its calls fail, counted from 1, and how long the file is to be
+/// at the end, if that is asked.
+#[derive(Clone, Copy)]
+pub struct Drive<'a> {
+    pub file: &'a [u8],
+    pub fails: &'a [u64],
+    pub length: Option<u64>,
+}
+
+/// How many bytes a disk has room for.
+const DISK_BYTES: usize = 1_048_576;
+
+impl Drive<'_> {
+    /// An empty file on a disk that doesn't fail.
+    pub const EMPTY: Drive<'static> = Drive {
+        file: b"",
+        fails: &[],
+        length: None,
+    };
+
+    fn disk(&self, alloc: Global) -> Result<MemDisk, NoMemory> {
+        let capacity = self.file.len().max(DISK_BYTES);
+        MemDisk::new(alloc, self.file, capacity, self.fails)
+    }
+}
+
+fn words_of(alloc: Global, texts: &[&str]) -> Result<Words, NoMemory> {
+    let mut words = Words::new(alloc);
+    for text in texts {
+        words.push(Bytes::from_slice(alloc, text.as_bytes())?)?;
+    }
+    Ok(words)
+}
+
+/// The call that all others go through: what the words name.
+fn called<S: Source, K: Sink, D: Disk, C: Clock>(
+    alloc: Global,
+    words: &Words,
+    source: &mut S,
+    sink: &mut K,
+    disk: D,
+    clock: &mut C,
+) -> Ended<D> {
+    match command_of(words) {
+        Some(Command::Run { key }) => run(alloc, key, source, sink, disk, clock),
+        Some(Command::Export) => export(alloc, sink, disk),
+        _ => Ended {
+            status: Status::Usage,
+            disk,
+            added: 0,
+        },
+    }
+}
+
+/// Makes a call on this disk, looks whether it is as wanted, and gives the disk back.
+fn call_on<D: Disk>(alloc: Global, call: &Call, disk: D) -> Result<D, Wrong> {
+    let words = words_of(alloc, call.words)?;
+    let mut source = MemSource::new(alloc, call.bytes, call.greatest.max(1), &[call.read])?;
+    let mut sink = MemSink::new(alloc, 65_536, &[call.write])?;
+    let Some(first) = Instant::new(call.start) else {
+        return Err(Wrong {
+            mark: call.mark,
+            found: Found::NoClock,
+        });
+    };
+    let mut clock = TickClock::new(first, 1_000_000_000);
+    let ended = called(alloc, &words, &mut source, &mut sink, disk, &mut clock);
+    call.ended_in(alloc, &ended.status, ended.added)?;
+    call.wrote(sink.bytes())?;
+    Ok(ended.disk)
+}
+
+/// Makes a call on an empty disk.
+///
+/// # Errors
+///
+/// What is wrong with it.
+pub fn call_alone(alloc: Global, call: &Call) -> Result<(), Wrong> {
+    call_on(alloc, call, Drive::EMPTY.disk(alloc)?)?;
+    Ok(())
+}
+
+/// Makes calls one after another on one disk.
+///
+/// # Errors
+///
+/// What is wrong with the first of them that isn't as wanted.
+pub fn call_in_turn(alloc: Global, drive: &Drive, calls: &[Call]) -> Result<(), Wrong> {
+    let mut disk = drive.disk(alloc)?;
+    for call in calls {
+        let left = call_on(alloc, call, disk)?;
+        disk = if call.crashes { left.crash(0) } else { left };
+    }
+    if drive.length.is_none() {
+        return Ok(());
+    }
+    let length = disk.len().ok();
+    if length != drive.length {
+        return Err(Wrong {
+            mark: calls.len(),
+            found: Found::Length(length),
+        });
+    }
+    Ok(())
+}

@@ -1,0 +1,20 @@
+//! Calls of `run` and of `export` over a source, a sink, a disk and a clock in memory, for the crates that test whole
+//! sessions; and what such sessions are made of.
+//!
+//! A function says what is wrong with a call, and asserts nothing: no library may stop the program. None has a clause,
+//! since what the calls promise would then stand in the proof of every test.
+#![tactic(auto)]
+
+mod calls;
+mod exchange;
+mod pieces;
+mod rows;
+mod setup;
+mod wrong;
+
+pub use calls::{Call, Drive, call_alone, call_in_turn};
+pub use exchange::Exchange;
+pub use pieces::{NoMemory, put, put_between, put_number, put_reply};
+pub use rows::{FOUNDER, OBSERVER, Row, catalogue_alone, catalogue_of, session};
+pub use setup::{BATCH, ENROLMENT, FIRST, FIRST_ANSWER, MODE, SETUP, STATION, begun};
+pub use wrong::{Found, Wrong};
