@@ -5,7 +5,6 @@ use desk_http::{Heard, SendFault, Wire, write_reply};
 use desk_io::{MemSink, MemSource};
 use item_list::Bytes;
 use std::alloc::Global;
-use std::process::Abort;
 
 // What is heard first of a text: a request with its key, its number, the word of its verb (an empty one for an unknown
 // verb), its body, and whether its answer is the last one.
@@ -309,56 +308,44 @@ fn hears_all(wire: &mut Wire, source: &mut MemSource, wants: &[Want]) -> bool {
     true
 }
 
-// A source of which a read gives so many bytes at most, and in which the read with this number fails; for 0 none fails.
-fn source_of<R: Abort>(
-    rt: &R,
-    alloc: Global,
-    bytes: &[u8],
-    greatest: usize,
-    fails: u64,
-) -> MemSource {
-    MemSource::new(alloc, bytes, greatest.max(1), &[fails]).expect(rt, "memory")
-}
-
-fn is_heard<R: Abort>(
-    rt: &R,
-    alloc: Global,
-    bytes: &[u8],
-    greatest: usize,
-    fails: u64,
-    wants: &[Want],
-) -> bool {
-    let mut source = source_of(rt, alloc, bytes, greatest, fails);
-    let mut wire = Wire::new(alloc).expect(rt, "memory");
-    hears_all(&mut wire, &mut source, wants)
-}
-
-fn expect<R: Abort>(rt: &R, alloc: Global, text: &str, greatest: usize, wants: &[Want]) {
-    let heard = is_heard(rt, alloc, text.as_bytes(), greatest, 0, wants);
-    assert!(rt; heard, "{text} by {greatest}");
-}
-
-// A message that comes in pieces of several sizes.
-fn expect_in_pieces<R: Abort>(rt: &R, alloc: Global, text: &str, want: Want) {
-    for greatest in [1usize, 7, 4_096] {
-        expect(rt, alloc, text, greatest, &[want]);
+// Whether these are heard of a text, one after the other, where a read gives so many bytes at most and the read with
+// this number fails; for 0 none fails. False where memory was refused, here and below.
+fn is_heard(alloc: Global, bytes: &[u8], greatest: usize, fails: u64, wants: &[Want]) -> bool {
+    match (
+        MemSource::new(alloc, bytes, greatest.max(1), &[fails]),
+        Wire::new(alloc),
+    ) {
+        (Ok(mut source), Ok(mut wire)) => hears_all(&mut wire, &mut source, wants),
+        _ => false,
     }
 }
 
-fn expect_rows<R: Abort>(rt: &R, alloc: Global, rows: &[Row]) {
-    for (text, want) in rows {
-        expect_in_pieces(rt, alloc, text, *want);
+// Whether this is heard first of a text that comes in pieces of several sizes.
+fn is_heard_in_pieces(alloc: Global, text: &str, want: Want) -> bool {
+    let wants = [want];
+    is_heard(alloc, text.as_bytes(), 1, 0, &wants)
+        && is_heard(alloc, text.as_bytes(), 7, 0, &wants)
+        && is_heard(alloc, text.as_bytes(), 4_096, 0, &wants)
+}
+
+// The first row of which something else is heard, counted from 0; None where there is none.
+fn wrong_row(alloc: Global, rows: &[Row]) -> Option<usize> {
+    for (place, (text, want)) in rows.iter().enumerate() {
+        if !is_heard_in_pieces(alloc, text, *want) {
+            return Some(place);
+        }
     }
+    None
 }
 
 #[test]
 fn routes(rt: HostRuntime) {
-    expect_rows(&rt, rt.alloc(), ROUTES);
+    assert_eq!(rt; wrong_row(rt.alloc(), ROUTES), None);
 }
 
 #[test]
 fn fields(rt: HostRuntime) {
-    expect_rows(&rt, rt.alloc(), FIELDS);
+    assert_eq!(rt; wrong_row(rt.alloc(), FIELDS), None);
 }
 
 // Three messages, one at once after the other.
@@ -381,42 +368,41 @@ const MESSAGE_AND_FAULT: &[Want] = &[
     Want::Unread,
 ];
 
+// The first of these sizes of pieces by which something else is heard of the stream; None where there is none.
+fn wrong_size(alloc: Global, sizes: &[usize]) -> Option<usize> {
+    for size in sizes {
+        if !is_heard(alloc, STREAM.as_bytes(), *size, 0, STREAMED) {
+            return Some(*size);
+        }
+    }
+    None
+}
+
 #[test]
 fn pipelined(rt: HostRuntime) {
-    for greatest in [1usize, 2, 3, 50, 4_096] {
-        expect(&rt, rt.alloc(), STREAM, greatest, STREAMED);
-    }
-    expect(&rt, rt.alloc(), LINE_END_BEHIND, 4_096, MESSAGE_AND_FAULT);
+    assert_eq!(rt; wrong_size(rt.alloc(), &[1, 2, 3, 50, 4_096]), None);
+    let bytes = LINE_END_BEHIND.as_bytes();
+    let behind = is_heard(rt.alloc(), bytes, 4_096, 0, MESSAGE_AND_FAULT);
+    assert!(rt; behind);
 }
 
-// The read that fails, and what is heard of the stream by 40 bytes.
-const FAILING: [(u64, [Want; 2]); 2] = [
-    (
-        1,
-        [
-            Want::Fault,
-            Want::Asks("", Some(7), "submit80", "abc", false),
-        ],
-    ),
-    (
-        3,
-        [
-            Want::Asks("", Some(7), "submit80", "abc", false),
-            Want::Fault,
-        ],
-    ),
+// What is heard of the stream by 40 bytes where its first read fails, and where its third one does.
+const FIRST_FAILS: &[Want] = &[
+    Want::Fault,
+    Want::Asks("", Some(7), "submit80", "abc", false),
 ];
 
-fn expect_failing<R: Abort>(rt: &R, alloc: Global, fails: u64, wants: &[Want]) {
-    let heard = is_heard(rt, alloc, STREAM.as_bytes(), 40, fails, wants);
-    assert!(rt; heard, "read {fails}");
-}
+const THIRD_FAILS: &[Want] = &[
+    Want::Asks("", Some(7), "submit80", "abc", false),
+    Want::Fault,
+];
 
 #[test]
 fn source_fails(rt: HostRuntime) {
-    for (fails, wants) in FAILING {
-        expect_failing(&rt, rt.alloc(), fails, &wants);
-    }
+    let first = is_heard(rt.alloc(), STREAM.as_bytes(), 40, 1, FIRST_FAILS);
+    assert!(rt; first);
+    let third = is_heard(rt.alloc(), STREAM.as_bytes(), 40, 3, THIRD_FAILS);
+    assert!(rt; third);
 }
 
 // A text: its front, so many fields of five bytes, more text, `x` up to a size, and its end; and what is heard of it.
@@ -434,36 +420,36 @@ const LINE: &str = "POST /v1/act/7/submit80 HTTP/1.1\r\n";
 
 const ASKS: Want = Want::Asks("", Some(7), "submit80", "", false);
 
-fn put<R: Abort>(rt: &R, bytes: &mut Vec<u8>, text: &str) {
-    bytes
-        .extend_from_slice(text.as_bytes())
-        .expect(rt, "memory");
+fn put(bytes: &mut Vec<u8>, text: &str) -> bool {
+    bytes.extend_from_slice(text.as_bytes()).is_ok()
 }
 
-fn put_up_to<R: Abort>(rt: &R, bytes: &mut Vec<u8>, size: usize) {
-    if bytes.len() < size {
-        bytes.resize(size, b'x').expect(rt, "memory");
-    }
+fn put_up_to(bytes: &mut Vec<u8>, size: usize) -> bool {
+    bytes.len() >= size || bytes.resize(size, b'x').is_ok()
 }
 
-fn put_fields<R: Abort>(rt: &R, bytes: &mut Vec<u8>, fields: usize) {
+fn put_fields(bytes: &mut Vec<u8>, fields: usize) -> bool {
     for _ in 0..fields {
-        put(rt, bytes, "a:b\r\n");
+        if !put(bytes, "a:b\r\n") {
+            return false;
+        }
     }
+    true
 }
 
-fn long_text<R: Abort>(rt: &R, alloc: Global, row: Long) -> Vec<u8> {
+// The text; None where memory was refused.
+fn long_text(alloc: Global, row: &Long) -> Option<Vec<u8>> {
     let mut bytes = Vec::new(alloc);
-    put(rt, &mut bytes, row.front);
-    put_fields(rt, &mut bytes, row.fields);
-    put(rt, &mut bytes, row.more);
-    put_up_to(rt, &mut bytes, row.size);
-    put(rt, &mut bytes, row.end);
-    bytes
+    let is_whole = put(&mut bytes, row.front)
+        && put_fields(&mut bytes, row.fields)
+        && put(&mut bytes, row.more)
+        && put_up_to(&mut bytes, row.size)
+        && put(&mut bytes, row.end);
+    if is_whole { Some(bytes) } else { None }
 }
 
 // Heads of 32 and of 33 fields; of 8,192 and of 8,193 bytes; and 8,192 bytes in which none ends.
-const LONG_HEADS: [Long; 5] = [
+const LONG_HEADS: &[Long] = &[
     Long {
         front: LINE,
         fields: 32,
@@ -506,28 +492,37 @@ const LONG_HEADS: [Long; 5] = [
     },
 ];
 
-fn expect_long<R: Abort>(rt: &R, alloc: Global, bytes: &[u8], greatest: usize, want: Want) {
-    let heard = is_heard(rt, alloc, bytes, greatest, 0, &[want]);
-    assert!(rt; heard, "{} bytes by {greatest}", bytes.len());
+// Whether this is heard first of a text that comes in pieces of a byte and of 1,000.
+fn is_long_heard(alloc: Global, row: &Long) -> bool {
+    match long_text(alloc, row) {
+        Some(bytes) => {
+            is_heard(alloc, &bytes, 1, 0, &[row.want])
+                && is_heard(alloc, &bytes, 1_000, 0, &[row.want])
+        }
+        None => false,
+    }
 }
 
-fn expect_long_head<R: Abort>(rt: &R, alloc: Global, row: Long) {
-    let bytes = long_text(rt, alloc, row);
-    expect_long(rt, alloc, &bytes, 1, row.want);
-    expect_long(rt, alloc, &bytes, 1_000, row.want);
+// The first head of which something else is heard, counted from 0; None where there is none.
+fn wrong_head(alloc: Global, rows: &[Long]) -> Option<usize> {
+    for (place, row) in rows.iter().enumerate() {
+        if !is_long_heard(alloc, row) {
+            return Some(place);
+        }
+    }
+    None
 }
 
 #[test]
 fn limits_of_heads(rt: HostRuntime) {
-    for row in LONG_HEADS {
-        expect_long_head(&rt, rt.alloc(), row);
-    }
+    assert_eq!(rt; wrong_head(rt.alloc(), LONG_HEADS), None);
 }
 
 // 8,192 empty lines, byte by byte.
 #[test]
 fn empty_lines(rt: HostRuntime) {
-    expect_long(&rt, rt.alloc(), &[b'\n'; 8_192], 1, Want::Unread);
+    let is_unread = is_heard(rt.alloc(), &[b'\n'; 8_192], 1, 0, &[Want::Unread]);
+    assert!(rt; is_unread);
 }
 
 fn body_length(request: &Request) -> u64 {
@@ -547,14 +542,13 @@ fn next_length(wire: &mut Wire, source: &mut MemSource) -> u64 {
 }
 
 // How long the body of the first message is, and whether the next message is heard.
-fn first_length<R: Abort>(rt: &R, alloc: Global, source: &mut MemSource) -> (u64, bool) {
-    let mut wire = Wire::new(alloc).expect(rt, "memory");
-    let length = next_length(&mut wire, source);
-    (length, hears(&mut wire, source, ASKS))
+fn first_length(wire: &mut Wire, source: &mut MemSource) -> (u64, bool) {
+    let length = next_length(wire, source);
+    (length, hears(wire, source, ASKS))
 }
 
 // Bodies of 1,048,576 bytes, after 61 bytes, and of one byte more.
-const LONG_BODIES: [(Long, u64); 2] = [
+const LONG_BODIES: &[(Long, u64)] = &[
     (
         Long {
             front: LINE,
@@ -579,18 +573,32 @@ const LONG_BODIES: [(Long, u64); 2] = [
     ),
 ];
 
-fn expect_long_body<R: Abort>(rt: &R, alloc: Global, row: Long, length: u64) {
-    let bytes = long_text(rt, alloc, row);
-    let mut source = source_of(rt, alloc, &bytes, 60_000, 0);
-    let told = first_length(rt, alloc, &mut source);
-    assert_eq!(rt; told, (length, true));
+// The same of a text that comes in pieces of 60,000 bytes; None where memory was refused.
+fn first_length_of(alloc: Global, bytes: &[u8]) -> Option<(u64, bool)> {
+    match (MemSource::new(alloc, bytes, 60_000, &[0]), Wire::new(alloc)) {
+        (Ok(mut source), Ok(mut wire)) => Some(first_length(&mut wire, &mut source)),
+        _ => None,
+    }
+}
+
+fn long_length(alloc: Global, row: &Long) -> Option<(u64, bool)> {
+    let bytes = long_text(alloc, row)?;
+    first_length_of(alloc, &bytes)
+}
+
+// The first body that has another length, counted from 0; None where there is none.
+fn wrong_body(alloc: Global, rows: &[(Long, u64)]) -> Option<usize> {
+    for (place, (row, length)) in rows.iter().enumerate() {
+        if long_length(alloc, row) != Some((*length, true)) {
+            return Some(place);
+        }
+    }
+    None
 }
 
 #[test]
 fn long_bodies(rt: HostRuntime) {
-    for (row, length) in LONG_BODIES {
-        expect_long_body(&rt, rt.alloc(), row, length);
-    }
+    assert_eq!(rt; wrong_body(rt.alloc(), LONG_BODIES), None);
 }
 
 const DONE: &str = concat!(
@@ -626,55 +634,63 @@ const NO_MEMORY: &str = concat!(
     "refused 17 NoMemory\n",
 );
 
-// How an answer is sent into a sink of so many bytes, and what the sink has then.
-fn expect_answer<R: Abort>(
-    rt: &R,
+// Whether an answer is sent so into a sink of so many bytes, and the sink has this then.
+fn is_sent(
     alloc: Global,
     room: usize,
-    reply: Reply,
+    reply: &Reply,
     last: bool,
     want: Result<(), SendFault>,
     taken: &str,
-) {
-    let mut sink = MemSink::new(alloc, room, &[]).expect(rt, "memory");
-    let sent = write_reply(alloc, &mut sink, &reply, last);
-    assert_eq!(rt; sent, want);
-    assert_eq!(rt; sink.bytes(), taken.as_bytes());
+) -> bool {
+    match MemSink::new(alloc, room, &[]) {
+        Ok(mut sink) => {
+            write_reply(alloc, &mut sink, reply, last) == want && sink.bytes() == taken.as_bytes()
+        }
+        Err(_) => false,
+    }
 }
 
-fn expect_refused<R: Abort>(rt: &R, alloc: Global, refusal: Refusal, last: bool, taken: &str) {
-    expect_answer(rt, alloc, 400, Reply::Refused(refusal), last, Ok(()), taken);
+fn is_refused(alloc: Global, refusal: Refusal, last: bool, taken: &str) -> bool {
+    is_sent(alloc, 400, &Reply::Refused(refusal), last, Ok(()), taken)
+}
+
+fn is_done(alloc: Global) -> bool {
+    match Bytes::from_slice(alloc, b"receipt 1\n") {
+        Ok(text) => is_sent(alloc, 400, &Reply::Done(text), false, Ok(()), DONE),
+        Err(_) => false,
+    }
 }
 
 #[test]
 fn done(rt: HostRuntime) {
-    let text = Bytes::from_slice(rt.alloc(), b"receipt 1\n").expect(&rt, "memory");
-    expect_answer(&rt, rt.alloc(), 400, Reply::Done(text), false, Ok(()), DONE);
+    assert!(rt; is_done(rt.alloc()));
 }
 
 #[test]
 fn refused(rt: HostRuntime) {
+    let unread = is_refused(rt.alloc(), Refusal::Unread(Part::Verb), true, UNREAD_VERB);
+    assert!(rt; unread);
     let excess = Excess::Lines(10_001);
-    expect_refused(
-        &rt,
-        rt.alloc(),
-        Refusal::Unread(Part::Verb),
-        true,
-        UNREAD_VERB,
-    );
-    expect_refused(&rt, rt.alloc(), Refusal::TooLarge(excess), false, TOO_LARGE);
-    expect_refused(&rt, rt.alloc(), Refusal::NoMemory, false, NO_MEMORY);
+    let too_large = is_refused(rt.alloc(), Refusal::TooLarge(excess), false, TOO_LARGE);
+    assert!(rt; too_large);
+    let no_memory = is_refused(rt.alloc(), Refusal::NoMemory, false, NO_MEMORY);
+    assert!(rt; no_memory);
+}
+
+fn is_cut_off(alloc: Global) -> bool {
+    let reply = Reply::Refused(Refusal::Role);
+    is_sent(
+        alloc,
+        12,
+        &reply,
+        false,
+        Err(SendFault::WriteFault),
+        "HTTP/1.1 403",
+    )
 }
 
 #[test]
 fn answer_into_a_narrow_sink(rt: HostRuntime) {
-    expect_answer(
-        &rt,
-        rt.alloc(),
-        12,
-        Reply::Refused(Refusal::Role),
-        false,
-        Err(SendFault::WriteFault),
-        "HTTP/1.1 403",
-    );
+    assert!(rt; is_cut_off(rt.alloc()));
 }
