@@ -1,4 +1,4 @@
-//! Tests of the program's command `serve`: over doors in memory, and over a port of this machine.
+//! Tests of the program's command `serve`: over doors in memory.
 //!
 //! A crate with tests is proved twice, with and without them, so they stand in a crate above those that they test.
 #![tactic(auto)]
@@ -9,7 +9,5 @@ mod calls;
 mod connections;
 #[cfg(test)]
 mod held;
-#[cfg(test)]
-mod sockets;
 #[cfg(test)]
 mod waiting;
