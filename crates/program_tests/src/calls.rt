@@ -9,7 +9,7 @@ use program_call::{Ended, Words};
 use std::alloc::Global;
 use std::process::Abort;
 
-pub(super) fn words_of(alloc: Global, texts: &[&str]) -> Result<Words, NoMemory> {
+fn words_of(alloc: Global, texts: &[&str]) -> Result<Words, NoMemory> {
     let mut words = Words::new(alloc);
     for text in texts {
         words.push(Bytes::from_slice(alloc, text.as_bytes())?)?;
@@ -33,7 +33,7 @@ pub(super) const fn done(added: u64) -> Want {
     }
 }
 
-pub(super) fn expect_end<D: Disk, R: Abort>(rt: &R, alloc: Global, ended: &Ended<D>, want: Want) {
+fn expect_end<D: Disk, R: Abort>(rt: &R, alloc: Global, ended: &Ended<D>, want: Want) {
     let text = format!(in alloc; "{}", ended.status).expect(rt, "memory");
     assert_eq!(rt; text.as_str(), want.status);
     assert_eq!(rt; ended.status.number(), want.number);
@@ -53,7 +53,7 @@ fn called<S: Source, K: Sink, D: Disk, C: Clock>(
 }
 
 /// A clock that begins at 2024-04-01T00:00:00Z.
-pub(super) fn new_clock<R: Abort>(rt: &R) -> TickClock {
+fn new_clock<R: Abort>(rt: &R) -> TickClock {
     let first = Instant::new(1_711_929_600_000_000_000).expect(rt, "in range");
     TickClock::new(first, 1_000_000_000)
 }

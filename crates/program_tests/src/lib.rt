@@ -1,5 +1,4 @@
-//! Tests of the program's commands over sources, sinks, disks and clocks in memory: those without a door, and `serve`
-//! over a port of this machine.
+//! Tests of the program's commands without a door, over sources, sinks, disks and clocks in memory.
 //!
 //! A crate with tests is proved twice, with and without them, so they stand in a crate above those that they test.
 #![tactic(auto)]
@@ -8,7 +7,5 @@
 mod calls;
 #[cfg(test)]
 mod command_lines;
-#[cfg(test)]
-mod sockets;
 #[cfg(test)]
 mod workload;

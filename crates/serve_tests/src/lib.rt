@@ -1,4 +1,4 @@
-//! Tests of the program's command `serve`: over doors in memory.
+//! Tests of the program's command `serve`: over doors in memory, and over a port of this machine.
 //!
 //! A crate with tests is proved twice, with and without them, so they stand in a crate above those that they test.
 #![tactic(auto)]
@@ -9,5 +9,7 @@ mod calls;
 mod connections;
 #[cfg(test)]
 mod held;
+#[cfg(test)]
+mod sockets;
 #[cfg(test)]
 mod waiting;

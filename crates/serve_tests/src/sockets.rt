@@ -1,10 +1,7 @@
 //! One connection over a real socket of this machine.
 
-use super::calls::{done, expect_end, new_clock, words_of};
-use desk_io::{Clock, Door, MemSink, MemSource, Sink, Source, TcpDoor};
-use disk_model::{Disk, MemDisk};
-use program_call::top::top;
-use program_call::{Ended, Words};
+use super::calls::{done, expect_call};
+use desk_io::TcpDoor;
 use std::alloc::Global;
 use std::io;
 use std::io::{ErrorKind, Read, Write};
@@ -64,47 +61,15 @@ fn expect_free<R: Abort + Net<Listener = TcpListener, Stream = TcpStream>>(rt: &
     panic!(rt; "port 8017 is in use");
 }
 
-/// The call that the test goes through. It has no clauses, so that what the program promises stands in no test's proof.
-/// How many links ended is given with its end.
-fn called<S: Source, K: Sink, D: Disk + Send, C: Clock + Send, G: Door, R: Threads + Wait + Sync>(
-    rt: &R,
-    alloc: Global,
-    words: &Words,
-    source: &mut S,
-    sink: &mut K,
-    disk: D,
-    clock: &mut C,
-    door: &mut G,
-) -> (Ended<D>, u64) {
-    let (ended, ends) = top(rt, alloc, words, source, sink, disk, clock, door);
-    (ended, ends.len())
-}
-
 // Serves one connection of the port, with an office in memory.
 fn serve_one<
     R: Abort + Threads + Wait + Sync,
     N: Net<Listener = TcpListener, Stream = TcpStream> + Copy,
 >(rt: &R, net: N, alloc: Global) {
     let mut door = TcpDoor::new(net, alloc);
-    let words = words_of(alloc, &SERVE).expect(rt, "memory");
-    let mut source = MemSource::new(alloc, b"", 1, &[]).expect(rt, "memory");
-    let mut sink = MemSink::new(alloc, 64, &[]).expect(rt, "memory");
-    let disk = MemDisk::new(alloc, &[], 65_536, &[]).expect(rt, "memory");
-    let mut clock = new_clock(rt);
-    let (ended, links) = called(
-        rt,
-        alloc,
-        &words,
-        &mut source,
-        &mut sink,
-        disk,
-        &mut clock,
-        &mut door,
-    );
-    expect_end(rt, alloc, &ended, done(0));
     let taken = "connections 1\nentries 0\n";
-    assert_eq!(rt; sink.bytes(), taken.as_bytes());
-    assert_eq!(rt; links, 1);
+    let ends = expect_call(rt, alloc, &SERVE, &mut door, done(0), taken);
+    assert_eq!(rt; ends.len(), 1);
 }
 
 #[test]
