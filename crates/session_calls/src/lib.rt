@@ -13,8 +13,8 @@ mod setup;
 mod wrong;
 
 pub use calls::{Call, Drive, call_alone, call_in_turn};
-pub use exchange::Exchange;
-pub use pieces::{NoMemory, put, put_between, put_number, put_reply};
+pub use exchange::{Exchange, Frames};
+pub use pieces::{NoMemory, put, put_lines, put_reply, put_taken};
 pub use rows::{FOUNDER, OBSERVER, Row, catalogue_alone, catalogue_of, session};
 pub use setup::{BATCH, ENROLMENT, FIRST, FIRST_ANSWER, MODE, SETUP, STATION, begun};
 pub use wrong::{Found, Wrong};

@@ -24,21 +24,41 @@ pub fn put_number(alloc: Global, bytes: &mut Vec<u8>, number: u64) -> Result<(),
     put(bytes, text.as_str())
 }
 
-/// A number between two texts after other bytes.
+/// So many lines, of numbers that go up by one from the first: `before`, the number and `behind`.
 ///
 /// # Errors
 ///
 /// Memory was refused.
-pub fn put_between(
+pub fn put_lines(
     alloc: Global,
     bytes: &mut Vec<u8>,
+    lines: u64,
+    first: u64,
     before: &str,
-    number: u64,
     behind: &str,
 ) -> Result<(), NoMemory> {
-    put(bytes, before)?;
-    put_number(alloc, bytes, number)?;
-    put(bytes, behind)
+    for line in 0..lines {
+        put(bytes, before)?;
+        put_number(alloc, bytes, first.saturating_add(line))?;
+        put(bytes, behind)?;
+    }
+    Ok(())
+}
+
+/// So many answers to lines, which are taken as the observations of the first tracklet of an office, from the first on.
+///
+/// # Errors
+///
+/// Memory was refused.
+pub fn put_taken(alloc: Global, bytes: &mut Vec<u8>, lines: u64) -> Result<(), NoMemory> {
+    for line in 0..lines {
+        put(bytes, "line ")?;
+        put_number(alloc, bytes, line.saturating_add(1))?;
+        put(bytes, " obs ")?;
+        put_number(alloc, bytes, line.saturating_add(1))?;
+        put(bytes, " track 1\n")?;
+    }
+    Ok(())
 }
 
 /// A reply with this status and text after other replies.

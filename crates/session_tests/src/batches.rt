@@ -46,7 +46,7 @@ const RULES_ANSWER: &str = concat!(
     "line 11 refused S1\n",
 );
 
-/// Batches of the observer, sent again, and under a number that was used.
+/// A batch of the observer, and the same sent again.
 pub(super) const BATCHES: &[Exchange] = &[
     Exchange {
         head: "observer-1 1 submit80 411\n",
@@ -60,6 +60,10 @@ pub(super) const BATCHES: &[Exchange] = &[
         answer: BATCH_ANSWER,
         entries: 6,
     },
+];
+
+/// Batches under a number that was used, without lines, and with lines that break rules.
+pub(super) const FURTHER_BATCHES: &[Exchange] = &[
     Exchange {
         head: "observer-1 1 submit80 0\n",
         body: "",

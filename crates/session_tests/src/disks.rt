@@ -2,7 +2,7 @@
 
 use super::batches::BATCHES;
 use session_calls::{
-    Call, Drive, Exchange, FIRST, FIRST_ANSWER, NoMemory, SETUP, Wrong, call_in_turn, put,
+    Call, Drive, Exchange, FIRST, FIRST_ANSWER, Frames, SETUP, Wrong, call_in_turn,
 };
 use std::alloc::Global;
 
@@ -20,61 +20,28 @@ fn empty_disk(rt: HostRuntime) {
     first_gate(rt.alloc()).expect(&rt, "as wanted");
 }
 
-const TALLY: Exchange = Exchange {
+const TALLY: &[Exchange] = &[Exchange {
     head: "observer-1 0 tally 0\n",
     body: "",
     answer: "200 54\nentries 6\nisolated 4\nobjects 0\nretracted 0\naccepted 4\n",
     entries: 6,
-};
+}];
 
 // A day of the office: it is set up, a batch comes and is sent again, and the observer asks for the tally.
 const FRAMES: usize = 8;
 
-fn frame_at(place: usize) -> Option<Exchange> {
-    if place < 5 {
-        return SETUP.get(place).copied();
-    }
-    if place < 7 {
-        return BATCHES.get(place.saturating_sub(5)).copied();
-    }
-    Some(TALLY)
-}
-
-fn frames(alloc: Global, from: usize, to: usize) -> Result<Vec<u8>, NoMemory> {
-    let mut bytes = Vec::new(alloc);
-    for place in from..to {
-        if let Some(next) = frame_at(place) {
-            put(&mut bytes, next.head)?;
-            put(&mut bytes, next.body)?;
-        }
-    }
-    Ok(bytes)
-}
-
-fn answers(alloc: Global, from: usize, to: usize) -> Result<Vec<u8>, NoMemory> {
-    let mut bytes = Vec::new(alloc);
-    for place in from..to {
-        if let Some(next) = frame_at(place) {
-            put(&mut bytes, next.answer)?;
-        }
-    }
-    Ok(bytes)
-}
-
-// How many entries the first so many frames of the day leave.
-fn entries(count: usize) -> u64 {
-    match frame_at(count.saturating_sub(1)) {
-        Some(last) if count > 0 => last.entries,
-        _ => 0,
-    }
+fn day_tables() -> [&'static [Exchange]; 3] {
+    [SETUP, BATCHES, TALLY]
 }
 
 // The batch is answered in one run, and in the next one over the same disk it is a resend.
 fn answered_twice(alloc: Global) -> Result<(), Wrong> {
-    let morning = frames(alloc, 0, 6)?;
-    let replies = answers(alloc, 0, 6)?;
-    let evening = frames(alloc, 6, FRAMES)?;
-    let resent = answers(alloc, 6, FRAMES)?;
+    let tables = day_tables();
+    let day = Frames { tables: &tables };
+    let morning = day.bytes(alloc, 0, 6)?;
+    let replies = day.answers(alloc, 0, 6)?;
+    let evening = day.bytes(alloc, 6, FRAMES)?;
+    let resent = day.answers(alloc, 6, FRAMES)?;
     let second = Call {
         mark: 1,
         ..Call::run(&evening, 0, &resent)
@@ -93,29 +60,31 @@ fn second_run(rt: HostRuntime) {
 
 // The sink fails at the head of the reply after so many, whose act is in the journal: a reply is written in two pieces.
 // Then a crash takes all that isn't safe, and the whole day is sent again: the replies are those of one session.
-fn stopped_after(alloc: Global, count: usize) -> Result<(), Wrong> {
-    let day = frames(alloc, 0, FRAMES)?;
-    let before = answers(alloc, 0, count)?;
-    let kept = entries(count.saturating_add(1));
+fn stopped_after(alloc: Global, day: &Frames, count: usize) -> Result<(), Wrong> {
+    let bytes = day.bytes(alloc, 0, FRAMES)?;
+    let before = day.answers(alloc, 0, count)?;
+    let kept = day.entries(count.saturating_add(1));
     let stopped = Call {
         mark: count,
         write: (count as u64).saturating_mul(2).saturating_add(1),
         status: "WriteFault",
         number: 7,
         crashes: true,
-        ..Call::run(&day, kept, &before)
+        ..Call::run(&bytes, kept, &before)
     };
-    let replies = answers(alloc, 0, FRAMES)?;
+    let replies = day.answers(alloc, 0, FRAMES)?;
     let again = Call {
         mark: count,
-        ..Call::run(&day, entries(FRAMES).saturating_sub(kept), &replies)
+        ..Call::run(&bytes, day.entries(FRAMES).saturating_sub(kept), &replies)
     };
     call_in_turn(alloc, &Drive::EMPTY, &[stopped, again])
 }
 
 fn stopped_everywhere(alloc: Global) -> Result<(), Wrong> {
+    let tables = day_tables();
+    let day = Frames { tables: &tables };
     for count in 0..FRAMES {
-        stopped_after(alloc, count)?;
+        stopped_after(alloc, &day, count)?;
     }
     Ok(())
 }

@@ -1,7 +1,7 @@
 //! Large bodies, long batches and long refusals.
 
 use session_calls::{
-    BATCH, Call, FIRST, NoMemory, Wrong, begun, call_alone, put, put_between, put_reply,
+    BATCH, Call, FIRST, NoMemory, Wrong, begun, call_alone, put, put_lines, put_reply, put_taken,
 };
 use std::alloc::Global;
 
@@ -84,54 +84,19 @@ fn large_bodies(rt: HostRuntime) {
     larges(rt.alloc()).expect(&rt, "as wanted");
 }
 
-/// A frame of the founder's sixth request, a batch of so many lines of station 703, each a little later than the one
-/// before.
-fn put_batch(alloc: Global, bytes: &mut Vec<u8>, lines: u64) -> Result<(), NoMemory> {
-    let length = lines.saturating_mul(81);
-    put_between(alloc, bytes, "+founder-1 6 submit80 ", length, "\n")?;
-    for line in 0..lines {
-        let day = line.saturating_add(10_000);
-        put_between(alloc, bytes, BEFORE_DAY, day, BEHIND_DAY)?;
-    }
-    Ok(())
-}
+/// What stands before and after the decimals of a day, in a line of station 703.
+const BEFORE: &str = "     P10abcd  C2024 03 15.";
 
-/// What stands before and after the decimals of a line's day.
-const BEFORE_DAY: &str = "     P10abcd  C2024 03 15.";
+const BEHIND: &str = " 06 12 34.56 +23 45 01.2          19.5 V      703\n";
 
-const BEHIND_DAY: &str = " 06 12 34.56 +23 45 01.2          19.5 V      703\n";
-
-/// The answer to that batch, where each line is accepted.
-fn put_accepted(alloc: Global, text: &mut Vec<u8>, lines: u64) -> Result<(), NoMemory> {
-    put_between(alloc, text, "receipt 6\naccepted ", lines, " refused 0\n")?;
-    for line in 0..lines {
-        let number = line.saturating_add(1);
-        put_between(alloc, text, "line ", number, " obs ")?;
-        put_between(alloc, text, "", number, " track 1\n")?;
-    }
-    Ok(())
-}
-
-/// The text of a batch of so many lines, of which each is of an unknown station.
-fn put_strangers(alloc: Global, text: &mut Vec<u8>, lines: u64) -> Result<(), NoMemory> {
-    put(text, "refused 7 NoLine\n")?;
-    for line in 0..lines {
-        put_between(
-            alloc,
-            text,
-            "line ",
-            line.saturating_add(1),
-            " refused T1\n",
-        )?;
-    }
-    Ok(())
-}
-
+/// The founder's sixth request is a batch of 1,200 lines of 81 bytes, each a little later than the one before.
 fn accepted(alloc: Global) -> Result<(), Wrong> {
     let (mut bytes, mut taken) = begun(alloc)?;
-    put_batch(alloc, &mut bytes, 1_200)?;
+    put(&mut bytes, "+founder-1 6 submit80 97200\n")?;
+    put_lines(alloc, &mut bytes, 1_200, 10_000, BEFORE, BEHIND)?;
     let mut text = Vec::new(alloc);
-    put_accepted(alloc, &mut text, 1_200)?;
+    put(&mut text, "receipt 6\naccepted 1200 refused 0\n")?;
+    put_taken(alloc, &mut text, 1_200)?;
     put_reply(alloc, &mut taken, "200 ", &text)?;
     let call = Call {
         greatest: 65_536,
@@ -145,12 +110,15 @@ fn batch_of_1200_lines(rt: HostRuntime) {
     accepted(rt.alloc()).expect(&rt, "as wanted");
 }
 
+/// Twelve such lines in an office that has no row, so that each is of an unknown station.
 fn refused(alloc: Global) -> Result<(), Wrong> {
     let mut bytes = Vec::new(alloc);
-    put_batch(alloc, &mut bytes, 12)?;
-    let mut taken = Vec::new(alloc);
+    put(&mut bytes, "+founder-1 6 submit80 972\n")?;
+    put_lines(alloc, &mut bytes, 12, 10_000, BEFORE, BEHIND)?;
     let mut text = Vec::new(alloc);
-    put_strangers(alloc, &mut text, 12)?;
+    put(&mut text, "refused 7 NoLine\n")?;
+    put_lines(alloc, &mut text, 12, 1, "line ", " refused T1\n")?;
+    let mut taken = Vec::new(alloc);
     put_reply(alloc, &mut taken, "422 ", &text)?;
     let call = Call {
         greatest: 65_536,

@@ -1,7 +1,7 @@
 //! The ends of a run, in pieces of every size, and with each read and each write failing in turn.
 
-use super::session::{FRAMES, answers, entries, session, whole_in};
-use session_calls::{Call, FIRST, FIRST_ANSWER, Wrong, call_alone};
+use super::session::{FRAMES, session_tables};
+use session_calls::{Call, FIRST, FIRST_ANSWER, Frames, Wrong, call_alone};
 use std::alloc::Global;
 
 /// The founder's first request, and after it a length with a leading zero.
@@ -48,13 +48,16 @@ fn ends_of_a_run(rt: HostRuntime) {
 
 /// The session, of which a read gives at most so many bytes.
 fn in_pieces(alloc: Global) -> Result<(), Wrong> {
-    let bytes = session(alloc)?;
-    let taken = answers(alloc, FRAMES)?;
+    let tables = session_tables();
+    let session = Frames { tables: &tables };
+    let bytes = session.bytes(alloc, 0, FRAMES)?;
+    let taken = session.answers(alloc, 0, FRAMES)?;
+    let added = session.entries(FRAMES);
     for greatest in [1usize, 2, 3, 7, 64, 4096] {
         let call = Call {
             mark: greatest,
             greatest,
-            ..Call::run(&bytes, entries(FRAMES), &taken)
+            ..Call::run(&bytes, added, &taken)
         };
         call_alone(alloc, &call)?;
     }
@@ -67,24 +70,31 @@ fn session_in_pieces(rt: HostRuntime) {
 }
 
 /// Runs the session where the read after so many fails. Each read gives 7 bytes, or what is left of the session.
-fn stopped_at_read(alloc: Global, bytes: &[u8], reads: usize) -> Result<(), Wrong> {
-    let whole = whole_in(reads.saturating_mul(7).min(bytes.len()));
-    let taken = answers(alloc, whole)?;
+fn stopped_at_read(
+    alloc: Global,
+    session: &Frames,
+    bytes: &[u8],
+    reads: usize,
+) -> Result<(), Wrong> {
+    let whole = session.whole_in(reads.saturating_mul(7).min(bytes.len()));
+    let taken = session.answers(alloc, 0, whole)?;
     let call = Call {
         mark: reads,
         greatest: 7,
         read: (reads as u64).saturating_add(1),
         status: "ReadFault",
         number: 6,
-        ..Call::run(bytes, entries(whole), &taken)
+        ..Call::run(bytes, session.entries(whole), &taken)
     };
     call_alone(alloc, &call)
 }
 
 fn stopped_at_reads(alloc: Global) -> Result<(), Wrong> {
-    let bytes = session(alloc)?;
+    let tables = session_tables();
+    let session = Frames { tables: &tables };
+    let bytes = session.bytes(alloc, 0, FRAMES)?;
     for reads in 0..=bytes.len().div_ceil(7) {
-        stopped_at_read(alloc, &bytes, reads)?;
+        stopped_at_read(alloc, &session, &bytes, reads)?;
     }
     Ok(())
 }
@@ -96,26 +106,33 @@ fn each_read_fails_in_turn(rt: HostRuntime) {
 
 /// Runs the session where the write after so many fails. A reply is written in two pieces, its head and its text, so
 /// the write tells the frame.
-fn stopped_at_write(alloc: Global, bytes: &[u8], before: usize) -> Result<(), Wrong> {
+fn stopped_at_write(
+    alloc: Global,
+    session: &Frames,
+    bytes: &[u8],
+    before: usize,
+) -> Result<(), Wrong> {
     let frame = before / 2;
     let after = frame.saturating_add(1);
-    let whole = answers(alloc, frame)?;
-    let more = answers(alloc, after)?;
+    let whole = session.answers(alloc, 0, frame)?;
+    let more = session.answers(alloc, 0, after)?;
     let call = Call {
         mark: before,
         write: (before as u64).saturating_add(1),
         status: "WriteFault",
         number: 7,
         least: Some(whole.len()),
-        ..Call::run(bytes, entries(after), &more)
+        ..Call::run(bytes, session.entries(after), &more)
     };
     call_alone(alloc, &call)
 }
 
 fn stopped_at_writes(alloc: Global) -> Result<(), Wrong> {
-    let bytes = session(alloc)?;
+    let tables = session_tables();
+    let session = Frames { tables: &tables };
+    let bytes = session.bytes(alloc, 0, FRAMES)?;
     for before in 0..2 * FRAMES {
-        stopped_at_write(alloc, &bytes, before)?;
+        stopped_at_write(alloc, &session, &bytes, before)?;
     }
     Ok(())
 }
