@@ -111,8 +111,8 @@ fn same_bytes(left: &[u8], right: &[u8]) -> usize {
     }
 }
 
-/// A disk in memory: what its file has at first, which of its calls fail, counted from 1, and how long the file is to be
-/// at the end, if that is asked.
+/// A disk in memory: what its file has at first, which of its calls fail, counted from 1, and how long the file is to
+/// be at the end, if that is asked.
 #[derive(Clone, Copy)]
 pub struct Drive<'a> {
     pub file: &'a [u8],
