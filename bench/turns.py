@@ -1,8 +1,10 @@
 #!/usr/bin/env python3
 """How fast lines are filed beside sha256sum, on a machine whose speed changes: sessions of 640,000 accepted lines, in the
 order of their times and at random over 28 days, and sha256sum of the same bytes in turns, fifteen times each, or as many
-as an argument says. Prints the best and the median of the seconds of a processor, in the program alone and with the
-system's, and the ratios. Everything is in /dev/shm, so that no disk counts.
+as the first argument says. Each further argument is the path of another build of the program, which takes turns too:
+machines differ in how fast they hash, so that an older program is the better measure. Prints the best and the median of
+the seconds of a processor, in the program alone and with the system's, and the speed beside each of the others.
+Everything is in /dev/shm, so that no disk counts.
 
 Build the program first: (cd crates/mpc_cli && rt run -- run --key +founder-1 </dev/null). Then: python3 bench/turns.py
 """
@@ -16,7 +18,8 @@ from session import PROGRAM
 
 LINES = 640_000
 TURNS = int(sys.argv[1]) if len(sys.argv) > 1 else 15
-WORDS = [PROGRAM, "run", "--key", "+founder-1"]
+RUN = ["run", "--key", "+founder-1"]
+OTHERS = [["sha256sum"], *([os.path.abspath(path), *RUN] for path in sys.argv[2:])]
 
 
 def seconds(words, path):
@@ -35,19 +38,20 @@ def best_and_median(times):
     return times[0], times[len(times) // 2]
 
 
+def told(name, times):
+    best, median = best_and_median(times)
+    return f"{name} {best:.2f} {median:.2f}"
+
+
 def compare(name, path):
-    ours, others = [], []
-    for _ in range(TURNS):
-        others.append(seconds(["sha256sum"], path))
-        ours.append(seconds(WORDS, path))
+    commands = [[PROGRAM, *RUN], *OTHERS]
+    turns = [[seconds(words, path) for words in commands] for _ in range(TURNS)]
     for place, what in enumerate(("in the program", "with the system")):
-        best, median = best_and_median([turn[place] for turn in ours])
-        other, other_median = best_and_median([turn[place] for turn in others])
-        print(
-            f"{name}, {what}: {best:.2f} {median:.2f}; sha256sum {other:.2f} {other_median:.2f}; "
-            f"its speed {other / best:.2f} {other_median / median:.2f}",
-            flush=True,
-        )
+        ours, *others = ([turn[command][place] for turn in turns] for command in range(len(commands)))
+        print(told(f"{name}, {what}: the program", ours))
+        for words, times in zip(OTHERS, others):
+            best, median = (theirs / own for theirs, own in zip(best_and_median(times), best_and_median(ours)))
+            print(f"  {told(words[0], times)}; our speed {best:.2f} {median:.2f} of its", flush=True)
 
 
 def main():
