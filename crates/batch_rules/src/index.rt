@@ -8,7 +8,6 @@ ghost use Rattle.batch_rules.specs.Earlier.{Finds};
 use crate::places::{MomentKey, moment_key};
 use indexmap::IndexSet;
 use item_list::NoMemory;
-use key_hasher::KeyHashing;
 use obs_record::{RuleCode, Sighting};
 use place_keys::{PlaceKey, place_key};
 use std::alloc::Global;
@@ -16,8 +15,8 @@ use std::alloc::Global;
 /// The places of observations, and their groups and times.
 #[derive(Drop)]
 pub(crate) struct Index {
-    places: IndexSet<PlaceKey, KeyHashing>,
-    moments: IndexSet<MomentKey, KeyHashing>,
+    places: IndexSet<PlaceKey>,
+    moments: IndexSet<MomentKey>,
 }
 
 impl Index {
@@ -26,8 +25,8 @@ impl Index {
         ensures { IfOk result (λ index. Finds index []) }
     {
         Ok(Index {
-            places: IndexSet::with_capacity_and_hasher(alloc, capacity, KeyHashing)?,
-            moments: IndexSet::with_capacity_and_hasher(alloc, capacity, KeyHashing)?,
+            places: IndexSet::with_capacity(alloc, capacity)?,
+            moments: IndexSet::with_capacity(alloc, capacity)?,
         })
     }
 

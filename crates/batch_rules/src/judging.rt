@@ -19,7 +19,6 @@ use crate::rulings::Rulings;
 use act_model::{Known, Ruling};
 use indexmap::IndexSet;
 use item_list::{ItemList, NoMemory};
-use key_hasher::KeyHashing;
 use obs_record::{Lines, RuleCode, Sighting};
 use obs_time::Instant;
 use station_tables::Tables;
@@ -33,7 +32,7 @@ struct Last {
 }
 
 // Whether the group with this key is at a place among those that have an accepted line.
-fn is_at(firsts: &IndexSet<GroupKey, KeyHashing>, place: u32, key: &GroupKey) -> bool
+fn is_at(firsts: &IndexSet<GroupKey>, place: u32, key: &GroupKey) -> bool
     ensures { result ≡ true → StandsIn key.now place firsts.now.keys }
 {
     let place = place as usize;
@@ -49,11 +48,7 @@ fn is_at(firsts: &IndexSet<GroupKey, KeyHashing>, place: u32, key: &GroupKey) ->
 // The place of a group among those that have an accepted line, to which it is added where it is new. It is searched for
 // only where it isn't at the place of the last one, which is kept. More places than a number has count as out of
 // memory: no memory holds so many.
-fn placed(
-    firsts: &mut IndexSet<GroupKey, KeyHashing>,
-    last: &mut u32,
-    key: GroupKey,
-) -> Result<u32, NoMemory>
+fn placed(firsts: &mut IndexSet<GroupKey>, last: &mut u32, key: GroupKey) -> Result<u32, NoMemory>
     ensures keys { OnOk result (firsts.new.keys ≡ insert_key same_key firsts.old.keys key) }
     ensures place { IfOk result (λ place. place ≡ position_or_len (same_key key) firsts.old.keys) }
 {
@@ -71,7 +66,7 @@ fn placed(
 // The rule that an observation breaks with its group, and the group's place where it breaks none.
 fn ruled(
     groups: &Groups,
-    firsts: &mut IndexSet<GroupKey, KeyHashing>,
+    firsts: &mut IndexSet<GroupKey>,
     last: &mut Last,
     s: &Sighting,
 ) -> Result<(Option<RuleCode>, u32), NoMemory>
@@ -93,7 +88,7 @@ fn ruled(
 // have one.
 fn ruling(
     groups: &Groups,
-    firsts: &mut IndexSet<GroupKey, KeyHashing>,
+    firsts: &mut IndexSet<GroupKey>,
     last: &mut Last,
     line: &Checked,
 ) -> Result<Ruling, NoMemory>
@@ -116,7 +111,7 @@ fn ruling(
 }
 
 // How many groups there are. More than a number has count as out of memory: no memory holds so many.
-fn count(firsts: &IndexSet<GroupKey, KeyHashing>) -> Result<u32, NoMemory>
+fn count(firsts: &IndexSet<GroupKey>) -> Result<u32, NoMemory>
     ensures { IfOk result (λ count. count ≡ length firsts.now.keys) }
 {
     let count = firsts.len();
@@ -129,12 +124,11 @@ fn count(firsts: &IndexSet<GroupKey, KeyHashing>) -> Result<u32, NoMemory>
 // The rulings on all lines, by the summaries of their groups.
 fn rulings(alloc: Global, groups: &Groups, checked: &[Checked]) -> Result<Rulings, NoMemory>
     ensures list { IfOk result (λ judged. judged.list ≡ map (ruling_by (λ (key : Key). get same_key groups.now key)
-        (keys_after (λ (key : Key). get same_key groups.now key) [] (map line_of checked.now)))
-        (map line_of checked.now)) }
+        (keys_after (λ (key : Key). get same_key groups.now key) [] (map line_of checked.now))) (map line_of checked.now)) }
     ensures groups { IfOk result (λ judged.
         judged.groups ≡ length (keys_after (λ (key : Key). get same_key groups.now key) [] (map line_of checked.now))) }
 {
-    let mut firsts = IndexSet::with_hasher(alloc, KeyHashing);
+    let mut firsts = IndexSet::new(alloc);
     let mut last = Last { group: 0, first: 0 };
     let mut list = ItemList::with_capacity(alloc, checked.len())?;
     for line in checked {

@@ -8,14 +8,13 @@ use crate::keys::{LetterKey, WordKey, word_key};
 use crate::kind::Kind;
 use indexmap::IndexMap;
 use item_list::NoMemory;
-use key_hasher::KeyHashing;
 use obs_record::Short;
 
 /// The word of each code row by its kind and letter, in the order in which the rows were entered.
-pub(crate) type WordIndex = IndexMap<LetterKey, Short, KeyHashing>;
+pub(crate) type WordIndex = IndexMap<LetterKey, Short>;
 
 /// The letter of each code row by its kind and word, in the same order.
-pub(crate) type LetterIndex = IndexMap<WordKey, u8, KeyHashing>;
+pub(crate) type LetterIndex = IndexMap<WordKey, u8>;
 
 /// A copy of the index of the words.
 pub(crate) fn words_copied(words: &WordIndex) -> Result<WordIndex, NoMemory>

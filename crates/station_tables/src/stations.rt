@@ -10,7 +10,6 @@ use crate::keys::StationCode;
 use crate::serving::Serving;
 use indexmap::IndexMap;
 use item_list::NoMemory;
-use key_hasher::KeyHashing;
 use obs_record::Short;
 use std::alloc::Global;
 use std::marker::Model;
@@ -57,7 +56,7 @@ impl Clone for CodeRows {
 #[derive(Debug, Drop)]
 pub(crate) struct StationRows {
     rows: Vec<Row>,
-    by_code: IndexMap<StationCode, CodeRows, KeyHashing>,
+    by_code: IndexMap<StationCode, CodeRows>,
 }
 
 impl Model for StationRows {
@@ -118,7 +117,7 @@ impl StationRows {
     {
         Ok(StationRows {
             rows: Vec::with_capacity(alloc, FIRST_ROOM)?,
-            by_code: IndexMap::with_capacity_and_hasher(alloc, FIRST_ROOM, KeyHashing)?,
+            by_code: IndexMap::with_capacity(alloc, FIRST_ROOM)?,
         })
     }
 

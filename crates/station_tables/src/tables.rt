@@ -12,7 +12,6 @@ use crate::serving::Serving;
 use crate::stations::{Row, StationRows};
 use indexmap::IndexMap;
 use item_list::NoMemory;
-use key_hasher::KeyHashing;
 use obs_record::Short;
 use std::alloc::Global;
 use std::marker::Model;
@@ -53,8 +52,8 @@ impl Tables {
     {
         Ok(Tables {
             stations: StationRows::new(alloc)?,
-            words: IndexMap::with_capacity_and_hasher(alloc, FIRST_ROOM, KeyHashing)?,
-            letters: IndexMap::with_capacity_and_hasher(alloc, FIRST_ROOM, KeyHashing)?,
+            words: IndexMap::with_capacity(alloc, FIRST_ROOM)?,
+            letters: IndexMap::with_capacity(alloc, FIRST_ROOM)?,
         })
     }
 

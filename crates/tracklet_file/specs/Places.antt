@@ -1,5 +1,4 @@
--- The index of places: how many live observations have each station, time and position. The lists here stand oldest
--- first.
+-- The index of places: how many live observations have each station, time and position. The lists here stand oldest first.
 use Rattle.std.specs.Prelude.{◌≡◌, ◌+◌, ◌-◌, ◌<◌, ◌≤◌, ◌<ℤ◌, ◌≤ℤ◌, ℕ, ℤ, Bool, ◌&&◌, List, length, take, All, count_by}
 use Rattle.std.specs.Prelude.{slice_index_or, unwrap_or}
 use Rattle.std.specs.Map.{lookup}

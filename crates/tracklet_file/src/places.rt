@@ -12,7 +12,6 @@ ghost use Rattle.tracklet_file.specs.Places.{live_at, counts_at, AscendFrom, IsI
 use crate::observation::Observation;
 use indexmap::IndexMap;
 use item_list::NoMemory;
-use key_hasher::KeyHashing;
 use obs_time::Instant;
 use place_keys::{PlaceKey, place_key};
 use std::alloc::Global;
@@ -26,7 +25,7 @@ use std::marker::Model;
 #[derive(Debug, Drop)]
 pub(crate) struct Places {
     // How many live observations have each place. A place that has none any more keeps its entry.
-    index: IndexMap<PlaceKey, u64, KeyHashing>,
+    index: IndexMap<PlaceKey, u64>,
     // So many observations, the first ones, are in the index.
     indexed: usize,
     // For so many more observations there is room in the index, or for more, beside those that are to come into it.
@@ -56,7 +55,7 @@ impl Places {
         ensures { IsIndexed [] result }
     {
         Places {
-            index: IndexMap::with_hasher(alloc, KeyHashing),
+            index: IndexMap::new(alloc),
             indexed: 0,
             room: 0,
             latest: i64::MIN,
@@ -137,7 +136,7 @@ impl Places {
 /// # Errors
 ///
 /// Memory was refused.
-fn grow(index: &mut IndexMap<PlaceKey, u64, KeyHashing>, more: usize) -> Result<(), NoMemory>
+fn grow(index: &mut IndexMap<PlaceKey, u64>, more: usize) -> Result<(), NoMemory>
     ensures entries { index.new.entries ≡ index.old.entries }
     ensures room { OnOk result (more ≤ spare index.new) }
     ensures room_stays { spare index.old ≤ spare index.new }
@@ -171,7 +170,7 @@ fn is_live_at(o: &Observation, key: &PlaceKey) -> bool
 }
 
 /// How many live observations have the place.
-fn live_at(index: &IndexMap<PlaceKey, u64, KeyHashing>, key: &PlaceKey) -> u64
+fn live_at(index: &IndexMap<PlaceKey, u64>, key: &PlaceKey) -> u64
     ensures { result ≡ live_at index.now key.now }
 {
     match index.get(key) {
@@ -181,7 +180,7 @@ fn live_at(index: &IndexMap<PlaceKey, u64, KeyHashing>, key: &PlaceKey) -> u64
 }
 
 /// The observations more, as far as they are live. It takes no memory: there is room.
-fn count_all(index: &mut IndexMap<PlaceKey, u64, KeyHashing>, waiting: &[Observation])
+fn count_all(index: &mut IndexMap<PlaceKey, u64>, waiting: &[Observation])
     requires room { length waiting.now ≤ spare index.old }
     requires fits { (key : PlaceKey) → live_at index.old key + length waiting.now < 2 ^ 64 }
     ensures live { (key : PlaceKey) → live_at index.new key
@@ -194,7 +193,7 @@ fn count_all(index: &mut IndexMap<PlaceKey, u64, KeyHashing>, waiting: &[Observa
 }
 
 /// One observation more, where it is live. It takes no memory: there is room.
-fn count_live(index: &mut IndexMap<PlaceKey, u64, KeyHashing>, o: &Observation)
+fn count_live(index: &mut IndexMap<PlaceKey, u64>, o: &Observation)
     requires room { 0 < spare index.old }
     requires fits { (key : PlaceKey) → live_at index.old key + 1 < 2 ^ 64 }
     ensures live { (key : PlaceKey) → live_at index.new key
@@ -207,7 +206,7 @@ fn count_live(index: &mut IndexMap<PlaceKey, u64, KeyHashing>, o: &Observation)
 }
 
 /// One live observation more at the place. It takes no memory: there is room.
-fn count_one(index: &mut IndexMap<PlaceKey, u64, KeyHashing>, key: PlaceKey)
+fn count_one(index: &mut IndexMap<PlaceKey, u64>, key: PlaceKey)
     requires room { 0 < spare index.old }
     requires fits { live_at index.old key + 1 < 2 ^ 64 }
     ensures live { (other : PlaceKey) → live_at index.new other
@@ -222,7 +221,7 @@ fn count_one(index: &mut IndexMap<PlaceKey, u64, KeyHashing>, key: PlaceKey)
 }
 
 /// One live observation less at the place, where there is one.
-fn uncount_one(index: &mut IndexMap<PlaceKey, u64, KeyHashing>, key: &PlaceKey)
+fn uncount_one(index: &mut IndexMap<PlaceKey, u64>, key: &PlaceKey)
     requires { 0 < live_at index.old key.now }
     ensures live { (other : PlaceKey) → live_at index.new other + (if same_place key.now other then 1 else 0)
         ≡ live_at index.old other }
