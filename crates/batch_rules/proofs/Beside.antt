@@ -13,8 +13,8 @@ use Rattle.tracklet_file.specs.Observations.{same_station, is_at}
 use Rattle.act_model.specs.BatchRules.{name_of, same_track, is_elsewhere, stands_elsewhere}
 use Rattle.place_keys.specs.Places.{place_key, same_place}
 use Rattle.batch_rules.specs.Places.{moment_key}
-use Rattle.batch_rules.specs.PlaceTests.{same_moment, has_place, has_moment, AreUpTo, rule_beside}
-use Rattle.batch_rules.proofs.Any.{IsIn, each_in, any_same, none_in}
+use Rattle.batch_rules.specs.PlaceTests.{same_moment, has_place, has_moment, has_time, AreUpTo, rule_beside}
+use Rattle.batch_rules.proofs.Any.{IsIn, each_in, any_same, any_none, none_in}
 use Rattle.batch_rules.proofs.KeyLemmas.{same_keys}
 
 both : (a b c : Bool) → a && (b && c) ≡ (a && b) && c
@@ -52,29 +52,31 @@ pub up_to_more : (time later : ℤ) (earlier : List Sighting) → time ≤ℤ la
 up_to_more time later [] more up = tt
 up_to_more time later (s ∷ earlier) more up = (omega (arith, ints, up.0), up_to_more time later earlier more up.1)
 
-module _ (time : ℤ) (s : Sighting) (later : time <ℤ s.time) where
-  other_time : (t : ℤ) → t ≤ℤ time → int_eq t s.time ≡ false
-  other_time t low = by (int_eq t s.time) refl
-    where
-      by : (b : Bool) → int_eq t s.time ≡ b → b ≡ false
-      by false is = refl
-      by true is =
-          let same : t ≡ s.time = (Decides-int_eq t s.time).0 is in
-          absurd (omega (arith, ints))
+-- none of those that end before a time has it
+pub none_later : (time : ℤ) (s : Sighting) (earlier : List Sighting) → time <ℤ s.time → AreUpTo time earlier → has_time earlier s.time ≡ false
+none_later time s [] later up = refl
+none_later time s (o ∷ earlier) later up = ap (λ (b : Bool). b || has_time earlier s.time) (by (int_eq o.time s.time) refl) ∙ none_later time s earlier later up.1
+  where
+    by : (b : Bool) → int_eq o.time s.time ≡ b → b ≡ false
+    by false is = refl
+    by true is =
+        let same : o.time ≡ s.time = (Decides-int_eq o.time s.time).0 is in
+        let low : o.time ≤ℤ time = up.0 in
+        absurd (omega (arith, ints))
 
-  none_then : (p : Sighting → Bool) (earlier : List Sighting) → ((o : Sighting) → int_eq o.time s.time ≡ false → p o ≡ false) → AreUpTo time earlier → list_any p earlier ≡ false
-  none_then p [] fails up = refl
-  none_then p (o ∷ earlier) fails up = ap (λ (b : Bool). b || list_any p earlier) (fails o (other_time o.time up.0)) ∙ none_then p earlier fails up.1
+module _ (s : Sighting) (earlier : List Sighting) (none : has_time earlier s.time ≡ false) where
+  none_then : (p : Sighting → Bool) → ((o : Sighting) → int_eq o.time s.time ≡ false → p o ≡ false) → list_any p earlier ≡ false
+  none_then p fails = any_none p earlier (each_in _ earlier (λ o there. fails o (none_in (λ other. int_eq other.time s.time) earlier none o there)))
 
   not_both : (a b : Bool) → a && (false && b) ≡ false
   not_both true b = refl
   not_both false b = refl
 
-  -- one that is later than all others breaks no rule beside them
-  pub none_beside : (earlier : List Sighting) → AreUpTo time earlier → rule_beside earlier s ≡ None
-  none_beside earlier up =
-      ap (λ (b : Bool). cond b (Some B4) (cond (stands_elsewhere earlier s) (Some B5) None)) (none_then (is_at s.station s.time s.ra s.dec) earlier at up)
-      ∙ ap (λ (b : Bool). cond b (Some B5) None) (none_then (is_elsewhere s) earlier elsewhere_then up)
+  -- one whose time none of the others has breaks no rule beside them
+  pub none_at : rule_beside earlier s ≡ None
+  none_at =
+      ap (λ (b : Bool). cond b (Some B4) (cond (stands_elsewhere earlier s) (Some B5) None)) (none_then (is_at s.station s.time s.ra s.dec) at)
+      ∙ ap (λ (b : Bool). cond b (Some B5) None) (none_then (is_elsewhere s) elsewhere_then)
     where
       at : (o : Sighting) → int_eq o.time s.time ≡ false → is_at s.station s.time s.ra s.dec o ≡ false
       at o differs =
@@ -85,6 +87,10 @@ module _ (time : ℤ) (s : Sighting) (later : time <ℤ s.time) where
       elsewhere_then o differs =
           ap (λ (b : Bool). same_station o.station s.station && (b && (same_track (name_of o) (name_of s) && not ((o.ra == s.ra) && int_eq o.dec s.dec)))) differs
           ∙ not_both (same_station o.station s.station) (same_track (name_of o) (name_of s) && not ((o.ra == s.ra) && int_eq o.dec s.dec))
+
+-- one that is later than all others breaks no rule beside them
+pub none_beside : (time : ℤ) (s : Sighting) (earlier : List Sighting) → time <ℤ s.time → AreUpTo time earlier → rule_beside earlier s ≡ None
+none_beside time s earlier later up = none_at s earlier (none_later time s earlier later up)
 
 -- the rules that are broken, by the keys
 pub told_elsewhere : (s : Sighting) (earlier : List Sighting) → has_place earlier s ≡ false → (moment : Bool) → moment ≡ has_moment earlier s → cond moment (Some B5) None ≡ rule_beside earlier s

@@ -2,6 +2,7 @@
 -- breaks beside earlier ones.
 use Rattle.std.specs.Prelude.{Bool, List, [], ◌∷◌, ℤ, ◌≤ℤ◌, Option}
 use Rattle.std.specs.List.{list_any}
+use Rattle.std.specs.Ordering.{int_eq}
 use Rattle.obs_record.specs.declared.sighting.Sighting.{Sighting}
 use Rattle.obs_record.specs.declared.rule.RuleCode.{RuleCode}
 use Rattle.obs_record.specs.declared.rule.RuleCode.TheVariants.{B4, B5}
@@ -23,6 +24,10 @@ has_place earlier s = list_any (λ other. same_place (place_key other) (place_ke
 -- one of these observations is of the group of this one, and has its time
 abbrev pub has_moment : List Sighting → Sighting → Bool
 has_moment earlier s = list_any (λ other. same_moment (moment_key other) (moment_key s)) earlier
+
+-- one of these observations has this time
+abbrev pub has_time : List Sighting → ℤ → Bool
+has_time earlier time = list_any (λ other. int_eq other.time time) earlier
 
 -- none of these observations is after a time
 abbrev pub AreUpTo : ℤ → List Sighting → Type 0

@@ -12,6 +12,7 @@ mod names;
 mod places;
 mod rules;
 mod rulings;
+mod times;
 
 pub use act_model::Ruling;
 pub use judging::judge;
