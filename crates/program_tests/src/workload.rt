@@ -1,6 +1,7 @@
 //! The made-up workload: its summary, a sink that fails, and words that are no workload.
 
-use super::calls::{Want, done, expect_call};
+use program_calls::call_single;
+use session_calls::Call;
 use std::alloc::Global;
 use std::process::Abort;
 
@@ -17,44 +18,40 @@ const SUMMARY: &str = concat!(
     "catalogue 1170 bytes\n",
 );
 
-/// Runs the program with these words over nothing, where the write with the number `fails` fails (0 for none).
-fn expect_workload<R: Abort>(
-    rt: &R,
-    alloc: Global,
-    texts: &[&str],
-    fails: u64,
-    want: Want,
-    taken: &str,
-) {
-    expect_call(rt, alloc, texts, "", fails, want, taken);
+/// The call of the program with these words over nothing, which is done and writes this.
+fn done<'a>(words: &'a [&'a str], taken: &'a str) -> Call<'a> {
+    Call {
+        words,
+        ..Call::run(b"", 0, taken.as_bytes())
+    }
+}
+
+fn expect_workload<R: Abort>(rt: &R, alloc: Global, call: &Call) {
+    call_single(alloc, call).expect(rt, "as wanted");
 }
 
 #[test]
 fn three_objects(rt: HostRuntime) {
     let words = ["workload", "--seed", "7", "--count", "3"];
-    expect_workload(&rt, rt.alloc(), &words, 0, done(0), SUMMARY);
+    expect_workload(&rt, rt.alloc(), &done(&words, SUMMARY));
     let other_order = ["workload", "--count=3", "--seed=7"];
-    expect_workload(&rt, rt.alloc(), &other_order, 0, done(0), SUMMARY);
+    expect_workload(&rt, rt.alloc(), &done(&other_order, SUMMARY));
 }
 
 #[test]
 fn a_sink_that_fails(rt: HostRuntime) {
     let words = ["workload", "--seed", "7", "--count", "3"];
-    let want = Want {
+    let call = Call {
+        write: 1,
         status: "WriteFault",
         number: 7,
-        added: 0,
+        ..done(&words, "")
     };
-    expect_workload(&rt, rt.alloc(), &words, 1, want, "");
+    expect_workload(&rt, rt.alloc(), &call);
 }
 
 #[test]
 fn words_of_no_workload(rt: HostRuntime) {
-    let want = Want {
-        status: "Usage",
-        number: 2,
-        added: 0,
-    };
     let bad: [&[&str]; 6] = [
         &["workload", "--seed", "7"],
         &["workload", "--seed", "07", "--count", "3"],
@@ -63,7 +60,12 @@ fn words_of_no_workload(rt: HostRuntime) {
         &["workload", "--seed", "18446744073709551616", "--count", "3"],
         &["workload", "--seed", "7", "--seed", "7"],
     ];
-    for texts in bad {
-        expect_workload(&rt, rt.alloc(), texts, 0, want, "");
+    for words in bad {
+        let call = Call {
+            status: "Usage",
+            number: 2,
+            ..done(words, "")
+        };
+        expect_workload(&rt, rt.alloc(), &call);
     }
 }

@@ -1,8 +1,8 @@
 //! Connections that come through a door in memory.
 
-use super::calls::{End, Want, expect_call, wrong_end};
 use desk_io::{MemDoor, MemSink, MemSource, NoMemory};
-use program_call::Left;
+use program_calls::{End, Left, call_top, wrong_end};
+use session_calls::Call;
 use std::alloc::Global;
 use std::process::Abort;
 use std::sync::Wait;
@@ -109,23 +109,23 @@ fn expect_served<R: Abort + Threads + Wait + Sync>(
     alloc: Global,
     links: &[Sent],
     fails: u64,
-    want: Want,
-    taken: &str,
+    call: &Call,
     wanted: &[End],
 ) {
     let mut door = door_of(alloc, links, fails).expect(rt, "memory");
-    let ends = expect_call(rt, alloc, &SERVE, &mut door, want, taken);
+    let ends = call_top(rt, alloc, call, &mut door).expect(rt, "as wanted");
     assert_eq!(rt; wrong_end(&ends, wanted), None);
 }
 
 #[test]
 fn connections(rt: HostRuntime) {
     for &(links, fails, status, number, added, taken, wanted) in ROWS {
-        let want = Want {
+        let call = Call {
+            words: &SERVE,
             status,
             number,
-            added,
+            ..Call::run(b"", added, taken.as_bytes())
         };
-        expect_served(&rt, rt.alloc(), links, fails, want, taken, wanted);
+        expect_served(&rt, rt.alloc(), links, fails, &call, wanted);
     }
 }

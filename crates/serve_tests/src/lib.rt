@@ -4,12 +4,6 @@
 #![tactic(auto)]
 
 #[cfg(test)]
-mod calls;
-#[cfg(test)]
 mod connections;
 #[cfg(test)]
-mod held;
-#[cfg(test)]
 mod sockets;
-#[cfg(test)]
-mod waiting;

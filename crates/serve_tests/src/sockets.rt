@@ -1,7 +1,8 @@
 //! One connection over a real socket of this machine.
 
-use super::calls::{done, expect_call};
 use desk_io::TcpDoor;
+use program_calls::call_top;
+use session_calls::Call;
 use std::alloc::Global;
 use std::io;
 use std::io::{ErrorKind, Read, Write};
@@ -67,8 +68,11 @@ fn serve_one<
     N: Net<Listener = TcpListener, Stream = TcpStream> + Copy,
 >(rt: &R, net: N, alloc: Global) {
     let mut door = TcpDoor::new(net, alloc);
-    let taken = "connections 1\nentries 0\n";
-    let ends = expect_call(rt, alloc, &SERVE, &mut door, done(0), taken);
+    let call = Call {
+        words: &SERVE,
+        ..Call::run(b"", 0, b"connections 1\nentries 0\n")
+    };
+    let ends = call_top(rt, alloc, &call, &mut door).expect(rt, "as wanted");
     assert_eq!(rt; ends.len(), 1);
 }
 

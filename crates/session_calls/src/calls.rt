@@ -72,19 +72,29 @@ impl<'a> Call<'a> {
         })
     }
 
-    /// Whether the call ended as is wanted.
-    fn ended_in(&self, alloc: Global, status: &Status, added: u64) -> Result<(), Wrong> {
-        let text = format!(in alloc; "{status}")?;
-        if text.as_str() != self.status {
-            return self.wrong(Found::Status(text));
+    /// Whether a call is as wanted that ended with this status, as it is printed, and its number, after so many entries,
+    /// and wrote these bytes.
+    ///
+    /// # Errors
+    ///
+    /// The first of them that isn't.
+    pub fn is_met(
+        &self,
+        status: String,
+        number: u8,
+        added: u64,
+        taken: &[u8],
+    ) -> Result<(), Wrong> {
+        if status.as_str() != self.status {
+            return self.wrong(Found::Status(status));
         }
-        if status.number() != self.number {
-            return self.wrong(Found::Number(status.number()));
+        if number != self.number {
+            return self.wrong(Found::Number(number));
         }
         if added != self.added {
             return self.wrong(Found::Entries(added));
         }
-        Ok(())
+        self.wrote(taken)
     }
 
     /// Whether it wrote what is wanted.
@@ -137,7 +147,12 @@ impl Drive<'_> {
     }
 }
 
-fn words_of(alloc: Global, texts: &[&str]) -> Result<Words, NoMemory> {
+/// The words of a command line.
+///
+/// # Errors
+///
+/// Memory was refused.
+pub fn words_of(alloc: Global, texts: &[&str]) -> Result<Words, NoMemory> {
     let mut words = Words::new(alloc);
     for text in texts {
         words.push(Bytes::from_slice(alloc, text.as_bytes())?)?;
@@ -178,8 +193,9 @@ fn call_on<D: Disk>(alloc: Global, call: &Call, disk: D) -> Result<D, Wrong> {
     };
     let mut clock = TickClock::new(first, 1_000_000_000);
     let ended = called(alloc, &words, &mut source, &mut sink, disk, &mut clock);
-    call.ended_in(alloc, &ended.status, ended.added)?;
-    call.wrote(sink.bytes())?;
+    let status = format!(in alloc; "{}", ended.status)?;
+    let number = ended.status.number();
+    call.is_met(status, number, ended.added, sink.bytes())?;
     Ok(ended.disk)
 }
 

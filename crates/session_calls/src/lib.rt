@@ -12,7 +12,7 @@ mod rows;
 mod setup;
 mod wrong;
 
-pub use calls::{Call, Drive, call_alone, call_in_turn};
+pub use calls::{Call, Drive, call_alone, call_in_turn, words_of};
 pub use exchange::{Exchange, Frames};
 pub use pieces::{NoMemory, put, put_lines, put_reply, put_taken};
 pub use rows::{FOUNDER, OBSERVER, Row, catalogue_alone, catalogue_of, session};

@@ -2,8 +2,8 @@
 
 ghost use Rattle.std.specs.Prelude.{length, None};
 
-use super::calls::Took;
 use desk_io::{Door, Failed, MemSink, MemSource, Next, Sink, Source};
+use program_calls::Took;
 use std::alloc::Global;
 use std::collections::VecDeque;
 use std::process::Abort;

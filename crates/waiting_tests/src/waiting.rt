@@ -1,8 +1,8 @@
 //! Connections that wait for one another, so that only a server that attends them side by side answers them all.
 
-use super::calls::{End, done, expect_call, wrong_end};
 use super::held::{Held, HeldDoor};
-use program_call::Left;
+use program_calls::{End, Left, call_top, wrong_end};
+use session_calls::Call;
 use std::alloc::Global;
 use std::process::Abort;
 use std::sync::Wait;
@@ -109,8 +109,11 @@ const WANTED: &[End] = &[
 
 fn expect_served<R: Abort + Threads + Wait + Sync>(rt: &R, alloc: Global) {
     let mut door = HeldDoor::new(rt, alloc, SENT);
-    let taken = "connections 4\nentries 2\n";
-    let ends = expect_call(rt, alloc, &SERVE, &mut door, done(2), taken);
+    let call = Call {
+        words: &SERVE,
+        ..Call::run(b"", 2, b"connections 4\nentries 2\n")
+    };
+    let ends = call_top(rt, alloc, &call, &mut door).expect(rt, "as wanted");
     assert_eq!(rt; wrong_end(&ends, WANTED), None);
 }
 

@@ -1,0 +1,131 @@
+//! Calls of the program on an empty disk in memory.
+
+use desk_io::{Clock, Door, MemSink, MemSource, NoMemory, Sink, Source, TickClock};
+use desk_serve::LinkEnds;
+use disk_model::{Disk, MemDisk};
+use obs_time::Instant;
+use program_call::top::{single, top};
+use program_call::{Ended, Words};
+use session_calls::{Call, Found, Wrong, words_of};
+use std::alloc::Global;
+use std::sync::Wait;
+use std::thread::Threads;
+
+/// How many bytes the sink has room for at first.
+const SINK_BYTES: usize = 65_536;
+
+/// How many bytes the disk has room for.
+const DISK_BYTES: usize = 1_048_576;
+
+/// What the program is called over.
+#[derive(Drop)]
+struct Devices {
+    words: Words,
+    source: MemSource,
+    sink: MemSink,
+    clock: TickClock,
+}
+
+impl Devices {
+    fn new(alloc: Global, call: &Call) -> Result<Devices, Wrong> {
+        let Some(first) = Instant::new(call.start) else {
+            return Err(Wrong {
+                mark: call.mark,
+                found: Found::NoClock,
+            });
+        };
+        Ok(Devices {
+            words: words_of(alloc, call.words)?,
+            source: MemSource::new(alloc, call.bytes, call.greatest.max(1), &[call.read])?,
+            sink: MemSink::new(alloc, SINK_BYTES, &[call.write])?,
+            clock: TickClock::new(first, 1_000_000_000),
+        })
+    }
+}
+
+fn empty_disk(alloc: Global) -> Result<MemDisk, NoMemory> {
+    MemDisk::new(alloc, &[], DISK_BYTES, &[])
+}
+
+/// Whether a call that ended so is as wanted.
+fn is_met<D: Disk>(
+    alloc: Global,
+    call: &Call,
+    ended: &Ended<D>,
+    sink: &MemSink,
+) -> Result<(), Wrong> {
+    let status = format!(in alloc; "{}", ended.status)?;
+    call.is_met(status, ended.status.number(), ended.added, sink.bytes())
+}
+
+/// `single`, without its clauses.
+fn called<S: Source, K: Sink, D: Disk, C: Clock>(
+    alloc: Global,
+    words: &Words,
+    source: &mut S,
+    sink: &mut K,
+    disk: D,
+    clock: &mut C,
+) -> Ended<D> {
+    single(alloc, words, source, sink, disk, clock)
+}
+
+/// `top`, without its clauses.
+fn served<S: Source, K: Sink, D: Disk + Send, C: Clock + Send, G: Door, R: Threads + Wait + Sync>(
+    rt: &R,
+    alloc: Global,
+    words: &Words,
+    source: &mut S,
+    sink: &mut K,
+    disk: D,
+    clock: &mut C,
+    door: &mut G,
+) -> (Ended<D>, LinkEnds<G::In, G::Out>) {
+    top(rt, alloc, words, source, sink, disk, clock, door)
+}
+
+/// Calls `single` on an empty disk.
+///
+/// # Errors
+///
+/// What is wrong with the call.
+pub fn call_single(alloc: Global, call: &Call) -> Result<(), Wrong> {
+    let disk = empty_disk(alloc)?;
+    let mut devices = Devices::new(alloc, call)?;
+    let ended = called(
+        alloc,
+        &devices.words,
+        &mut devices.source,
+        &mut devices.sink,
+        disk,
+        &mut devices.clock,
+    );
+    is_met(alloc, call, &ended, &devices.sink)
+}
+
+/// Calls `top` on an empty disk, with links that come through this door, and gives how they ended.
+///
+/// # Errors
+///
+/// What is wrong with the call.
+pub fn call_top<G: Door, R: Threads + Wait + Sync>(
+    rt: &R,
+    alloc: Global,
+    call: &Call,
+    door: &mut G,
+) -> Result<LinkEnds<G::In, G::Out>, Wrong> {
+    let disk = empty_disk(alloc)?;
+    let mut devices = Devices::new(alloc, call)?;
+    let (ended, ends) = served(
+        rt,
+        alloc,
+        &devices.words,
+        &mut devices.source,
+        &mut devices.sink,
+        disk,
+        &mut devices.clock,
+        door,
+    );
+    is_met(alloc, call, &ended, &devices.sink)?;
+    Ok(ends)
+}
