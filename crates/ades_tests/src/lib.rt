@@ -1,4 +1,4 @@
-//! Tests of batches of ADES: their headers, their lines, and what is said of them in pieces.
+//! Tests of batches of ADES: their headers, what their lines say, and what is said of them in pieces.
 //!
 //! A crate with tests is proved twice, with and without them, so they stand in a crate above those that they test.
 #![tactic(auto)]
@@ -6,11 +6,7 @@
 #[cfg(test)]
 mod calls;
 #[cfg(test)]
-mod fields;
-#[cfg(test)]
 mod headers;
-#[cfg(test)]
-mod names;
 #[cfg(test)]
 mod observations;
 #[cfg(test)]

@@ -347,19 +347,24 @@ fn mend_on<D: Disk>(journal: &mut Journal<D>) -> Mending {
     (settled, journal.position())
 }
 
+// Three mendings, after the append answered so.
+fn mendings_on<D: Disk>(journal: &mut Journal<D>, answer: Result<(), AppendFault>) -> Mendings {
+    let first = mend_on(journal);
+    let second = mend_on(journal);
+    let third = mend_on(journal);
+    Mendings {
+        answer,
+        first,
+        second,
+        third,
+    }
+}
+
 fn mended_on<D: Disk>(alloc: Global, disk: D, parcel: Parcel) -> Option<Mendings> {
     match opened(alloc, disk) {
         Some(mut journal) => {
             let answer = journal.append(parcel);
-            let first = mend_on(&mut journal);
-            let second = mend_on(&mut journal);
-            let third = mend_on(&mut journal);
-            Some(Mendings {
-                answer,
-                first,
-                second,
-                third,
-            })
+            Some(mendings_on(&mut journal, answer))
         }
         None => None,
     }

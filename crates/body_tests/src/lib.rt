@@ -1,11 +1,9 @@
-//! Tests of what people write in requests: the bodies of acts, and the tables of stations and codes that they fill.
+//! Tests of what people write in requests: the bodies of acts.
 //!
 //! A crate with tests is proved twice, with and without them, so they stand in a crate above those that they test.
 #![tactic(auto)]
 
 #[cfg(test)]
 mod bodies;
-#[cfg(test)]
-mod stations;
 #[cfg(test)]
 mod tables;

@@ -3,7 +3,6 @@
 use obs_record::Short;
 use station_tables::*;
 use std::alloc::Global;
-use std::test::Fail;
 
 // Days since 1970-01-01 of the dates beside them.
 const BEFORE_1998: i32 = 10_226; // 1997-12-31
@@ -24,18 +23,28 @@ const FROM_2016: i32 = 16_801; // 2016-01-01
 
 const TO_2020: i32 = 18_627; // 2020-12-31
 
-// Enters a station row; false where it may not be entered or memory was refused.
-fn enter(tables: &mut Tables, code: [u8; 3], from: i32, to: i32) -> bool {
+// The tables with a station row more; None where it may not be entered or memory was refused.
+fn stationed(tables: &Tables, code: [u8; 3], from: i32, to: i32) -> Option<Tables> {
     if from > to || tables.overlaps(code, from, to) {
-        return false;
+        return None;
     }
-    match tables.with_station(code, from, to) {
-        Ok(more) => {
+    tables.with_station(code, from, to).ok()
+}
+
+// Takes the tables with a row more in place of those without it; false where there are none.
+fn replace(tables: &mut Tables, more: Option<Tables>) -> bool {
+    match more {
+        Some(more) => {
             *tables = more;
             true
         }
-        Err(_) => false,
+        None => false,
     }
+}
+
+fn enter(tables: &mut Tables, code: [u8; 3], from: i32, to: i32) -> bool {
+    let more = stationed(tables, code, from, to);
+    replace(tables, more)
 }
 
 // One station with one span of days, and one with two.
@@ -55,13 +64,8 @@ fn coded(tables: &Tables, kind: Kind, letter: u8, word: &[u8]) -> Option<Tables>
 }
 
 fn enter_code(tables: &mut Tables, kind: Kind, letter: u8, word: &[u8]) -> bool {
-    match coded(tables, kind, letter, word) {
-        Some(more) => {
-            *tables = more;
-            true
-        }
-        None => false,
-    }
+    let more = coded(tables, kind, letter, word);
+    replace(tables, more)
 }
 
 // A row of each kind.
@@ -178,17 +182,21 @@ fn wrong_code(tables: &Tables) -> Option<usize> {
     None
 }
 
-// The first wrong case of each table of cases, those of stations, of spans, of letters, of words and of codes; None
-// where memory was refused.
+// The first wrong case of each table of cases, those of stations, of spans, of letters, of words and of codes.
+fn wrong_in(tables: &Tables) -> [Option<usize>; 5] {
+    [
+        wrong_day(tables),
+        wrong_span(tables),
+        wrong_word(tables),
+        wrong_letter(tables),
+        wrong_code(tables),
+    ]
+}
+
+// The same of the tables with these rows; None where memory was refused.
 fn wrong_cases(alloc: Global) -> Option<[Option<usize>; 5]> {
     let tables = filled(alloc)?;
-    Some([
-        wrong_day(&tables),
-        wrong_span(&tables),
-        wrong_word(&tables),
-        wrong_letter(&tables),
-        wrong_code(&tables),
-    ])
+    Some(wrong_in(&tables))
 }
 
 #[test]
@@ -197,21 +205,28 @@ fn tables_answer_by_their_rows(rt: HostRuntime) {
     assert_eq!(rt; wrong, Some([None; 5]));
 }
 
+// Whether the first tables are without a row that the others have.
+fn is_without(before: &Tables, after: &Tables) -> bool {
+    let word = Short::new(b"Vj");
+    after.has_code(Kind::Band, b'V', word) && !before.has_code(Kind::Band, b'V', word)
+}
+
 // Whether an addition leaves the tables that it was made from without the row, and has it itself.
 fn leaves_the_old(before: &Tables) -> bool {
     match coded(before, Kind::Band, b'V', b"Vj") {
-        Some(after) => {
-            let word = Short::new(b"Vj");
-            after.has_code(Kind::Band, b'V', word) && !before.has_code(Kind::Band, b'V', word)
-        }
+        Some(after) => is_without(before, &after),
         None => false,
     }
 }
 
+// Whether an addition leaves tables without rows so; None where memory was refused.
+fn leaves_the_new(alloc: Global) -> Option<bool> {
+    let before = Tables::new(alloc).ok()?;
+    Some(leaves_the_old(&before))
+}
+
 #[test]
-fn additions_leave_the_old_rows(rt: HostRuntime) -> Result<(), Fail> {
-    let before = Tables::new(rt.alloc())?;
-    let left = leaves_the_old(&before);
-    assert!(rt; left);
-    Ok(())
+fn additions_leave_the_old_rows(rt: HostRuntime) {
+    let left = leaves_the_new(rt.alloc());
+    assert_eq!(rt; left, Some(true));
 }

@@ -4,16 +4,21 @@ use act_bodies::{BodyFault, read_enrol};
 use item_list::{Bytes, NoMemory};
 use std::alloc::Global;
 
-/// A body whose key stands twice, first as so many arrays in one another. With the object they are one level more.
-fn nested(alloc: Global, arrays: u8) -> Result<Bytes, NoMemory> {
-    let mut body = Bytes::from_slice(alloc, b"{\"key\":")?;
+/// Puts so many arrays in one another at the end of a body, and behind them the other members.
+fn nest(body: &mut Bytes, arrays: u8) -> Result<(), NoMemory> {
     for _ in 0..arrays {
         body.push(b'[')?;
     }
     for _ in 0..arrays {
         body.push(b']')?;
     }
-    body.extend_from_slice(b",\"key\":\"observer-1\",\"name\":\"Ann\",\"role\":\"observer\"}")?;
+    body.extend_from_slice(b",\"key\":\"observer-1\",\"name\":\"Ann\",\"role\":\"observer\"}")
+}
+
+/// A body whose key stands twice, first as so many arrays in one another. With the object they are one level more.
+fn nested(alloc: Global, arrays: u8) -> Result<Bytes, NoMemory> {
+    let mut body = Bytes::from_slice(alloc, b"{\"key\":")?;
+    nest(&mut body, arrays)?;
     Ok(body)
 }
 
