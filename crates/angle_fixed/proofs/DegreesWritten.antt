@@ -1,12 +1,12 @@
 -- Degrees that are written read as the rounded value, and canonical degrees that were read are written again.
-use Rattle.std.proofs.Common.{◌≡◌, ℕ, zero, suc, ◌+◌, ◌-◌, ◌*◌, ◌/◌, ◌%◌, ◌^◌, ◌<◌, ◌≤◌, Bool, true, false, cond, ltb, inl, inr, List, [], ◌∷◌, ◌++◌, length, get_or, Ok, ℤ, nat_abs, refl, sym, ap, subst, ◌∙◌, append_assoc, arith}
+use Rattle.std.proofs.Common.{◌≡◌, ℕ, zero, suc, ◌+◌, ◌-◌, ◌*◌, ◌/◌, ◌%◌, ◌^◌, ◌<◌, ◌≤◌, Bool, true, false, inl, inr, List, [], ◌∷◌, ◌++◌, length, get_or, Ok, ℤ, nat_abs, refl, sym, ap, subst, ◌∙◌, append_assoc, arith}
 use Rattle.std.proofs.lemmas.Bool.Decides.{nat_tests}
 use Rattle.std.proofs.lemmas.List.{length-append}
 use Rattle.ascii_text.specs.declared.digits.Radix.TheVariants.{Ten}
 use Rattle.ascii_text.specs.Blanks.{blanks, trimmed_end}
 use Rattle.ascii_text.specs.Digits.{digits_text, decimals_text, decimals_width}
 use Rattle.ascii_text.specs.DecimalNumbers.{NumberParts, IsSpelledNumber, number_spelling}
-use Rattle.angle_fixed.specs.Angles.{circle, degree, quarter, sign_byte, signed}
+use Rattle.angle_fixed.specs.Angles.{circle, quarter, sign_byte, signed}
 use Rattle.angle_fixed.specs.Degrees.{ReadsRaDegrees, ReadsDecDegrees, degree_units, twelve_decimals, twelfth_decimal, plain_digits, ra_steps, rounded_ra_degrees, ra_degrees_text, rounded_dec_degrees, dec_degrees_text}
 use Rattle.angle_fixed.specs.Writing.{nearest, is_negative}
 use Rattle.angle_fixed.proofs.Written.{nat_abs-signed}

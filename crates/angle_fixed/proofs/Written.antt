@@ -1,8 +1,8 @@
 -- What is written reads as the rounded value, and what was read is written again.
-use Rattle.std.proofs.Common.{◌≡◌, ℕ, zero, suc, ◌+◌, ◌-◌, ◌*◌, ◌/◌, ◌%◌, ◌^◌, ◌<◌, ◌≤◌, Bool, true, false, cond, eqb, List, ◌∷◌, length, Ok, ℤ, pos, negsuc, nat_abs, refl, sym, ap, ◌∙◌, arith}
+use Rattle.std.proofs.Common.{◌≡◌, ℕ, zero, suc, ◌+◌, ◌-◌, ◌*◌, ◌/◌, ◌%◌, ◌^◌, ◌<◌, ◌≤◌, Bool, true, false, List, ◌∷◌, length, Ok, ℤ, pos, negsuc, nat_abs, refl, sym, ap, ◌∙◌, arith}
 use Rattle.std.proofs.lemmas.List.{length-append}
-use Rattle.std.proofs.Math.Nat.{mod-eq_of_lt, mul_comm, mul-le-mul_right}
-use Rattle.std.proofs.lemmas.Nat.{mod_below, div_below, mul-add-lt}
+use Rattle.std.proofs.Math.Nat.{mod-eq_of_lt, mul-le-mul_right}
+use Rattle.std.proofs.lemmas.Nat.{mod_below, div_below}
 use Rattle.ascii_text.specs.declared.digits.Radix.TheVariants.{Ten}
 use Rattle.ascii_text.specs.Digits.{decimals_width}
 use Rattle.angle_fixed.specs.Angles.{Parts, IsSpelled, spelling, sign_byte, signed, time_units, arc_units, circle, quarter, second_of_time, arcsecond}

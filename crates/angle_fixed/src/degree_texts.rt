@@ -15,15 +15,13 @@ ghost use Rattle.angle_fixed.specs.WrittenDegrees.{IsBoundedDegrees};
 ghost use Rattle.angle_fixed.specs.Writing.{is_negative, nearest};
 
 use crate::angle::{Dec, Ra};
+use crate::units::TWELFTH_DECIMAL;
 use crate::writing::{nearest, sign_byte};
 use arrayvec::ArrayVec;
 use ascii_text::digits::Radix;
 use ascii_text::numbers::DecimalNumber;
 use ascii_text::reading::Decimals;
 use ascii_text::writing::{put_blanks, put_decimals, put_digits};
-
-// The twelfth decimal of a degree, in units.
-const TWELFTH_DECIMAL: u64 = 9;
 
 // A degree, in units of its twelfth decimal.
 const STEPS_OF_A_DEGREE: u64 = 1_000_000_000_000;

@@ -12,12 +12,12 @@ ghost use Rattle.angle_fixed.specs.WrittenDegrees.{found_answer, IsBoundedDegree
 
 use crate::angle::{Dec, Ra};
 use crate::fault::AngleFault;
-use crate::units::{CIRCLE, DEGREE, QUARTER};
-use ascii_text::digits::power_of_ten;
+use crate::units::{CIRCLE, DEGREE, QUARTER, TWELFTH_DECIMAL};
 use ascii_text::numbers::{DecimalNumber, decimal_number};
 use ascii_text::reading::Decimals;
+use ascii_text::units::decimals_units;
 
-// As many decimals are read: the twelfth is 9 units.
+// As many decimals are read.
 const MOST_DECIMALS: usize = 12;
 
 // Degrees with so many digits before the point at most, and with twelve decimals at most.
@@ -30,14 +30,14 @@ fn degrees(most: usize, text: &[u8]) -> Option<Option<DecimalNumber>>
     decimal_number(most, MOST_DECIMALS, text)
 }
 
-// The units of decimals of a degree. One in the twelfth decimal is 9 units.
+// The units of decimals of a degree.
 fn degree_of_decimals(decimals: Decimals) -> u64
     requires few { decimals.count ≤ 12 }
     requires digits { decimals.value < 10 ^ decimals.count }
     ensures value { result ≡ decimals.value * (degree / 10 ^ decimals.count) }
     ensures below { result < degree }
 {
-    decimals.value * (9 * power_of_ten(MOST_DECIMALS - decimals.count))
+    decimals_units(decimals, MOST_DECIMALS, TWELFTH_DECIMAL)
 }
 
 #[tactic(auto, unfolding(crate::specs::Degrees::degree_units))]

@@ -5,16 +5,26 @@ ghost use Rattle.std.specs.Prelude.{◌≡◌, ◌+◌, ◌*◌, ◌/◌, ◌^�
 ghost use Rattle.ascii_text.specs.Judged.{answer_of};
 ghost use Rattle.angle_fixed.specs.declared.fault.AngleFault.{AngleFault};
 ghost use Rattle.angle_fixed.specs.Answer.{ReadsTime, ReadsArc};
-ghost use Rattle.angle_fixed.specs.Angles.{arc_units, circle, time_units};
+ghost use Rattle.angle_fixed.specs.Angles.{arc_units, arcsecond, circle, second_of_time, time_units};
 ghost use Rattle.angle_fixed.specs.Reading.{parts_at, sign_at, signed_parts_at, past_sixty, time_answer, arc_answer};
 ghost use Rattle.angle_fixed.specs.Sexagesimal.{parts, IsBounded};
 
 use crate::angle::{Dec, Ra};
 use crate::fault::AngleFault;
-use crate::units::{ARCMINUTE, ARCSECOND, DEGREE, HOUR, MINUTE_OF_TIME, QUARTER, SECOND_OF_TIME};
+use crate::units::{
+    ARCMINUTE, ARCSECOND, DEGREE, HOUR, HUNDREDTH_OF_ARCSECOND, MINUTE_OF_TIME, QUARTER,
+    SECOND_OF_TIME, THOUSANDTH_OF_SECOND,
+};
 use ascii_text::blanks::are_blanks;
 use ascii_text::digits::Radix;
 use ascii_text::reading::{Decimals, behind, decimals_at, digits_at};
+use ascii_text::units::decimals_units;
+
+// The most decimals of a second of time.
+const MOST_OF_SECOND: usize = 3;
+
+// The most decimals of an arcsecond.
+const MOST_OF_ARCSECOND: usize = 2;
 
 // What a sexagesimal text spells.
 #[derive(Clone, Copy)]
@@ -48,16 +58,24 @@ fn parts_front(text: &[u8]) -> Option<Sexagesimal>
     })
 }
 
-// The units of the decimals, of which one is the unit of a second divided by ten as often as there are decimals.
-fn decimals_units(decimals: Decimals, second: u64) -> u64
-    requires few { decimals.count ≤ 18 }
+// The units of the decimals of a second of time.
+fn time_decimals(decimals: Decimals) -> u64
+    requires few { decimals.count ≤ 3 }
     requires digits { decimals.value < 10 ^ decimals.count }
-    requires fine { 10 ^ decimals.count ≤ second }
-    ensures value { result ≡ decimals.value * (second / 10 ^ decimals.count) }
-    ensures below { result < second }
+    ensures value { result ≡ decimals.value * (second_of_time / 10 ^ decimals.count) }
+    ensures below { result < second_of_time }
 {
-    let last = second / 10u64.pow(decimals.count as u32);
-    decimals.value * last
+    decimals_units(decimals, MOST_OF_SECOND, THOUSANDTH_OF_SECOND)
+}
+
+// The units of the decimals of an arcsecond.
+fn arc_decimals(decimals: Decimals) -> u64
+    requires few { decimals.count ≤ 2 }
+    requires digits { decimals.value < 10 ^ decimals.count }
+    ensures value { result ≡ decimals.value * (arcsecond / 10 ^ decimals.count) }
+    ensures below { result < arcsecond }
+{
+    decimals_units(decimals, MOST_OF_ARCSECOND, HUNDREDTH_OF_ARCSECOND)
 }
 
 #[tactic(auto, unfolding(crate::specs::Angles::time_units))]
@@ -70,7 +88,7 @@ fn time_units(s: Sexagesimal) -> u64
     s.whole * HOUR
         + s.minute * MINUTE_OF_TIME
         + s.second * SECOND_OF_TIME
-        + decimals_units(s.decimals, SECOND_OF_TIME)
+        + time_decimals(s.decimals)
 }
 
 #[tactic(auto, unfolding(crate::specs::Angles::arc_units))]
@@ -82,7 +100,7 @@ fn arc_units(s: Sexagesimal) -> u64
     s.whole * DEGREE
         + s.minute * ARCMINUTE
         + s.second * ARCSECOND
-        + decimals_units(s.decimals, ARCSECOND)
+        + arc_decimals(s.decimals)
 }
 
 fn is_past_sixty(s: Sexagesimal) -> bool
@@ -96,7 +114,7 @@ fn time_answer(s: Sexagesimal) -> Result<(Ra, u8), AngleFault>
     requires { IsBounded s }
     ensures { result ≡ time_answer (parts s) }
 {
-    if s.decimals.count > 3 {
+    if s.decimals.count > MOST_OF_SECOND {
         return Err(AngleFault::Decimals);
     }
     if s.whole > 23 || is_past_sixty(s) {
@@ -110,7 +128,7 @@ fn arc_answer(minus: bool, s: Sexagesimal) -> Result<(Dec, u8, bool), AngleFault
     requires { IsBounded s }
     ensures { result ≡ arc_answer (minus, parts s) }
 {
-    if s.decimals.count > 2 {
+    if s.decimals.count > MOST_OF_ARCSECOND {
         return Err(AngleFault::Decimals);
     }
     let units = arc_units(s);

@@ -11,11 +11,16 @@ pub fn is_visible(byte: u8) -> bool
     33 <= byte && byte <= 126
 }
 
-/// Whether each byte is a printable character, a blank included.
+/// Whether each byte is a printable character, a blank included. The loop stops nowhere, so that it can take many bytes
+/// at a time.
 pub fn are_printable(text: &[u8]) -> bool
     ensures { result ≡ list_all is_printable text.now }
 {
-    text.iter().all(|byte| 32 <= *byte && *byte <= 126)
+    let mut are = true;
+    'bytes: for byte in text {
+        are &= (32 <= *byte) & (*byte <= 126);
+    }
+    are
 }
 
 /// Whether each byte is a printable character other than a blank.

@@ -8,4 +8,5 @@ pub mod digits;
 pub mod laws;
 pub mod numbers;
 pub mod reading;
+pub mod units;
 pub mod writing;

@@ -3,8 +3,11 @@
 ghost use Rattle.std.specs.Prelude.{◌≡◌, ◌+◌, ◌*◌, ◌^◌, ◌<◌, ◌≤◌};
 ghost use Rattle.obs_record.specs.Magnitudes.{magnitude_of};
 
-use ascii_text::digits::power_of_ten;
 use ascii_text::reading::Decimals;
+use ascii_text::units::decimals_units;
+
+/// The most decimals of a magnitude.
+const MOST_DECIMALS: usize = 6;
 
 /// A magnitude of 1, in units of 0.000001.
 const UNITS: u32 = 1_000_000;
@@ -17,6 +20,5 @@ pub fn magnitude_of(whole: u64, decimals: Decimals) -> u32
     ensures value { result ≡ magnitude_of whole decimals.count decimals.value }
     ensures below { result < (whole + 1) * 1000000 }
 {
-    let unit = power_of_ten(6 - decimals.count) as u32;
-    whole as u32 * UNITS + decimals.value as u32 * unit
+    whole as u32 * UNITS + decimals_units(decimals, MOST_DECIMALS, 1) as u32
 }

@@ -7,14 +7,17 @@ ghost use Rattle.obs_time.specs.DateText.{HasDigits};
 ghost use Rattle.obs_time.specs.DayText.{day_at, decimal_unit, judge_day, day_fraction_of, IsDayAnswer};
 ghost use Rattle.obs_time.specs.Written.{written, written_day};
 
-use crate::civil::NS_PER_DAY;
 use crate::dates::{Numbers, date_at, judge_date};
 use crate::{Instant, TimeFault};
 use ascii_text::blanks::are_blanks;
 use ascii_text::reading::decimals_at;
+use ascii_text::units::place_units;
 
 /// The greatest number of decimals of a day that are read.
 const MOST_DECIMALS: usize = 6;
+
+/// The nanoseconds of one in the last of so many decimals, 0.000001 day.
+const LAST_DECIMAL: u64 = 86_400_000;
 
 /// A date as it is written, with decimals of the day.
 #[derive(Clone, Copy)]
@@ -49,7 +52,7 @@ pub(crate) fn decimal_unit(count: usize) -> u64
     ensures value { result ≡ decimal_unit count }
     ensures whole { result * 10 ^ count ≡ nanos_of_a_day }
 {
-    NS_PER_DAY as u64 / 10u64.pow(count as u32)
+    place_units(count, MOST_DECIMALS, LAST_DECIMAL)
 }
 
 /// The moment of a day with decimals, and their number.

@@ -10,8 +10,9 @@ ghost use Rattle.obs_time.specs.Written.{written, written_clock, written_iso, wr
 
 use crate::dates::{Numbers, date_at, judge_date};
 use crate::{Instant, TimeFault};
-use ascii_text::digits::{Radix, power_of_ten};
+use ascii_text::digits::Radix;
 use ascii_text::reading::{Decimals, behind, decimals_within, digits_at};
+use ascii_text::units::decimals_units;
 
 /// The greatest number of decimals of a second that are read.
 const MOST_DECIMALS: usize = 9;
@@ -108,7 +109,7 @@ fn ns_of_decimals(decimals: Decimals) -> u64
     ensures value { result ≡ decimals.value * 10 ^ (9 - decimals.count) }
     ensures within { result < nanos_of_a_second }
 {
-    decimals.value * power_of_ten(MOST_DECIMALS - decimals.count)
+    decimals_units(decimals, MOST_DECIMALS, 1)
 }
 
 /// The nanoseconds of the day before a time of day with decimals.
