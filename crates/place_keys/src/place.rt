@@ -1,13 +1,13 @@
 //! Keys of places.
 
-ghost use Rattle.std.specs.Prelude.{◌≡◌, ◌++◌};
+ghost use Rattle.std.specs.Prelude.{◌≡◌};
 ghost use Rattle.std.proofs.Common.{rules};
 ghost use Rattle.std.specs.Hash as fed;
 ghost use Rattle.std.specs.Cmp.Rules.{hashing};
-ghost use Rattle.place_keys.specs.Marks.{text_mark};
+ghost use Rattle.place_keys.specs.Marks.{place_mark};
 ghost use Rattle.place_keys.specs.Places.{key_at, place_key};
 
-use crate::words::{Text, text_mark};
+use crate::words::{Text, mixed, text_mark};
 use angle_fixed::{Dec, Ra};
 use obs_record::{Short, Sighting};
 use obs_time::Instant;
@@ -28,18 +28,22 @@ pub struct PlaceKey {
     pub dec: i64,
 }
 
+/// A number that a key makes, by which it is hashed. Each part has a factor of its own in it, so that no sum of parts
+/// stands for another one.
+fn place_mark(key: &PlaceKey) -> u64
+    ensures { result ≡ place_mark key.now }
+{
+    let position = mixed(key.ra, mixed(key.dec.cast_unsigned(), text_mark(&key.bytes)));
+    mixed(key.time.cast_unsigned(), position)
+}
+
 impl Hash for PlaceKey {
-    ghost hash_input = { λ key. fed.i64 key.time ++ (fed.u64 key.ra ++ (fed.i64 key.dec
-        ++ fed.u64 (text_mark key.bytes.bytes))) };
+    ghost hash_input = { λ key. fed.u64 (place_mark key) };
 
     ghost respects_eq = { Prim.search (hashing, rules) };
 
-    // Each part is mixed into what those before it made, so that no sum of parts stands for another one.
     fn hash<H: Hasher>(&self, state: &mut H) {
-        state.write_i64(self.time);
-        state.write_u64(self.ra);
-        state.write_i64(self.dec);
-        state.write_u64(text_mark(&self.bytes));
+        state.write_u64(place_mark(self));
     }
 }
 
