@@ -97,10 +97,7 @@ fn arc_units(s: Sexagesimal) -> u64
     requires few { s.decimals.count ≤ 2 }
     ensures value { result ≡ arc_units (parts s) }
 {
-    s.whole * DEGREE
-        + s.minute * ARCMINUTE
-        + s.second * ARCSECOND
-        + arc_decimals(s.decimals)
+    s.whole * DEGREE + s.minute * ARCMINUTE + s.second * ARCSECOND + arc_decimals(s.decimals)
 }
 
 fn is_past_sixty(s: Sexagesimal) -> bool

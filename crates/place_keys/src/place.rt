@@ -33,7 +33,10 @@ pub struct PlaceKey {
 fn place_mark(key: &PlaceKey) -> u64
     ensures { result ≡ place_mark key.now }
 {
-    let position = mixed(key.ra, mixed(key.dec.cast_unsigned(), text_mark(&key.bytes)));
+    let position = mixed(
+        key.ra,
+        mixed(key.dec.cast_unsigned(), text_mark(&key.bytes)),
+    );
     mixed(key.time.cast_unsigned(), position)
 }
 
