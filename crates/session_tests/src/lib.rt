@@ -1,5 +1,4 @@
-//! Tests of whole sessions of frames over disks in memory: in pieces, with failing streams and disks, with large
-//! bodies.
+//! Tests of whole sessions of frames over a disk in memory: in pieces, with failing streams, with large bodies.
 //!
 //! A crate with tests is proved twice, with and without them, so they stand in a crate above those that they test.
 #![tactic(auto)]
@@ -8,8 +7,6 @@
 mod ades;
 #[cfg(test)]
 mod batches;
-#[cfg(test)]
-mod disks;
 #[cfg(test)]
 mod large;
 #[cfg(test)]

@@ -1,8 +1,7 @@
 //! Rules beside the observations that are there, retractions, and queries.
 
-use super::batches::BATCH_ANSWER;
 use super::refusals::ROLE;
-use session_calls::{BATCH, Exchange};
+use session_calls::{BATCH, BATCH_ANSWER, Exchange};
 
 /// The observer's first batch under a further number: its observations are there already.
 const AGAIN_ANSWER: &str = concat!(

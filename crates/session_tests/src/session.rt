@@ -1,10 +1,10 @@
 //! A whole session: its frames with their answers.
 
 use super::ades::ADES;
-use super::batches::{BATCHES, FURTHER_BATCHES};
+use super::batches::FURTHER_BATCHES;
 use super::places::PLACES;
 use super::refusals::REFUSALS;
-use session_calls::{Exchange, SETUP};
+use session_calls::{BATCHES, Exchange, SETUP};
 
 /// How many frames the session has: the office is set up, batches come, refusals, retractions and queries.
 pub(super) const FRAMES: usize = 52;

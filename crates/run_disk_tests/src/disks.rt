@@ -1,8 +1,7 @@
 //! Runs over a disk: an empty one, one that an earlier run left, one whose calls fail, and files that are no journal.
 
-use super::batches::BATCHES;
 use session_calls::{
-    Call, Drive, Exchange, FIRST, FIRST_ANSWER, Frames, SETUP, Wrong, call_in_turn,
+    BATCHES, Call, Drive, Exchange, FIRST, FIRST_ANSWER, Frames, SETUP, Wrong, call_in_turn,
 };
 use std::alloc::Global;
 
