@@ -1,51 +1,6 @@
 //! Places of observations, members of objects, and numbers that go on, in one session.
 
-use session_calls::{FOUNDER, OBSERVER, Row, session};
-
-/// Five tracklets of two observations each, of which each second one is 13 hours after the one before.
-pub(super) const FIVE: &str = concat!(
-    "# version=2017\n",
-    "# observatory\n",
-    "! mpcCode 703\n",
-    "trkSub|mode|stn|obsTime|ra|dec|astCat\n",
-    "A1|CCD|703|2024-03-01T00:00:00Z|10.0|1.0|Gaia3\n",
-    "A1|CCD|703|2024-03-01T00:10:00Z|10.1|1.0|Gaia3\n",
-    "A2|CCD|703|2024-03-01T13:00:00Z|11.0|1.0|Gaia3\n",
-    "A2|CCD|703|2024-03-01T13:10:00Z|11.1|1.0|Gaia3\n",
-    "A3|CCD|703|2024-03-02T00:00:00Z|12.0|1.0|Gaia3\n",
-    "A3|CCD|703|2024-03-02T00:10:00Z|12.1|1.0|Gaia3\n",
-    "A4|CCD|703|2024-03-02T13:00:00Z|13.0|1.0|Gaia3\n",
-    "A4|CCD|703|2024-03-02T13:10:00Z|13.1|1.0|Gaia3\n",
-    "A5|CCD|703|2024-03-03T00:00:00Z|14.0|1.0|Gaia3\n",
-    "A5|CCD|703|2024-03-03T00:10:00Z|14.1|1.0|Gaia3\n",
-);
-
-pub(super) const FIVE_TEXT: &str = concat!(
-    "receipt 6\n",
-    "accepted 10 refused 0\n",
-    "line 5 obs 1 track 1\n",
-    "line 6 obs 2 track 1\n",
-    "line 7 obs 3 track 2\n",
-    "line 8 obs 4 track 2\n",
-    "line 9 obs 5 track 3\n",
-    "line 10 obs 6 track 3\n",
-    "line 11 obs 7 track 4\n",
-    "line 12 obs 8 track 4\n",
-    "line 13 obs 9 track 5\n",
-    "line 14 obs 10 track 5\n",
-);
-
-/// Two tracklets more.
-pub(super) const TWO: &str = concat!(
-    "# version=2017\n",
-    "# observatory\n",
-    "! mpcCode 703\n",
-    "trkSub|mode|stn|obsTime|ra|dec|astCat\n",
-    "A6|CCD|703|2024-03-04T00:00:00Z|15.0|1.0|Gaia3\n",
-    "A6|CCD|703|2024-03-04T00:10:00Z|15.1|1.0|Gaia3\n",
-    "A7|CCD|703|2024-03-04T13:00:00Z|16.0|1.0|Gaia3\n",
-    "A7|CCD|703|2024-03-04T13:10:00Z|16.1|1.0|Gaia3\n",
-);
+use session_calls::{EA_EB, EA_EC, FIVE, FIVE_TEXT, FOUNDER, OBSERVER, Row, TWO, session};
 
 const TWO_TEXT: &str = concat!(
     "receipt 13\n",
@@ -89,10 +44,6 @@ const BOTH_NAMES: &str = concat!(
     "permID|provID|mode|stn|obsTime|ra|dec|astCat\n",
     "620000|2024 EC|CCD|703|2024-03-05T00:00:00Z|17.0|1.0|Gaia3\n",
 );
-
-pub(super) const EA_EB: &str = "{\"principal\":\"2024 EA\",\"secondary\":\"2024 EB\"}";
-
-pub(super) const EA_EC: &str = "{\"principal\":\"2024 EA\",\"secondary\":\"2024 EC\"}";
 
 /// The observations of two objects, and of a tracklet that comes into one of them, stand in one place each.
 const PLACES: &[Row] = &[

@@ -1,53 +1,6 @@
 //! Designations, objects, verdicts and numbers in one session.
 
-use session_calls::{FOUNDER, OBSERVER, Row, session};
-
-/// Two tracklets of one object, of which the first observation falls a thousandth of a second before midnight.
-pub(super) const MIDNIGHT: &str = concat!(
-    "# version=2017\n",
-    "# observatory\n",
-    "! mpcCode 703\n",
-    "trkSub|mode|stn|obsTime|ra|dec|astCat|mag|band\n",
-    "AAA1|CCD|703|2024-03-15T23:59:59.999Z|150.0|-5.5|Gaia3|20.25|V\n",
-    "AAA1|CCD|703|2024-03-16T00:30:00Z|150.01|-5.5|Gaia3|20.3|V\n",
-    "AAA2|CCD|703|2024-03-16T12:00:00Z|150.2|-5.5|Gaia3\n",
-    "AAA2|CCD|703|2024-03-16T12:30:00Z|150.21|-5.5|Gaia3\n",
-);
-
-pub(super) const MIDNIGHT_TEXT: &str = concat!(
-    "receipt 6\n",
-    "accepted 4 refused 0\n",
-    "line 5 obs 1 track 1\n",
-    "line 6 obs 2 track 1\n",
-    "line 7 obs 3 track 2\n",
-    "line 8 obs 4 track 2\n",
-);
-
-/// Three tracklets: from the first observation it is 11 hours and 59 minutes to the last one of the second, and 12
-/// hours to that of the third.
-pub(super) const NIGHT: &str = concat!(
-    "# version=2017\n",
-    "# observatory\n",
-    "! mpcCode 703\n",
-    "trkSub|mode|stn|obsTime|ra|dec|astCat\n",
-    "B1|CCD|703|2024-03-20T00:00:00Z|10.0|1.0|Gaia3\n",
-    "B1|CCD|703|2024-03-20T00:10:00Z|10.0|1.0|Gaia3\n",
-    "B2|CCD|703|2024-03-20T11:49:00Z|11.0|1.0|Gaia3\n",
-    "B2|CCD|703|2024-03-20T11:59:00Z|11.0|1.0|Gaia3\n",
-    "B3|CCD|703|2024-03-20T11:50:00Z|12.0|1.0|Gaia3\n",
-    "B3|CCD|703|2024-03-20T12:00:00Z|12.0|1.0|Gaia3\n",
-);
-
-pub(super) const NIGHT_TEXT: &str = concat!(
-    "receipt 8\n",
-    "accepted 6 refused 0\n",
-    "line 5 obs 5 track 3\n",
-    "line 6 obs 6 track 3\n",
-    "line 7 obs 7 track 4\n",
-    "line 8 obs 8 track 4\n",
-    "line 9 obs 9 track 5\n",
-    "line 10 obs 10 track 5\n",
-);
+use session_calls::{FOUNDER, MIDNIGHT, MIDNIGHT_TEXT, NIGHT, NIGHT_TEXT, OBSERVER, Row, session};
 
 /// Lines under a number and the designation of another object, under the number, and under the designation.
 const NAMED: &str = concat!(

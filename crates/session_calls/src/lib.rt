@@ -11,6 +11,7 @@ mod exchange;
 mod pieces;
 mod rows;
 mod setup;
+mod tracklets;
 mod wrong;
 
 pub use batches::{BATCH_ANSWER, BATCHES};
@@ -19,4 +20,7 @@ pub use exchange::{Exchange, Frames};
 pub use pieces::{NoMemory, put, put_lines, put_reply, put_taken};
 pub use rows::{FOUNDER, OBSERVER, Row, catalogue_alone, catalogue_of, session};
 pub use setup::{BATCH, ENROLMENT, FIRST, FIRST_ANSWER, MODE, SETUP, STATION, begun};
+pub use tracklets::{
+    EA_EB, EA_EC, FIVE, FIVE_TEXT, MIDNIGHT, MIDNIGHT_TEXT, NIGHT, NIGHT_TEXT, TWO,
+};
 pub use wrong::{Found, Wrong};

@@ -1,7 +1,9 @@
 //! The catalogue: after sessions that show each of its rules, as the answer to a query and as what `export` writes.
 
-use super::objects::{MIDNIGHT, MIDNIGHT_TEXT, NIGHT, NIGHT_TEXT};
-use session_calls::{FOUNDER, OBSERVER, Row, STATION, Wrong, catalogue_alone, catalogue_of};
+use session_calls::{
+    FOUNDER, MIDNIGHT, MIDNIGHT_TEXT, NIGHT, NIGHT_TEXT, OBSERVER, Row, STATION, Wrong,
+    catalogue_alone, catalogue_of,
+};
 use std::alloc::Global;
 
 /// A declination of zero with a minus, and one of a tenth of an arcsecond below it.

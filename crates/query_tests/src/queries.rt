@@ -1,8 +1,9 @@
 //! What the office tells of its tracklets, objects, half-months and names, in whole sessions.
 
-use super::members::{EA_EB, EA_EC, FIVE, FIVE_TEXT, TWO};
-use super::objects::{MIDNIGHT, MIDNIGHT_TEXT};
-use session_calls::{BATCH, FOUNDER, OBSERVER, Row, session};
+use session_calls::{
+    BATCH, EA_EB, EA_EC, FIVE, FIVE_TEXT, FOUNDER, MIDNIGHT, MIDNIGHT_TEXT, OBSERVER, Row, TWO,
+    session,
+};
 
 /// A tracklet of lines of 80 columns. Its first line has the day 15.12345, which is 2 h 57 m 46.08 s, the right
 /// ascension 06 12 34.56 and the declination +23 45 01.2.
