@@ -1,9 +1,7 @@
-//! Tests of the program's command `serve`: over doors in memory, and over a port of this machine.
+//! Tests of the program's command `serve` over doors in memory.
 //!
 //! A crate with tests is proved twice, with and without them, so they stand in a crate above those that they test.
 #![tactic(auto)]
 
 #[cfg(test)]
 mod connections;
-#[cfg(test)]
-mod sockets;
