@@ -1,0 +1,9 @@
+//! What is heard of HTTP messages in memory, for the crates that test them.
+//!
+//! A function says whether something is heard, and asserts nothing: no library may stop the program. None has a clause,
+//! since what the calls promise would then stand in the proof of every test.
+#![tactic(auto)]
+
+mod hearing;
+
+pub use hearing::{Want, hears, is_heard};
