@@ -2,86 +2,13 @@
 
 mod plain;
 
-use angle_fixed::{Dec, Ra};
+use file_calls::{ENTRY, HOME, begin_track, counts, name, observe, retract, seen, set_home};
 use item_list::NoMemory;
-use obs_record::{Coded, Shape, Short, Sighting, TrackName};
-use obs_time::Instant;
-use packed_names::{Designation, HalfMonth, Provisional};
+use obs_record::Short;
+use packed_names::Designation;
 use plain::Plain;
-use std::alloc::{AllocError, Global};
+use std::alloc::Global;
 use tracklet_file::*;
-
-const ENTRY: u64 = 7;
-
-/// 2024 EA.
-const HOME: Designation = Designation::Provisional(Provisional {
-    half: HalfMonth {
-        year: 2024,
-        index: 4,
-    },
-    order: 1,
-});
-
-fn name() -> TrackName {
-    TrackName::Sub(Short::new(b"P10abcd"))
-}
-
-// An observation from station 703 at so many nanoseconds, one unit north of as many units of right ascension.
-fn seen(ns: i64) -> Option<Sighting> {
-    let time = Instant::new(ns)?;
-    let ra = Ra::new(ns)?;
-    let dec = Dec::new(1)?;
-    Some(Sighting {
-        perm: None,
-        prov: None,
-        sub: Some(Short::new(b"P10abcd")),
-        station: Short::new(b"703"),
-        time,
-        ra,
-        dec,
-        mag: None,
-        band: Coded::Nothing,
-        mode: Coded::Nothing,
-        catalogue: Coded::Nothing,
-        note1: b' ',
-        shape: Shape::Psv { mag: 0 },
-    })
-}
-
-fn begin_track(file: &mut TrackletFile, home: Option<Designation>) -> Result<u64, NoMemory> {
-    file.reserve(0, 1)?;
-    Ok(file.add_track(name(), Short::new(b"703"), home))
-}
-
-fn observe(file: &mut TrackletFile, track: u64, ns: i64) -> Result<u64, NoMemory> {
-    file.reserve(1, 0)?;
-    match (file.name(track), seen(ns)) {
-        (Some(_), Some(s)) => Ok(file.add(track, s, ENTRY)),
-        _ => Err(AllocError),
-    }
-}
-
-fn retract(file: &mut TrackletFile, k: u64) {
-    if file.sighting(k).is_some() && file.is_live(k) {
-        file.retract(k);
-    }
-}
-
-fn set_home(file: &mut TrackletFile, t: u64, home: Option<Designation>) {
-    if file.name(t).is_some() {
-        file.set_home(t, home);
-    }
-}
-
-fn counts(file: &TrackletFile) -> [u64; 5] {
-    [
-        file.isolated(),
-        file.homed(),
-        file.retracted(),
-        file.observations(),
-        file.tracks(),
-    ]
-}
 
 /// A call that changes the file.
 #[derive(Clone, Copy)]
