@@ -39,8 +39,8 @@ const NO_MEMORY: &str = concat!(
     "refused 17 NoMemory\n",
 );
 
-// Whether an answer is sent so into a sink of so many bytes, and the sink has this then; false where memory was refused,
-// here and below.
+// Whether an answer is sent so into a sink of so many bytes, and the sink has this then; false where memory was
+// refused, here and below.
 fn is_sent(
     alloc: Global,
     room: usize,

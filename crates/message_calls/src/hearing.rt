@@ -5,8 +5,8 @@ use desk_http::{Heard, Wire};
 use desk_io::MemSource;
 use std::alloc::Global;
 
-/// What is heard: a request with its key, its number, the word of its verb (an empty one for an unknown verb), its body,
-/// and whether its answer is the last one; or what comes in place of one.
+/// What is heard: a request with its key, its number, the word of its verb (an empty one for an unknown verb), its
+/// body, and whether its answer is the last one; or what comes in place of one.
 #[derive(Clone, Copy)]
 pub enum Want {
     Asks(&'static str, Option<u64>, &'static str, &'static str, bool),
