@@ -1,6 +1,5 @@
 //! Heads at the front of bytes, and replies as frames.
 
-use super::tables::expect_none_wrong;
 use desk_frames::{Front, put_reply, read_head};
 use std::alloc::{AllocError, Global};
 use std::test::Fail;
@@ -88,7 +87,7 @@ fn wrong_head(rows: &[(&[u8], Want)]) -> Option<usize> {
 
 #[test]
 fn heads_at_the_front(rt: HostRuntime) {
-    expect_none_wrong(&rt, wrong_head(HEADS));
+    assert_eq!(rt; wrong_head(HEADS), None);
 }
 
 // Two replies, one at once after the other.
