@@ -5,7 +5,6 @@
 //! since what the calls promise would then stand in the proof of every test.
 #![tactic(auto)]
 
-mod batches;
 mod calls;
 mod exchange;
 mod pieces;
@@ -14,7 +13,6 @@ mod setup;
 mod tracklets;
 mod wrong;
 
-pub use batches::{BATCH_ANSWER, BATCHES};
 pub use calls::{Call, Drive, call_alone, call_in_turn, words_of};
 pub use exchange::{Exchange, Frames};
 pub use pieces::{NoMemory, put, put_lines, put_reply, put_taken};

@@ -4,16 +4,6 @@
 #![tactic(auto)]
 
 #[cfg(test)]
-mod ades;
-#[cfg(test)]
-mod batches;
-#[cfg(test)]
 mod large;
 #[cfg(test)]
-mod places;
-#[cfg(test)]
-mod refusals;
-#[cfg(test)]
 mod runs;
-#[cfg(test)]
-mod session;

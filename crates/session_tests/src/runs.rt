@@ -1,7 +1,7 @@
 //! The ends of a run, in pieces of every size, and with each read and each write failing in turn.
 
-use super::session::{FRAMES, session_tables};
 use session_calls::{Call, FIRST, FIRST_ANSWER, Frames, Wrong, call_alone};
+use session_frames::{FRAMES, session_tables};
 use std::alloc::Global;
 
 /// The founder's first request, and after it a length with a leading zero.

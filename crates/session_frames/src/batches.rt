@@ -1,6 +1,17 @@
-//! Further batches of the observer in 80 columns.
+//! Batches of the observer in 80 columns.
 
-use session_calls::Exchange;
+use session_calls::{BATCH, Exchange};
+
+/// The answer to the batch of four lines.
+pub(super) const BATCH_ANSWER: &str = concat!(
+    "200 116\n",
+    "receipt 6\n",
+    "accepted 4 refused 0\n",
+    "line 7 obs 1 track 1\n",
+    "line 8 obs 2 track 1\n",
+    "line 9 obs 3 track 1\n",
+    "line 10 obs 4 track 1\n",
+);
 
 /// Lines of an unknown station, outside its days, on its first day, of an unknown band and of an
 /// unknown mode; lines that break two of these rules; a line under a designation; one without mode
@@ -35,6 +46,22 @@ const RULES_ANSWER: &str = concat!(
     "line 10 obs 6 track 2\n",
     "line 11 refused S1\n",
 );
+
+/// A batch of the observer, and the same sent again.
+pub const BATCHES: &[Exchange] = &[
+    Exchange {
+        head: "observer-1 1 submit80 411\n",
+        body: BATCH,
+        answer: BATCH_ANSWER,
+        entries: 6,
+    },
+    Exchange {
+        head: "observer-1 1 submit80 411\n",
+        body: BATCH,
+        answer: BATCH_ANSWER,
+        entries: 6,
+    },
+];
 
 /// Batches under a number that was used, without lines, and with lines that break rules.
 pub(super) const FURTHER_BATCHES: &[Exchange] = &[

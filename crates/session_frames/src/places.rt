@@ -1,7 +1,8 @@
 //! Rules beside the observations that are there, retractions, and queries.
 
-use super::refusals::ROLE;
-use session_calls::{BATCH, BATCH_ANSWER, Exchange};
+use crate::batches::BATCH_ANSWER;
+use crate::refusals::ROLE;
+use session_calls::{BATCH, Exchange};
 
 /// The observer's first batch under a further number: its observations are there already.
 const AGAIN_ANSWER: &str = concat!(
