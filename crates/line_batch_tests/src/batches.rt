@@ -7,7 +7,6 @@ use col80_format::*;
 use item_list::NoMemory;
 use obs_record::{Lines, RuleCode};
 use std::alloc::Global;
-use std::convert::AsSlice;
 
 /// A batch with header lines, blank lines, line ends of both kinds, and a last line that no line feed ends.
 const BATCH: &[u8] = b"COD 703\n\
