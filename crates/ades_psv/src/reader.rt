@@ -22,6 +22,9 @@ use std::marker::Model;
 use text_lines::laws;
 use text_lines::pieces::line_end;
 
+/// As many bytes as most data lines have at least, with their line feed.
+const LINE_BYTES: usize = 64;
+
 /// A reader of a batch that comes in pieces.
 ///
 /// Lines are read as they come. Of the text the reader keeps the unfinished last line alone.
@@ -93,12 +96,21 @@ impl PsvReader {
         ensures text { IfOk result (λ reader. reader ≡ fed unfed []) }
     {
         laws::lines();
+        PsvReader::with_room(alloc, 0)
+    }
+
+    /// The same, with room for so many lines, so that their list isn't moved while they come.
+    #[tactic(auto, using(crate::proofs::Readers::fed_nothing))]
+    fn with_room(alloc: Global, lines: usize) -> Result<PsvReader, NoMemory>
+        ensures { IfOk result (λ reader. reader ≡ unfed) }
+    {
+        laws::lines();
         Ok(PsvReader {
             alloc,
             reached: Reached {
                 place: Place::Opening,
                 count: 0,
-                found: Lines::new(alloc),
+                found: Lines::with_capacity(alloc, lines)?,
             },
             rest: Bytes::new(alloc),
             told: None,
@@ -223,7 +235,8 @@ impl PsvReader {
 /// after the last line feed is a line where it isn't empty. Lines count from 1, all of them. Lines of blanks alone are
 /// passed over. The first other line is `# version=2017`; the lines of headers begin with `#` or `!`; the first line
 /// below them is the column header, and data lines follow, up to the next line that begins with `#`. The batch has
-/// fewer than 4,294,967,295 bytes. Takes memory.
+/// fewer than 4,294,967,295 bytes. Takes memory for the list, at once for as many lines of 64 bytes as the batch has room
+/// for.
 ///
 /// # Errors
 ///
@@ -236,7 +249,7 @@ pub fn read_psv(alloc: Global, body: &[u8]) -> Result<Lines, PsvFault>
     ensures range { IfOk result AreInRange }
 {
     laws::lines();
-    let mut reader = PsvReader::new(alloc)?;
+    let mut reader = PsvReader::with_room(alloc, body.len() / LINE_BYTES)?;
     reader.feed(body)?;
     reader.finish()
 }

@@ -5,6 +5,7 @@ ghost use Rattle.act_model.specs.BatchRules.{checked_reading, with_passed, check
 ghost use Rattle.batch_rules.specs.Earlier.{pointed, reading_of, line_of};
 
 use crate::earlier::Earlier;
+use crate::rows::Rows;
 use crate::rules::line_fault;
 use act_model::Known;
 use item_list::NoMemory;
@@ -24,22 +25,23 @@ pub(crate) struct Checked<'a> {
 // itself or beside the earlier ones.
 #[tactic(auto, unfolding(act_model::specs::BatchRules::checked_reading))]
 fn checked_reading<'a, V: Known>(
-    tables: &Tables,
+    rows: &mut Rows,
     known: &V,
     moment: Instant,
     earlier: &mut Earlier<'a>,
     read: &'a Result<Sighting, RuleCode>,
 ) -> Result<Result<&'a Sighting, RuleCode>, NoMemory>
     ensures read { IfOk result (λ checked. reading_of checked
-        ≡ checked_reading (V.office known.now) tables.now moment earlier.old read.now) }
+        ≡ checked_reading (V.office known.now) rows.old moment earlier.old read.now) }
     ensures earlier { IfOk result (λ checked. earlier.new ≡ with_passed (reading_of checked) earlier.old) }
+    ensures rows { rows.new ≡ rows.old }
 {
     let s = match read {
         Ok(s) => s,
         Err(rule) => return Ok(Err(*rule)),
     };
     let beside = earlier.beside(s)?;
-    match line_fault(tables, known, moment, beside, s) {
+    match line_fault(rows, known, moment, beside, s) {
         None => {
             earlier.push(s)?;
             Ok(Ok(s))
@@ -61,10 +63,11 @@ pub(crate) fn checked_lines<'a, V: Known>(
         map line_of checked.0.items ≡ checked_lines (V.office known.now) tables.now moment [] lines.now) }
     ensures passed { IfOk result (λ checked. pointed checked.1.items ≡ passed_in (map line_of checked.0.items)) }
 {
+    let mut rows = Rows::new(tables);
     let mut earlier = Earlier::with_capacity(alloc, lines.len())?;
     let mut checked = Vec::with_capacity(alloc, lines.len())?;
     for line in lines {
-        let read = checked_reading(tables, known, moment, &mut earlier, &line.read)?;
+        let read = checked_reading(&mut rows, known, moment, &mut earlier, &line.read)?;
         checked.push(Checked {
             number: line.number,
             read,

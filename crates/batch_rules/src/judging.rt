@@ -124,11 +124,12 @@ fn count(firsts: &IndexSet<GroupKey>) -> Result<u32, NoMemory>
 // The rulings on all lines, by the summaries of their groups.
 fn rulings(alloc: Global, groups: &Groups, checked: &[Checked]) -> Result<Rulings, NoMemory>
     ensures list { IfOk result (λ judged. judged.list ≡ map (ruling_by (λ (key : Key). get same_key groups.now key)
-        (keys_after (λ (key : Key). get same_key groups.now key) [] (map line_of checked.now))) (map line_of checked.now)) }
+        (keys_after (λ (key : Key). get same_key groups.now key) [] (map line_of checked.now)))
+        (map line_of checked.now)) }
     ensures groups { IfOk result (λ judged.
         judged.groups ≡ length (keys_after (λ (key : Key). get same_key groups.now key) [] (map line_of checked.now))) }
 {
-    let mut firsts = IndexSet::new(alloc);
+    let mut firsts = IndexSet::with_capacity(alloc, groups.len())?;
     let mut last = Last { group: 0, first: 0 };
     let mut list = ItemList::with_capacity(alloc, checked.len())?;
     for line in checked {

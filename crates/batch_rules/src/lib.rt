@@ -10,6 +10,7 @@ mod judging;
 mod keys;
 mod names;
 mod places;
+mod rows;
 mod rules;
 mod rulings;
 mod times;

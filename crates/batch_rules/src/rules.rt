@@ -6,35 +6,17 @@ ghost use Rattle.obs_record.specs.declared.sighting.Sighting.{Sighting as Sighti
 ghost use Rattle.obs_time.specs.Dates.{day_of};
 ghost use Rattle.obs_time.specs.Calendar.{year_of};
 ghost use Rattle.act_model.specs.Rows.{first_row};
-ghost use Rattle.act_model.specs.Ruling.{is_in_row, station_serving};
 ghost use Rattle.act_model.specs.BatchRules.{is_in_years, is_ungiven, names_ungiven, stands_already, stands_elsewhere};
 ghost use Rattle.act_model.specs.BatchRules.{object_of, are_two, is_of_two_objects, line_rules};
 ghost use Rattle.batch_rules.specs.PlaceTests.{rule_beside};
 
 use crate::names::{designation_of, number_of, same_designation};
+use crate::rows::Rows;
 use act_model::Known;
-use obs_record::{Coded, RuleCode, Sighting};
-use obs_time::{Instant, civil_of, day};
+use obs_record::{RuleCode, Sighting};
+use obs_time::{Instant, civil_of};
 use packed_names::{Designation, Name};
-use station_tables::{Kind, Serving, Tables};
-
-// Whether the letter or the word that a line gives, if it gives one, is in a row of the kind.
-fn is_in_row(tables: &Tables, kind: Kind, coded: Coded) -> bool
-    ensures { result ≡ is_in_row tables.now kind coded }
-{
-    match coded {
-        Coded::Nothing => true,
-        Coded::Letter(letter) => tables.word(kind, letter).is_some(),
-        Coded::Word(word) => tables.letter(kind, word).is_some(),
-    }
-}
-
-// How the observation's station stands on the observation's day of UTC.
-fn station_serving(tables: &Tables, s: &Sighting) -> Serving
-    ensures { result ≡ station_serving tables.now s.now }
-{
-    tables.station(s.station, day(s.time))
-}
+use station_tables::{Kind, Serving};
 
 // The year of a moment.
 fn year_of(time: Instant) -> u16
@@ -115,27 +97,28 @@ fn is_of_two_objects<V: Known>(known: &V, s: &Sighting) -> bool
 /// breaks beside these.
 #[tactic(auto, using(crate::proofs::Beside::beside_none))]
 pub(crate) fn line_fault<V: Known>(
-    tables: &Tables,
+    rows: &mut Rows,
     known: &V,
     moment: Instant,
     beside: Option<RuleCode>,
     s: &Sighting,
 ) -> Option<RuleCode>
-    ensures { (earlier : List Sighting) → beside ≡ rule_beside earlier s.now →
-        result ≡ first_row (line_rules (V.office known.now) tables.now moment earlier s.now) }
+    ensures rule { (earlier : List Sighting) → beside ≡ rule_beside earlier s.now →
+        result ≡ first_row (line_rules (V.office known.now) rows.old moment earlier s.now) }
+    ensures same { rows.new ≡ rows.old }
 {
-    match station_serving(tables, s) {
+    match rows.station_serving(s) {
         Serving::Unknown => return Some(RuleCode::T1),
         Serving::Outside => return Some(RuleCode::T2),
         Serving::Serving => {}
     }
-    if !is_in_row(tables, Kind::Catalogue, s.catalogue) {
+    if !rows.have(Kind::Catalogue, s.catalogue) {
         return Some(RuleCode::T3);
     }
-    if !is_in_row(tables, Kind::Band, s.band) {
+    if !rows.have(Kind::Band, s.band) {
         return Some(RuleCode::T4);
     }
-    if !is_in_row(tables, Kind::Mode, s.mode) {
+    if !rows.have(Kind::Mode, s.mode) {
         return Some(RuleCode::T5);
     }
     if moment.ns() < s.time.ns() {

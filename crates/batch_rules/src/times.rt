@@ -34,9 +34,14 @@ impl Times {
         self.set.contains(&time.ns())
     }
 
-    /// One observation more. Without memory they stay as they are.
+    /// One observation more.
+    ///
+    /// # Errors
+    ///
+    /// Memory was refused.
     pub(crate) fn insert(&mut self, s: &Sighting) -> Result<(), NoMemory>
-        ensures { OnOk result ((earlier : List Sighting) → HasTimes self.old earlier → HasTimes self.new (s.now ∷ earlier)) }
+        ensures { OnOk result ((earlier : List Sighting) → HasTimes self.old earlier →
+            HasTimes self.new (s.now ∷ earlier)) }
     {
         self.set.insert(s.time.ns())?;
         Ok(())

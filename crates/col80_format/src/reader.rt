@@ -15,6 +15,9 @@ use std::alloc::Global;
 use std::marker::Model;
 use text_lines::pieces::line_end;
 
+/// The bytes of an observation line with its line feed.
+const LINE_BYTES: usize = 81;
+
 /// A reader of a batch that comes in pieces.
 ///
 /// It keeps the last line, which isn't finished, the number of the next line, whether an observation line came, and the
@@ -47,13 +50,21 @@ impl EightyReader {
         ensures { IfOk result (λ reader. reader ≡ progress_of []) }
     {
         text_lines::laws::lines();
+        EightyReader::with_room(alloc, 0)
+    }
+
+    /// The same, with room for so many lines, so that their list isn't moved while they come.
+    fn with_room(alloc: Global, lines: usize) -> Result<EightyReader, NoMemory>
+        ensures { IfOk result (λ reader. reader ≡ progress_of []) }
+    {
+        text_lines::laws::lines();
         Ok(EightyReader {
             alloc,
             rest: Bytes::new(alloc),
             seen: Seen {
                 next: 1,
                 observed: false,
-                found: Lines::new(alloc),
+                found: Lines::with_capacity(alloc, lines)?,
             },
         })
     }
@@ -143,7 +154,8 @@ fn read_on(alloc: Global, rest: &mut Bytes, seen: &mut Seen, piece: &[u8]) -> Re
 /// NET, BND, COM, NUM, ACK and AC2, and a blank or the line's end follows. After the first observation line a line that
 /// looks like a header line is an observation line, and breaks a rule.
 ///
-/// The batch has fewer than 4,294,967,295 bytes. Takes memory for the list.
+/// The batch has fewer than 4,294,967,295 bytes. Takes memory for the list, at once for as many lines of 80 bytes as the
+/// batch has room for.
 ///
 /// # Errors
 ///
@@ -155,7 +167,7 @@ pub fn split_batch(alloc: Global, body: &[u8]) -> Result<Lines, NoMemory>
     ensures lines { IfOk result (λ found. AllZip IsReadFrom (observation_lines body.now) found) }
     ensures range { IfOk result AreInRange }
 {
-    let mut reader = EightyReader::new(alloc)?;
+    let mut reader = EightyReader::with_room(alloc, body.len() / LINE_BYTES)?;
     reader.feed(body)?;
     reader.finish()
 }

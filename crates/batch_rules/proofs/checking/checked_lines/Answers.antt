@@ -4,7 +4,8 @@ use Rattle.std.proofs.lemmas.List.{drop_more, map-append}
 use Rattle.obs_record.specs.declared.line.Line.{Line}
 use Rattle.obs_record.specs.declared.sighting.Sighting.{Sighting}
 use Rattle.obs_record.specs.declared.rule.RuleCode.{RuleCode}
-use Rattle.act_model.specs.BatchRules.{with_passed, checked_lines, passed_in}
+use Rattle.station_tables.specs.Rows.{TableRows}
+use Rattle.act_model.specs.BatchRules.{checked_reading, with_passed, checked_lines, passed_in}
 use Rattle.batch_rules.specs.Earlier.{reading_of, line_of}
 use Rattle.batch_rules.proofs.Passed.{passed_more}
 use Rattle.batch_rules.proofs.checking.checked_lines.Goals as goal
@@ -18,6 +19,7 @@ loop-line-preserved g c =
     let next = c.checked_reading.new.earlier in
     let read = reading_of c.in_ok-read.read in
     let rest = drop (c.loop-line.line-index + 1) c.args.lines.now in
+    let of_tables = ap (λ (tables : TableRows). checked_reading (g.V.Known.office c.args.known.now) tables c.args.moment earlier line.read) c.loop-line.invariant.rows in
     let split : drop c.loop-line.line-index c.args.lines.now ≡ line ∷ rest =
     drop_more c.args.lines.now c.loop-line.line-index line (omega arith) ∙ ap (λ (y : Line). y ∷ rest) (sym c.line-item.is) in
     let items : map line_of c.push.new.self.items ≡ done ++ record line { read = read } ∷ [] =
@@ -26,9 +28,10 @@ loop-line-preserved g c =
           ap (λ (xs : List Line). xs ++ left next rest) items
           ∙ append_assoc done (record line { read = read } ∷ []) (left next rest)
           ∙ ap (λ (e : List Sighting). done ++ record line { read = read } ∷ left e rest) c.in_ok-read.ensures.earlier
-          ∙ ap (λ (r : Result Sighting RuleCode). done ++ record line { read = r } ∷ left (with_passed r earlier) rest) c.in_ok-read.ensures.read
+          ∙ ap (λ (r : Result Sighting RuleCode). done ++ record line { read = r } ∷ left (with_passed r earlier) rest) (c.in_ok-read.ensures.read ∙ of_tables)
           ∙ ap (λ (lines : List Line). done ++ left earlier lines) (sym split)
           ∙ c.loop-line.invariant.lines;
+      rows = c.in_ok-read.ensures.rows ∙ c.loop-line.invariant.rows;
       passed =
           ap reverse c.in_ok-read.ensures.earlier
           ∙ passed_more done (record line { read = read }) read earlier refl c.loop-line.invariant.passed
