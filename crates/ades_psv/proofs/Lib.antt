@@ -1,4 +1,5 @@
 pub mod CellLaws
+pub mod Bars
 pub mod NameSets
 pub mod Judging
 pub mod FieldLaws
