@@ -46,7 +46,7 @@ module _ (text : List ℕ) (mask : ℕ) (room : 16 ≤ length text) (is : mask �
       let here : place ≡ 0 + place = omega arith in
       ap (λ k. get_or text k 0) here
       ∙ (Decides-eqb (get_or text (0 + place) 0) 124).0
-          (run_in_chunk_stops is_bar text 0 16 place 0 room counted in_step)
+      (run_in_chunk_stops is_bar text 0 16 place 0 room counted in_step)
 
   pub none_below_lowest : (k : ℕ) → k < place → is_bar (get_or text k 0) ≡ false
   none_below_lowest k below =

@@ -63,6 +63,7 @@ fn cut_cells(cut: &mut CutLine)
 }
 
 /// The cell in this place of a line, counted from 0; nothing where the line has fewer.
+#[inline(never)]
 fn cell_at<'a>(place: usize, line: &'a [u8]) -> &'a [u8]
     ensures { result.now ≡ unwrap_or (slice_get (cells line.now) place) [] }
 {
@@ -77,6 +78,7 @@ fn cell_at<'a>(place: usize, line: &'a [u8]) -> &'a [u8]
 }
 
 /// The cell in a column; nothing where the line has fewer cells, or where there is no such column.
+#[inline(always)]
 fn cell_in<'a>(column: Option<usize>, cut: &CutLine<'a>) -> &'a [u8]
     requires { AreCells cut.now.line.now cut.now }
     ensures { result.now ≡ cell_in column (cells cut.now.line.now) }
