@@ -1,5 +1,4 @@
 pub mod CellLaws
-pub mod Bars
 pub mod NameSets
 pub mod Judging
 pub mod FieldLaws

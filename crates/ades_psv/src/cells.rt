@@ -1,55 +1,22 @@
 //! The cells of a line, which bars separate.
 
 ghost use Rattle.std.specs.Prelude.{◌≡◌, ◌==◌, ◌+◌, ◌<◌, ◌≤◌, [], ◌∷◌, ◌++◌, All, false, length, IfSome, IfNone};
-ghost use Rattle.std.specs.Prelude.{ℕ, count_by, map, take, slice_index};
-ghost use Rattle.std.specs.Simd.Lanes.{mask_l};
+ghost use Rattle.std.specs.Prelude.{count_by};
 ghost use Rattle.std.specs.Option.{option_map_or};
 ghost use Rattle.ascii_text.specs.Bytes.{vertical_bar};
 ghost use Rattle.ades_psv.specs.Cells.{cells};
 ghost use Rattle.ades_psv.specs.Columns.{place_of};
 
 use ascii_text::blanks::trimmed;
-use std::simd::prelude::*;
 
-/// How many bytes are looked at in one step. Most cells are shorter, so that one step finds their end.
-const STEP: usize = 16;
-
-/// Which of the first bytes of a text are bars: a bit for each, the lowest for the first.
-#[inline(always)]
-fn bars_in_front(text: &[u8]) -> u64
-    requires { 16 ≤ length text.now }
-    ensures { result ≡ mask_l (map (λ byte. byte == vertical_bar) (take 16 text.now)) }
-{
-    u8x16::from_slice(text)
-        .simd_eq(u8x16::splat(b'|'))
-        .to_bitmask()
-}
-
-/// The place of the first bar. Cells are short: one step and a plain loop find their end sooner than a search that is
-/// made for long texts.
-#[inline(always)]
-fn bar_in(text: &[u8]) -> Option<usize>
-    ensures within { IfSome result (λ place. place < length text.now) }
-    ensures bar { IfSome result (λ place. slice_index text.now place ≡ vertical_bar) }
-    ensures first { IfSome result (λ place. (k : ℕ) → k < place → (slice_index text.now k == vertical_bar) ≡ false) }
-    ensures none { IfNone result (All (λ b. (b == vertical_bar) ≡ false) text.now) }
-{
-    if text.len() >= STEP {
-        let bars = bars_in_front(text);
-        if bars != 0 {
-            return Some(bars.trailing_zeros() as usize);
-        }
-    }
-    text.iter().position(|byte| *byte == b'|')
-}
-
-/// What stands before the first bar of a text, and what stands after it; the whole text where there is none.
+/// What stands before the first bar of a text, and what stands after it; the whole text where there is none. Cells are
+/// short, and a plain loop finds their end sooner than a search that is made for long texts.
 fn cut_at_bar(text: &[u8]) -> (&[u8], Option<&[u8]>)
     ensures parts { IfSome result.1 (λ behind. text.now ≡ result.0.now ++ 124 ∷ behind.now) }
     ensures whole { IfNone result.1 (result.0.now ≡ text.now) }
     ensures first { All (λ b. (b == vertical_bar) ≡ false) result.0.now }
 {
-    match bar_in(text) {
+    match text.iter().position(|byte| *byte == b'|') {
         None => (text, None),
         Some(place) => {
             let (front, rest) = text.split_at(place);
