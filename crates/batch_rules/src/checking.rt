@@ -5,7 +5,7 @@ ghost use Rattle.act_model.specs.BatchRules.{checked_reading, with_passed, check
 ghost use Rattle.batch_rules.specs.Earlier.{pointed, reading_of, line_of};
 
 use crate::earlier::Earlier;
-use crate::rows::Rows;
+use crate::found_rows::Rows;
 use crate::rules::line_fault;
 use act_model::Known;
 use item_list::NoMemory;

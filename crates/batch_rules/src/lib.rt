@@ -4,13 +4,13 @@
 
 mod checking;
 mod earlier;
+mod found_rows;
 mod groups;
 mod index;
 mod judging;
 mod keys;
 mod names;
 mod places;
-mod rows;
 mod rules;
 mod rulings;
 mod times;

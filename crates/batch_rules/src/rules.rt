@@ -10,8 +10,8 @@ ghost use Rattle.act_model.specs.BatchRules.{is_in_years, is_ungiven, names_ungi
 ghost use Rattle.act_model.specs.BatchRules.{object_of, are_two, is_of_two_objects, line_rules};
 ghost use Rattle.batch_rules.specs.PlaceTests.{rule_beside};
 
+use crate::found_rows::Rows;
 use crate::names::{designation_of, number_of, same_designation};
-use crate::rows::Rows;
 use act_model::Known;
 use obs_record::{RuleCode, Sighting};
 use obs_time::{Instant, civil_of};
