@@ -28,9 +28,9 @@ use usage_text::usage_text;
 /// How much memory is taken and given back at the start, in bytes.
 const KEPT: usize = 1 << 20;
 
-/// Takes memory and gives it back at once. The C library returns what is free at the end of its heap to the system where
-/// that is more than twice the largest block that was freed so far, and asks for it again, page by page, when the next
-/// batch comes. With this block behind it, what one batch used serves the next one.
+/// Takes memory and gives it back at once. The C library returns what is free at the end of its heap to the system
+/// where that is more than twice the largest block that was freed so far, and asks for it again, page by page, when the
+/// next batch comes. With this block behind it, what one batch used serves the next one.
 fn keep_freed_memory(alloc: Global) {
     let _ = Vec::<u8>::with_capacity(alloc, KEPT);
 }

@@ -1,4 +1,5 @@
-//! Calls of the program over devices in memory, for the crates that test its commands, and how the links of `serve` end.
+//! Calls of the program over devices in memory, for the crates that test its commands, and how the links of `serve`
+//! end.
 //!
 //! A function says what is wrong with a call, and asserts nothing: no library may stop the program. None has a clause,
 //! since what the program promises would then stand in the proof of every test.

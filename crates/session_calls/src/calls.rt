@@ -72,8 +72,8 @@ impl<'a> Call<'a> {
         })
     }
 
-    /// Whether a call is as wanted that ended with this status, as it is printed, and its number, after so many entries,
-    /// and wrote these bytes.
+    /// Whether a call is as wanted that ended with this status, as it is printed, and its number, after so many
+    /// entries, and wrote these bytes.
     ///
     /// # Errors
     ///
