@@ -1,6 +1,7 @@
 pub mod Conducts
 mod Clocks
 pub mod Callers
+pub mod Feeds
 pub mod Hearing
 pub mod Legal
 pub mod Places

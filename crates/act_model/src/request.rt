@@ -1,6 +1,6 @@
 //! Requests and their verbs.
 
-ghost use Rattle.std.specs.Prelude.{◌≡◌};
+ghost use Rattle.std.specs.Prelude.{◌≡◌, ◌≤◌, length};
 ghost use Rattle.act_model.specs.Requests.{verb_of, is_unknown, is_act, is_officers, verb_code, same_verb, line_feeds};
 ghost use Rattle.act_model.specs.Step.{is_resend};
 
@@ -201,9 +201,13 @@ pub enum Body {
     NoRoom,
 }
 
-/// How many line feeds a body has.
+/// How many bytes are counted in one go: few enough that their count fits in a byte, so that many are compared at a time.
+const COUNTED_BYTES: usize = 192;
+
+// How many line feeds there are among a few bytes.
 #[tactic(auto, unfolding(crate::specs::Requests::line_feeds))]
-pub fn line_feeds(bytes: &[u8]) -> u64
+fn line_feeds_among(bytes: &[u8]) -> u8
+    requires { length bytes.now ≤ 255 }
     ensures { result ≡ line_feeds bytes.now }
 {
     let mut feeds = 0;
@@ -213,6 +217,20 @@ pub fn line_feeds(bytes: &[u8]) -> u64
         }
     }
     feeds
+}
+
+/// How many line feeds a body has.
+pub fn line_feeds(bytes: &[u8]) -> u64
+    ensures { result ≡ line_feeds bytes.now }
+{
+    let mut feeds = 0;
+    let mut left = bytes;
+    while left.len() > COUNTED_BYTES {
+        let (front, rest) = left.split_at(COUNTED_BYTES);
+        feeds += u64::from(line_feeds_among(front));
+        left = rest;
+    }
+    feeds + u64::from(line_feeds_among(left))
 }
 
 /// A request: who asks, under which number of the asker's own, what is asked, and the text for it.

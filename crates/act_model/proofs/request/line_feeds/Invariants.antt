@@ -1,7 +1,10 @@
-use Rattle.std.proofs.Common.{◌≡◌, ◌≤◌, take}
+use Rattle.std.proofs.Common.{◌≡◌, ◌+◌, ◌≤◌, length}
 use Rattle.act_model.specs.Requests.{line_feeds}
 use Rattle.act_model.proofs.request.line_feeds.Given as goal
 
--- the line feeds so far are counted
-abbrev pub invariant-loop-byte : goal.invariant-loop-byte
-invariant-loop-byte l = (l.feeds ≡ line_feeds (take l.byte-index l.bytes)) × (l.feeds ≤ l.byte-index)
+-- those of the front are counted
+abbrev pub invariant-loop-left : goal.invariant-loop-left
+invariant-loop-left l = (l.feeds + line_feeds l.left ≡ line_feeds l.bytes) × (l.feeds + length l.left ≤ length l.bytes)
+
+abbrev pub decreases-loop-left : goal.decreases-loop-left
+decreases-loop-left l = length l.left
