@@ -26,7 +26,7 @@ use std::thread::Threads;
 use usage_text::usage_text;
 
 /// How much memory is taken and given back at the start, in bytes.
-const KEPT: usize = 1 << 20;
+const KEPT: usize = 1 << 22;
 
 /// Takes memory and gives it back at once. The C library returns what is free at the end of its heap to the system
 /// where that is more than twice the largest block that was freed so far, and asks for it again, page by page, when the

@@ -1,6 +1,7 @@
 //! Calls of the program on an empty disk in memory.
 
-use desk_io::{Clock, Door, MemSink, MemSource, NoMemory, Sink, Source, TickClock};
+use crate::links::{End, Sent, door_of, wrong_end};
+use desk_io::{Clock, Door, MemSink, MemSource, NoMemory, Sink, Source, TcpDoor, TickClock};
 use desk_serve::LinkEnds;
 use disk_model::{Disk, MemDisk};
 use obs_time::Instant;
@@ -8,6 +9,7 @@ use program_call::top::{single, top};
 use program_call::{Ended, Words};
 use session_calls::{Call, Found, Wrong, words_of};
 use std::alloc::Global;
+use std::net::{Net, TcpListener, TcpStream};
 use std::sync::Wait;
 use std::thread::Threads;
 
@@ -128,4 +130,37 @@ pub fn call_top<G: Door, R: Threads + Wait + Sync>(
     );
     is_met(alloc, call, &ended, &devices.sink)?;
     Ok(ends)
+}
+
+/// Calls `top` on an empty disk, with these links through a door in memory, of which the call with the number `fails`
+/// fails (for 0 none does), and gives the place of the first link that ended otherwise than it is wanted.
+///
+/// # Errors
+///
+/// What is wrong with the call.
+pub fn call_over_links<R: Threads + Wait + Sync>(
+    rt: &R,
+    alloc: Global,
+    call: &Call,
+    links: &[Sent],
+    fails: u64,
+    wanted: &[End],
+) -> Result<Option<usize>, Wrong> {
+    let mut door = door_of(alloc, links, fails)?;
+    let ends = call_top(rt, alloc, call, &mut door)?;
+    Ok(wrong_end(&ends, wanted))
+}
+
+/// Calls `top` on an empty disk, with links that come through port 8017 of this machine, and gives how many came.
+///
+/// # Errors
+///
+/// What is wrong with the call.
+pub fn call_over_port<
+    R: Threads + Wait + Sync,
+    N: Net<Listener = TcpListener, Stream = TcpStream> + Copy,
+>(rt: &R, net: N, alloc: Global, call: &Call) -> Result<u64, Wrong> {
+    let mut door = TcpDoor::new(net, alloc);
+    let ends = call_top(rt, alloc, call, &mut door)?;
+    Ok(ends.len())
 }

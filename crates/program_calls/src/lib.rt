@@ -8,6 +8,6 @@
 mod calls;
 mod links;
 
-pub use calls::{call_single, call_top};
-pub use links::{End, Took, wrong_end};
+pub use calls::{call_over_links, call_over_port, call_single, call_top};
+pub use links::{End, Sent, Took, wrong_end};
 pub use program_call::Left;

@@ -1,8 +1,9 @@
-//! How the links of `serve` end.
+//! The links of `serve`, and how they end.
 
-use desk_io::MemSink;
+use desk_io::{MemDoor, MemSink, MemSource, NoMemory};
 use desk_serve::LinkEnds;
 use program_call::Left;
+use std::alloc::Global;
 
 /// A sink of a link that tells what it took.
 pub trait Took {
@@ -32,4 +33,22 @@ pub fn wrong_end<I, O: Took>(ends: &LinkEnds<I, O>, wanted: &[End]) -> Option<us
         }
     }
     None
+}
+
+/// What is sent on a link, and the read of it that fails (0 for none).
+pub type Sent = (&'static str, u64);
+
+fn link_of(alloc: Global, sent: &str, fails: u64) -> Result<(MemSource, MemSink), NoMemory> {
+    let source = MemSource::new(alloc, sent.as_bytes(), 7, &[fails])?;
+    let sink = MemSink::new(alloc, 4_096, &[])?;
+    Ok((source, sink))
+}
+
+/// A door with these links, of which the call with the number `fails` fails (for 0 none does).
+pub(crate) fn door_of(alloc: Global, links: &[Sent], fails: u64) -> Result<MemDoor, NoMemory> {
+    let mut made = Vec::new(alloc);
+    for (sent, read) in links {
+        made.push(link_of(alloc, sent, *read)?)?;
+    }
+    MemDoor::new(alloc, made, &[fails])
 }

@@ -1,12 +1,7 @@
 //! Connections that come through a door in memory.
 
-use desk_io::{MemDoor, MemSink, MemSource, NoMemory};
-use program_calls::{End, Left, call_top, wrong_end};
+use program_calls::{End, Left, Sent, call_over_links};
 use session_calls::Call;
-use std::alloc::Global;
-use std::process::Abort;
-use std::sync::Wait;
-use std::thread::Threads;
 
 const SERVE: [&str; 5] = ["serve", "--connections", "3", "--key", "+founder-1"];
 
@@ -49,9 +44,6 @@ const UNREAD: &str = concat!(
     "refused 1 Unread head\n",
 );
 
-/// What is sent on a link, and the read of it that fails (0 for none).
-type Sent = (&'static str, u64);
-
 /// The links of a call, the call of the door that fails, the status and its number, the entries, what is written, and
 /// how the links end.
 const ROWS: &[(&[Sent], u64, &str, u8, u64, &str, &[End])] = &[
@@ -89,34 +81,6 @@ const ROWS: &[(&[Sent], u64, &str, u8, u64, &str, &[End])] = &[
     (&[("", 0)], 2, "DoorFault", 9, 0, "", &[(Left::Ended, "")]),
 ];
 
-fn link_of(alloc: Global, sent: &str, fails: u64) -> Result<(MemSource, MemSink), NoMemory> {
-    let source = MemSource::new(alloc, sent.as_bytes(), 7, &[fails])?;
-    let sink = MemSink::new(alloc, 4_096, &[])?;
-    Ok((source, sink))
-}
-
-// A door with these links, of which the call with the number `fails` fails (for 0 none does).
-fn door_of(alloc: Global, links: &[Sent], fails: u64) -> Result<MemDoor, NoMemory> {
-    let mut made = Vec::new(alloc);
-    for (sent, read) in links {
-        made.push(link_of(alloc, sent, *read)?)?;
-    }
-    MemDoor::new(alloc, made, &[fails])
-}
-
-fn expect_served<R: Abort + Threads + Wait + Sync>(
-    rt: &R,
-    alloc: Global,
-    links: &[Sent],
-    fails: u64,
-    call: &Call,
-    wanted: &[End],
-) {
-    let mut door = door_of(alloc, links, fails).expect(rt, "memory");
-    let ends = call_top(rt, alloc, call, &mut door).expect(rt, "as wanted");
-    assert_eq!(rt; wrong_end(&ends, wanted), None);
-}
-
 #[test]
 fn connections(rt: HostRuntime) {
     for &(links, fails, status, number, added, taken, wanted) in ROWS {
@@ -126,6 +90,7 @@ fn connections(rt: HostRuntime) {
             number,
             ..Call::run(b"", added, taken.as_bytes())
         };
-        expect_served(&rt, rt.alloc(), links, fails, &call, wanted);
+        let wrong = call_over_links(&rt, rt.alloc(), &call, links, fails, wanted);
+        assert_eq!(rt; wrong.expect(&rt, "as wanted"), None);
     }
 }

@@ -1,15 +1,12 @@
 //! One connection over a real socket of this machine.
 
-use desk_io::TcpDoor;
-use program_calls::call_top;
+use program_calls::call_over_port;
 use session_calls::Call;
-use std::alloc::Global;
 use std::io;
 use std::io::{ErrorKind, Read, Write};
 use std::net::{Ipv4Addr, Net, TcpListener, TcpStream};
 use std::process::Abort;
-use std::sync::Wait;
-use std::thread::{Threads, join, yield_now};
+use std::thread::{join, yield_now};
 
 const SERVE: [&str; 5] = ["serve", "--connections", "1", "--key", "+founder-1"];
 
@@ -62,28 +59,19 @@ fn expect_free<R: Abort + Net<Listener = TcpListener, Stream = TcpStream>>(rt: &
     panic!(rt; "port 8017 is in use");
 }
 
-// Serves one connection of the port, with an office in memory.
-fn serve_one<
-    R: Abort + Threads + Wait + Sync,
-    N: Net<Listener = TcpListener, Stream = TcpStream> + Copy,
->(rt: &R, net: N, alloc: Global) {
-    let mut door = TcpDoor::new(net, alloc);
+#[test]
+fn tally_over_a_socket(rt: HostRuntime) {
+    expect_free(&rt);
     let call = Call {
         words: &SERVE,
         ..Call::run(b"", 0, b"connections 1\nentries 0\n")
     };
-    let ends = call_top(rt, alloc, &call, &mut door).expect(rt, "as wanted");
-    assert_eq!(rt; ends.len(), 1);
-}
-
-#[test]
-fn tally_over_a_socket(rt: HostRuntime) {
-    expect_free(&rt);
-    let (answer, ()) = join(
+    let (answer, served) = join(
         &rt,
         move || ask(&rt),
-        move || serve_one(&rt, rt, rt.alloc()),
+        move || call_over_port(&rt, rt, rt.alloc(), &call),
     );
     let text = answer.expect(&rt, "an answer");
     assert_eq!(rt; text.as_slice(), ANSWER.as_bytes());
+    assert_eq!(rt; served.expect(&rt, "as wanted"), 1);
 }
