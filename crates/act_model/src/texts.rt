@@ -1,6 +1,7 @@
 //! The texts of answers. All of them are lines that end in a line feed.
 
 ghost use Rattle.std.specs.Prelude.{◌≡◌, ◌+◌, ◌-◌, ◌<◌, ◌≤◌, ◌^◌, ◌++◌, ◌∷◌, [], length, decimal, codes, OnOk, IfOk};
+ghost use Rattle.arrayvec.specs.ArrayString.{array_string_len};
 ghost use Rattle.act_model.specs.Taken.{accepted_in, refused_in};
 ghost use Rattle.act_model.specs.Texts.{receipt_line, caller_line, counts_line, accepted_line, count_line};
 ghost use Rattle.act_model.specs.Texts.{refused_line, designation_text, packed_designation, object_line, number_line};
@@ -9,12 +10,20 @@ ghost use Rattle.act_model.specs.Replies.{line_answer, line_answers, observation
 
 use crate::reply::Fault;
 use crate::taken::{Taken, accepted_in};
+use arrayvec::ArrayString;
 use item_list::{Bytes, NoMemory};
 use itoa::Buffer;
 use numbering_core::Numbering;
 use obs_record::RuleCode;
 use packed_names::{Designation, Name, is_name, pack, print};
 use std::alloc::Global;
+
+/// As many bytes as the longest answer to a line has: three words, three numbers of twenty digits, and a line feed.
+const LINE_BYTES: usize = 78;
+
+/// The answer to a line while it is made. It is put to the others at once, since each piece that is put there costs a
+/// question for room.
+type LineText = ArrayString<LINE_BYTES>;
 
 /// Writes a number in decimal digits.
 ///
@@ -54,21 +63,28 @@ fn push_counts_line(out: &mut Bytes, accepted: u64, refused: u64) -> Result<(), 
     out.push(b'\n')
 }
 
-fn push_accepted_line(
-    out: &mut Bytes,
-    number: u32,
-    observation: u64,
-    track: u64,
-) -> Result<(), NoMemory>
-    ensures { OnOk result (out.new ≡ out.old ++ accepted_line number observation track) }
+/// Puts a number in decimal digits, of which there are twenty at most.
+fn push_number(line: &mut LineText, n: u64)
+    requires { array_string_len line.old + 20 ≤ 78 }
+    ensures text { line.new.bytes ≡ line.old.bytes ++ decimal n }
+    ensures len { array_string_len line.new ≤ array_string_len line.old + 20 }
 {
-    out.extend_from_slice(b"line ")?;
-    push_decimal(out, u64::from(number))?;
-    out.extend_from_slice(b" obs ")?;
-    push_decimal(out, observation)?;
-    out.extend_from_slice(b" track ")?;
-    push_decimal(out, track)?;
-    out.push(b'\n')
+    let mut buffer = Buffer::new();
+    line.push_str(buffer.format(n));
+}
+
+fn accepted_line(number: u32, observation: u64, track: u64) -> LineText
+    ensures { result.bytes ≡ accepted_line number observation track }
+{
+    let mut line = LineText::new();
+    line.push_str("line ");
+    push_number(&mut line, u64::from(number));
+    line.push_str(" obs ");
+    push_number(&mut line, observation);
+    line.push_str(" track ");
+    push_number(&mut line, track);
+    line.push_str("\n");
+    line
 }
 
 /// Writes a line of a tally: a name that ends in a blank, and the count.
@@ -83,9 +99,11 @@ pub(crate) fn push_count_line(out: &mut Bytes, name: &[u8], count: u64) -> Resul
 fn push_refused_line(out: &mut Bytes, number: u32, rule: RuleCode) -> Result<(), NoMemory>
     ensures { OnOk result (out.new ≡ out.old ++ refused_line number rule) }
 {
-    out.extend_from_slice(b"line ")?;
-    push_decimal(out, u64::from(number))?;
-    out.extend_from_slice(b" refused ")?;
+    let mut line = LineText::new();
+    line.push_str("line ");
+    push_number(&mut line, u64::from(number));
+    line.push_str(" refused ");
+    out.extend_from_slice(line.as_bytes())?;
     out.extend_from_slice(rule.name())?;
     out.push(b'\n')
 }
@@ -109,7 +127,8 @@ fn push_line_answer(out: &mut Bytes, before: u64, taken: &Taken) -> Result<u64, 
 {
     match &taken.found {
         Ok(placed) => {
-            push_accepted_line(out, taken.line, before + 1, placed.track)?;
+            let line = accepted_line(taken.line, before + 1, placed.track);
+            out.extend_from_slice(line.as_bytes())?;
             Ok(before + 1)
         }
         Err(rule) => {
