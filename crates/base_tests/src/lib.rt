@@ -1,4 +1,4 @@
-//! Tests of texts, lines, numbers, angles and moments against values worked out by hand.
+//! Tests of texts, lines, numbers and angles against values worked out by hand.
 //!
 //! A crate with tests is proved twice, with and without them, so they stand in a crate above those that they test.
 #![tactic(auto)]
@@ -11,5 +11,3 @@ mod lines;
 mod tables;
 #[cfg(test)]
 mod texts;
-#[cfg(test)]
-mod times;

@@ -36,6 +36,7 @@ impl<'a> Model for Rows<'a> {
 }
 
 // Whether two lines give the same. Where it says so they do.
+#[inline(always)]
 fn are_same(one: Coded, other: Coded) -> bool
     ensures { result ≡ true → one ≡ other }
 {
@@ -72,6 +73,7 @@ impl<'a> Rows<'a> {
     }
 
     // What was found last in rows of the kind.
+    #[inline(always)]
     fn found(&self, kind: Kind) -> Coded
         ensures { is_in_row self.now kind result ≡ true }
     {
@@ -94,7 +96,22 @@ impl<'a> Rows<'a> {
         }
     }
 
-    /// Whether the letter or the word that a line gives, if it gives one, is in a row of the kind.
+    // Whether it is in a row of the kind. Where it is, it is kept as found.
+    #[inline(never)]
+    fn look_for(&mut self, kind: Kind, coded: Coded) -> bool
+        ensures has { result ≡ is_in_row self.old kind coded }
+        ensures same { self.new ≡ self.old }
+    {
+        let is = is_in_row(self.tables, kind, coded);
+        if is {
+            self.keep(kind, coded);
+        }
+        is
+    }
+
+    /// Whether the letter or the word that a line gives, if it gives one, is in a row of the kind. It stands in line with
+    /// its callers, which name the kind, so that nothing but the comparison with what was found last is left of it.
+    #[inline(always)]
     pub(crate) fn have(&mut self, kind: Kind, coded: Coded) -> bool
         ensures has { result ≡ is_in_row self.old kind coded }
         ensures same { self.new ≡ self.old }
@@ -102,11 +119,7 @@ impl<'a> Rows<'a> {
         if are_same(coded, self.found(kind)) {
             return true;
         }
-        let is = is_in_row(self.tables, kind, coded);
-        if is {
-            self.keep(kind, coded);
-        }
-        is
+        self.look_for(kind, coded)
     }
 
     /// How the observation's station stands on the observation's day of UTC.
