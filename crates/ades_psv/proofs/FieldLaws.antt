@@ -54,11 +54,12 @@ temporary_found text short is =
     rw (le-leb (length text) 8 is.few, (visible text).1 is.visible) (ap (λ (s : Short). Ok s) (sym is.kept))
 
 pub temporary_field : IsReadingOf S12 IsTemporary temporary_from
-temporary_field = record {
-  told = λ text some. temporary_told text (leb (length text) 8 && list_all is_visible text) some refl;
-  found = temporary_found;
-  none = λ short is. omega (arith, is.some);
-}
+temporary_field = record { told = λ text some. temporary_told text (leb (length text) 8 && list_all is_visible text) some refl; found = temporary_found; none = λ short is. omega (arith, is.some) }
+
+-- nothing is read from an empty text
+empty : (number_parts_at 2 [] ≡ None) × (iso_of [] ≡ Err times.Spelling) × (ra_degrees_of [] ≡ Err angles.Spelling) × (dec_degrees_of [] ≡ Err angles.Spelling)
+unfolding number_parts_at whole_at run_at digit_run answer_of iso_of iso_at time_at date_at digits_at more_digits digit_at ra_degrees_of dec_degrees_of signed_degrees_at past_sign
+empty = (refl, refl, refl, refl)
 
 -- ---- numbers and designations
 
@@ -103,10 +104,6 @@ magnitude_found text read is spelled =
     rw (spelled, few, le-leb (magnitude_of p.whole p.count p.value) greatest_magnitude low)
     (ap (λ (v : ℕ). Ok (v, p.count)) (sym is.value) ∙ ap (λ (n : ℕ). Ok (read.0, n)) (sym is.places))
 
-no_magnitude : number_parts_at 2 [] ≡ None
-unfolding number_parts_at whole_at run_at digit_run answer_of
-no_magnitude = refl
-
 -- ---- readings whose own faults all break one rule
 
 breaks_told : {A E : Type 0} (rule : RuleCode) (Reads : A → Type 0) (r : Result A E) → ((x : A) → r ≡ Ok x → Reads x) → MatchResult (or_breaks rule r) Reads (λ other. other ≡ rule)
@@ -121,18 +118,6 @@ breaks_field rule Reads read fault given found none_read = record {
   found = λ text x is. ap (or_breaks rule) (found text x is);
   none = λ x is. (let right = found [] x is in cc);
 }
-
-no_time : iso_of [] ≡ Err times.Spelling
-unfolding iso_of iso_at time_at date_at digits_at more_digits digit_at answer_of
-no_time = refl
-
-no_ra : ra_degrees_of [] ≡ Err angles.Spelling
-unfolding ra_degrees_of number_parts_at whole_at run_at digit_run answer_of
-no_ra = refl
-
-no_dec : dec_degrees_of [] ≡ Err angles.Spelling
-unfolding dec_degrees_of signed_degrees_at past_sign number_parts_at whole_at run_at digit_run answer_of
-no_dec = refl
 
 module _ (laws : Laws) where
   open laws use {texts.{reads_number}, angles.{ra_degrees_reads, ra_degrees_only, dec_degrees_reads, dec_degrees_only}, times.{iso_answered, iso_answer_only}, names.{printed_exactly}}
@@ -163,15 +148,15 @@ module _ (laws : Laws) where
   magnitude_field = record {
     told = λ text some. some_told text (number_parts_at 2 text) (λ p e. (reads_number 2).takes text p e);
     found = λ text read is. magnitude_found text read is ((reads_number 2).again is.parts text is.spelled);
-    none = λ read is. (let right = (reads_number 2).again is.parts [] is.spelled in cc no_magnitude);
+    none = λ read is. (let right = (reads_number 2).again is.parts [] is.spelled in cc empty.0);
   }
 
   pub time_field : IsReadingOf S5 IsTime (λ text. or_breaks S5 (iso_of text))
   time_field =
-      breaks_field S5 IsTime iso_of times.Spelling (λ text t h. subst (IsIsoAnswer text) h (iso_answered text)) (λ text t is. sym (iso_answer_only text (Ok t) is)) no_time
+      breaks_field S5 IsTime iso_of times.Spelling (λ text t h. subst (IsIsoAnswer text) h (iso_answered text)) (λ text t is. sym (iso_answer_only text (Ok t) is)) empty.1
 
   pub ra_field : IsReadingOf S6 IsRa (λ text. or_breaks S6 (ra_degrees_of text))
-  ra_field = breaks_field S6 IsRa ra_degrees_of angles.Spelling (λ text ra h. subst (ReadsRaDegrees text) h (ra_degrees_reads text)) (λ text ra is. ra_degrees_only text (Ok ra) is) no_ra
+  ra_field = breaks_field S6 IsRa ra_degrees_of angles.Spelling (λ text ra h. subst (ReadsRaDegrees text) h (ra_degrees_reads text)) (λ text ra is. ra_degrees_only text (Ok ra) is) empty.2
 
   pub dec_field : IsReadingOf S7 IsDec (λ text. or_breaks S7 (dec_degrees_of text))
-  dec_field = breaks_field S7 IsDec dec_degrees_of angles.Spelling (λ text dec h. subst (ReadsDecDegrees text) h (dec_degrees_reads text)) (λ text dec is. dec_degrees_only text (Ok dec) is) no_dec
+  dec_field = breaks_field S7 IsDec dec_degrees_of angles.Spelling (λ text dec h. subst (ReadsDecDegrees text) h (dec_degrees_reads text)) (λ text dec is. dec_degrees_only text (Ok dec) is) empty.3

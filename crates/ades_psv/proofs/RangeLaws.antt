@@ -9,6 +9,7 @@ use Rattle.obs_record.specs.declared.short.Short.{Short}
 use Rattle.obs_record.specs.declared.sighting.Sighting.{Sighting}
 use Rattle.obs_record.specs.Filed.{IsTakenMode, IsOwnName, IsStated, AreStated}
 use Rattle.std.proofs.lemmas.List.Elements.{All-map}
+use Rattle.std.proofs.lemmas.Result.{IfOk-weaker}
 use Rattle.text_lines.specs.Steps.{bind_ok}
 use Rattle.ades_psv.specs.Batch.{DataLine, data_lines_of, read_of, all_read, psv_lines_of}
 use Rattle.ades_psv.specs.Reading.{reading_of}
@@ -83,23 +84,15 @@ module _ (laws : Laws) where
         note1 = subst IsPrintable (sym is.note1) (lit≤ tt, lit≤ tt);
         shape = subst IsShape (sym is.shape) magnitude.2;
       } in
-      record {
-        sighting = sighting;
-        mode = subst IsTakenMode (sym is.mode) tt;
-        temporary = says_all IsTemporary IsOwnName fields.sub s.sub (own_name fields.sub) is.sub;
-      }
+      record { sighting = sighting; mode = subst IsTakenMode (sym is.mode) tt; temporary = says_all IsTemporary IsOwnName fields.sub s.sub (own_name fields.sub) is.sub }
 
   reading_stated : (fields : Fields) (reading : Result Sighting RuleCode) → IsReading fields reading → IfOk reading IsStated
   reading_stated fields (Ok s) is = line_stated fields s is
   reading_stated fields (Err rule) is = tt
 
-  range_by : (reading : Result Sighting RuleCode) → IfOk reading IsStated → IfOk reading IsSighting
-  range_by (Ok s) is = is.sighting
-  range_by (Err rule) is = tt
-
   -- what is read is in range
   pub in_range : (fields : Fields) → IfOk (reading_of fields) IsSighting
-  in_range fields = range_by (reading_of fields) (reading_stated fields (reading_of fields) (reading_is laws fields))
+  in_range fields = IfOk-weaker (reading_of fields) IsStated IsSighting (λ s is. is.sighting) (reading_stated fields (reading_of fields) (reading_is laws fields))
 
   -- ---- batches
 

@@ -1,5 +1,5 @@
 -- A data line, cut into its fields.
-use Rattle.std.specs.Prelude.{◌≡◌, ℕ, ◌<◌, List, [], length, slice_index_or}
+use Rattle.std.specs.Prelude.{◌≡◌, ℕ, ◌<◌, List, length, slice_index_or, Some}
 use Rattle.std.specs.Borrow.{Bor}
 use Rattle.ades_psv.specs.declared.columns.Columns.{Columns}
 use Rattle.ades_psv.specs.declared.fields.CutLine.{CutLine}
@@ -47,12 +47,11 @@ fields_of columns line = record {
 
 -- ---- as the code keeps them
 
--- this is the line, its first 16 cells, and the number of all its cells
+-- this is the line, its first 16 cells, with nothing behind the last, and the number of all its cells
 pub record AreCells (line : List ℕ) (cut : CutLine) : Type 0 where
   pub whole : cut.line.now ≡ line
   pub count : cut.count ≡ length (cells line)
-  pub first : (place : ℕ) (d : Bor (List ℕ)) → place < 16 → place < cut.count
-      → (slice_index_or cut.first place d).now ≡ slice_index_or (cells line) place []
+  pub first : (k : ℕ) (d : Bor (List ℕ)) → k < 16 → (slice_index_or cut.first k d).now ≡ cell_in (Some k) (cells line)
 
 -- what contracts see of the fields of a line
 abbrev pub seen : Cut → Fields

@@ -1,6 +1,6 @@
 //! A data line, cut into its fields.
 
-ghost use Rattle.std.specs.Prelude.{◌≡◌, ℕ, ◌<◌, ◌≤◌, length, slice_get, unwrap_or, []};
+ghost use Rattle.std.specs.Prelude.{◌≡◌, ℕ, ◌<◌, ◌≤◌, length, slice_get, unwrap_or, [], All};
 ghost use Rattle.ades_psv.specs.Cells.{cells, cell_in};
 ghost use Rattle.ades_psv.specs.Fields.{AreCells, seen, fields_of};
 
@@ -38,14 +38,15 @@ const KEPT: usize = 16;
 #[derive(Drop)]
 struct CutLine<'a> {
     line: &'a [u8],
-    /// Its first cells, as many as are kept.
+    /// Its first cells, as many as are kept; what stands behind the last of a shorter line is empty.
     first: [&'a [u8]; KEPT],
     /// How many cells it has.
     count: usize,
 }
 
-/// Cuts a line into its cells.
+/// Cuts a line into its cells, where none is kept yet.
 fn cut_cells(cut: &mut CutLine)
+    requires { All (λ cell. cell.now ≡ []) cut.old.first }
     ensures line { cut.new.line ≡ cut.old.line }
     ensures cells { AreCells cut.old.line.now cut.new }
 {
@@ -84,9 +85,9 @@ fn cell_in<'a>(column: Option<usize>, cut: &CutLine<'a>) -> &'a [u8]
     ensures { result.now ≡ cell_in column (cells cut.now.line.now) }
 {
     match column {
-        Some(place) if place < KEPT && place < cut.count => cut.first[place],
-        Some(place) if place < cut.count => cell_at(place, cut.line),
-        _ => &[],
+        None => &[],
+        Some(place) if place < KEPT => cut.first[place],
+        Some(place) => cell_at(place, cut.line),
     }
 }
 
@@ -95,10 +96,9 @@ fn cell_in<'a>(column: Option<usize>, cut: &CutLine<'a>) -> &'a [u8]
 pub(crate) fn cut_fields<'a>(columns: &Columns, line: &'a [u8]) -> Fields<'a>
     ensures { seen result ≡ fields_of columns.now line.now }
 {
-    // What stands in `first` before the line is cut is never read; one slice throughout is the quickest to write.
     let mut cut = CutLine {
         line,
-        first: [line; KEPT],
+        first: [&[]; KEPT],
         count: 0,
     };
     cut_cells(&mut cut);

@@ -1,5 +1,6 @@
-use Rattle.std.proofs.Common.{◌≡◌, ℕ, ◌+◌, ◌-◌, List, Bor, length, length-drop, length-set, ap, ◌∙◌, arith}
+use Rattle.std.proofs.Common.{ℕ, ◌+◌, List, [], Bor, length, length-drop, length-set, ap, ◌∙◌, arith}
 use Rattle.std.proofs.lemmas.Grind.{common_steps}
+use Rattle.std.proofs.lemmas.Option.{unwrap_or-slice_get}
 use Rattle.ades_psv.specs.Cells.{cells}
 use Rattle.ades_psv.proofs.CellLaws.{length_cells}
 use Rattle.ades_psv.proofs.Cutting.{reached, all_passed}
@@ -16,6 +17,7 @@ cells-preserved c =
       within = omega (arith, shorter, c.cells.invariant.within);
       kept = simp length-set c.cells.invariant.kept;
       first = λ k d below. grind (arith, common_steps, c.cells.invariant.first k d);
+      clear = λ k d few past. grind (arith, common_steps, c.cells.invariant.clear k d few);
     }
 
 pub returns-in_default-clause-cells : goal.returns-in_default-clause-cells
@@ -26,17 +28,12 @@ returns-in_default-clause-cells c =
     record {
       whole = ap (λ (t : Bor (List ℕ)). t.now) c.cells.invariant.same;
       count = omega (arith, all, at.within);
-      first = λ k d few below. grind (arith, common_steps, c.cells.invariant.first k d);
+      first = λ k d few. rw (unwrap_or-slice_get (cells c.args.cut.now.line.now) k []) (grind (arith, common_steps, c.cells.invariant.first k d, c.cells.invariant.clear k d few));
     }
 
 pub returns-clause-cells : goal.returns-clause-cells
-returns-clause-cells c =
-    let left : length (cells c.cells.rest.now) ≡ length (cells c.args.cut.now.line.now) - 16 =
-    (let done : c.cells.place ≡ 16 = omega arith in
-    let rest = rw done at c.cells.invariant.rest in
-    omega (arith, ap length rest, length-drop 16 (cells c.args.cut.now.line.now))) in
-    record {
-      whole = ap (λ (t : Bor (List ℕ)). t.now) c.cells.invariant.same;
-      count = omega (arith, left, length_cells c.cells.rest.now, c.count_cells.ensures.exact);
-      first = λ k d few below. c.cells.invariant.first k d (omega arith);
-    }
+returns-clause-cells c = record {
+  whole = ap (λ (t : Bor (List ℕ)). t.now) c.cells.invariant.same;
+  count = omega (arith, ap length c.cells.invariant.rest, length-drop c.cells.place (cells c.args.cut.now.line.now), length_cells c.cells.rest.now, c.count_cells.ensures.exact);
+  first = λ k d few. rw (unwrap_or-slice_get (cells c.args.cut.now.line.now) k []) (c.cells.invariant.first k d (omega arith));
+}

@@ -9,4 +9,5 @@ invariant-cells l = record {
   within : length l.rest ≤ length l.initial.cut.line.now;
   kept : length l.cut.first ≡ 16;
   first : (k : ℕ) (d : Bor (List ℕ)) → k < l.place → (get_or l.cut.first k d).now ≡ get_or (cells l.initial.cut.line.now) k [];
+  clear : (k : ℕ) (d : Bor (List ℕ)) → k < 16 → l.place ≤ k → (get_or l.cut.first k d).now ≡ [];
 }
