@@ -1,10 +1,7 @@
-//! Tests of what the office tells, in whole sessions of frames over disks in memory: queries, and the catalogues that
-//! are written out after acts.
+//! Tests of queries, in whole sessions of frames over disks in memory.
 //!
 //! A crate with tests is proved twice, with and without them, so they stand in a crate above those that they test.
 #![tactic(auto)]
 
-#[cfg(test)]
-mod catalogues;
 #[cfg(test)]
 mod queries;

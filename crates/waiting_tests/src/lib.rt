@@ -4,6 +4,4 @@
 #![tactic(auto)]
 
 #[cfg(test)]
-mod held;
-#[cfg(test)]
 mod waiting;

@@ -1,12 +1,8 @@
 //! Connections that wait for one another, so that only a server that attends them side by side answers them all.
 
-use super::held::{Held, HeldDoor};
-use program_calls::{End, Left, call_top, wrong_end};
+use held_links::{Held, call_held};
+use program_calls::{End, Left};
 use session_calls::Call;
-use std::alloc::Global;
-use std::process::Abort;
-use std::sync::Wait;
-use std::thread::Threads;
 
 const SERVE: [&str; 5] = ["serve", "--connections", "4", "--key", "+founder-1"];
 
@@ -107,17 +103,12 @@ const WANTED: &[End] = &[
     (Left::Ended, FOURTH_ANSWER),
 ];
 
-fn expect_served<R: Abort + Threads + Wait + Sync>(rt: &R, alloc: Global) {
-    let mut door = HeldDoor::new(rt, alloc, SENT);
+#[test]
+fn connections_side_by_side(rt: HostRuntime) {
     let call = Call {
         words: &SERVE,
         ..Call::run(b"", 2, b"connections 4\nentries 2\n")
     };
-    let ends = call_top(rt, alloc, &call, &mut door).expect(rt, "as wanted");
-    assert_eq!(rt; wrong_end(&ends, WANTED), None);
-}
-
-#[test]
-fn connections_side_by_side(rt: HostRuntime) {
-    expect_served(&rt, rt.alloc());
+    let wrong = call_held(&rt, rt.alloc(), &call, SENT, WANTED);
+    assert_eq!(rt; wrong.expect(&rt, "as wanted"), None);
 }

@@ -2,14 +2,14 @@
 
 ghost use Rattle.std.specs.Prelude.{length, None};
 
-use desk_io::{Door, Failed, MemSink, MemSource, Next, Sink, Source};
-use program_calls::Took;
+use desk_io::{Door, Failed, MemSink, MemSource, Next, NoMemory, Sink, Source};
+use program_calls::{End, Took, call_top, wrong_end};
+use session_calls::{Call, Wrong};
 use std::alloc::Global;
 use std::collections::VecDeque;
-use std::process::Abort;
-use std::sync::Arc;
 use std::sync::atomic::{AtomicU64, Ordering};
-use std::thread::yield_now;
+use std::sync::{Arc, Wait};
+use std::thread::{Threads, yield_now};
 
 /// How often a source or a sink that is held looks whether enough was answered, before it fails.
 const LOOKS: u64 = 1_000_000;
@@ -18,7 +18,7 @@ const LOOKS: u64 = 1_000_000;
 type Answered = Arc<AtomicU64, Global>;
 
 /// What is sent on a link, and how many bytes its source and its sink await.
-pub(super) type Held = (&'static str, u64, u64);
+pub type Held = (&'static str, u64, u64);
 
 // Whether the sinks took so many bytes, in time.
 fn took_in_time(answered: &AtomicU64, awaited: u64) -> bool {
@@ -34,7 +34,7 @@ fn took_in_time(answered: &AtomicU64, awaited: u64) -> bool {
 /// A source that gives one piece, and the next one when the sinks took as many bytes as it awaits. It tells nothing of
 /// its bytes.
 #[derive(Drop)]
-pub(super) struct HeldSource {
+struct HeldSource {
     source: MemSource,
     answered: Answered,
     awaited: u64,
@@ -71,7 +71,7 @@ impl Source for HeldSource {
 
 /// A sink that takes nothing before the sinks took as many bytes as it awaits. It tells nothing of its bytes.
 #[derive(Drop)]
-pub(super) struct HeldSink {
+struct HeldSink {
     sink: MemSink,
     answered: Answered,
     awaited: u64,
@@ -109,32 +109,32 @@ impl Sink for HeldSink {
 
 /// A door that gives such links, and is shut after the last of them.
 #[derive(Drop)]
-pub(super) struct HeldDoor {
+struct HeldDoor {
     links: VecDeque<(HeldSource, HeldSink)>,
 }
 
 impl HeldDoor {
     /// A door with a link for each of these.
-    pub(super) fn new<R: Abort>(rt: &R, alloc: Global, links: &[Held]) -> HeldDoor {
-        let answered = Arc::new(alloc, AtomicU64::new(0)).expect(rt, "memory");
+    fn new(alloc: Global, links: &[Held]) -> Result<HeldDoor, NoMemory> {
+        let answered = Arc::new(alloc, AtomicU64::new(0))?;
         let mut made = VecDeque::new(alloc);
         for (sent, read_awaits, write_awaits) in links {
             let source = HeldSource {
-                source: MemSource::new(alloc, sent.as_bytes(), 7, &[]).expect(rt, "memory"),
-                answered: Arc::try_clone(&answered).expect(rt, "memory"),
+                source: MemSource::new(alloc, sent.as_bytes(), 7, &[])?,
+                answered: Arc::try_clone(&answered)?,
                 awaited: *read_awaits,
                 has_begun: false,
                 faults: 0,
             };
             let sink = HeldSink {
-                sink: MemSink::new(alloc, 4_096, &[]).expect(rt, "memory"),
-                answered: Arc::try_clone(&answered).expect(rt, "memory"),
+                sink: MemSink::new(alloc, 4_096, &[])?,
+                answered: Arc::try_clone(&answered)?,
                 awaited: *write_awaits,
                 faults: 0,
             };
-            made.push_back((source, sink)).expect(rt, "memory");
+            made.push_back((source, sink))?;
         }
-        HeldDoor { links: made }
+        Ok(HeldDoor { links: made })
     }
 }
 
@@ -153,4 +153,22 @@ impl Door for HeldDoor {
             None => Next::Shut,
         }
     }
+}
+
+/// Calls `top` on an empty disk, with these links, and gives the place of the first that ended otherwise than it is
+/// wanted.
+///
+/// # Errors
+///
+/// What is wrong with the call.
+pub fn call_held<R: Threads + Wait + Sync>(
+    rt: &R,
+    alloc: Global,
+    call: &Call,
+    links: &[Held],
+    wanted: &[End],
+) -> Result<Option<usize>, Wrong> {
+    let mut door = HeldDoor::new(alloc, links)?;
+    let ends = call_top(rt, alloc, call, &mut door)?;
+    Ok(wrong_end(&ends, wanted))
 }
