@@ -201,7 +201,8 @@ pub enum Body {
     NoRoom,
 }
 
-/// How many bytes are counted in one go: few enough that their count fits in a byte, so that many are compared at a time.
+/// How many bytes are counted in one go: few enough that their count fits in a byte, so that many are compared at a
+/// time.
 const COUNTED_BYTES: usize = 192;
 
 // How many line feeds there are among a few bytes.

@@ -1,28 +1,25 @@
 -- The places of observations, as more are filed, put into the index and retracted. The lists here stand oldest first.
-use Rattle.std.proofs.Common.{◌≡◌, ℕ, ℤ, ◌+◌, ◌-◌, ◌<◌, ◌≤◌, ◌<ℤ◌, ◌≤ℤ◌, zero, suc, Bool, true, false, cond, List, [], ◌∷◌, ◌++◌, length, get_or, set, take, drop, refl, ap, sym, subst, ◌∙◌, inl, inr, arith}
-use Rattle.std.specs.Prelude.{◌&&◌, ◌||◌, count_by, int_lt, nat_lt, Result, Ok, Err, MatchResult, All}
+use Rattle.std.proofs.Common.{◌≡◌, ℕ, ℤ, ◌+◌, ◌-◌, ◌<◌, ◌<ℤ◌, ◌≤ℤ◌, zero, suc, Bool, true, false, cond, List, [], ◌∷◌, ◌++◌, length, get_or, set, take, drop, map, refl, ap, sym, subst, ◌∙◌, inl, inr, arith}
+use Rattle.std.specs.Prelude.{◌&&◌, ◌||◌, int_lt, Result, Ok, Err, MatchResult, All, slice_index}
 use Rattle.std.specs.List.{list_any}
 use Rattle.std.specs.List.Sorted.{IsSearchInRange, IsBinarySearchResult, IsSortedBy}
 use Rattle.std.specs.Ordering.{int_cmp, int_eq, is_lt}
-use Rattle.std.proofs.Math.Seq.{take-set-lt}
 use Rattle.std.specs.declared.cmp.Ordering.TheVariants.{Less, Equal, Greater}
-use Rattle.std.proofs.lemmas.Bool.{cases_eq, cases_lt}
+use Rattle.std.proofs.lemmas.Bool.{cases_eq, cases_lt, and_parts}
 use Rattle.std.proofs.lemmas.Bool.Decides.{Decides-int_eq}
 use Rattle.std.proofs.lemmas.Cmp.{int_cmp_total, int_ranked}
 use Rattle.std.proofs.lemmas.Int.{ints}
-use Rattle.std.proofs.lemmas.List.{take-append-drop, take-append-le, take-set-le, take_all, length-append, length-drop, length-set, length-take-le, get_or_append_left, get_or-append-add, get_or-take, get_or-set_same, get_or-set_other, get_or_default}
+use Rattle.std.proofs.lemmas.List.{take-append-drop, take-append-le, take_all, length-append, length-drop, length-set, length-take-le, length-map, map-append, get_or_append_left, get_or_push, get_or-map, get_or-drop, get_or-take, get_or-set_same, get_or-set_other, get_or_default}
 use Rattle.std.proofs.lemmas.List.Elements.{All-append}
 use Rattle.std.proofs.lemmas.List.Folds.{list_any-append, list_any_none}
 use Rattle.std.proofs.lemmas.List.Sorted.{searchable_from_sorted}
-use Rattle.std.proofs.lemmas.List.Sums.{sum_by-cons, sum_by-append, sum_by-set}
 use Rattle.obs_record.specs.declared.short.Short.{Short}
 use Rattle.place_keys.specs.declared.place.PlaceKey.{PlaceKey}
-use Rattle.place_keys.specs.Places.{place_key, same_place}
+use Rattle.place_keys.specs.Places.{place_key}
 use Rattle.tracklet_file.specs.declared.observation.Observation.{Observation}
 use Rattle.tracklet_file.specs.Observations.{is_live_at}
-use Rattle.tracklet_file.specs.Places.{live_in, counts_at, time_of, AscendFrom, KeptPlaces, IsIndexed}
-use Rattle.tracklet_file.proofs.CountLemmas.{count_low}
-use Rattle.tracklet_file.proofs.PlaceLemmas.{same_itself, any_counted, none_more}
+use Rattle.tracklet_file.specs.Places.{counts_at, mark_of, mark_in, time_of, AscendFrom, KeptPlaces, IsIndexed}
+use Rattle.tracklet_file.proofs.PlaceLemmas.{same_key}
 
 -- ---- tests of times
 
@@ -54,22 +51,11 @@ not_at key o differs = let own = place_key o.sighting in fourth_false o.live _ _
 -- ---- a list in two parts
 
 module _ (p : Observation → Bool) (n : ℕ) (filed : List Observation) where
-  pub count_parts : count_by p filed ≡ count_by p (take n filed) + count_by p (drop n filed)
-  count_parts = ap (count_by p) (sym (take-append-drop n filed)) ∙ sum_by-append (λ (o : Observation). cond (p o) 1 0) (take n filed) (drop n filed)
-
   pub rest_is : take (length filed - n) (drop n filed) ≡ drop n filed
   rest_is = take_all (length filed - n) (drop n filed) (omega (arith, length-drop n filed))
 
   pub any_parts : list_any p filed ≡ (list_any p (take n filed) || list_any p (drop n filed))
   any_parts = ap (list_any p) (sym (take-append-drop n filed)) ∙ list_any-append p (take n filed) (drop n filed)
-
-count_there : (p : Observation → Bool) (filed : List Observation) (place : ℕ) (d : Observation) → place < length filed → p (get_or filed place d) ≡ true → 0 < count_by p filed
-count_there p [] place d within one = absurd (omega (arith, within))
-count_there p (o ∷ later) zero d within one =
-    let here : ◌≡◌ {A = ℕ} (cond (p o) 1 0) 1 = ap (λ (b : Bool). cond b 1 0) one in
-    omega (arith, here, sum_by-cons (λ (o : Observation). cond (p o) 1 0) o later)
-count_there p (o ∷ later) (suc place) d within one =
-    omega (arith, count_there p later place d (omega (arith, within)) one, sum_by-cons (λ (o : Observation). cond (p o) 1 0) o later)
 
 -- ---- a search by time
 
@@ -83,6 +69,15 @@ any_at p (o ∷ later) zero d within others = only (p o) (list_any p later) (lis
 any_at p (o ∷ later) (suc place) d within others =
     any_at p later place d (omega (arith, within)) (λ j e below differs. others (suc j) e (omega (arith, below)) (λ same. differs (omega (arith, same))))
     ∙ sym (ap (λ (b : Bool). b || list_any p later) (others 0 d (omega arith) (λ same. absurd (omega (arith, same)))))
+
+any_one : (p : Observation → Bool) (os : List Observation) (place : ℕ) → place < length os → ((d : Observation) → p (get_or os place d) ≡ true) → list_any p os ≡ true
+any_one p [] place within one = absurd (omega (arith, within))
+any_one p (o ∷ later) zero within one = ap (λ (b : Bool). b || list_any p later) (one o)
+any_one p (o ∷ later) (suc place) within one = ap (λ (b : Bool). p o || b) (any_one p later place (omega (arith, within)) one) ∙ or_true (p o)
+  where
+    or_true : (b : Bool) → (b || true) ≡ true
+    or_true true = refl
+    or_true false = refl
 
 not_less : (x y : ℤ) → y <ℤ x → is_lt (int_cmp x y) ≡ false
 not_less x y above = by (int_lt x y) (int_lt y x) refl
@@ -119,20 +114,21 @@ module _ (os : List Observation) (ascend : AscendFrom 0 os) (key : PlaceKey) whe
         | inr high ↦ (let more = int_ranked _ key.time _ (sym (parts.1 j d high below)) in omega (arith, ints))
       ])))
 
+-- ---- marks
+
+-- marks are those of places: another observation with the place of the one before has the same
+same_marks : (n place : ℕ) (filed : List Observation) (x : Observation) → ((d : Observation) → place < length filed → mark_in (get_or filed place d) ≡ mark_in x)
+    → map mark_in (take n (set filed place x)) ≡ map mark_in (take n filed)
+same_marks zero place filed x same = refl
+same_marks (suc n) place [] x same = refl
+same_marks (suc n) zero (o ∷ later) x same = ap (λ (m : ℕ). m ∷ map mark_in (take n later)) (sym (same o (omega arith)))
+same_marks (suc n) (suc place) (o ∷ later) x same = ap (λ (ms : List ℕ). mark_in o ∷ ms) (same_marks n place later x (λ d within. same d (omega (arith, within))))
+
 -- ---- changes
 
-add_none : (n : ℕ) → n ≡ n + 0
-add_none n = omega arith
-
 module _ (filed : List Observation) (places : KeptPlaces) (was : IsIndexed filed places) where
-  -- so many are counted already, or are to be
-  pub counts_fit : (key : PlaceKey) → live_in places.entries key + length (drop places.indexed filed) ≤ length filed
-  counts_fit key =
-      omega (arith, was.within, was.live_are key, count_low (counts_at key) (take places.indexed filed), length-take-le places.indexed filed was.within, length-drop places.indexed filed)
-
-  -- whether one is among those that are in the index
-  pub indexed_any : (key : PlaceKey) → nat_lt 0 (live_in places.entries key) ≡ list_any (counts_at key) (take places.indexed filed)
-  indexed_any key = ap (nat_lt 0) (was.live_are key) ∙ any_counted (counts_at key) (take places.indexed filed)
+  abbrev n : ℕ
+  n = length places.marks
 
   -- none is as late as a time
   pub none_as_late : (station : Short) (time : ℤ) (ra : ℕ) (dec : ℤ) → int_lt places.latest time ≡ true → list_any (is_live_at station time ra dec) filed ≡ false
@@ -141,12 +137,41 @@ module _ (filed : List Observation) (places : KeptPlaces) (was : IsIndexed filed
       let high = lt_told places.latest time late in
       third_false (get_or filed k d).live _ (int_eq (time_of (get_or filed k d)) time) _ (eq_false (time_of (get_or filed k d)) time (λ same. absurd (omega (arith, ints)))))
 
+  -- those that wait ascend, where that is said
+  pub waiting_ascend : places.ascends ≡ true → AscendFrom 0 (drop n filed)
+  waiting_ascend told i j d low less below =
+      let there : n + j < length filed = omega (arith, below, length-drop n filed, was.within) in
+      subst (λ (o : Observation). time_of o <ℤ time_of (get_or (drop n filed) j d)) (sym (get_or-drop n filed i d))
+      (subst (λ (o : Observation). time_of (get_or filed (n + i) d) <ℤ time_of o) (sym (get_or-drop n filed j d)) (was.in_order told (n + i) (n + j) d (omega arith) (omega (arith, less)) there))
+
+  -- the mark of one of the first
+  pub mark_at : (place : ℕ) (d : Observation) → place < n → slice_index places.marks place ≡ mark_in (get_or filed place d)
+  mark_at place d within =
+      ap (λ (ms : List ℕ). slice_index ms place) was.marks_are
+      ∙ get_or-map mark_in (take n filed) place d 0 (omega (arith, within, length-take-le n filed was.within))
+      ∙ ap mark_in (get_or-take n filed place d within)
+
+  -- where none of those with a key's mark counts, none of the first does
+  pub none_marked : (key : PlaceKey) → ((place : ℕ) (d : Observation) → place < n → slice_index places.marks place ≡ mark_of key → counts_at key (get_or filed place d) ≡ false)
+      → list_any (counts_at key) (take n filed) ≡ false
+  none_marked key none = list_any_none (counts_at key) (take n filed) (λ k d below.
+      let within : k < n = omega (arith, below, length-take-le n filed was.within) in
+      ap (counts_at key) (get_or-take n filed k d within) ∙ by k d within (counts_at key (get_or filed k d)) refl)
+    where
+      by : (k : ℕ) (d : Observation) → k < n → (b : Bool) → counts_at key (get_or filed k d) ≡ b → counts_at key (get_or filed k d) ≡ false
+      by k d within false is = is
+      by k d within true is = none k d within (mark_at k d within ∙ ap mark_of (same_key _ key (and_parts (get_or filed k d).live _ is).1))
+
+  -- one that counts is among them
+  pub some_counts : (key : PlaceKey) (place : ℕ) → place < n → ((d : Observation) → counts_at key (get_or filed place d) ≡ true) → list_any (counts_at key) filed ≡ true
+  some_counts key place within one = any_one (counts_at key) filed place (omega (arith, within, was.within)) one
+
   module _ (newest : Observation) (room : 0 < places.room) where
     longer : length (filed ++ newest ∷ []) ≡ length filed + 1
-    longer = length-append filed (newest ∷ [])
+    longer = omega (arith, length-append filed (newest ∷ []))
 
     last_is : (j : ℕ) (d : Observation) → j ≡ length filed → newest ≡ get_or (filed ++ newest ∷ []) j d
-    last_is j d last = sym (ap (λ (n : ℕ). get_or (filed ++ newest ∷ []) n d) (last ∙ add_none (length filed)) ∙ get_or-append-add filed (newest ∷ []) 0 d)
+    last_is j d last = sym (get_or_push filed newest d j (sym last))
 
     up_to_more : (time : ℤ) → places.latest ≤ℤ time → time_of newest ≤ℤ time → All (λ o. time_of o ≤ℤ time) (filed ++ newest ∷ [])
     up_to_more time low own =
@@ -156,60 +181,56 @@ module _ (filed : List Observation) (places : KeptPlaces) (was : IsIndexed filed
         only zero d below = own
         only (suc k) d below = absurd (omega (arith, below))
 
-    -- one that is later than all others stays out of the index
-    pub filed_later : places.latest <ℤ time_of newest → IsIndexed (filed ++ newest ∷ []) (record places { room = places.room - 1; latest = time_of newest })
-    filed_later later = record {
-      within = omega (arith, was.within, longer);
-      live_are = λ key. was.live_are key ∙ ap (count_by (counts_at key)) (sym (take-append-le places.indexed filed (newest ∷ []) was.within));
-      in_order = λ i j d low less below. elim (cases_eq j (length filed)) [
-        | inl last ↦ (
-            let inside : i < length filed = omega (arith, less, last) in
-            let early = was.up_to i d inside in
-            subst (λ (o : Observation). time_of (get_or (filed ++ newest ∷ []) i d) <ℤ time_of o) (last_is j d last)
-            (subst (λ (o : Observation). time_of o <ℤ time_of newest) (sym (get_or_append_left filed (newest ∷ []) d i inside)) (omega (arith, ints))))
-        | inr other ↦ (
-            let inside : j < length filed = omega (arith, below, longer, other) in
-            subst (λ (o : Observation). time_of (get_or (filed ++ newest ∷ []) i d) <ℤ time_of o) (sym (get_or_append_left filed (newest ∷ []) d j inside))
-            (subst (λ (o : Observation). time_of o <ℤ time_of (get_or filed j d)) (sym (get_or_append_left filed (newest ∷ []) d i (omega (arith, less, inside)))) (was.in_order i j d low less inside)))
-      ];
-      up_to = up_to_more (time_of newest) (omega (arith, ints)) (omega (arith, ints));
-      enough = omega (arith, was.enough, was.within, longer, room);
-    }
+    module _ (time : ℤ) (low : places.latest ≤ℤ time) (own : time_of newest ≤ℤ time) where
+      -- one more waits, and ascends where it is said only if it is later than all others
+      pub filed_waits : (ascends : Bool) → (ascends ≡ true → (places.ascends ≡ true) × (places.latest <ℤ time_of newest))
+          → IsIndexed (filed ++ newest ∷ []) (record places { room = places.room - 1; latest = time; ascends = ascends })
+      filed_waits ascends later = record {
+        within = omega (arith, was.within, longer);
+        marks_are = was.marks_are ∙ ap (map mark_in) (sym (take-append-le n filed (newest ∷ []) was.within));
+        in_order = λ told i j d from less below. elim (cases_eq j (length filed)) [
+          | inl last ↦ (
+              let inside : i < length filed = omega (arith, less, last) in
+              let early = was.up_to i d inside in
+              let after = (later told).1 in
+              subst (λ (o : Observation). time_of (get_or (filed ++ newest ∷ []) i d) <ℤ time_of o) (last_is j d last)
+              (subst (λ (o : Observation). time_of o <ℤ time_of newest) (sym (get_or_append_left filed (newest ∷ []) d i inside)) (omega (arith, ints))))
+          | inr other ↦ (
+              let inside : j < length filed = omega (arith, below, longer, other) in
+              subst (λ (o : Observation). time_of (get_or (filed ++ newest ∷ []) i d) <ℤ time_of o) (sym (get_or_append_left filed (newest ∷ []) d j inside))
+              (subst (λ (o : Observation). time_of o <ℤ time_of (get_or filed j d)) (sym (get_or_append_left filed (newest ∷ []) d i (omega (arith, less, inside)))) (was.in_order (later told).0 i j d from less inside)))
+        ];
+        up_to = up_to_more time low own;
+        enough = omega (arith, was.enough, was.within, longer, room);
+      }
 
-    -- all are put into the index, and the newest one
-    pub filed_all : time_of newest ≤ℤ places.latest → (entries : List (PlaceKey × ℕ)) (spare : ℕ)
-        → ((key : PlaceKey) → live_in entries key ≡ live_in places.entries key + count_by (counts_at key) (drop places.indexed filed) + cond (counts_at key newest) 1 0)
-        → places.spare ≤ spare + length (drop places.indexed filed) + 1
-        → IsIndexed (filed ++ newest ∷ []) (record { entries = entries; indexed = length filed + 1; room = places.room - 1; spare = spare; latest = places.latest })
-    filed_all early entries spare live spared = record {
-      within = omega (arith, longer);
-      live_are = λ key.
-          let own : ◌≡◌ {A = ℕ} (cond (counts_at key newest) 1 0) (count_by (counts_at key) (newest ∷ [])) = none_more (cond (counts_at key newest) 1 0) in
-          omega (
-            arith,
-            live key,
-            was.live_are key,
-            count_parts (counts_at key) places.indexed filed,
-            own,
-            sum_by-append (λ (o : Observation). cond (counts_at key o) 1 0) filed (newest ∷ []),
-            ap (count_by (counts_at key)) (take_all (length filed + 1) (filed ++ newest ∷ []) (omega (arith, longer))),
-          );
-      in_order = λ i j d low less below. absurd (omega (arith, low, less, below, longer));
-      up_to = up_to_more places.latest (omega (arith, ints)) early;
-      enough = omega (arith, was.enough, was.within, longer, room, spared, length-drop places.indexed filed);
-    }
+      -- all that wait are put into the index, and the newest one
+      pub filed_all : (marks : List ℕ) (spare : ℕ) → marks ≡ (places.marks ++ map mark_in (drop n filed)) ++ mark_in newest ∷ [] → spare + length (drop n filed) + 1 ≡ places.spare
+          → IsIndexed (filed ++ newest ∷ []) (record { marks = marks; room = places.room - 1; spare = spare; latest = time; ascends = true })
+      filed_all marks spare are spared = record {
+        within = omega (arith, long, longer);
+        marks_are = all ∙ ap (map mark_in) (sym (take_all (length marks) (filed ++ newest ∷ []) (omega (arith, long, longer))));
+        in_order = λ told i j d from less below. absurd (omega (arith, from, less, below, long, longer));
+        up_to = up_to_more time low own;
+        enough = omega (arith, was.enough, was.within, long, longer, room, spared, length-drop n filed);
+      }
+        where
+          all : marks ≡ map mark_in (filed ++ newest ∷ [])
+          all =
+              are ∙ ap (λ (ms : List ℕ). (ms ++ map mark_in (drop n filed)) ++ mark_in newest ∷ []) was.marks_are
+              ∙ ap (λ (ms : List ℕ). ms ++ mark_in newest ∷ []) (sym (map-append mark_in (take n filed) (drop n filed)) ∙ ap (map mark_in) (take-append-drop n filed))
+              ∙ sym (map-append mark_in filed (newest ∷ []))
+
+          long : length marks ≡ length filed + 1
+          long = ap (λ (ms : List ℕ). length ms) all ∙ length-map (filed ++ newest ∷ []) mark_in ∙ longer
 
   -- one is retracted
-  module _ (place : ℕ) (o : Observation) (within : place < length filed) (at : (d : Observation) → get_or filed place d ≡ o) (alive : o.live ≡ true) where
+  module _ (place : ℕ) (o : Observation) (within : place < length filed) (at : (d : Observation) → get_or filed place d ≡ o) where
     abbrev pub retracted : Observation
     retracted = record o { live = false }
 
     abbrev pub kept : List Observation
     kept = set filed place retracted
-
-    -- its place has it
-    counts_own : (key : PlaceKey) → counts_at key o ≡ same_place (place_key o.sighting) key
-    counts_own key = ap (λ (b : Bool). b && same_place (place_key o.sighting) key) alive
 
     same_time : (j : ℕ) (d : Observation) → j < length filed → time_of (get_or kept j d) ≡ time_of (get_or filed j d)
     same_time j d below = elim (cases_eq j place) [
@@ -217,52 +238,16 @@ module _ (filed : List Observation) (places : KeptPlaces) (was : IsIndexed filed
       | inr other ↦ ap time_of (get_or-set_other filed place j retracted d other)
     ]
 
-    -- what is left, where the counts of the index are those of the first ones
-    kept_indexed : (entries : List (PlaceKey × ℕ)) (spare : ℕ) → ((key : PlaceKey) → live_in entries key ≡ count_by (counts_at key) (take places.indexed kept)) → places.spare ≤ spare
-        → IsIndexed kept (record places { entries = entries; spare = spare })
-    kept_indexed entries spare live room = record {
+    pub retracted_kept : IsIndexed kept places
+    retracted_kept = record {
       within = omega (arith, was.within, length-set filed place retracted);
-      live_are = live;
-      in_order = λ i j d low less below.
+      marks_are = was.marks_are ∙ sym (same_marks n place filed retracted (λ d there. ap mark_in (at d)));
+      in_order = λ told i j d from less below.
           let inside : j < length filed = omega (arith, below, length-set filed place retracted) in
           subst (λ (t : ℤ). t <ℤ time_of (get_or kept j d)) (sym (same_time i d (omega (arith, less, inside))))
-          (subst (λ (t : ℤ). time_of (get_or filed i d) <ℤ t) (sym (same_time j d inside)) (was.in_order i j d low less inside));
+          (subst (λ (t : ℤ). time_of (get_or filed i d) <ℤ t) (sym (same_time j d inside)) (was.in_order told i j d from less inside));
       up_to = λ k d below.
           let inside : k < length filed = omega (arith, below, length-set filed place retracted) in
           subst (λ (t : ℤ). t ≤ℤ places.latest) (sym (same_time k d inside)) (was.up_to k d inside);
-      enough = omega (arith, was.enough, room, length-set filed place retracted);
+      enough = omega (arith, was.enough, length-set filed place retracted);
     }
-
-    -- the index doesn't count it
-    pub retracted_later : places.indexed ≤ place → IsIndexed kept places
-    retracted_later after =
-        kept_indexed places.entries places.spare (λ key. was.live_are key ∙ ap (count_by (counts_at key)) (sym (take-set-le places.indexed filed place retracted after))) (omega arith)
-
-    module _ (inside : place < places.indexed) where
-      abbrev pub front : List Observation
-      front = take places.indexed filed
-
-      in_front : place < length front
-      in_front = omega (arith, inside, length-take-le places.indexed filed was.within)
-
-      front_at : (d : Observation) → get_or front place d ≡ o
-      front_at d = get_or-take places.indexed filed place d inside ∙ at d
-
-      -- the index counts it
-      pub some_live : 0 < live_in places.entries (place_key o.sighting)
-      some_live =
-          subst (λ (n : ℕ). 0 < n) (sym (was.live_are (place_key o.sighting)))
-          (count_there (counts_at (place_key o.sighting)) front place o in_front (ap (counts_at (place_key o.sighting)) (front_at o) ∙ counts_own (place_key o.sighting) ∙ same_itself (place_key o.sighting)))
-
-      pub retracted_indexed : (entries : List (PlaceKey × ℕ)) (spare : ℕ) → ((key : PlaceKey) → live_in entries key + cond (same_place (place_key o.sighting) key) 1 0 ≡ live_in places.entries key)
-          → places.spare ≤ spare → IsIndexed kept (record places { entries = entries; spare = spare })
-      retracted_indexed entries spare less = kept_indexed entries spare (λ key.
-          let own : ◌≡◌ {A = ℕ} (cond (counts_at key (get_or front place o)) 1 0) (cond (same_place (place_key o.sighting) key) 1 0) = ap (λ (b : Bool). cond b 1 0) (ap (counts_at key) (front_at o) ∙ counts_own key) in
-          omega (
-            arith,
-            less key,
-            was.live_are key,
-            own,
-            sum_by-set (λ (x : Observation). cond (counts_at key x) 1 0) front place retracted o in_front,
-            ap (count_by (counts_at key)) (take-set-lt places.indexed filed place retracted inside),
-          ))

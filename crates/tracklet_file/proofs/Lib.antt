@@ -5,7 +5,6 @@ mod ChangeLemmas
 mod AddedLemmas
 mod ChainLemmas
 mod PlaceLemmas
-mod PutLemmas
 mod IndexLemmas
 mod KeepingLemmas
 mod HomeLemmas

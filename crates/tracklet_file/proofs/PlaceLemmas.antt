@@ -1,18 +1,15 @@
--- The index of places, as live observations come and go.
-use Rattle.std.proofs.Common.{◌≡◌, ℕ, ℤ, ◌+◌, Bool, true, false, cond, List, [], ◌∷◌, Option, Some, refl, ap, sym, ◌∙◌, arith}
-use Rattle.std.specs.Prelude.{◌&&◌, ◌||◌, ◌==◌, count_by, nat_lt, unwrap_or}
-use Rattle.std.specs.List.{list_any}
+-- Keys of places that are the same.
+use Rattle.std.proofs.Common.{◌≡◌, ℕ, ℤ, Bool, true, false, refl, ap, ◌∙◌}
+use Rattle.std.specs.Prelude.{◌&&◌, ◌==◌}
 use Rattle.std.specs.Ordering.{int_eq}
 use Rattle.std.specs.Str.{bytes_eq}
 use Rattle.std.specs.Cmp.Lexicographic.{bytes_decides}
-use Rattle.std.proofs.lemmas.Bool.{eq-eqb, eqb-true, lt-ltb, and_parts}
+use Rattle.std.proofs.lemmas.Bool.{eq-eqb, eqb-true, and_parts}
 use Rattle.std.proofs.lemmas.Bool.Decides.{Decides-int_eq}
-use Rattle.std.proofs.lemmas.List.Sums.{sum_by-cons}
 use Rattle.obs_record.specs.declared.short.Short.{Short}
 use Rattle.obs_record.specs.declared.sighting.Sighting.{Sighting}
 use Rattle.place_keys.specs.declared.place.PlaceKey.{PlaceKey}
 use Rattle.place_keys.specs.Places.{key_at, place_key, same_place}
-use Rattle.tracklet_file.specs.declared.observation.Observation.{Observation}
 use Rattle.tracklet_file.specs.Observations.{is_at}
 
 -- ---- keys
@@ -47,40 +44,3 @@ same_key a b same =
 -- an observation has the place of a key exactly where it has its station, time and position
 pub same_at : (station : Short) (time : ℤ) (ra : ℕ) (dec : ℤ) (s : Sighting) → same_place (place_key s) (key_at station time ra dec) ≡ is_at station time ra dec s
 same_at station time ra dec s = both (s.station.len == station.len) (bytes_eq s.station.bytes station.bytes) (int_eq s.time time && ((s.ra == ra) && int_eq s.dec dec))
-
--- ---- changes
-
--- another count is put at a key
-module _ (key : PlaceKey) (before after : PlaceKey → Option ℕ) (count : ℕ) (puts : (other : PlaceKey) → after other ≡ cond (same_place key other) (Some count) (before other)) where
-  pub put_more : count ≡ unwrap_or (before key) 0 + 1 → (other : PlaceKey) → unwrap_or (after other) 0 ≡ unwrap_or (before other) 0 + cond (same_place key other) 1 0
-  put_more is other = by (same_place key other) refl
-    where
-      by : (b : Bool) → same_place key other ≡ b → unwrap_or (after other) 0 ≡ unwrap_or (before other) 0 + cond b 1 0
-      by true same =
-          ap (λ (o : Option ℕ). unwrap_or o 0) (puts other ∙ ap (λ (b : Bool). cond b (Some count) (before other)) same) ∙ is
-          ∙ ap (λ (own : PlaceKey). unwrap_or (before own) 0 + 1) (same_key key other same)
-      by false differs =
-          let stays = ap (λ (o : Option ℕ). unwrap_or o 0) (puts other ∙ ap (λ (b : Bool). cond b (Some count) (before other)) differs) in omega arith
-
-  pub put_less : count + 1 ≡ unwrap_or (before key) 0 → (other : PlaceKey) → unwrap_or (after other) 0 + cond (same_place key other) 1 0 ≡ unwrap_or (before other) 0
-  put_less is other = by (same_place key other) refl
-    where
-      by : (b : Bool) → same_place key other ≡ b → unwrap_or (after other) 0 + cond b 1 0 ≡ unwrap_or (before other) 0
-      by true same =
-          ap (λ (o : Option ℕ). unwrap_or o 0 + 1) (puts other ∙ ap (λ (b : Bool). cond b (Some count) (before other)) same) ∙ is
-          ∙ ap (λ (own : PlaceKey). unwrap_or (before own) 0) (same_key key other same)
-      by false differs =
-          let stays = ap (λ (o : Option ℕ). unwrap_or o 0) (puts other ∙ ap (λ (b : Bool). cond b (Some count) (before other)) differs) in omega arith
-
--- ---- whether there is one
-
-pub none_more : (n : ℕ) → n ≡ 0 + n
-none_more n = omega arith
-
-pub any_counted : (p : Observation → Bool) (observations : List Observation) → nat_lt 0 (count_by p observations) ≡ list_any p observations
-any_counted p [] = refl
-any_counted p (o ∷ others) = ap (nat_lt 0) (sum_by-cons (λ (o : Observation). cond (p o) 1 0) o others) ∙ by (p o) (any_counted p others)
-  where
-    by : (b : Bool) → nat_lt 0 (count_by p others) ≡ list_any p others → nat_lt 0 (cond b 1 0 + count_by p others) ≡ (b || list_any p others)
-    by true rest = lt-ltb 0 (1 + count_by p others) (omega arith)
-    by false rest = ap (nat_lt 0) (sym (none_more (count_by p others))) ∙ rest

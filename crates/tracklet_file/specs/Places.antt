@@ -1,22 +1,24 @@
--- The index of places: how many live observations have each station, time and position. The lists here stand oldest first.
-use Rattle.std.specs.Prelude.{◌≡◌, ◌+◌, ◌-◌, ◌<◌, ◌≤◌, ◌<ℤ◌, ◌≤ℤ◌, ℕ, ℤ, Bool, ◌&&◌, List, length, take, All, count_by}
-use Rattle.std.specs.Prelude.{slice_index_or, unwrap_or}
-use Rattle.std.specs.Map.{lookup}
-use Rattle.indexmap.specs.IndexMap.{IndexMap}
+-- The places of observations: those that are found by their marks, and those that wait. The lists here stand oldest
+-- first.
+use Rattle.std.specs.Prelude.{◌≡◌, ◌+◌, ◌-◌, ◌/◌, ◌^◌, ◌<◌, ◌≤◌, ◌<ℤ◌, ◌≤ℤ◌, ℕ, ℤ, Bool, true, ◌&&◌, List, length, take, map, All}
+use Rattle.std.specs.Prelude.{slice_index_or}
+use Rattle.std.specs.Int.{w64, cast_unsigned}
 use Rattle.place_keys.specs.declared.place.PlaceKey.{PlaceKey}
+use Rattle.place_keys.specs.Marks.{mixed}
 use Rattle.place_keys.specs.Places.{place_key, same_place}
 use Rattle.tracklet_file.specs.declared.observation.Observation.{Observation}
-
--- how many live observations have the place, by the entries of the index
-abbrev pub live_in : List (PlaceKey × ℕ) → PlaceKey → ℕ
-live_in entries key = unwrap_or (lookup (same_place key) entries) 0
-
-abbrev pub live_at : {S : Type 0} → IndexMap PlaceKey ℕ S → PlaceKey → ℕ
-live_at index = live_in index.entries
 
 -- the observation is live, and has the place
 abbrev pub counts_at : PlaceKey → Observation → Bool
 counts_at key o = o.live && same_place (place_key o.sighting) key
+
+-- a number that a place makes, by which it is looked for
+abbrev pub mark_of : PlaceKey → ℕ
+mark_of key = mixed 0 (mixed (cast_unsigned w64 key.time) (mixed key.ra (cast_unsigned w64 key.dec))) / 2 ^ 32
+
+-- that of an observation's place
+abbrev pub mark_in : Observation → ℕ
+mark_in o = mark_of (place_key o.sighting)
 
 -- when it was observed
 abbrev pub time_of : Observation → ℤ
@@ -28,20 +30,20 @@ AscendFrom first filed =
     (i j : ℕ) (d : Observation) → first ≤ i → i < j → j < length filed
     → time_of (slice_index_or filed i d) <ℤ time_of (slice_index_or filed j d)
 
--- the entries of the index, how many observations, the first ones, it counts, for how many more observations room was
--- taken, how many more places it can have without memory, and the latest time
+-- the marks of the observations that are in the index, the first ones; for how many more observations room was taken,
+-- and for how many more marks there is room; the latest time; and whether those that wait ascend in time
 pub record KeptPlaces : Type 0 where
-  pub entries : List (PlaceKey × ℕ)
-  pub indexed : ℕ
+  pub marks : List ℕ
   pub room : ℕ
   pub spare : ℕ
   pub latest : ℤ
+  pub ascends : Bool
 
--- the index counts the first of them, the others ascend in time, none is later than the latest time, and there is room
--- for those that aren't in the index, beside the room for more
+-- the index has the marks of the first of them, the others ascend in time where that is said, none is later than the
+-- latest time, and there is room for those that aren't in the index, beside the room for more
 pub record IsIndexed (filed : List Observation) (places : KeptPlaces) : Type 0 where
-  pub within : places.indexed ≤ length filed
-  pub live_are : (key : PlaceKey) → live_in places.entries key ≡ count_by (counts_at key) (take places.indexed filed)
-  pub in_order : AscendFrom places.indexed filed
+  pub within : length places.marks ≤ length filed
+  pub marks_are : places.marks ≡ map mark_in (take (length places.marks) filed)
+  pub in_order : places.ascends ≡ true → AscendFrom (length places.marks) filed
   pub up_to : All (λ o. time_of o ≤ℤ places.latest) filed
-  pub enough : places.room + (length filed - places.indexed) ≤ places.spare
+  pub enough : places.room + (length filed - length places.marks) ≤ places.spare

@@ -90,7 +90,7 @@ impl TrackletFile {
             links: Vec::with_capacity(alloc, FIRST_ROOM)?,
             tracklets: Vec::with_capacity(alloc, FIRST_ROOM)?,
             chains: Vec::with_capacity(alloc, FIRST_ROOM)?,
-            places: Places::new(alloc),
+            places: Places::new(alloc)?,
             homes: OrderedList::new(alloc)?,
             isolated: 0,
             retracted: 0,
@@ -187,7 +187,6 @@ impl TrackletFile {
         let isolated = self.home(o.track).is_none();
         self.isolated = without_one(self.isolated, isolated);
         self.retracted += 1;
-        self.places.retract(self.observations.as_slice(), place);
         self.chains[(o.track - 1) as usize].live -= 1;
         self.observations[place] = Observation { live: false, ..o };
     }

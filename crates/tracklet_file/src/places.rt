@@ -1,80 +1,84 @@
-//! The places of observations: how many live observations have each.
+//! The places of observations: which of them live observations have.
 
-ghost use Rattle.std.specs.Prelude.{◌≡◌, ◌+◌, ◌^◌, ◌<◌, ◌≤◌, ◌++◌, ◌∷◌, [], length, if◌then◌else◌};
-ghost use Rattle.std.specs.Prelude.{false, Some, IsTrue, OnOk, slice_get, slice_set, count_by, int_lt};
+ghost use Rattle.std.specs.Prelude.{◌≡◌, ◌+◌, ◌<◌, ◌≤◌, ◌++◌, ◌∷◌, [], length, map, true, IfOk, OnOk, int_lt, slice_index_or};
 ghost use Rattle.std.specs.List.{list_any};
-ghost use Rattle.indexmap.specs.IndexMap.{spare};
 ghost use Rattle.place_keys.specs.declared.place.PlaceKey.{PlaceKey};
-ghost use Rattle.place_keys.specs.Places.{same_place};
 ghost use Rattle.tracklet_file.specs.declared.observation.Observation.{Observation};
-ghost use Rattle.tracklet_file.specs.Places.{live_at, counts_at, AscendFrom, IsIndexed};
+ghost use Rattle.tracklet_file.specs.Places.{counts_at, mark_of, mark_in, AscendFrom, IsIndexed};
 
 use crate::observation::Observation;
-use indexmap::IndexMap;
 use item_list::NoMemory;
+use mark_index::MarkIndex;
 use obs_time::Instant;
-use place_keys::{PlaceKey, place_key};
+use place_keys::{PlaceKey, mixed, place_key};
 use std::alloc::Global;
 use std::marker::Model;
 
+/// So many observations may wait that don't ascend in time. They are put into the index one right after another: what
+/// each needs of the memory then comes while others are put in.
+const BLOCK: usize = 64;
+
 /// Which places the live observations of a file have.
 ///
-/// Most observations come in the order of their times, and to hash each costs more than all else that is done with it.
-/// So the newest ones, as long as each is later than all before it, wait outside the index: they are found by their
-/// times. All of them are put into it when one comes that isn't later.
+/// Most observations come in the order of their times, and to look for the place of each costs more than all else that
+/// is done with it. So the newest ones wait outside the index: as long as each is later than all before it, they are
+/// found by their times; else they are few, and looked at one by one.
 #[derive(Debug, Drop)]
 pub(crate) struct Places {
-    // How many live observations have each place. A place that has none any more keeps its entry.
-    index: IndexMap<PlaceKey, u64>,
-    // So many observations, the first ones, are in the index.
-    indexed: usize,
-    // For so many more observations there is room in the index, or for more, beside those that are to come into it.
+    // The marks of the first observations. The others wait.
+    index: MarkIndex,
+    // For so many more observations there is room in the index, or for more, beside those that wait.
     room: u64,
     // No observation is later than this, in nanoseconds since 1970.
     latest: i64,
+    // Where it is true, each of those that wait is later than all before it.
+    ascends: bool,
 }
 
 impl Model for Places {
-    ghost use Rattle.indexmap.specs.IndexMap.{spare};
     ghost use Rattle.tracklet_file.specs.Places.{KeptPlaces};
 
     ghost Value = { KeptPlaces };
 
     ghost view = { λ p. record {
-      entries = p.index.entries;
-      indexed = p.indexed;
+      marks = p.index.marks;
       room = p.room;
-      spare = spare p.index;
+      spare = p.index.room;
       latest = p.latest;
+      ascends = p.ascends;
     } };
 }
 
 impl Places {
     /// Those of no observations.
-    pub(crate) fn new(alloc: Global) -> Places
-        ensures { IsIndexed [] result }
+    ///
+    /// # Errors
+    ///
+    /// Memory was refused.
+    pub(crate) fn new(alloc: Global) -> Result<Places, NoMemory>
+        ensures { IfOk result (λ places. IsIndexed [] places) }
     {
-        Places {
-            index: IndexMap::new(alloc),
-            indexed: 0,
+        Ok(Places {
+            index: MarkIndex::new(alloc)?,
             room: 0,
             latest: i64::MIN,
-        }
+            ascends: true,
+        })
     }
 
     /// Takes the memory for so many more observations than are filed, and for those that aren't in the index yet.
     ///
     /// # Errors
     ///
-    /// Memory was refused.
+    /// Memory was refused, or they are 2^32 observations or more.
     pub(crate) fn reserve(&mut self, filed: &[Observation], more: u32) -> Result<(), NoMemory>
         requires { IsIndexed filed.now self.old }
         ensures filed { IsIndexed filed.now self.new }
         ensures room { OnOk result (more ≤ self.new.room) }
         ensures room_stays { self.old.room ≤ self.new.room }
     {
-        let waiting = filed.len() - self.indexed;
-        grow(&mut self.index, waiting + more as usize)?;
+        let waiting = filed.len() - self.index.len();
+        self.index.reserve(waiting.saturating_add(more as usize))?;
         self.room = self.room.max(more as u64);
         Ok(())
     }
@@ -88,33 +92,20 @@ impl Places {
     {
         self.room -= 1;
         let time = newest.sighting.time.ns();
-        if self.latest < time {
-            // It waits outside the index.
-            self.latest = time;
+        self.ascends = self.ascends && self.latest < time;
+        self.latest = self.latest.max(time);
+        let waiting = &filed[self.index.len()..];
+        // Before the next observations are asked about none waits that would have to be looked at.
+        if self.ascends || self.room > 0 && waiting.len() < BLOCK {
             return;
         }
-        let count = filed.len() + 1;
-        count_all(&mut self.index, &filed[self.indexed..]);
-        count_live(&mut self.index, newest);
-        self.indexed = count;
-    }
-
-    /// Makes a live observation one that has no place. It is about to be marked as retracted.
-    pub(crate) fn retract(&mut self, filed: &[Observation], place: usize)
-        requires filed { IsIndexed filed.now self.old }
-        requires within { place < length filed.now }
-        requires live { (o : Observation) → slice_get filed.now place ≡ Some o → IsTrue o.live }
-        ensures filed { (o : Observation) → slice_get filed.now place ≡ Some o
-            → IsIndexed (slice_set filed.now place (record o { live = false })) self.new }
-        ensures room { self.new.room ≡ self.old.room }
-    {
-        // One that isn't in the index is counted by its mark alone.
-        if place < self.indexed {
-            uncount_one(&mut self.index, &place_key(&filed[place].sighting));
-        }
+        mark_all(&mut self.index, waiting);
+        self.index.push(mark_of(&place_key(&newest.sighting)));
+        self.ascends = true;
     }
 
     /// Whether all that is filed was observed before a time.
+    #[inline]
     pub(crate) fn end_before(&self, time: Instant) -> bool
         ensures { result ≡ int_lt self.now.latest time }
     {
@@ -122,36 +113,56 @@ impl Places {
     }
 
     /// Whether a live observation has the place.
+    #[inline]
     pub(crate) fn has(&self, filed: &[Observation], key: &PlaceKey) -> bool
         requires { IsIndexed filed.now self.now }
         ensures { result ≡ list_any (counts_at key.now) filed.now }
     {
-        has_by_time(&filed[self.indexed..], key) || live_at(&self.index, key) > 0
+        let waiting = &filed[self.index.len()..];
+        if self.is_waiting(waiting, key) {
+            return true;
+        }
+        self.index
+            .find(mark_of(key), |place| is_live_in(filed, place, key))
+            .is_some()
+    }
+
+    /// Whether a live observation of those that wait has the place.
+    #[inline]
+    fn is_waiting(&self, waiting: &[Observation], key: &PlaceKey) -> bool
+        requires { self.now.ascends ≡ true → AscendFrom 0 waiting.now }
+        ensures { result ≡ list_any (counts_at key.now) waiting.now }
+    {
+        if self.ascends {
+            has_by_time(waiting, key)
+        } else {
+            waiting.iter().any(|o| is_live_at(o, key))
+        }
     }
 }
 
-/// Takes the memory for so many more places. Where there is too little, the index grows to four times its size, if the
-/// memory is there, since each of its entries is put into the new table.
-///
-/// # Errors
-///
-/// Memory was refused.
-fn grow(index: &mut IndexMap<PlaceKey, u64>, more: usize) -> Result<(), NoMemory>
-    ensures entries { index.new.entries ≡ index.old.entries }
-    ensures room { OnOk result (more ≤ spare index.new) }
-    ensures room_stays { spare index.old ≤ spare index.new }
+/// A number that a place makes, by which it is looked for.
+#[inline]
+fn mark_of(key: &PlaceKey) -> u32
+    ensures { result ≡ mark_of key.now }
 {
-    let filled = index.len();
-    if more <= index.capacity() - filled {
-        return Ok(());
+    let position = mixed(key.ra, key.dec.cast_unsigned());
+    (mixed(0, mixed(key.time.cast_unsigned(), position)) >> 32) as u32
+}
+
+/// The marks of observations more. It takes no memory: there is room.
+fn mark_all(index: &mut MarkIndex, waiting: &[Observation])
+    requires { length waiting.now ≤ index.old.room }
+    ensures marks { index.new.marks ≡ index.old.marks ++ map mark_in waiting.now }
+    ensures room { index.new.room + length waiting.now ≡ index.old.room }
+{
+    for o in waiting {
+        index.push(mark_of(&place_key(&o.sighting)));
     }
-    if index.reserve(more.max(filled.saturating_mul(3))).is_ok() {
-        return Ok(());
-    }
-    index.reserve(more)
 }
 
 /// Whether a live observation of these, which ascend in time, has the place.
+#[inline]
 fn has_by_time(waiting: &[Observation], key: &PlaceKey) -> bool
     requires { AscendFrom 0 waiting.now }
     ensures { result ≡ list_any (counts_at key.now) waiting.now }
@@ -163,71 +174,18 @@ fn has_by_time(waiting: &[Observation], key: &PlaceKey) -> bool
 }
 
 /// Whether the observation is live, and has the place.
+#[inline]
 fn is_live_at(o: &Observation, key: &PlaceKey) -> bool
     ensures { result ≡ counts_at key.now o.now }
 {
     o.live && place_key(&o.sighting) == *key
 }
 
-/// How many live observations have the place.
-fn live_at(index: &IndexMap<PlaceKey, u64>, key: &PlaceKey) -> u64
-    ensures { result ≡ live_at index.now key.now }
+/// Whether the observation at a place of the file is live, and has the place that the key says.
+#[inline]
+fn is_live_in(filed: &[Observation], place: usize, key: &PlaceKey) -> bool
+    requires { place < length filed.now }
+    ensures { (d : Observation) → result ≡ counts_at key.now (slice_index_or filed.now place d) }
 {
-    match index.get(key) {
-        Some(live) => *live,
-        None => 0,
-    }
-}
-
-/// The observations more, as far as they are live. It takes no memory: there is room.
-fn count_all(index: &mut IndexMap<PlaceKey, u64>, waiting: &[Observation])
-    requires room { length waiting.now ≤ spare index.old }
-    requires fits { (key : PlaceKey) → live_at index.old key + length waiting.now < 2 ^ 64 }
-    ensures live { (key : PlaceKey) → live_at index.new key
-        ≡ live_at index.old key + count_by (counts_at key) waiting.now }
-    ensures room { spare index.old ≤ spare index.new + length waiting.now }
-{
-    for o in waiting {
-        count_live(index, o);
-    }
-}
-
-/// One observation more, where it is live. It takes no memory: there is room.
-fn count_live(index: &mut IndexMap<PlaceKey, u64>, o: &Observation)
-    requires room { 0 < spare index.old }
-    requires fits { (key : PlaceKey) → live_at index.old key + 1 < 2 ^ 64 }
-    ensures live { (key : PlaceKey) → live_at index.new key
-        ≡ live_at index.old key + (if counts_at key o.now then 1 else 0) }
-    ensures room { spare index.old ≤ spare index.new + 1 }
-{
-    if o.live {
-        count_one(index, place_key(&o.sighting));
-    }
-}
-
-/// One live observation more at the place. It takes no memory: there is room.
-fn count_one(index: &mut IndexMap<PlaceKey, u64>, key: PlaceKey)
-    requires room { 0 < spare index.old }
-    requires fits { live_at index.old key + 1 < 2 ^ 64 }
-    ensures live { (other : PlaceKey) → live_at index.new other
-        ≡ live_at index.old other + (if same_place key other then 1 else 0) }
-    ensures room { spare index.old ≤ spare index.new + 1 }
-{
-    // One search: a place that was there gets its count back, with this one.
-    let (place, before) = index.insert_full(key, 1).unwrap();
-    if let Some(live) = before {
-        index[place] = live + 1;
-    }
-}
-
-/// One live observation less at the place, where there is one.
-fn uncount_one(index: &mut IndexMap<PlaceKey, u64>, key: &PlaceKey)
-    requires { 0 < live_at index.old key.now }
-    ensures live { (other : PlaceKey) → live_at index.new other + (if same_place key.now other then 1 else 0)
-        ≡ live_at index.old other }
-    ensures room { spare index.old ≤ spare index.new }
-{
-    if let Some(live) = index.get_mut(key) {
-        *live -= 1;
-    }
+    is_live_at(&filed[place], key)
 }

@@ -1,14 +1,15 @@
-use Rattle.std.proofs.Common.{◌≡◌, ℕ, ◌+◌, ◌-◌, ◌<◌, true, false, Bool, cond, List, set, slice_get, length, refl, ap, subst, sym, ◌∙◌, arith}
+use Rattle.std.proofs.Common.{◌≡◌, ℕ, ◌+◌, ◌-◌, ◌<◌, true, false, Bool, cond, length, refl, ap, subst, sym, ◌∙◌, arith}
 use Rattle.std.specs.Prelude.{reverse, is_none}
 use Rattle.std.proofs.lemmas.List.{length-reverse}
+use Rattle.std.proofs.lemmas.Option.{get_or_from_slice_get}
 use Rattle.tracklet_file.specs.declared.observation.Observation.{Observation}
 use Rattle.tracklet_file.specs.Observations.{is_live, with_retraction}
 use Rattle.tracklet_file.specs.Tracklets.{IsTracklet, home_of}
 use Rattle.tracklet_file.specs.Contents.{Contents}
 use Rattle.tracklet_file.proofs.NumberingLemmas.{numbered_within, numbered_place, place_within, read_at, changed_in_place}
 use Rattle.tracklet_file.proofs.CountLemmas.{tracklet_at, none_told, live_there, live_at, some_isolated}
-use Rattle.tracklet_file.specs.Places.{IsIndexed}
 use Rattle.tracklet_file.proofs.KeepingLemmas.{chain_some, kept_retracted}
+use Rattle.tracklet_file.proofs.IndexLemmas.{retracted_kept}
 use Rattle.tracklet_file.proofs.file.TrackletFile.retract.Goals as goal
 
 pub overflow_sub-place : goal.overflow_sub-place
@@ -40,18 +41,6 @@ without_one-self-inside-requires c none =
     let alone : is_none (home_of tracklets c.index-o.result.now.track) ≡ true =
     ap (λ (v : Contents). is_none (home_of v.tracklets c.index-o.result.now.track)) c.self.view_is ∙ ap is_none (sym c.home.ensures) ∙ sym (none_told c.home.result c.is_none-isolated.result c.is_none-isolated.ensures) ∙ none in
     subst (λ (n : ℕ). 0 < n) (sym c.self.invariant.kept.counted.isolated_are) (some_isolated tracklets observations c.args.k c.index-o.result.now at alive alone)
-
-pub retract-requires-clause-within : goal.retract-requires-clause-within
-retract-requires-clause-within c =
-    let live : is_live (reverse c.self.inside.observations.items) c.args.k ≡ true = ap (λ (v : Contents). is_live v.observations c.args.k) c.self.view_is ∙ c.requires in
-    omega (arith, place_within c.self.inside.observations.items c.args.k (live_there (reverse c.self.inside.observations.items) c.args.k live), ap (λ (os : List Observation). length os) c.as_slice.ensures.value)
-
-pub retract-requires-clause-live : goal.retract-requires-clause-live
-retract-requires-clause-live c o at =
-    let observations = reverse c.self.inside.observations.items in
-    let live : is_live observations c.args.k ≡ true = ap (λ (v : Contents). is_live v.observations c.args.k) c.self.view_is ∙ c.requires in
-    let own = numbered_place c.self.inside.observations.items c.args.k (live_there observations c.args.k live) in
-    live_at observations c.args.k o (own ∙ ap (λ (os : List Observation). slice_get os (c.args.k - 1)) (sym c.as_slice.ensures.value) ∙ at) live
 
 pub overflow_sub-o : goal.overflow_sub-o
 overflow_sub-o c =
@@ -100,8 +89,9 @@ invariant_of-self c =
       homed = c.self.invariant.homed;
       indexed =
           let own = sym (numbered_place c.self.inside.observations.items c.args.k there) ∙ at in
-          subst (λ (os : List Observation). IsIndexed (set os (c.args.k - 1) (record c.index-o.result.now { live = false })) c.retract.new.self) c.as_slice.ensures.value
-          (c.retract.ensures.filed c.index-o.result.now (ap (λ (os : List Observation). slice_get os (c.args.k - 1)) c.as_slice.ensures.value ∙ own));
+          let within = place_within c.self.inside.observations.items c.args.k there in
+          retracted_kept c.self.inside.observations.items _ c.self.invariant.indexed (c.args.k - 1) c.index-o.result.now within
+          (λ (d : Observation). get_or_from_slice_get c.self.inside.observations.items (c.args.k - 1) c.index-o.result.now d own);
       kept =
           kept_retracted _ _ _ c.self.invariant.kept c.args.k c.index-o.result.now c.index_mut.result.now _ _ c.without_one-self-inside.result (c.self.inside.retracted + 1)
           (c.index_mut.result.now.live - 1) at alive c.index_mut.ensures.value (omega (arith, chain))

@@ -1,40 +1,49 @@
 use mir.Val.{SFits}
-use Rattle.std.proofs.Common.{rules, ◌≡◌, ◌<◌, w64, to_z, of_z, ◌<ℤ◌, ◌≤ℤ◌, ◌-◌, ◌++◌, ◌∷◌, [], ℤ, List, drop, length, ap, sym, subst, ◌∙◌, arith}
-use Rattle.std.specs.Prelude.{count_by}
+use Rattle.std.proofs.Common.{rules, ◌≡◌, ◌<◌, w64, to_z, of_z, ◌<ℤ◌, ◌≤ℤ◌, ◌-◌, ◌++◌, ◌∷◌, [], ℤ, ℕ, List, true, take, drop, map, length, ap, sym, subst, ◌∙◌, arith}
+use Rattle.std.specs.Prelude.{int_lt}
+use mathlib.Core.Bool.{true≢false}
 use Rattle.std.proofs.lemmas.Int.{ints, to_z-of_z}
-use Rattle.indexmap.specs.IndexMap.{spare}
 use Rattle.tracklet_file.specs.declared.observation.Observation.{Observation}
-use Rattle.tracklet_file.specs.Places.{counts_at, time_of, KeptPlaces, IsIndexed}
-use Rattle.tracklet_file.proofs.CountLemmas.{count_low}
-use Rattle.tracklet_file.proofs.IndexLemmas.{rest_is, counts_fit, filed_later, filed_all}
+use Rattle.tracklet_file.specs.Places.{mark_of, mark_in, time_of, KeptPlaces, IsIndexed}
+use Rattle.tracklet_file.proofs.IndexLemmas.{rest_is, filed_waits, filed_all}
 use Rattle.tracklet_file.proofs.places.Places.add.Goals as goal
+use Rattle.tracklet_file.proofs.places.Places.add.Goals.{then-self, else-self}
 
-pub count_all-requires-clause-fits : goal.count_all-requires-clause-fits
-count_all-requires-clause-fits c key =
-    let was = subst (λ (v : KeptPlaces). IsIndexed c.args.filed.now v) (sym c.self.view_is) c.requires.filed in
-    omega (arith, counts_fit c.args.filed.now _ was key, ap (λ (os : List Observation). length os) (rest_is (counts_at key) c.self.inside.indexed c.args.filed.now))
+later_told : (x y x' y' : ℤ) → x' ≡ x → y' ≡ y → int_lt x' y' ≡ true → x <ℤ y
+later_told x y x' y' first second told =
+    let less : x' <ℤ y' = omega (arith, ints) in
+    subst (λ (t : ℤ). t <ℤ y) first (subst (λ (t : ℤ). x' <ℤ t) second less)
 
-pub count_live-requires-clause-fits : goal.count_live-requires-clause-fits
-count_live-requires-clause-fits c key =
-    let was = subst (λ (v : KeptPlaces). IsIndexed c.args.filed.now v) (sym c.self.view_is) c.requires.filed in
-    let rest = rest_is (counts_at key) c.self.inside.indexed c.args.filed.now in
-    omega (arith, counts_fit c.args.filed.now _ was key, ap (count_by (counts_at key)) rest, count_low (counts_at key) (drop c.self.inside.indexed c.args.filed.now), c.count_all.ensures.live key)
-
-pub returns-then-self-time-clause-filed : goal.returns-then-self-time-clause-filed
-returns-then-self-time-clause-filed c =
+pub returns-then-self-2-clause-filed : goal.returns-then-self-2-clause-filed
+returns-then-self-2-clause-filed c =
     let was = subst (λ (v : KeptPlaces). IsIndexed c.args.filed.now v) (sym c.self.view_is) c.requires.filed in
     let room : 0 < c.self.inside.room = omega (arith, ap (λ (v : KeptPlaces). v.room) c.self.view_is, c.requires.room) in
-    let fits : SFits w64 c.ns-time.result = search rules in
-    let time : to_z w64 (of_z w64 c.ns-time.result) ≡ time_of c.args.newest.now = to_z-of_z w64 c.ns-time.result fits ∙ c.ns-time.ensures.value in
-    let later : c.self.inside.latest <ℤ time_of c.args.newest.now = subst (λ (t : ℤ). c.self.inside.latest <ℤ t) c.ns-time.ensures.value (omega (arith, ints, c.if-self-time.true)) in
-    subst (λ (t : ℤ). IsIndexed (c.args.filed.now ++ c.args.newest.now ∷ []) (record { entries = c.self.inside.index.entries; indexed = c.self.inside.indexed; room = c.self.inside.room - 1; spare = spare c.self.inside.index; latest = t }))
-    (sym time) (filed_later c.args.filed.now _ was c.args.newest.now room later)
+    let fits : SFits w64 c.max-self-inside.result = search rules in
+    let latest : to_z w64 (of_z w64 c.self.inside.latest) ≡ c.self.inside.latest = to_z-of_z w64 c.self.inside.latest (search rules) in
+    let low : c.self.inside.latest ≤ℤ c.max-self-inside.result = subst (λ (t : ℤ). t ≤ℤ c.max-self-inside.result) latest c.max-self-inside.ensures.self_bound in
+    let ns : to_z w64 (of_z w64 c.ns-time.result) ≡ time_of c.args.newest.now = to_z-of_z w64 c.ns-time.result (search rules) ∙ c.ns-time.ensures.value in
+    let own : time_of c.args.newest.now ≤ℤ c.max-self-inside.result = subst (λ (t : ℤ). t ≤ℤ c.max-self-inside.result) ns c.max-self-inside.ensures.other_bound in
+    let later : c.if-self.self ≡ true → (c.self.inside.ascends ≡ true) × (c.self.inside.latest <ℤ time_of c.args.newest.now) = λ told. elim c.if-self.branch [
+      | then-self w ↦ (w.if-self.true, later_told _ _ _ _ latest ns (sym w.self-is ∙ told))
+      | else-self w ↦ absurd (true≢false (sym told ∙ w.self-is ∙ w.if-self.false))
+    ] in
+    subst (λ (t : ℤ). IsIndexed (c.args.filed.now ++ c.args.newest.now ∷ []) (record { marks = c.self.inside.index.marks; room = c.self.inside.room - 1; spare = c.self.inside.index.room; latest = t; ascends = c.if-self.self }))
+    (sym (to_z-of_z w64 c.max-self-inside.result fits)) (filed_waits c.args.filed.now _ was c.args.newest.now room c.max-self-inside.result low own c.if-self.self later)
 
 pub returns-clause-filed : goal.returns-clause-filed
 returns-clause-filed c =
     let was = subst (λ (v : KeptPlaces). IsIndexed c.args.filed.now v) (sym c.self.view_is) c.requires.filed in
     let room : 0 < c.self.inside.room = omega (arith, ap (λ (v : KeptPlaces). v.room) c.self.view_is, c.requires.room) in
-    let early : time_of c.args.newest.now ≤ℤ c.self.inside.latest = subst (λ (t : ℤ). t ≤ℤ c.self.inside.latest) c.ns-time.ensures.value (omega (arith, ints, c.if-self-time.false)) in
-    filed_all c.args.filed.now _ was c.args.newest.now room early c.count_live.new.index.entries (spare c.count_live.new.index)
-    (λ key. omega (arith, c.count_live.ensures.live key, c.count_all.ensures.live key, ap (count_by (counts_at key)) (rest_is (counts_at key) c.self.inside.indexed c.args.filed.now)))
-    (omega (arith, c.count_live.ensures.room, c.count_all.ensures.room, ap (λ (os : List Observation). length os) (rest_is (λ (o : Observation). o.live) c.self.inside.indexed c.args.filed.now)))
+    let fits : SFits w64 c.max-self-inside.result = search rules in
+    let latest : to_z w64 (of_z w64 c.self.inside.latest) ≡ c.self.inside.latest = to_z-of_z w64 c.self.inside.latest (search rules) in
+    let low : c.self.inside.latest ≤ℤ c.max-self-inside.result = subst (λ (t : ℤ). t ≤ℤ c.max-self-inside.result) latest c.max-self-inside.ensures.self_bound in
+    let ns : to_z w64 (of_z w64 c.ns-time.result) ≡ time_of c.args.newest.now = to_z-of_z w64 c.ns-time.result (search rules) ∙ c.ns-time.ensures.value in
+    let own : time_of c.args.newest.now ≤ℤ c.max-self-inside.result = subst (λ (t : ℤ). t ≤ℤ c.max-self-inside.result) ns c.max-self-inside.ensures.other_bound in
+    let rest : take (length c.args.filed.now - c.len.result) (drop c.len.result c.args.filed.now) ≡ drop (length c.self.inside.index.marks) c.args.filed.now =
+    rest_is (λ (o : Observation). o.live) c.len.result c.args.filed.now ∙ ap (λ (n : ℕ). drop n c.args.filed.now) c.len.ensures in
+    let own_mark : c.mark_of.result ≡ mark_in c.args.newest.now = c.mark_of.ensures ∙ ap mark_of c.place_key.ensures in
+    subst (λ (t : ℤ). IsIndexed (c.args.filed.now ++ c.args.newest.now ∷ []) (record { marks = c.push.new.self.marks; room = c.self.inside.room - 1; spare = c.push.new.self.room; latest = t; ascends = true }))
+    (sym (to_z-of_z w64 c.max-self-inside.result fits)) (filed_all c.args.filed.now _ was c.args.newest.now room c.max-self-inside.result low own c.push.new.self.marks c.push.new.self.room
+    (c.push.ensures.marks ∙ ap (λ (ms : List ℕ). ms ++ c.mark_of.result ∷ []) (c.mark_all.ensures.marks ∙ ap (λ (os : List Observation). c.self.inside.index.marks ++ map mark_in os) rest)
+    ∙ ap (λ (m : ℕ). (c.self.inside.index.marks ++ map mark_in (drop (length c.self.inside.index.marks) c.args.filed.now)) ++ m ∷ []) own_mark)
+    (omega (arith, c.push.ensures.room, c.mark_all.ensures.room, ap (λ (os : List Observation). length os) rest)))

@@ -1,0 +1,2 @@
+mod TagLemmas
+mod ChainLemmas

@@ -1,0 +1,183 @@
+//! The index.
+
+ghost use Rattle.std.specs.Prelude.{◌≡◌, ℕ, ◌+◌, ◌<◌, ◌≤◌, ◌∷◌, [], ◌++◌, length, true, false, IfOk, OnOk};
+ghost use Rattle.std.specs.Prelude.{IfSome, IfNone, slice_index};
+ghost use Rattle.mark_index.specs.Slots.{tag_of};
+
+use crate::table::{joined, may_be, slot_of, tag_of};
+use item_list::NoMemory;
+use std::alloc::{AllocError, Global};
+use std::marker::Model;
+
+/// For so many entries memory is taken at least.
+const LEAST_ROOM: usize = 16;
+
+/// The marks of a list's entries, and where each is.
+#[derive(Debug, Drop)]
+pub struct MarkIndex {
+    marks: Vec<u32>,
+    // For each entry the number of the one before it in its slot, counted from 1; 0 where there is none.
+    befores: Vec<u32>,
+    // The number of the newest entry of each slot; 0 where there is none.
+    heads: Vec<u32>,
+    // What stands for the marks that lead to a place of this table: 0 where none does. It is small, and asked first.
+    tags: Vec<u8>,
+}
+
+impl Model for MarkIndex {
+    ghost use Rattle.std.specs.Prelude.{◌-◌, ◌^◌, min, vec_len, vec_capacity};
+    ghost use Rattle.mark_index.specs.Marked.{Marked, AreChained};
+
+    ghost Value = { Marked };
+
+    ghost view = { λ index. record {
+      marks = index.marks.items;
+      room = min (2 ^ 32 - 1 - vec_len index.marks) (min (vec_capacity index.marks - vec_len index.marks)
+          (vec_capacity index.befores - vec_len index.befores));
+    } };
+
+    ghost invariant = { λ index.
+        AreChained index.marks.items index.befores.items index.heads.items index.tags.items };
+}
+
+impl MarkIndex {
+    /// The index of an empty list.
+    ///
+    /// # Errors
+    ///
+    /// Memory was refused.
+    pub fn new(alloc: Global) -> Result<MarkIndex, NoMemory>
+        ensures { IfOk result (λ index. index.marks ≡ []) }
+    {
+        MarkIndex::with_capacity(alloc, 0)
+    }
+
+    /// The index of an empty list, with room for so many entries.
+    ///
+    /// # Errors
+    ///
+    /// Memory was refused, or they are 2^32 or more.
+    fn with_capacity(alloc: Global, capacity: usize) -> Result<MarkIndex, NoMemory>
+        ensures marks { IfOk result (λ index. index.marks ≡ []) }
+        ensures room { IfOk result (λ index. capacity ≤ index.room) }
+    {
+        if capacity > u32::MAX as usize {
+            return Err(AllocError);
+        }
+        let slots = capacity.next_power_of_two();
+        Ok(MarkIndex {
+            marks: Vec::with_capacity(alloc, capacity)?,
+            befores: Vec::with_capacity(alloc, capacity)?,
+            heads: vec![in alloc; 0; slots]?,
+            tags: vec![in alloc; 0; 2 * slots]?,
+        })
+    }
+
+    /// How many entries there are.
+    #[inline]
+    pub fn len(&self) -> usize
+        ensures { result ≡ length self.now.marks }
+    {
+        self.marks.len()
+    }
+
+    // For how many more entries there is room.
+    fn room(&self) -> usize
+        ensures { result ≡ self.now.room }
+    {
+        let marks = self.marks.capacity() - self.marks.len();
+        let befores = self.befores.capacity() - self.befores.len();
+        (u32::MAX as usize - self.marks.len()).min(marks.min(befores))
+    }
+
+    /// Takes the memory for so many more entries. Where there is too little, the index grows to four times its size, if
+    /// the memory is there, since each mark is put into the new tables.
+    ///
+    /// # Errors
+    ///
+    /// Memory was refused, or they are 2^32 entries or more.
+    pub fn reserve(&mut self, more: usize) -> Result<(), NoMemory>
+        ensures marks { self.new.marks ≡ self.old.marks }
+        ensures room { OnOk result (more ≤ self.new.room) }
+        ensures room_stays { self.old.room ≤ self.new.room }
+    {
+        if more <= self.room() {
+            return Ok(());
+        }
+        let least = self.len().saturating_add(more);
+        let capacity = least
+            .max(self.marks.capacity().saturating_mul(4))
+            .max(LEAST_ROOM);
+        let alloc = *self.marks.allocator();
+        let mut grown = match MarkIndex::with_capacity(alloc, capacity) {
+            Ok(grown) => grown,
+            Err(_) => MarkIndex::with_capacity(alloc, least)?,
+        };
+        grown.push_all(self.marks.as_slice());
+        *self = grown;
+        Ok(())
+    }
+
+    // The entries more. It takes no memory: there is room.
+    fn push_all(&mut self, marks: &[u32])
+        requires { length marks.now ≤ self.old.room }
+        ensures marks { self.new.marks ≡ self.old.marks ++ marks.now }
+        ensures room { self.new.room + length marks.now ≡ self.old.room }
+    {
+        for mark in marks {
+            self.push(*mark);
+        }
+    }
+
+    /// One entry more. It takes no memory: there is room.
+    #[inline]
+    pub fn push(&mut self, mark: u32)
+        requires { 0 < self.old.room }
+        ensures marks { self.new.marks ≡ self.old.marks ++ mark ∷ [] }
+        ensures room { self.new.room + 1 ≡ self.old.room }
+    {
+        let slot = slot_of(mark, self.heads.len());
+        let place = slot_of(mark, self.tags.len());
+        self.tags[place] = joined(self.tags[place], tag_of(mark));
+        self.befores.push_reserved(self.heads[slot]);
+        self.marks.push_reserved(mark);
+        self.heads[slot] = self.marks.len() as u32;
+    }
+
+    /// The place of an entry with this mark that passes a test; None exactly where none does.
+    #[inline]
+    pub fn find<F: Fn(usize) -> bool>(&self, mark: u32, is_it: F) -> Option<usize>
+        requires { (place : ℕ) → place < length self.now.marks → F.pre is_it place }
+        ensures within { IfSome result (λ place. place < length self.now.marks) }
+        ensures marked { IfSome result (λ place. slice_index self.now.marks place ≡ mark) }
+        ensures found { IfSome result (λ place. F.post is_it place true) }
+        ensures none { IfNone result ((place : ℕ) → place < length self.now.marks
+            → slice_index self.now.marks place ≡ mark → F.post is_it place false) }
+    {
+        if may_be(self.tags[slot_of(mark, self.tags.len())], tag_of(mark)) {
+            self.find_in_chain(mark, is_it)
+        } else {
+            None
+        }
+    }
+
+    // The place of an entry with this mark that passes a test, along the chain of the mark's slot.
+    fn find_in_chain<F: Fn(usize) -> bool>(&self, mark: u32, is_it: F) -> Option<usize>
+        requires { (place : ℕ) → place < length self.now.marks → F.pre is_it place }
+        ensures within { IfSome result (λ place. place < length self.now.marks) }
+        ensures marked { IfSome result (λ place. slice_index self.now.marks place ≡ mark) }
+        ensures found { IfSome result (λ place. F.post is_it place true) }
+        ensures none { IfNone result ((place : ℕ) → place < length self.now.marks
+            → slice_index self.now.marks place ≡ mark → F.post is_it place false) }
+    {
+        let mut number = self.heads[slot_of(mark, self.heads.len())];
+        while number > 0 {
+            let place = (number - 1) as usize;
+            if self.marks[place] == mark && is_it(place) {
+                return Some(place);
+            }
+            number = self.befores[place];
+        }
+        None
+    }
+}
