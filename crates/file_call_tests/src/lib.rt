@@ -5,3 +5,5 @@
 
 #[cfg(test)]
 mod calls;
+#[cfg(test)]
+mod scattered;

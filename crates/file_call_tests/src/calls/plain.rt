@@ -7,25 +7,25 @@ use std::alloc::Global;
 use tracklet_file::{Observation, Tracklet};
 
 #[derive(Drop)]
-pub(super) struct Plain {
+pub(crate) struct Plain {
     observations: Vec<Observation>,
     tracklets: Vec<Tracklet>,
 }
 
 impl Plain {
-    pub(super) fn new(alloc: Global) -> Plain {
+    pub(crate) fn new(alloc: Global) -> Plain {
         Plain {
             observations: Vec::new(alloc),
             tracklets: Vec::new(alloc),
         }
     }
 
-    pub(super) fn add_track(&mut self, tracklet: Tracklet) -> Result<(), NoMemory> {
+    pub(crate) fn add_track(&mut self, tracklet: Tracklet) -> Result<(), NoMemory> {
         self.tracklets.push(tracklet)?;
         Ok(())
     }
 
-    pub(super) fn add(
+    pub(crate) fn add(
         &mut self,
         track: u64,
         sighting: Sighting,
@@ -40,7 +40,7 @@ impl Plain {
         Ok(())
     }
 
-    pub(super) fn retract(&mut self, k: u64) {
+    pub(crate) fn retract(&mut self, k: u64) {
         for place in 0..self.observations.len() {
             if place as u64 + 1 == k {
                 self.observations[place].live = false;
@@ -48,7 +48,7 @@ impl Plain {
         }
     }
 
-    pub(super) fn set_home(&mut self, t: u64, home: Option<Designation>) {
+    pub(crate) fn set_home(&mut self, t: u64, home: Option<Designation>) {
         for place in 0..self.tracklets.len() {
             if place as u64 + 1 == t {
                 self.tracklets[place].home = home;
@@ -56,7 +56,7 @@ impl Plain {
         }
     }
 
-    pub(super) fn has_live(&self, s: &Sighting) -> bool {
+    pub(crate) fn has_live(&self, s: &Sighting) -> bool {
         self.observations.iter().any(|o| {
             o.live
                 && o.sighting.station == s.station
@@ -67,7 +67,7 @@ impl Plain {
     }
 
     /// The first observation of the tracklet with a number over `after`.
-    pub(super) fn first_after(&self, track: u64, after: u64) -> Option<u64> {
+    pub(crate) fn first_after(&self, track: u64, after: u64) -> Option<u64> {
         for place in 0..self.observations.len() {
             let number = place as u64 + 1;
             if self.observations[place].track == track && number > after {
@@ -77,7 +77,7 @@ impl Plain {
         None
     }
 
-    pub(super) fn next_of(&self, k: u64) -> Option<u64> {
+    pub(crate) fn next_of(&self, k: u64) -> Option<u64> {
         for place in 0..self.observations.len() {
             if place as u64 + 1 == k {
                 return self.first_after(self.observations[place].track, k);
@@ -96,7 +96,7 @@ impl Plain {
     }
 
     /// The first tracklet with this home and a number over `after`.
-    pub(super) fn next_at(&self, home: Designation, after: u64) -> Option<u64> {
+    pub(crate) fn next_at(&self, home: Designation, after: u64) -> Option<u64> {
         for place in 0..self.tracklets.len() {
             let number = place as u64 + 1;
             if number > after && self.tracklets[place].home == Some(home) {
@@ -107,7 +107,7 @@ impl Plain {
     }
 
     /// How many observations are isolated, homed and retracted.
-    pub(super) fn counts(&self) -> [u64; 3] {
+    pub(crate) fn counts(&self) -> [u64; 3] {
         let live = self.observations.iter().filter(|o| o.live).count();
         let homed = self
             .observations

@@ -1,0 +1,71 @@
+//! Many observations whose times are in no order, and whether the file finds their places as a plain list does.
+
+use crate::calls::plain::Plain;
+use file_calls::{ENTRY, begin_track, observe, retract, seen};
+use item_list::NoMemory;
+use std::alloc::Global;
+use tracklet_file::*;
+
+/// More observations than may wait outside the index of places, and more than it has room for at first.
+const OBSERVATIONS: u32 = 150;
+
+// The time of an observation: no two of them have the same one, and they are in no order.
+fn time_of(number: u32) -> i64 {
+    (number.wrapping_mul(37) % 151) as i64
+}
+
+fn add(file: &mut TrackletFile, plain: &mut Plain, number: u32) -> Result<(), NoMemory> {
+    let ns = time_of(number);
+    let _number = observe(file, 1, ns)?;
+    match seen(ns) {
+        Some(s) => plain.add(1, s, ENTRY),
+        None => Ok(()),
+    }
+}
+
+// How many of the times from 0 to 159 have a live observation; None where the two forms don't agree on each.
+fn places(file: &TrackletFile, plain: &Plain) -> Option<u32> {
+    let mut found = 0u32;
+    for ns in 0..160 {
+        let s = seen(ns)?;
+        let live = file.has_live(s.station, s.time, s.ra, s.dec);
+        if live != plain.has_live(&s) {
+            return None;
+        }
+        found = found.wrapping_add(live as u32);
+    }
+    Some(found)
+}
+
+fn add_all(file: &mut TrackletFile, plain: &mut Plain, from: u32, to: u32) -> Result<(), NoMemory> {
+    for number in from..to {
+        add(file, plain, number)?;
+    }
+    Ok(())
+}
+
+// How many places are found after 100 observations, after all, after every third is retracted, and after 20 of them, of
+// which 7 are retracted, are added once more. The room for all of them is taken at once, so that some wait.
+fn found(alloc: Global) -> Option<[Option<u32>; 4]> {
+    let mut file = TrackletFile::new(alloc).ok()?;
+    let mut plain = Plain::new(alloc);
+    let _track = begin_track(&mut file, None).ok()?;
+    file.reserve(200, 0).ok()?;
+    add_all(&mut file, &mut plain, 0, 100).ok()?;
+    let some = places(&file, &plain);
+    add_all(&mut file, &mut plain, 100, OBSERVATIONS).ok()?;
+    let all = places(&file, &plain);
+    for k in (1..OBSERVATIONS as u64).step_by(3) {
+        retract(&mut file, k);
+        plain.retract(k);
+    }
+    let retracted = places(&file, &plain);
+    add_all(&mut file, &mut plain, 0, 20).ok()?;
+    Some([some, all, retracted, places(&file, &plain)])
+}
+
+#[test]
+fn places_in_no_order_are_found(rt: HostRuntime) {
+    let found = found(rt.alloc());
+    assert_eq!(rt; found, Some([Some(100), Some(150), Some(100), Some(107)]));
+}
