@@ -4,6 +4,7 @@ pub mod KeyTests
 pub mod Places
 pub mod PlaceTests
 pub mod Earlier
+pub mod Live
 pub mod Numbers
 pub mod Rulings
 pub mod Memory

@@ -3,6 +3,7 @@
 ghost use Rattle.std.specs.Prelude.{◌≡◌, [], map, IfOk};
 ghost use Rattle.act_model.specs.BatchRules.{checked_reading, with_passed, checked_lines, passed_in};
 ghost use Rattle.batch_rules.specs.Earlier.{pointed, reading_of, line_of};
+ghost use Rattle.batch_rules.specs.Live.{is_live_reading, is_live_line};
 
 use crate::earlier::Earlier;
 use crate::found_rows::Rows;
@@ -22,15 +23,17 @@ pub(crate) struct Checked<'a> {
 }
 
 // A line's observation, which is added to the earlier ones of the lines after it, or the rule that the line breaks by
-// itself or beside the earlier ones.
+// itself or beside the earlier ones; by whether a live observation has the place of the line's.
 #[tactic(auto, unfolding(act_model::specs::BatchRules::checked_reading))]
 fn checked_reading<'a, V: Known>(
     rows: &mut Rows,
     known: &V,
     moment: Instant,
     earlier: &mut Earlier<'a>,
+    is_live: bool,
     read: &'a Result<Sighting, RuleCode>,
 ) -> Result<Result<&'a Sighting, RuleCode>, NoMemory>
+    requires { is_live ≡ is_live_reading (V.office known.now) read.now }
     ensures read { IfOk result (λ checked. reading_of checked
         ≡ checked_reading (V.office known.now) rows.old moment earlier.old read.now) }
     ensures earlier { IfOk result (λ checked. earlier.new ≡ with_passed (reading_of checked) earlier.old) }
@@ -41,13 +44,36 @@ fn checked_reading<'a, V: Known>(
         Err(rule) => return Ok(Err(*rule)),
     };
     let beside = earlier.beside(s)?;
-    match line_fault(rows, known, moment, beside, s) {
+    match line_fault(rows, known, moment, beside, is_live, s) {
         None => {
             earlier.push(s)?;
             Ok(Ok(s))
         }
         Some(rule) => Ok(Err(rule)),
     }
+}
+
+// Whether a live observation has the place of a line's observation. A line without one has no place.
+#[inline]
+fn is_live_line<V: Known>(known: &V, line: &Line) -> bool
+    ensures { result ≡ is_live_reading (V.office known.now) line.now.read }
+{
+    match &line.read {
+        Ok(s) => known.has_live(s.station, s.time, s.ra, s.dec),
+        Err(_) => false,
+    }
+}
+
+// Whether a live observation has the place of each line's observation. They are asked for one right after another,
+// before all else: what one needs of the memory then comes while others are asked for.
+fn live_lines<V: Known>(alloc: Global, known: &V, lines: &[Line]) -> Result<Vec<bool>, NoMemory>
+    ensures { IfOk result (λ live. live.items ≡ map (is_live_line (V.office known.now)) lines.now) }
+{
+    let mut live = Vec::with_capacity(alloc, lines.len())?;
+    for line in lines {
+        live.push_reserved(is_live_line(known, line));
+    }
+    Ok(live)
 }
 
 /// Each line with its observation, or with the first rule that it breaks by itself or beside the earlier ones; and the
@@ -63,11 +89,12 @@ pub(crate) fn checked_lines<'a, V: Known>(
         map line_of checked.0.items ≡ checked_lines (V.office known.now) tables.now moment [] lines.now) }
     ensures passed { IfOk result (λ checked. pointed checked.1.items ≡ passed_in (map line_of checked.0.items)) }
 {
+    let live = live_lines(alloc, known, lines)?;
     let mut rows = Rows::new(tables);
     let mut earlier = Earlier::with_capacity(alloc, lines.len())?;
     let mut checked = Vec::with_capacity(alloc, lines.len())?;
-    for line in lines {
-        let read = checked_reading(&mut rows, known, moment, &mut earlier, &line.read)?;
+    for (place, line) in lines.iter().enumerate() {
+        let read = checked_reading(&mut rows, known, moment, &mut earlier, live[place], &line.read)?;
         checked.push(Checked {
             number: line.number,
             read,

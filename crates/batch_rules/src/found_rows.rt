@@ -109,8 +109,9 @@ impl<'a> Rows<'a> {
         is
     }
 
-    /// Whether the letter or the word that a line gives, if it gives one, is in a row of the kind. It stands in line with
-    /// its callers, which name the kind, so that nothing but the comparison with what was found last is left of it.
+    /// Whether the letter or the word that a line gives, if it gives one, is in a row of the kind. It stands in line
+    /// with its callers, which name the kind, so that nothing is left of it but the comparison with what was found
+    /// last.
     #[inline(always)]
     pub(crate) fn have(&mut self, kind: Kind, coded: Coded) -> bool
         ensures has { result ≡ is_in_row self.old kind coded }

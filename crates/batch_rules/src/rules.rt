@@ -5,9 +5,11 @@ ghost use Rattle.obs_record.specs.declared.rule.RuleCode.TheVariants.{B4, B5};
 ghost use Rattle.obs_record.specs.declared.sighting.Sighting.{Sighting as Sighting};
 ghost use Rattle.obs_time.specs.Dates.{day_of};
 ghost use Rattle.obs_time.specs.Calendar.{year_of};
+ghost use Rattle.act_model.specs.Known.{KnownOffice};
 ghost use Rattle.act_model.specs.Rows.{first_row};
 ghost use Rattle.act_model.specs.BatchRules.{is_in_years, is_ungiven, names_ungiven, stands_already, stands_elsewhere};
 ghost use Rattle.act_model.specs.BatchRules.{object_of, are_two, is_of_two_objects, line_rules};
+ghost use Rattle.batch_rules.specs.Live.{is_live_at};
 ghost use Rattle.batch_rules.specs.PlaceTests.{rule_beside};
 
 use crate::found_rows::Rows;
@@ -72,13 +74,14 @@ fn names_ungiven<V: Known>(known: &V, s: &Sighting) -> bool
     is_ungiven(known, number_of(s)) || is_ungiven(known, designation_of(s))
 }
 
-// The rule that an observation breaks beside a live one, or beside the earlier ones of its batch, by the one that it
-// breaks beside these.
-fn broken_beside<V: Known>(known: &V, beside: Option<RuleCode>, s: &Sighting) -> Option<RuleCode>
-    ensures { (earlier : List Sighting) → beside ≡ rule_beside earlier s.now → result ≡ first_row
-        ((stands_already (V.office known.now) earlier s.now, B4) ∷ (stands_elsewhere earlier s.now, B5) ∷ []) }
+// The rule that an observation breaks beside a live one, or beside the earlier ones of its batch: by whether a live one
+// has its place, and the rule that it breaks beside the earlier ones.
+fn broken_beside(is_live: bool, beside: Option<RuleCode>) -> Option<RuleCode>
+    ensures { (office : KnownOffice) (earlier : List Sighting) (s : Sighting) →
+        is_live ≡ is_live_at office s → beside ≡ rule_beside earlier s →
+        result ≡ first_row ((stands_already office earlier s, B4) ∷ (stands_elsewhere earlier s, B5) ∷ []) }
 {
-    if known.has_live(s.station, s.time, s.ra, s.dec) {
+    if is_live {
         return Some(RuleCode::B4);
     }
     beside
@@ -93,16 +96,18 @@ fn is_of_two_objects<V: Known>(known: &V, s: &Sighting) -> bool
     )
 }
 
-/// The first rule that an observation breaks by itself, or beside the earlier ones of its batch, by the one that it
-/// breaks beside these.
+/// The first rule that an observation breaks by itself, or beside the earlier ones of its batch: by whether a live one
+/// has its place, and the rule that it breaks beside the earlier ones.
 #[tactic(auto, using(crate::proofs::Beside::beside_none))]
 pub(crate) fn line_fault<V: Known>(
     rows: &mut Rows,
     known: &V,
     moment: Instant,
     beside: Option<RuleCode>,
+    is_live: bool,
     s: &Sighting,
 ) -> Option<RuleCode>
+    requires { is_live ≡ is_live_at (V.office known.now) s.now }
     ensures rule { (earlier : List Sighting) → beside ≡ rule_beside earlier s.now →
         result ≡ first_row (line_rules (V.office known.now) rows.old moment earlier s.now) }
     ensures same { rows.new ≡ rows.old }
@@ -130,7 +135,7 @@ pub(crate) fn line_fault<V: Known>(
     if names_ungiven(known, s) {
         return Some(RuleCode::B3);
     }
-    if let Some(rule) = broken_beside(known, beside, s) {
+    if let Some(rule) = broken_beside(is_live, beside) {
         return Some(rule);
     }
     if is_of_two_objects(known, s) {

@@ -6,10 +6,10 @@ use Rattle.batch_rules.proofs.checking.checked_lines.Given as goal
 
 -- the lines that were checked, before those that are left, are all; the rows are those of the tables; and the earlier
 -- ones are what the lines have
-abbrev pub invariant-loop-line : goal.invariant-loop-line
-invariant-loop-line g l =
+abbrev pub invariant-loop-place : goal.invariant-loop-place
+invariant-loop-place g l =
     let office = g.V.Known.office l.known in record {
-      lines : map line_of l.checked.items ++ checked_lines office l.tables l.moment l.earlier (drop l.line-index l.lines) ≡ checked_lines office l.tables l.moment [] l.lines;
+      lines : map line_of l.checked.items ++ checked_lines office l.tables l.moment l.earlier (drop l.place l.lines) ≡ checked_lines office l.tables l.moment [] l.lines;
       rows : l.rows ≡ l.tables;
       passed : reverse l.earlier ≡ passed_in (map line_of l.checked.items);
     }
