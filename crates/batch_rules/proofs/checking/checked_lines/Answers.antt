@@ -11,27 +11,27 @@ use Rattle.batch_rules.specs.Live.{is_live_line}
 use Rattle.batch_rules.proofs.Passed.{passed_more}
 use Rattle.batch_rules.proofs.checking.checked_lines.Goals as goal
 
-pub checked_reading-read-requires : goal.checked_reading-read-requires
-checked_reading-read-requires g c =
+pub checked_reading-requires : goal.checked_reading-requires
+checked_reading-requires g c =
     let is_live = is_live_line (g.V.Known.office c.args.known.now) in
     let place = c.loop-place.place in
-    c.index-live-place.is
-    ∙ ap (λ (live : List Bool). get_or live place c.index-live-place.result) c.in_ok-live.ensures
-    ∙ get_or-map is_live c.args.lines.now place c.line-item.result c.index-live-place.result (omega arith)
-    ∙ ap is_live (sym c.line-item.is)
+    c.index.ensures
+    ∙ ap (λ (live : List Bool). get_or live place c.index.result.now) c.in_ok-live.ensures
+    ∙ get_or-map is_live c.args.lines.now place c.index-lines-place.result c.index.result.now (omega arith)
+    ∙ ap is_live (sym c.index-lines-place.is)
 
 pub loop-place-preserved : goal.loop-place-preserved
 loop-place-preserved g c =
     let left = λ (earlier : List Sighting) (lines : List Line). checked_lines (g.V.Known.office c.args.known.now) c.args.tables.now c.args.moment earlier lines in
     let done = map line_of c.loop-place.checked.items in
-    let line = c.line-item.result in
+    let line = c.index-lines-place.result in
     let earlier = c.loop-place.earlier in
     let next = c.checked_reading.new.earlier in
     let read = reading_of c.in_ok-read.read in
     let rest = drop (c.loop-place.place + 1) c.args.lines.now in
     let of_tables = ap (λ (tables : TableRows). checked_reading (g.V.Known.office c.args.known.now) tables c.args.moment earlier line.read) c.loop-place.invariant.rows in
     let split : drop c.loop-place.place c.args.lines.now ≡ line ∷ rest =
-    drop_more c.args.lines.now c.loop-place.place line (omega arith) ∙ ap (λ (y : Line). y ∷ rest) (sym c.line-item.is) in
+    drop_more c.args.lines.now c.loop-place.place line (omega arith) ∙ ap (λ (y : Line). y ∷ rest) (sym c.index-lines-place.is) in
     let items : map line_of c.push.new.self.items ≡ done ++ record line { read = read } ∷ [] =
     ap (map line_of) c.in_ok-push.ensures.items ∙ map-append line_of c.loop-place.checked.items _ in record {
       lines =
