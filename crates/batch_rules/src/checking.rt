@@ -94,7 +94,14 @@ pub(crate) fn checked_lines<'a, V: Known>(
     let mut earlier = Earlier::with_capacity(alloc, lines.len())?;
     let mut checked = Vec::with_capacity(alloc, lines.len())?;
     for (place, line) in lines.iter().enumerate() {
-        let read = checked_reading(&mut rows, known, moment, &mut earlier, live[place], &line.read)?;
+        let read = checked_reading(
+            &mut rows,
+            known,
+            moment,
+            &mut earlier,
+            live[place],
+            &line.read,
+        )?;
         checked.push(Checked {
             number: line.number,
             read,

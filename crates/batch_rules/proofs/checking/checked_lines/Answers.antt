@@ -1,6 +1,6 @@
-use Rattle.std.proofs.Common.{◌≡◌, ◌+◌, List, [], ◌∷◌, ◌++◌, get_or, length, map, drop, Bool, Result, refl, ap, sym, ◌∙◌, append_assoc, arith}
+use Rattle.std.proofs.Common.{◌≡◌, ◌+◌, List, [], ◌∷◌, ◌++◌, get_or, map, drop, Bool, Result, refl, ap, sym, ◌∙◌, append_assoc, arith}
 use Rattle.std.specs.Prelude.{reverse}
-use Rattle.std.proofs.lemmas.List.{drop_more, get_or-map, length-map, map-append}
+use Rattle.std.proofs.lemmas.List.{drop_more, get_or-map, map-append}
 use Rattle.obs_record.specs.declared.line.Line.{Line}
 use Rattle.obs_record.specs.declared.sighting.Sighting.{Sighting}
 use Rattle.obs_record.specs.declared.rule.RuleCode.{RuleCode}
