@@ -235,8 +235,8 @@ impl PsvReader {
 /// after the last line feed is a line where it isn't empty. Lines count from 1, all of them. Lines of blanks alone are
 /// passed over. The first other line is `# version=2017`; the lines of headers begin with `#` or `!`; the first line
 /// below them is the column header, and data lines follow, up to the next line that begins with `#`. The batch has
-/// fewer than 4,294,967,295 bytes. Takes memory for the list, at once for as many lines of 64 bytes as the batch has room
-/// for.
+/// fewer than 4,294,967,295 bytes. Takes memory for the list, at once for as many lines of 64 bytes as the batch has
+/// room for.
 ///
 /// # Errors
 ///

@@ -154,8 +154,8 @@ fn read_on(alloc: Global, rest: &mut Bytes, seen: &mut Seen, piece: &[u8]) -> Re
 /// NET, BND, COM, NUM, ACK and AC2, and a blank or the line's end follows. After the first observation line a line that
 /// looks like a header line is an observation line, and breaks a rule.
 ///
-/// The batch has fewer than 4,294,967,295 bytes. Takes memory for the list, at once for as many lines of 80 bytes as the
-/// batch has room for.
+/// The batch has fewer than 4,294,967,295 bytes. Takes memory for the list, at once for as many lines of 80 bytes as
+/// the batch has room for.
 ///
 /// # Errors
 ///
