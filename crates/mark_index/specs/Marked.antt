@@ -2,26 +2,29 @@
 use Rattle.std.specs.Prelude.{◌≡◌, ◌≢◌, ℕ, ◌-◌, ◌^◌, ◌<◌, ◌≤◌, true, List, length, slice_index}
 use Rattle.mark_index.specs.Slots.{slot_of, tag_of, may_be}
 
--- the marks, and for how many more there is room
+-- the mark of each entry, and for how many more entries there is room. Marks are numbers from 1: 0 stands for an entry
+-- that has no mark, or none any more, and is never found
 pub record Marked : Type 0 where
   pub marks : List ℕ
   pub room : ℕ
 
--- k is the number of the last of the first n entries whose marks are of slot s, counted from 1; 0 where there is none
+-- k is the number of the last of the first n entries whose marks are of slot s, counted from 1; 0 where there is none.
+-- An entry without a mark is of no slot
 pub record IsLast (slots : ℕ) (marks : List ℕ) (n s k : ℕ) : Type 0 where
   pub within : k ≤ n
+  pub marked : 0 < k → 0 < slice_index marks (k - 1)
   pub of_slot : 0 < k → slot_of slots (slice_index marks (k - 1)) ≡ s
-  pub none_later : (i : ℕ) → k ≤ i → i < n → slot_of slots (slice_index marks i) ≢ s
+  pub none_later : (i : ℕ) → k ≤ i → i < n → 0 < slice_index marks i → slot_of slots (slice_index marks i) ≢ s
 
--- each entry has the number of the one before it in its slot, each slot that of its last entry, and each mark is told
--- by its tag
+-- each entry with a mark has the number of the one before it in its slot, each slot that of its last entry, and each
+-- mark is told by its tag. Of an entry without a mark nothing is said: no chain leads to it
 pub record AreChained (marks befores heads tags : List ℕ) : Type 0 where
   pub few : length marks < 2 ^ 32
   pub as_many : length befores ≡ length marks
   pub slots : 0 < length heads
   pub places : 0 < length tags
-  pub before_is : (i : ℕ) → i < length marks
+  pub before_is : (i : ℕ) → i < length marks → 0 < slice_index marks i
       → IsLast (length heads) marks i (slot_of (length heads) (slice_index marks i)) (slice_index befores i)
   pub head_is : (s : ℕ) → s < length heads → IsLast (length heads) marks (length marks) s (slice_index heads s)
-  pub tagged : (i : ℕ) → i < length marks
+  pub tagged : (i : ℕ) → i < length marks → 0 < slice_index marks i
       → may_be (slice_index tags (slot_of (length tags) (slice_index marks i))) (tag_of (slice_index marks i)) ≡ true

@@ -1,7 +1,7 @@
 //! The index.
 
 ghost use Rattle.std.specs.Prelude.{◌≡◌, ℕ, ◌+◌, ◌<◌, ◌≤◌, ◌∷◌, [], ◌++◌, length, true, false, IfOk, OnOk};
-ghost use Rattle.std.specs.Prelude.{IfSome, IfNone, slice_index};
+ghost use Rattle.std.specs.Prelude.{IfSome, IfNone, slice_index, slice_set};
 ghost use Rattle.mark_index.specs.Slots.{tag_of};
 
 use crate::table::{joined, may_be, slot_of, tag_of};
@@ -15,8 +15,9 @@ const LEAST_ROOM: usize = 16;
 /// The marks of a list's entries, and where each is.
 #[derive(Debug, Drop)]
 pub struct MarkIndex {
+    // The mark of each entry; 0 where it has none.
     marks: Vec<u32>,
-    // For each entry the number of the one before it in its slot, counted from 1; 0 where there is none.
+    // For each entry with a mark the number of the one before it in its slot, counted from 1; 0 where there is none.
     befores: Vec<u32>,
     // The number of the newest entry of each slot; 0 where there is none.
     heads: Vec<u32>,
@@ -125,14 +126,19 @@ impl MarkIndex {
         ensures room { self.new.room + length marks.now ≡ self.old.room }
     {
         for mark in marks {
-            self.push(*mark);
+            if *mark == 0 {
+                self.push_unmarked();
+            } else {
+                self.push(*mark);
+            }
         }
     }
 
-    /// One entry more. It takes no memory: there is room.
+    /// One entry more, with a mark. It takes no memory: there is room.
     #[inline]
     pub fn push(&mut self, mark: u32)
-        requires { 0 < self.old.room }
+        requires room { 0 < self.old.room }
+        requires some { 0 < mark }
         ensures marks { self.new.marks ≡ self.old.marks ++ mark ∷ [] }
         ensures room { self.new.room + 1 ≡ self.old.room }
     {
@@ -144,10 +150,49 @@ impl MarkIndex {
         self.heads[slot] = self.marks.len() as u32;
     }
 
+    /// One entry more that has no mark, so that no search comes to it. It takes no memory: there is room.
+    #[inline]
+    pub fn push_unmarked(&mut self)
+        requires { 0 < self.old.room }
+        ensures marks { self.new.marks ≡ self.old.marks ++ 0 ∷ [] }
+        ensures room { self.new.room + 1 ≡ self.old.room }
+    {
+        self.befores.push_reserved(0);
+        self.marks.push_reserved(0);
+    }
+
+    /// Takes an entry's mark from it, if it has one. It keeps its place, and no search comes to it any more. The way to
+    /// it is along its slot's chain, from the newest entry on.
+    pub fn unmark(&mut self, place: usize)
+        requires { place < length self.old.marks }
+        ensures marks { self.new.marks ≡ slice_set self.old.marks place 0 }
+        ensures room { self.new.room ≡ self.old.room }
+    {
+        let mark = self.marks[place];
+        if mark == 0 {
+            return;
+        }
+        let slot = slot_of(mark, self.heads.len());
+        // The entry after it in its slot, which is to lead to the one before it; None where it is the newest.
+        let mut after = None;
+        let mut number = self.heads[slot];
+        while number as usize > place + 1 {
+            let newer = (number - 1) as usize;
+            after = Some(newer);
+            number = self.befores[newer];
+        }
+        match after {
+            Some(newer) => self.befores[newer] = self.befores[place],
+            None => self.heads[slot] = self.befores[place],
+        }
+        self.marks[place] = 0;
+    }
+
     /// The place of an entry with this mark that passes a test; None exactly where none does.
     #[inline]
     pub fn find<F: Fn(usize) -> bool>(&self, mark: u32, is_it: F) -> Option<usize>
-        requires { (place : ℕ) → place < length self.now.marks → F.pre is_it place }
+        requires some { 0 < mark }
+        requires callable { (place : ℕ) → place < length self.now.marks → F.pre is_it place }
         ensures within { IfSome result (λ place. place < length self.now.marks) }
         ensures marked { IfSome result (λ place. slice_index self.now.marks place ≡ mark) }
         ensures found { IfSome result (λ place. F.post is_it place true) }
@@ -163,7 +208,8 @@ impl MarkIndex {
 
     // The place of an entry with this mark that passes a test, along the chain of the mark's slot.
     fn find_in_chain<F: Fn(usize) -> bool>(&self, mark: u32, is_it: F) -> Option<usize>
-        requires { (place : ℕ) → place < length self.now.marks → F.pre is_it place }
+        requires some { 0 < mark }
+        requires callable { (place : ℕ) → place < length self.now.marks → F.pre is_it place }
         ensures within { IfSome result (λ place. place < length self.now.marks) }
         ensures marked { IfSome result (λ place. slice_index self.now.marks place ≡ mark) }
         ensures found { IfSome result (λ place. F.post is_it place true) }
