@@ -1,5 +1,5 @@
 -- The places of observations, as more are filed, put into the index and retracted. The lists here stand oldest first.
-use Rattle.std.proofs.Common.{◌≡◌, ℕ, ℤ, ◌+◌, ◌-◌, ◌<◌, ◌<ℤ◌, ◌≤ℤ◌, zero, suc, Bool, true, false, cond, List, [], ◌∷◌, ◌++◌, length, get_or, set, take, drop, map, refl, ap, sym, subst, ◌∙◌, inl, inr, arith}
+use Rattle.std.proofs.Common.{◌≡◌, ℕ, ℤ, ◌+◌, ◌-◌, ◌<◌, ◌≤◌, ◌<ℤ◌, ◌≤ℤ◌, zero, suc, Bool, true, false, cond, List, [], ◌∷◌, ◌++◌, length, get_or, set, take, drop, map, refl, ap, sym, subst, ◌∙◌, inl, inr, arith}
 use Rattle.std.specs.Prelude.{◌&&◌, ◌||◌, int_lt, Result, Ok, Err, MatchResult, All, slice_index}
 use Rattle.std.specs.List.{list_any}
 use Rattle.std.specs.List.Sorted.{IsSearchInRange, IsBinarySearchResult, IsSortedBy}
@@ -9,7 +9,7 @@ use Rattle.std.proofs.lemmas.Bool.{cases_eq, cases_lt, and_parts}
 use Rattle.std.proofs.lemmas.Bool.Decides.{Decides-int_eq}
 use Rattle.std.proofs.lemmas.Cmp.{int_cmp_total, int_ranked}
 use Rattle.std.proofs.lemmas.Int.{ints}
-use Rattle.std.proofs.lemmas.List.{take-append-drop, take-append-le, take_all, length-append, length-drop, length-set, length-take-le, length-map, map-append, get_or_append_left, get_or_push, get_or-map, get_or-drop, get_or-take, get_or-set_same, get_or-set_other, get_or_default}
+use Rattle.std.proofs.lemmas.List.{take-append-drop, take-append-le, take_all, take-set-le, length-append, length-drop, length-set, length-take-le, length-map, map-append, get_or_append_left, get_or_push, get_or-map, get_or-drop, get_or-take, get_or-set_same, get_or-set_other, get_or_default}
 use Rattle.std.proofs.lemmas.List.Elements.{All-append}
 use Rattle.std.proofs.lemmas.List.Folds.{list_any-append, list_any_none}
 use Rattle.std.proofs.lemmas.List.Sorted.{searchable_from_sorted}
@@ -116,13 +116,12 @@ module _ (os : List Observation) (ascend : AscendFrom 0 os) (key : PlaceKey) whe
 
 -- ---- marks
 
--- marks are those of places: another observation with the place of the one before has the same
-same_marks : (n place : ℕ) (filed : List Observation) (x : Observation) → ((d : Observation) → place < length filed → mark_in (get_or filed place d) ≡ mark_in x)
-    → map mark_in (take n (set filed place x)) ≡ map mark_in (take n filed)
-same_marks zero place filed x same = refl
-same_marks (suc n) place [] x same = refl
-same_marks (suc n) zero (o ∷ later) x same = ap (λ (m : ℕ). m ∷ map mark_in (take n later)) (sym (same o (omega arith)))
-same_marks (suc n) (suc place) (o ∷ later) x same = ap (λ (ms : List ℕ). mark_in o ∷ ms) (same_marks n place later x (λ d within. same d (omega (arith, within))))
+-- an observation without a mark at one of the first places: the others keep their marks
+mark_taken : (n place : ℕ) (filed : List Observation) (x : Observation) → mark_in x ≡ 0 → place < n → map mark_in (take n (set filed place x)) ≡ set (map mark_in (take n filed)) place 0
+mark_taken zero place filed x none within = absurd (omega (arith, within))
+mark_taken (suc n) place [] x none within = refl
+mark_taken (suc n) zero (o ∷ later) x none within = ap (λ (m : ℕ). m ∷ map mark_in (take n later)) none
+mark_taken (suc n) (suc place) (o ∷ later) x none within = ap (λ (ms : List ℕ). mark_in o ∷ ms) (mark_taken n place later x none (omega (arith, within)))
 
 -- ---- changes
 
@@ -160,7 +159,10 @@ module _ (filed : List Observation) (places : KeptPlaces) (was : IsIndexed filed
     where
       by : (k : ℕ) (d : Observation) → k < n → (b : Bool) → counts_at key (get_or filed k d) ≡ b → counts_at key (get_or filed k d) ≡ false
       by k d within false is = is
-      by k d within true is = none k d within (mark_at k d within ∙ ap mark_of (same_key _ key (and_parts (get_or filed k d).live _ is).1))
+      by k d within true is =
+          let o = get_or filed k d in
+          let parts = and_parts o.live _ is in
+          none k d within (mark_at k d within ∙ ap (λ (b : Bool). cond b (mark_of (place_key o.sighting)) 0) parts.0 ∙ ap mark_of (same_key _ key parts.1))
 
   -- one that counts is among them
   pub some_counts : (key : PlaceKey) (place : ℕ) → place < n → ((d : Observation) → counts_at key (get_or filed place d) ≡ true) → list_any (counts_at key) filed ≡ true
@@ -238,16 +240,26 @@ module _ (filed : List Observation) (places : KeptPlaces) (was : IsIndexed filed
       | inr other ↦ ap time_of (get_or-set_other filed place j retracted d other)
     ]
 
-    pub retracted_kept : IsIndexed kept places
-    retracted_kept = record {
-      within = omega (arith, was.within, length-set filed place retracted);
-      marks_are = was.marks_are ∙ sym (same_marks n place filed retracted (λ d there. ap mark_in (at d)));
+    marks_kept : (marks : List ℕ) → length marks ≡ n → marks ≡ map mark_in (take n kept) → IsIndexed kept (record places { marks = marks })
+    marks_kept marks long are = record {
+      within = omega (arith, long, was.within, length-set filed place retracted);
+      marks_are = are ∙ ap (λ (m : ℕ). map mark_in (take m kept)) (sym long);
       in_order = λ told i j d from less below.
           let inside : j < length filed = omega (arith, below, length-set filed place retracted) in
           subst (λ (t : ℤ). t <ℤ time_of (get_or kept j d)) (sym (same_time i d (omega (arith, less, inside))))
-          (subst (λ (t : ℤ). time_of (get_or filed i d) <ℤ t) (sym (same_time j d inside)) (was.in_order told i j d from less inside));
+          (subst (λ (t : ℤ). time_of (get_or filed i d) <ℤ t) (sym (same_time j d inside)) (was.in_order told i j d (omega (arith, from, long)) less inside));
       up_to = λ k d below.
           let inside : k < length filed = omega (arith, below, length-set filed place retracted) in
           subst (λ (t : ℤ). t ≤ℤ places.latest) (sym (same_time k d inside)) (was.up_to k d inside);
-      enough = omega (arith, was.enough, length-set filed place retracted);
+      enough = omega (arith, long, was.enough, length-set filed place retracted);
     }
+
+    -- it is in the index, and its mark is taken
+    pub retracted_indexed : place < n → IsIndexed kept (record places { marks = set places.marks place 0 })
+    retracted_indexed inside =
+        marks_kept (set places.marks place 0) (length-set places.marks place 0)
+        (ap (λ (ms : List ℕ). set ms place 0) was.marks_are ∙ sym (mark_taken n place filed retracted refl inside))
+
+    -- it waits
+    pub retracted_waits : n ≤ place → IsIndexed kept places
+    retracted_waits waits = marks_kept places.marks refl (was.marks_are ∙ ap (map mark_in) (sym (take-set-le n filed place retracted waits)))

@@ -1,10 +1,10 @@
 -- Keys of places that are the same.
-use Rattle.std.proofs.Common.{◌≡◌, ℕ, ℤ, Bool, true, false, refl, ap, ◌∙◌}
+use Rattle.std.proofs.Common.{◌≡◌, ℕ, ℤ, Bool, true, false, refl}
 use Rattle.std.specs.Prelude.{◌&&◌, ◌==◌}
 use Rattle.std.specs.Ordering.{int_eq}
 use Rattle.std.specs.Str.{bytes_eq}
 use Rattle.std.specs.Cmp.Lexicographic.{bytes_decides}
-use Rattle.std.proofs.lemmas.Bool.{eq-eqb, eqb-true, and_parts}
+use Rattle.std.proofs.lemmas.Bool.{eqb-true, and_parts}
 use Rattle.std.proofs.lemmas.Bool.Decides.{Decides-int_eq}
 use Rattle.obs_record.specs.declared.short.Short.{Short}
 use Rattle.obs_record.specs.declared.sighting.Sighting.{Sighting}
@@ -17,15 +17,6 @@ use Rattle.tracklet_file.specs.Observations.{is_at}
 both : (a b c : Bool) → a && (b && c) ≡ (a && b) && c
 both true b c = refl
 both false b c = refl
-
-all_true : (a b c d e : Bool) → a ≡ true → b ≡ true → c ≡ true → d ≡ true → e ≡ true → a && (b && (c && (d && e))) ≡ true
-all_true a b c d e first second third fourth fifth =
-    ap (λ (x : Bool). x && (b && (c && (d && e)))) first ∙ ap (λ (x : Bool). x && (c && (d && e))) second ∙ ap (λ (x : Bool). x && (d && e)) third ∙ ap (λ (x : Bool). x && e) fourth ∙ fifth
-
-pub same_itself : (key : PlaceKey) → same_place key key ≡ true
-same_itself key =
-    all_true (key.len == key.len) (bytes_eq key.bytes.bytes key.bytes.bytes) (int_eq key.time key.time) (key.ra == key.ra) (int_eq key.dec key.dec)
-    (eq-eqb key.len key.len refl) ((bytes_decides key.bytes.bytes key.bytes.bytes).1 refl) ((Decides-int_eq key.time key.time).1 refl) (eq-eqb key.ra key.ra refl) ((Decides-int_eq key.dec key.dec).1 refl)
 
 -- keys that are the same are one key
 pub same_key : (a b : PlaceKey) → same_place a b ≡ true → a ≡ b

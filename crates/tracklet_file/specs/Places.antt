@@ -1,7 +1,7 @@
 -- The places of observations: those that are found by their marks, and those that wait. The lists here stand oldest
 -- first.
 use Rattle.std.specs.Prelude.{◌≡◌, ◌+◌, ◌-◌, ◌/◌, ◌^◌, ◌<◌, ◌≤◌, ◌<ℤ◌, ◌≤ℤ◌, ℕ, ℤ, Bool, true, ◌&&◌, List, length, take, map, All}
-use Rattle.std.specs.Prelude.{slice_index_or}
+use Rattle.std.specs.Prelude.{slice_index_or, max, if◌then◌else◌}
 use Rattle.std.specs.Int.{w64, cast_unsigned}
 use Rattle.place_keys.specs.declared.place.PlaceKey.{PlaceKey}
 use Rattle.place_keys.specs.Marks.{mixed}
@@ -12,13 +12,14 @@ use Rattle.tracklet_file.specs.declared.observation.Observation.{Observation}
 abbrev pub counts_at : PlaceKey → Observation → Bool
 counts_at key o = o.live && same_place (place_key o.sighting) key
 
--- a number that a place makes, by which it is looked for
+-- a number from 1 that a place makes, by which it is looked for
 abbrev pub mark_of : PlaceKey → ℕ
-mark_of key = mixed 0 (mixed (cast_unsigned w64 key.time) (mixed key.ra (cast_unsigned w64 key.dec))) / 2 ^ 32
+mark_of key = max (mixed 0 (mixed (cast_unsigned w64 key.time) (mixed key.ra (cast_unsigned w64 key.dec))) / 2 ^ 32) 1
 
--- that of an observation's place
+-- what the index has for an observation: the mark of its place. An entry of the index has no mark where the observation
+-- is retracted, and 0 stands there
 abbrev pub mark_in : Observation → ℕ
-mark_in o = mark_of (place_key o.sighting)
+mark_in o = if o.live then mark_of (place_key o.sighting) else 0
 
 -- when it was observed
 abbrev pub time_of : Observation → ℤ
@@ -30,8 +31,9 @@ AscendFrom first filed =
     (i j : ℕ) (d : Observation) → first ≤ i → i < j → j < length filed
     → time_of (slice_index_or filed i d) <ℤ time_of (slice_index_or filed j d)
 
--- the marks of the observations that are in the index, the first ones; for how many more observations room was taken,
--- and for how many more marks there is room; the latest time; and whether those that wait ascend in time
+-- what the index has for the observations that are in it, the first ones; for how many more observations room was
+-- taken, and for how many more entries of the index there is room; the latest time; and whether those that wait ascend
+-- in time
 pub record KeptPlaces : Type 0 where
   pub marks : List ℕ
   pub room : ℕ
@@ -39,8 +41,8 @@ pub record KeptPlaces : Type 0 where
   pub latest : ℤ
   pub ascends : Bool
 
--- the index has the marks of the first of them, the others ascend in time where that is said, none is later than the
--- latest time, and there is room for those that aren't in the index, beside the room for more
+-- the index has the marks of those of the first of them that are live, the others ascend in time where that is said,
+-- none is later than the latest time, and there is room for those that aren't in the index, beside the room for more
 pub record IsIndexed (filed : List Observation) (places : KeptPlaces) : Type 0 where
   pub within : length places.marks ≤ length filed
   pub marks_are : places.marks ≡ map mark_in (take (length places.marks) filed)

@@ -188,6 +188,7 @@ impl TrackletFile {
         self.isolated = without_one(self.isolated, isolated);
         self.retracted += 1;
         self.chains[(o.track - 1) as usize].live -= 1;
+        self.places.retract(self.observations.as_slice(), place);
         self.observations[place] = Observation { live: false, ..o };
     }
 

@@ -1,6 +1,7 @@
 //! The places of observations: which of them live observations have.
 
-ghost use Rattle.std.specs.Prelude.{◌≡◌, ◌+◌, ◌<◌, ◌≤◌, ◌++◌, ◌∷◌, [], length, map, true, IfOk, OnOk, int_lt, slice_index_or};
+ghost use Rattle.std.specs.Prelude.{◌≡◌, ◌+◌, ◌<◌, ◌≤◌, ◌++◌, ◌∷◌, [], length, map, true, IfOk, OnOk, int_lt};
+ghost use Rattle.std.specs.Prelude.{slice_index_or, slice_set, false};
 ghost use Rattle.std.specs.List.{list_any};
 ghost use Rattle.place_keys.specs.declared.place.PlaceKey.{PlaceKey};
 ghost use Rattle.tracklet_file.specs.declared.observation.Observation.{Observation};
@@ -25,7 +26,7 @@ const BLOCK: usize = 64;
 /// found by their times; else they are few, and looked at one by one.
 #[derive(Debug, Drop)]
 pub(crate) struct Places {
-    // The marks of the first observations. The others wait.
+    // An entry for each of the first observations, which has a mark where the observation is live. The others wait.
     index: MarkIndex,
     // For so many more observations there is room in the index, or for more, beside those that wait.
     room: u64,
@@ -100,8 +101,22 @@ impl Places {
             return;
         }
         mark_all(&mut self.index, waiting);
-        self.index.push(mark_of(&place_key(&newest.sighting)));
+        enter(&mut self.index, newest);
         self.ascends = true;
+    }
+
+    /// Takes the observation at a place of the file, which is to be retracted, from those that are looked for: where it
+    /// is in the index, no search comes to it any more.
+    pub(crate) fn retract(&mut self, filed: &[Observation], place: usize)
+        requires filed { IsIndexed filed.now self.old }
+        requires there { place < length filed.now }
+        ensures filed { (o : Observation) → ((d : Observation) → slice_index_or filed.now place d ≡ o)
+            → IsIndexed (slice_set filed.now place (record o { live = false })) self.new }
+        ensures room { self.new.room ≡ self.old.room }
+    {
+        if place < self.index.len() {
+            self.index.unmark(place);
+        }
     }
 
     /// Whether all that is filed was observed before a time.
@@ -141,23 +156,38 @@ impl Places {
     }
 }
 
-/// A number that a place makes, by which it is looked for.
+/// A number from 1 that a place makes, by which it is looked for.
 #[inline]
 fn mark_of(key: &PlaceKey) -> u32
     ensures { result ≡ mark_of key.now }
 {
     let position = mixed(key.ra, key.dec.cast_unsigned());
-    (mixed(0, mixed(key.time.cast_unsigned(), position)) >> 32) as u32
+    ((mixed(0, mixed(key.time.cast_unsigned(), position)) >> 32) as u32).max(1)
 }
 
-/// The marks of observations more. It takes no memory: there is room.
+/// One observation more comes into the index: with its mark where it is live, else without one. It takes no memory:
+/// there is room.
+#[inline]
+fn enter(index: &mut MarkIndex, o: &Observation)
+    requires { 0 < index.old.room }
+    ensures marks { index.new.marks ≡ index.old.marks ++ mark_in o.now ∷ [] }
+    ensures room { index.new.room + 1 ≡ index.old.room }
+{
+    if o.live {
+        index.push(mark_of(&place_key(&o.sighting)));
+    } else {
+        index.push_unmarked();
+    }
+}
+
+/// Observations more come into the index, one after another. It takes no memory: there is room.
 fn mark_all(index: &mut MarkIndex, waiting: &[Observation])
     requires { length waiting.now ≤ index.old.room }
     ensures marks { index.new.marks ≡ index.old.marks ++ map mark_in waiting.now }
     ensures room { index.new.room + length waiting.now ≡ index.old.room }
 {
     for o in waiting {
-        index.push(mark_of(&place_key(&o.sighting)));
+        enter(index, o);
     }
 }
 

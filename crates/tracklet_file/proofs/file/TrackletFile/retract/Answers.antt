@@ -1,4 +1,4 @@
-use Rattle.std.proofs.Common.{◌≡◌, ℕ, ◌+◌, ◌-◌, ◌<◌, true, false, Bool, cond, length, refl, ap, subst, sym, ◌∙◌, arith}
+use Rattle.std.proofs.Common.{◌≡◌, ℕ, ◌+◌, ◌-◌, ◌<◌, true, false, Bool, cond, List, length, get_or, set, refl, ap, subst, sym, ◌∙◌, arith}
 use Rattle.std.specs.Prelude.{reverse, is_none}
 use Rattle.std.proofs.lemmas.List.{length-reverse}
 use Rattle.std.proofs.lemmas.Option.{get_or_from_slice_get}
@@ -6,10 +6,10 @@ use Rattle.tracklet_file.specs.declared.observation.Observation.{Observation}
 use Rattle.tracklet_file.specs.Observations.{is_live, with_retraction}
 use Rattle.tracklet_file.specs.Tracklets.{IsTracklet, home_of}
 use Rattle.tracklet_file.specs.Contents.{Contents}
+use Rattle.tracklet_file.specs.Places.{IsIndexed}
 use Rattle.tracklet_file.proofs.NumberingLemmas.{numbered_within, numbered_place, place_within, read_at, changed_in_place}
 use Rattle.tracklet_file.proofs.CountLemmas.{tracklet_at, none_told, live_there, live_at, some_isolated}
 use Rattle.tracklet_file.proofs.KeepingLemmas.{chain_some, kept_retracted}
-use Rattle.tracklet_file.proofs.IndexLemmas.{retracted_kept}
 use Rattle.tracklet_file.proofs.file.TrackletFile.retract.Goals as goal
 
 pub overflow_sub-place : goal.overflow_sub-place
@@ -66,6 +66,13 @@ overflow_sub-index_mut c =
     let alive = live_at observations c.args.k c.index-o.result.now at live in
     chain_some _ _ _ c.self.invariant.kept c.args.k c.index-o.result.now at alive c.index_mut.result.now c.index_mut.ensures.value
 
+pub retract-requires-clause-there : goal.retract-requires-clause-there
+retract-requires-clause-there c =
+    let observations = reverse c.self.inside.observations.items in
+    let live : is_live observations c.args.k ≡ true = ap (λ (v : Contents). is_live v.observations c.args.k) c.self.view_is ∙ c.requires in
+    let within : c.args.k - 1 < length c.self.inside.observations.items = place_within c.self.inside.observations.items c.args.k (live_there observations c.args.k live) in
+    omega (arith, ap (λ (os : List Observation). length os) c.as_slice.ensures.value)
+
 pub index_mut-requires-2 : goal.index_mut-requires-2
 index_mut-requires-2 c =
     let observations = reverse c.self.inside.observations.items in
@@ -89,9 +96,9 @@ invariant_of-self c =
       homed = c.self.invariant.homed;
       indexed =
           let own = sym (numbered_place c.self.inside.observations.items c.args.k there) ∙ at in
-          let within = place_within c.self.inside.observations.items c.args.k there in
-          retracted_kept c.self.inside.observations.items _ c.self.invariant.indexed (c.args.k - 1) c.index-o.result.now within
-          (λ (d : Observation). get_or_from_slice_get c.self.inside.observations.items (c.args.k - 1) c.index-o.result.now d own);
+          subst (λ (os : List Observation). IsIndexed (set os (c.args.k - 1) (record c.index-o.result.now { live = false })) c.retract.new.self) c.as_slice.ensures.value
+          (c.retract.ensures.filed c.index-o.result.now
+          (λ (d : Observation). ap (λ (os : List Observation). get_or os (c.args.k - 1) d) c.as_slice.ensures.value ∙ get_or_from_slice_get c.self.inside.observations.items (c.args.k - 1) c.index-o.result.now d own));
       kept =
           kept_retracted _ _ _ c.self.invariant.kept c.args.k c.index-o.result.now c.index_mut.result.now _ _ c.without_one-self-inside.result (c.self.inside.retracted + 1)
           (c.index_mut.result.now.live - 1) at alive c.index_mut.ensures.value (omega (arith, chain))

@@ -4,7 +4,7 @@ use Rattle.std.specs.Prelude.{int_lt}
 use mathlib.Core.Bool.{true≢false}
 use Rattle.std.proofs.lemmas.Int.{ints, to_z-of_z}
 use Rattle.tracklet_file.specs.declared.observation.Observation.{Observation}
-use Rattle.tracklet_file.specs.Places.{mark_of, mark_in, time_of, KeptPlaces, IsIndexed}
+use Rattle.tracklet_file.specs.Places.{mark_in, time_of, KeptPlaces, IsIndexed}
 use Rattle.tracklet_file.proofs.IndexLemmas.{rest_is, filed_waits, filed_all}
 use Rattle.tracklet_file.proofs.places.Places.add.Goals as goal
 use Rattle.tracklet_file.proofs.places.Places.add.Goals.{then-self, else-self}
@@ -41,9 +41,7 @@ returns-clause-filed c =
     let own : time_of c.args.newest.now ≤ℤ c.max-self-inside.result = subst (λ (t : ℤ). t ≤ℤ c.max-self-inside.result) ns c.max-self-inside.ensures.other_bound in
     let rest : take (length c.args.filed.now - c.len.result) (drop c.len.result c.args.filed.now) ≡ drop (length c.self.inside.index.marks) c.args.filed.now =
     rest_is (λ (o : Observation). o.live) c.len.result c.args.filed.now ∙ ap (λ (n : ℕ). drop n c.args.filed.now) c.len.ensures in
-    let own_mark : c.mark_of.result ≡ mark_in c.args.newest.now = c.mark_of.ensures ∙ ap mark_of c.place_key.ensures in
-    subst (λ (t : ℤ). IsIndexed (c.args.filed.now ++ c.args.newest.now ∷ []) (record { marks = c.push.new.self.marks; room = c.self.inside.room - 1; spare = c.push.new.self.room; latest = t; ascends = true }))
-    (sym (to_z-of_z w64 c.max-self-inside.result fits)) (filed_all c.args.filed.now _ was c.args.newest.now room c.max-self-inside.result low own c.push.new.self.marks c.push.new.self.room
-    (c.push.ensures.marks ∙ ap (λ (ms : List ℕ). ms ++ c.mark_of.result ∷ []) (c.mark_all.ensures.marks ∙ ap (λ (os : List Observation). c.self.inside.index.marks ++ map mark_in os) rest)
-    ∙ ap (λ (m : ℕ). (c.self.inside.index.marks ++ map mark_in (drop (length c.self.inside.index.marks) c.args.filed.now)) ++ m ∷ []) own_mark)
-    (omega (arith, c.push.ensures.room, c.mark_all.ensures.room, ap (λ (os : List Observation). length os) rest)))
+    subst (λ (t : ℤ). IsIndexed (c.args.filed.now ++ c.args.newest.now ∷ []) (record { marks = c.enter.new.index.marks; room = c.self.inside.room - 1; spare = c.enter.new.index.room; latest = t; ascends = true }))
+    (sym (to_z-of_z w64 c.max-self-inside.result fits)) (filed_all c.args.filed.now _ was c.args.newest.now room c.max-self-inside.result low own c.enter.new.index.marks c.enter.new.index.room
+    (c.enter.ensures.marks ∙ ap (λ (ms : List ℕ). ms ++ mark_in c.args.newest.now ∷ []) (c.mark_all.ensures.marks ∙ ap (λ (os : List Observation). c.self.inside.index.marks ++ map mark_in os) rest))
+    (omega (arith, c.enter.ensures.room, c.mark_all.ensures.room, ap (λ (os : List Observation). length os) rest)))
