@@ -68,10 +68,10 @@ module _ (k : GroupKey) where
       by false is rest = ap (λ (n : ℕ). 1 + n) (rest is)
 
   -- the key is there, and its place is this one
-  abbrev StandsAt : ℕ → List GroupKey → Type 0
+  abbrev pub StandsAt : ℕ → List GroupKey → Type 0
   StandsAt place keys = (list_any (same_key k) keys ≡ true) × (position_or_len (same_key k) keys ≡ place)
 
-  stands_more : (place : ℕ) (keys : List GroupKey) (x : GroupKey) → StandsAt place keys → StandsAt place (insert_key same_key keys x)
+  pub stands_more : (place : ℕ) (keys : List GroupKey) (x : GroupKey) → StandsAt place keys → StandsAt place (insert_key same_key keys x)
   stands_more place keys x stands = by (list_any (same_key x) keys)
     where
       still : list_any (same_key k) (keys ++ x ∷ []) ≡ true
@@ -90,7 +90,7 @@ module _ (k : GroupKey) where
   stands_after place keys [] stands = stands
   stands_after place keys (x ∷ xs) stands = stands_after place (insert_key same_key keys x) xs (stands_more place keys x stands)
 
-  stands_own : (keys : List GroupKey) → StandsAt (position_or_len (same_key k) keys) (insert_key same_key keys k)
+  pub stands_own : (keys : List GroupKey) → StandsAt (position_or_len (same_key k) keys) (insert_key same_key keys k)
   stands_own keys = by (list_any (same_key k) keys) refl
     where
       last : list_any (same_key k) (keys ++ k ∷ []) ≡ true

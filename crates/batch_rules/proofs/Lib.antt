@@ -10,6 +10,6 @@ mod Firsts
 mod Rows
 mod Passed
 mod Pointed
-mod Puts
+mod PointLemmas
 mod Standing
 mod Beside

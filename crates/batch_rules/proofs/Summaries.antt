@@ -123,7 +123,7 @@ or_less false y less = refl
 not_later : (x : ℤ) → int_lt (x +ℤ pos nanos_of_a_day) x ≡ false
 not_later x = lt_false (x +ℤ pos nanos_of_a_day) x (omega (arith, ints))
 
-says_one : (s : Sighting) → Says (s ∷ []) (with_later None s)
+says_one : (s : Sighting) → Says (s ∷ []) (with_later None s.time s.dec)
 says_one s = record {
   began = s;
   began_in = inl refl;
@@ -138,7 +138,7 @@ says_one s = record {
   fast_is = sym (ap (λ (b : Bool). ((b && is_too_fast s s) || false) || false) (lt_false s.time s.time (omega (arith, ints))));
 }
 
-says_more : (s : Sighting) (older : List Sighting) (told : Summary) → Each (λ e. int_lt e.time s.time ≡ true) older → IsDescending older → Says older told → Says (s ∷ older) (with_later (Some told) s)
+says_more : (s : Sighting) (older : List Sighting) (told : Summary) → Each (λ e. int_lt e.time s.time ≡ true) older → IsDescending older → Says older told → Says (s ∷ older) (with_later (Some told) s.time s.dec)
 says_more s older told before falls said = by (int_lt (told.first +ℤ pos nanos_of_a_day) s.time) refl
   where
     first_before : int_lt told.first s.time ≡ true
@@ -203,6 +203,6 @@ says_more s older told before falls said = by (int_lt (told.first +ℤ pos nanos
         two : nat_lt (length (s ∷ said.newest ∷ said.others)) 2 ≡ false
         two = grind (arith, nat_tests)
 
-pub says_all : (s : Sighting) (earlier : List Sighting) → IsDescending (s ∷ earlier) → Says (s ∷ earlier) (with_later (summary earlier) s)
+pub says_all : (s : Sighting) (earlier : List Sighting) → IsDescending (s ∷ earlier) → Says (s ∷ earlier) (with_later (summary earlier) s.time s.dec)
 says_all s [] falls = says_one s
-says_all s (e ∷ earlier) falls = says_more s (e ∷ earlier) (with_later (summary earlier) e) falls.0 falls.1 (says_all e earlier falls.1)
+says_all s (e ∷ earlier) falls = says_more s (e ∷ earlier) (with_later (summary earlier) e.time e.dec) falls.0 falls.1 (says_all e earlier falls.1)

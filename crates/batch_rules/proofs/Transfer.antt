@@ -114,7 +114,7 @@ module _ (passed turned : List Sighting) (moved : IsPermutation passed turned) (
     where
       by : (xs : List Sighting) → members ≡ xs → IsDescending xs → fault_by (summary xs) s ≡ group_fault passed s
       by [] none falls = nothing_left none
-      by (x ∷ xs) some falls = some_told (with_later (summary xs) x) (subst (λ (ys : List Sighting). Says ys (with_later (summary xs) x)) (sym some) (says_all x xs falls))
+      by (x ∷ xs) some falls = some_told (with_later (summary xs) x.time x.dec) (subst (λ (ys : List Sighting). Says ys (with_later (summary xs) x.time x.dec)) (sym some) (says_all x xs falls))
 
 -- ---- the order of time
 

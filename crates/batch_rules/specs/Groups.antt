@@ -35,24 +35,24 @@ abbrev pub is_fast_change : ℤ → ℤ → ℤ → ℤ → Bool
 is_fast_change time dec next_time next_dec =
     nat_lt (fastest_a_day * unsigned_abs (next_time -ℤ time)) (unsigned_abs (next_dec -ℤ dec) * nanos_of_a_day)
 
--- a group with one more observation, later than the others: one that is more than 24 hours after the first is no part
--- of it
-abbrev pub with_later : Option Summary → Sighting → Summary
-with_later None s = record { first = s.time; last = s.time; dec = s.dec; alone = true; fast = false }
-with_later (Some group) s =
-    if int_lt (group.first +ℤ pos nanos_of_a_day) s.time then group
+-- a group with one more observation, later than the others, by its time and declination: one that is more than 24 hours
+-- after the first is no part of it
+abbrev pub with_later : Option Summary → ℤ → ℤ → Summary
+with_later None time dec = record { first = time; last = time; dec = dec; alone = true; fast = false }
+with_later (Some group) time dec =
+    if int_lt (group.first +ℤ pos nanos_of_a_day) time then group
     else record {
       first = group.first;
-      last = s.time;
-      dec = s.dec;
+      last = time;
+      dec = dec;
       alone = false;
-      fast = group.fast || is_fast_change group.last group.dec s.time s.dec;
+      fast = group.fast || is_fast_change group.last group.dec time dec;
     }
 
 -- a group of observations, the latest first
 abbrev pub summary : List Sighting → Option Summary
 summary [] = None
-summary (s ∷ earlier) = Some (with_later (summary earlier) s)
+summary (s ∷ earlier) = Some (with_later (summary earlier) s.time s.dec)
 
 -- the rule that an observation breaks with its group
 abbrev pub fault_by : Option Summary → Sighting → Option RuleCode

@@ -1,5 +1,5 @@
 pub mod Groups
-pub mod Tables
+pub mod Points
 pub mod KeyTests
 pub mod Places
 pub mod PlaceTests

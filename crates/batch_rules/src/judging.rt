@@ -1,19 +1,19 @@
 //! The rulings on the lines of a batch.
 
-ghost use Rattle.std.specs.Prelude.{◌≡◌, ◌∷◌, [], List, true, if◌then◌else◌, is_none, map, length, IfOk, OnOk};
+ghost use Rattle.std.specs.Prelude.{◌≡◌, ◌∷◌, [], List, if◌then◌else◌, is_none, map, length, IfOk, OnOk};
 ghost use Rattle.std.specs.List.{position_or_len};
-ghost use Rattle.indexmap.specs.IndexMap.{get};
 ghost use Rattle.indexmap.specs.IndexSet.{insert_key};
 ghost use Rattle.obs_record.specs.declared.line.Line.{Line as Line};
-ghost use Rattle.batch_rules.specs.declared.keys.GroupKey.{GroupKey as Key};
 ghost use Rattle.batch_rules.specs.KeyTests.{same_key};
 ghost use Rattle.batch_rules.specs.Earlier.{line_of};
 ghost use Rattle.batch_rules.specs.Groups.{group_key, fault_by};
-ghost use Rattle.batch_rules.specs.Numbers.{StandsIn, keys_after, ruling_by};
+ghost use Rattle.batch_rules.specs.Points.{found_at};
+ghost use Rattle.batch_rules.specs.Numbers.{keys_after, ruling_by};
 ghost use Rattle.act_model.specs.BatchRules.{batch_rulings, groups_of};
 
 use crate::checking::{Checked, checked_lines};
-use crate::groups::{Groups, fault_by, summaries, summary_of};
+use crate::groups::{Groups, fault_by, summaries};
+use crate::key_places::placed;
 use crate::keys::{GroupKey, group_key};
 use crate::rulings::Rulings;
 use act_model::{Known, Ruling};
@@ -31,38 +31,6 @@ struct Last {
     first: u32,
 }
 
-// Whether the group with this key is at a place among those that have an accepted line.
-fn is_at(firsts: &IndexSet<GroupKey>, place: u32, key: &GroupKey) -> bool
-    ensures { result ≡ true → StandsIn key.now place firsts.now.keys }
-{
-    let place = place as usize;
-    if place >= firsts.len() {
-        return false;
-    }
-    match firsts.get_index(place) {
-        Some(own) => *own == *key,
-        None => false,
-    }
-}
-
-// The place of a group among those that have an accepted line, to which it is added where it is new. It is searched for
-// only where it isn't at the place of the last one, which is kept. More places than a number has count as out of
-// memory: no memory holds so many.
-fn placed(firsts: &mut IndexSet<GroupKey>, last: &mut u32, key: GroupKey) -> Result<u32, NoMemory>
-    ensures keys { OnOk result (firsts.new.keys ≡ insert_key same_key firsts.old.keys key) }
-    ensures place { IfOk result (λ place. place ≡ position_or_len (same_key key) firsts.old.keys) }
-{
-    if is_at(firsts, *last, &key) {
-        return Ok(*last);
-    }
-    let (place, _is_new) = firsts.insert_full(key)?;
-    if place > u32::MAX as usize {
-        return Err(AllocError);
-    }
-    *last = place as u32;
-    Ok(place as u32)
-}
-
 // The rule that an observation breaks with its group, and the group's place where it breaks none.
 fn ruled(
     groups: &Groups,
@@ -70,14 +38,14 @@ fn ruled(
     last: &mut Last,
     s: &Sighting,
 ) -> Result<(Option<RuleCode>, u32), NoMemory>
-    ensures fault { IfOk result (λ ruled. ruled.0 ≡ fault_by (get same_key groups.now (group_key s.now)) s.now) }
+    ensures fault { IfOk result (λ ruled. ruled.0 ≡ fault_by (found_at groups.now (group_key s.now)) s.now) }
     ensures keys { IfOk result (λ ruled. firsts.new.keys ≡
         (if is_none ruled.0 then insert_key same_key firsts.old.keys (group_key s.now) else firsts.old.keys)) }
     ensures place { IfOk result (λ ruled. ruled.1 ≡
         (if is_none ruled.0 then position_or_len (same_key (group_key s.now)) firsts.old.keys else 0)) }
 {
     let key = group_key(s);
-    let fault = fault_by(summary_of(groups, &mut last.group, &key), s);
+    let fault = fault_by(groups.get(&mut last.group, &key), s);
     match fault {
         None => Ok((None, placed(firsts, &mut last.first, key)?)),
         Some(rule) => Ok((Some(rule), 0)),
@@ -93,11 +61,11 @@ fn ruling(
     line: &Checked,
 ) -> Result<Ruling, NoMemory>
     ensures keys { OnOk result ((later : List Line) →
-        keys_after (λ (key : Key). get same_key groups.now key) firsts.new.keys later
-        ≡ keys_after (λ (key : Key). get same_key groups.now key) firsts.old.keys (line_of line.now ∷ later)) }
+        keys_after (found_at groups.now) firsts.new.keys later
+        ≡ keys_after (found_at groups.now) firsts.old.keys (line_of line.now ∷ later)) }
     ensures ruling { IfOk result (λ ruling. (later : List Line) →
-        ruling ≡ ruling_by (λ (key : Key). get same_key groups.now key)
-        (keys_after (λ (key : Key). get same_key groups.now key) firsts.new.keys later) (line_of line.now)) }
+        ruling ≡ ruling_by (found_at groups.now)
+        (keys_after (found_at groups.now) firsts.new.keys later) (line_of line.now)) }
 {
     let (fault, group) = match line.read {
         Ok(s) => ruled(groups, firsts, last, s)?,
@@ -123,11 +91,11 @@ fn count(firsts: &IndexSet<GroupKey>) -> Result<u32, NoMemory>
 
 // The rulings on all lines, by the summaries of their groups.
 fn rulings(alloc: Global, groups: &Groups, checked: &[Checked]) -> Result<Rulings, NoMemory>
-    ensures list { IfOk result (λ judged. judged.list ≡ map (ruling_by (λ (key : Key). get same_key groups.now key)
-        (keys_after (λ (key : Key). get same_key groups.now key) [] (map line_of checked.now)))
+    ensures list { IfOk result (λ judged. judged.list ≡ map (ruling_by (found_at groups.now)
+        (keys_after (found_at groups.now) [] (map line_of checked.now)))
         (map line_of checked.now)) }
     ensures groups { IfOk result (λ judged.
-        judged.groups ≡ length (keys_after (λ (key : Key). get same_key groups.now key) [] (map line_of checked.now))) }
+        judged.groups ≡ length (keys_after (found_at groups.now) [] (map line_of checked.now))) }
 {
     let mut firsts = IndexSet::with_capacity(alloc, groups.len())?;
     let mut last = Last { group: 0, first: 0 };

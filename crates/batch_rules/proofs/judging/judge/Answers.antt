@@ -1,14 +1,13 @@
 use Rattle.std.proofs.Common.{◌≡◌, List, [], length, map, Option, ap, sym, subst, ◌∙◌}
 use Rattle.std.proofs.lemmas.Result.{IfOk-weaker}
-use Rattle.indexmap.specs.IndexMap.{get}
 use Rattle.obs_record.specs.declared.line.Line.{Line}
 use Rattle.obs_record.specs.declared.sighting.Sighting.{Sighting}
 use Rattle.act_model.specs.BatchRules.{group_fault, firsts_of, checked_lines, passed_in, rulings_among, batch_rulings}
 use Rattle.batch_rules.specs.declared.keys.GroupKey.{GroupKey}
 use Rattle.batch_rules.specs.declared.groups.Summary.{Summary}
 use Rattle.batch_rules.specs.Earlier.{pointed, line_of}
-use Rattle.batch_rules.specs.KeyTests.{same_key}
 use Rattle.batch_rules.specs.Groups.{AreApart}
+use Rattle.batch_rules.specs.Points.{found_at}
 use Rattle.batch_rules.specs.Numbers.{keys_after, ruling_by}
 use Rattle.batch_rules.proofs.Apart.{passed_apart}
 use Rattle.batch_rules.proofs.Firsts.{rulings_told, groups_told}
@@ -26,7 +25,7 @@ pub returns-clause-rulings : goal.returns-clause-rulings
 unfolding batch_rulings
 returns-clause-rulings g c =
     let office = g.V.Known.office c.args.known.now in
-    let found : GroupKey → Option Summary = λ (key : GroupKey). get same_key c.in_ok-summed.summed key in
+    let found : GroupKey → Option Summary = found_at c.in_ok-summed.summed in
     let checked = map line_of c.in_ok-checked.checked.items in
     IfOk-weaker c.rulings.result _ _ (λ judged is.
     is ∙ ap (λ (lines : List Line). map (ruling_by found (keys_after found [] lines)) lines) (ap (map line_of) c.as_slice-2.ensures.value)
@@ -36,7 +35,7 @@ returns-clause-rulings g c =
 pub returns-clause-groups : goal.returns-clause-groups
 returns-clause-groups g c =
     let office = g.V.Known.office c.args.known.now in
-    let found : GroupKey → Option Summary = λ (key : GroupKey). get same_key c.in_ok-summed.summed key in
+    let found : GroupKey → Option Summary = found_at c.in_ok-summed.summed in
     let checked = map line_of c.in_ok-checked.checked.items in
     IfOk-weaker c.rulings.result _ _ (λ judged is.
     is ∙ ap (λ (lines : List Line). length (keys_after found [] lines)) (ap (map line_of) c.as_slice-2.ensures.value)

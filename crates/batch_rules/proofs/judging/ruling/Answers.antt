@@ -1,17 +1,15 @@
 use Rattle.std.proofs.Common.{Option, ap, ◌∙◌}
-use Rattle.indexmap.specs.IndexMap.{get}
 use Rattle.obs_record.specs.declared.rule.RuleCode.{RuleCode}
 use Rattle.std.specs.Prelude.{ℕ}
-use Rattle.batch_rules.specs.declared.keys.GroupKey.{GroupKey}
 use Rattle.batch_rules.specs.Earlier.{reading_of, line_of}
-use Rattle.batch_rules.specs.KeyTests.{same_key}
+use Rattle.batch_rules.specs.Points.{found_at}
 use Rattle.batch_rules.proofs.Firsts.{ruling, ruling_more, ruling_still}
 use Rattle.batch_rules.proofs.judging.ruling.Goals as goal
 use Rattle.batch_rules.proofs.judging.ruling.Goals.{in-Ok+in_ok-ruled-in-Ok, in-Err}
 
 pub returns-clause-ruling : goal.returns-clause-ruling
 returns-clause-ruling c later =
-    let found = λ (key : GroupKey). get same_key c.args.groups.now key in
+    let found = found_at c.args.groups.now in
     elim c.match-line.branch [
       | in-Ok+in_ok-ruled-in-Ok w ↦ ap (λ (told : Option RuleCode × ℕ). ruling c.args.line.now.number told.0 told.1) w.fault-is
           ∙ ruling_more found c.args.firsts.now.keys c.match-line.firsts.keys (line_of c.args.line.now) w.in-Ok.s.now later (w.in_ok-ruled-in-Ok.fault, w.in_ok-ruled-in-Ok.group) (ap reading_of w.in-Ok.is) w.in_ok-ruled-in-Ok.ensures.fault

@@ -1,18 +1,17 @@
 use Rattle.std.proofs.Common.{◌≡◌, ◌+◌, List, [], ◌∷◌, ◌++◌, map, drop, ap, sym, ◌∙◌, append_assoc, arith}
-use Rattle.indexmap.specs.IndexMap.{get}
 use Rattle.std.proofs.lemmas.List.{drop_more}
 use Rattle.obs_record.specs.declared.line.Line.{Line}
 use Rattle.act_model.specs.declared.ruling.Ruling.{Ruling}
-use Rattle.batch_rules.specs.declared.keys.GroupKey.{GroupKey}
 use Rattle.batch_rules.specs.declared.checking.Checked.{Checked}
+use Rattle.batch_rules.specs.declared.keys.GroupKey.{GroupKey}
 use Rattle.batch_rules.specs.Earlier.{line_of}
-use Rattle.batch_rules.specs.KeyTests.{same_key}
+use Rattle.batch_rules.specs.Points.{found_at}
 use Rattle.batch_rules.specs.Numbers.{keys_after, ruling_by}
 use Rattle.batch_rules.proofs.judging.rulings.Goals as goal
 
 pub loop-line-preserved : goal.loop-line-preserved
 loop-line-preserved c =
-    let found = λ (key : GroupKey). get same_key c.args.groups.now key in
+    let found = found_at c.args.groups.now in
     let all = keys_after found [] (map line_of c.args.checked.now) in
     let line = line_of c.line-item.result in
     let list = c.loop-line.list in
