@@ -11,5 +11,6 @@ mod Rows
 mod Passed
 mod Pointed
 mod PointLemmas
+mod ToldLemmas
 mod Standing
 mod Beside

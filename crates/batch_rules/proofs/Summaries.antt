@@ -1,5 +1,5 @@
 -- What the summary of a group says of it.
-use Rattle.std.proofs.Common.{◌≡◌, ℤ, pos, ◌+ℤ◌, ◌<ℤ◌, Bool, true, false, not, ◌&&◌, ◌||◌, cond, List, [], ◌∷◌, length, filter, Some, None, refl, ap, sym, subst, ◌∙◌, inl, inr, true≢false, arith}
+use Rattle.std.proofs.Common.{◌≡◌, ℤ, pos, ◌+ℤ◌, ◌<ℤ◌, ◌≤ℤ◌, Bool, true, false, not, ◌&&◌, ◌||◌, cond, List, [], ◌∷◌, length, filter, Some, None, refl, ap, sym, subst, ◌∙◌, inl, inr, true≢false, arith}
 use Rattle.std.specs.Prelude.{◌⊎◌, nat_lt, int_lt}
 use Rattle.std.specs.List.{list_any}
 use Rattle.std.proofs.lemmas.Int.{ints}
@@ -12,7 +12,7 @@ use Rattle.batch_rules.specs.declared.groups.Summary.{Summary}
 use Rattle.batch_rules.specs.Groups.{is_fast_change, with_later, summary}
 use Rattle.batch_rules.proofs.Any.{IsIn, Each, any_in, in_any}
 use Rattle.batch_rules.proofs.Fast.{any_fast, lt_told, lt_true, lt_false, lt_chain, slow_through, same_tests, both_pass}
-use Rattle.batch_rules.proofs.Lists.{each_at, each_filter, IsDescending, descending_filter}
+use Rattle.batch_rules.proofs.Lists.{each_at, each_filter, IsDescending}
 
 -- those within 24 hours of a time
 abbrev pub within_day : ℤ → List Sighting → List Sighting
@@ -27,6 +27,8 @@ pub record Says (group : List Sighting) (told : Summary) : Type 0 where
   pub newest : Sighting
   pub others : List Sighting
   pub split : within_day told.first group ≡ newest ∷ others
+  pub falls : IsDescending (newest ∷ others)
+  pub in_order : told.first ≤ℤ told.last
   pub last_is : told.last ≡ newest.time
   pub dec_is : told.dec ≡ newest.dec
   pub alone_is : told.alone ≡ nat_lt (length (newest ∷ others)) 2
@@ -123,7 +125,7 @@ or_less false y less = refl
 not_later : (x : ℤ) → int_lt (x +ℤ pos nanos_of_a_day) x ≡ false
 not_later x = lt_false (x +ℤ pos nanos_of_a_day) x (omega (arith, ints))
 
-says_one : (s : Sighting) → Says (s ∷ []) (with_later None s.time s.dec)
+pub says_one : (s : Sighting) → Says (s ∷ []) (with_later None s.time s.dec)
 says_one s = record {
   began = s;
   began_in = inl refl;
@@ -132,17 +134,33 @@ says_one s = record {
   newest = s;
   others = [];
   split = ap (λ (b : Bool). cond (not b) (s ∷ []) []) (not_later s.time);
+  falls = (tt, tt);
+  in_order = omega (arith, ints);
   last_is = refl;
   dec_is = refl;
   alone_is = refl;
   fast_is = sym (ap (λ (b : Bool). ((b && is_too_fast s s) || false) || false) (lt_false s.time s.time (omega (arith, ints))));
 }
 
-says_more : (s : Sighting) (older : List Sighting) (told : Summary) → Each (λ e. int_lt e.time s.time ≡ true) older → IsDescending older → Says older told → Says (s ∷ older) (with_later (Some told) s.time s.dec)
-says_more s older told before falls said = by (int_lt (told.first +ℤ pos nanos_of_a_day) s.time) refl
+-- the line is later than the others of the day, or no part of it
+abbrev pub is_next : Summary → Sighting → Bool
+is_next told s = int_lt (told.first +ℤ pos nanos_of_a_day) s.time || int_lt told.last s.time
+
+pub says_more : (s : Sighting) (older : List Sighting) (told : Summary) → is_next told s ≡ true → Says older told → Says (s ∷ older) (with_later (Some told) s.time s.dec)
+says_more s older told next said = by (int_lt (told.first +ℤ pos nanos_of_a_day) s.time) refl
   where
     first_before : int_lt told.first s.time ≡ true
-    first_before = subst (λ (t : ℤ). int_lt t s.time ≡ true) said.began_first (earlier_at s older said.began before said.began_in)
+    first_before = pick (int_lt (told.first +ℤ pos nanos_of_a_day) s.time) (int_lt told.last s.time) refl refl next
+      where
+        pick : (x y : Bool) → int_lt (told.first +ℤ pos nanos_of_a_day) s.time ≡ x → int_lt told.last s.time ≡ y → x || y ≡ true → int_lt told.first s.time ≡ true
+        pick true y late is or =
+            let high : (told.first +ℤ pos nanos_of_a_day) <ℤ s.time = lt_told (told.first +ℤ pos nanos_of_a_day) s.time late in
+            lt_true told.first s.time (omega (arith, ints))
+        pick false true late is or =
+            let high : told.last <ℤ s.time = lt_told told.last s.time is in
+            let low : told.first ≤ℤ told.last = said.in_order in
+            lt_true told.first s.time (omega (arith, ints))
+        pick false false late is or = absurd (true≢false (sym or))
 
     starts : (t : ℤ) → list_any (λ e. int_lt (e.time +ℤ pos nanos_of_a_day) t) (s ∷ older) ≡ int_lt (told.first +ℤ pos nanos_of_a_day) t
     starts t =
@@ -154,13 +172,16 @@ says_more s older told before falls said = by (int_lt (told.first +ℤ pos nanos
             let high : (s.time +ℤ pos nanos_of_a_day) <ℤ t = lt_told (s.time +ℤ pos nanos_of_a_day) t later in
             lt_true (told.first +ℤ pos nanos_of_a_day) t (omega (arith, ints))
 
-    all_before : Each (λ e. int_lt e.time s.time ≡ true) (said.newest ∷ said.others)
-    all_before =
-        subst (Each (λ e. int_lt e.time s.time ≡ true)) said.split
-        (each_filter (λ e. int_lt e.time s.time ≡ true) (λ e. not (int_lt (told.first +ℤ pos nanos_of_a_day) e.time)) older before)
+    all_before : int_lt (told.first +ℤ pos nanos_of_a_day) s.time ≡ false → Each (λ e. int_lt e.time s.time ≡ true) (said.newest ∷ said.others)
+    all_before early = (newest_before, each_low said.others said.falls.0)
+      where
+        newest_before : int_lt said.newest.time s.time ≡ true
+        newest_before =
+            subst (λ (t : ℤ). int_lt t s.time ≡ true) said.last_is (sym (ap (λ (b : Bool). b || int_lt told.last s.time) early) ∙ next)
 
-    all_fall : IsDescending (said.newest ∷ said.others)
-    all_fall = subst IsDescending said.split (descending_filter (λ e. not (int_lt (told.first +ℤ pos nanos_of_a_day) e.time)) older falls)
+        each_low : (es : List Sighting) → Each (λ e. int_lt e.time said.newest.time ≡ true) es → Each (λ e. int_lt e.time s.time ≡ true) es
+        each_low [] low = tt
+        each_low (e ∷ es) low = (lt_chain e.time said.newest.time s.time low.0 newest_before, each_low es low.1)
 
     by : (late : Bool) → int_lt (told.first +ℤ pos nanos_of_a_day) s.time ≡ late → Says (s ∷ older) (cond late told (record {
       first = told.first;
@@ -177,6 +198,8 @@ says_more s older told before falls said = by (int_lt (told.first +ℤ pos nanos
       newest = said.newest;
       others = said.others;
       split = ap (λ (b : Bool). cond (not b) (s ∷ within_day told.first older) (within_day told.first older)) late ∙ said.split;
+      falls = said.falls;
+      in_order = said.in_order;
       last_is = said.last_is;
       dec_is = said.dec_is;
       alone_is = said.alone_is;
@@ -190,6 +213,10 @@ says_more s older told before falls said = by (int_lt (told.first +ℤ pos nanos
       newest = s;
       others = said.newest ∷ said.others;
       split = ap (λ (b : Bool). cond (not b) (s ∷ within_day told.first older) (within_day told.first older)) late ∙ ap (λ (xs : List Sighting). s ∷ xs) said.split;
+      falls = (all_before late, said.falls);
+      in_order =
+          let low : told.first <ℤ s.time = lt_told told.first s.time first_before in
+          omega (arith, ints);
       last_is = refl;
       dec_is = refl;
       alone_is = sym two;
@@ -197,12 +224,28 @@ says_more s older told before falls said = by (int_lt (told.first +ℤ pos nanos
           ap (λ (b : Bool). b || is_fast_change told.last told.dec s.time s.dec) said.fast_is
           ∙ ap (λ (t : ℤ). any_fast (said.newest ∷ said.others) || is_fast_change t told.dec s.time s.dec) said.last_is
           ∙ ap (λ (d : ℤ). any_fast (said.newest ∷ said.others) || is_fast_change said.newest.time d s.time s.dec) said.dec_is
-          ∙ sym (any_fast_more s said.newest said.others all_before all_fall.0);
+          ∙ sym (any_fast_more s said.newest said.others (all_before late) said.falls.0);
     }
       where
         two : nat_lt (length (s ∷ said.newest ∷ said.others)) 2 ≡ false
         two = grind (arith, nat_tests)
 
+-- a line that is later than all others is later than those of the day
+later_than_all : (s : Sighting) (older : List Sighting) (told : Summary) → Each (λ e. int_lt e.time s.time ≡ true) older → Says older told → is_next told s ≡ true
+later_than_all s older told before said =
+    ap (λ (b : Bool). int_lt (told.first +ℤ pos nanos_of_a_day) s.time || b) (subst (λ (t : ℤ). int_lt t s.time ≡ true) (sym said.last_is) newest) ∙ either (int_lt (told.first +ℤ pos nanos_of_a_day) s.time)
+  where
+    either : (b : Bool) → b || true ≡ true
+    either true = refl
+    either false = refl
+
+    newest : int_lt said.newest.time s.time ≡ true
+    newest =
+        (subst (Each (λ e. int_lt e.time s.time ≡ true)) said.split
+        (each_filter (λ e. int_lt e.time s.time ≡ true) (λ e. not (int_lt (told.first +ℤ pos nanos_of_a_day) e.time)) older before)).0
+
 pub says_all : (s : Sighting) (earlier : List Sighting) → IsDescending (s ∷ earlier) → Says (s ∷ earlier) (with_later (summary earlier) s.time s.dec)
 says_all s [] falls = says_one s
-says_all s (e ∷ earlier) falls = says_more s (e ∷ earlier) (with_later (summary earlier) e.time e.dec) falls.0 falls.1 (says_all e earlier falls.1)
+says_all s (e ∷ earlier) falls =
+    let said = says_all e earlier falls.1 in
+    says_more s (e ∷ earlier) (with_later (summary earlier) e.time e.dec) (later_than_all s (e ∷ earlier) (with_later (summary earlier) e.time e.dec) falls.0 said) said

@@ -85,7 +85,7 @@ module _ (passed turned : List Sighting) (moved : IsPermutation passed turned) (
         ap (λ (xs : List Sighting). nat_lt (length xs) 2) left_list ∙ ap (λ (n : ℕ). nat_lt n 2) (length-filter_moved (in_day told.first) passed turned moved)
         ∙ ap (λ (xs : List Sighting). nat_lt (length xs) 2) left_turned ∙ sym said.alone_is
 
-    some_told : fault_by (Some told) s ≡ group_fault passed s
+    pub some_told : fault_by (Some told) s ≡ group_fault passed s
     unfolding group_fault
     some_told =
         ap (λ (b : Bool). first_row ((b, B7) ∷ (told.fast, B8) ∷ (is_sub (name_of s) && told.alone, B6) ∷ [])) (sym late_told)

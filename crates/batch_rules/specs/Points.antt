@@ -1,6 +1,8 @@
--- Lines as points of their groups, and what points say of a group.
-use Rattle.std.specs.Prelude.{ℕ, ◌==◌, List, [], ◌∷◌, Option, Some, None, slice_index_or, if◌then◌else◌}
+-- Lines as points of their groups, and what is told of a group.
+use Rattle.std.specs.Prelude.{ℕ, ℤ, pos, ◌+ℤ◌, int_lt, ◌==◌, ◌||◌, List, [], ◌∷◌, Option, Some, None, slice_index_or}
+use Rattle.std.specs.Prelude.{if◌then◌else◌}
 use Rattle.std.specs.List.{position_or_len}
+use Rattle.obs_time.specs.Instants.{nanos_of_a_day}
 use Rattle.obs_record.specs.declared.sighting.Sighting.{Sighting}
 use Rattle.batch_rules.specs.declared.keys.GroupKey.{GroupKey}
 use Rattle.batch_rules.specs.declared.groups.Summary.{Summary}
@@ -8,15 +10,28 @@ use Rattle.batch_rules.specs.declared.points.Point.{Point}
 use Rattle.batch_rules.specs.KeyTests.{same_key}
 use Rattle.batch_rules.specs.Groups.{group_key, with_later}
 
--- the point of an observation, whose group's key is among these
-abbrev pub point_of : List GroupKey → Sighting → Point
-point_of keys s = record { time = s.time; dec = s.dec; group = position_or_len (same_key (group_key s)) keys }
+-- the place of an observation's group among the keys of groups, or how many they are where it isn't there
+abbrev pub place_of : List GroupKey → Sighting → ℕ
+place_of keys s = position_or_len (same_key (group_key s)) keys
 
--- what points, the latest first, say of the group at a place
-abbrev pub summed : List Point → ℕ → Option Summary
-summed [] group = None
-summed (p ∷ earlier) group =
-    if p.group == group then Some (with_later (summed earlier group) p.time p.dec) else summed earlier group
+abbrev pub point_of : List GroupKey → Sighting → Point
+point_of keys s = record { time = s.time; dec = s.dec; group = place_of keys s }
+
+-- ---- what is told of groups: None of one whose lines didn't come in the order of time
+
+-- a group with one more line, which is later than the others of its day, or no part of it
+abbrev pub next_told : Option Summary → ℤ → ℤ → Option Summary
+next_told None time dec = None
+next_told (Some group) time dec =
+    if int_lt (group.first +ℤ pos nanos_of_a_day) time || int_lt group.last time
+    then Some (with_later (Some group) time dec) else None
+
+-- what is told of the group at a place after points in the order of time, the latest first
+abbrev pub told_after : List (Option Summary) → List Point → ℕ → Option Summary
+told_after told [] group = slice_index_or told group None
+told_after told (p ∷ earlier) group =
+    if p.group == group then Some (with_later (told_after told earlier group) p.time p.dec)
+    else told_after told earlier group
 
 -- the keys of groups, each once, and what is said of each group, at the same place
 pub record KeptGroups : Type 0 where
