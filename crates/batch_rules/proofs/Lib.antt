@@ -11,6 +11,8 @@ mod Rows
 mod Passed
 mod Pointed
 mod PointLemmas
+mod SortedLemmas
 mod ToldLemmas
+mod NumberedLemmas
 mod Standing
 mod Beside

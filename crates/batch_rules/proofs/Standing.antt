@@ -1,8 +1,5 @@
--- A key that stands at a place among distinct keys is first found there; and one that isn't among them has no place.
-use Rattle.std.proofs.Common.{◌≡◌, ℕ, zero, suc, ◌+◌, Bool, true, false, not, ◌||◌, cond, List, [], ◌∷◌, length, slice_get, Option, Some, None, refl, ap, sym, subst, ◌∙◌, arith}
-use Rattle.std.specs.Prelude.{nat_lt, position}
-use Rattle.std.proofs.lemmas.Bool.Decides.{nat_tests}
-use Rattle.std.proofs.lemmas.List.Sums.{prefix_len-le-length}
+-- A key that stands at a place among distinct keys is first found there.
+use Rattle.std.proofs.Common.{◌≡◌, ℕ, zero, suc, ◌+◌, Bool, true, false, not, ◌||◌, cond, List, [], ◌∷◌, slice_get, Some, ap, sym, subst, ◌∙◌, arith}
 use Rattle.std.specs.List.{list_any, position_or_len, IsDistinct, AllByRecursion}
 use Rattle.batch_rules.specs.contracts.keys.GroupKeyEq.TheImpl.Laws.{laws-law}
 use Rattle.batch_rules.specs.declared.keys.GroupKey.{GroupKey}
@@ -29,11 +26,3 @@ stands_at (x ∷ xs) (suc place) own key distinct at same =
     let other : same_key key x ≡ false = sym (laws-law.congr own key x same) ∙ laws-law.symm own x ∙ apart in
     let next : suc place ≡ 1 + position_or_len (same_key key) xs = omega (arith, rest.1) in
     (ap (λ (b : Bool). b || list_any (same_key key) xs) other ∙ rest.0, next ∙ sym (ap (λ (b : Bool). cond (not b) (1 + position_or_len (same_key key) xs) 0) other))
-
--- how many keys there are is told for one that isn't among them
-pub absent_place : (p : GroupKey → Bool) (keys : List GroupKey) → None ≡ position p keys → length keys ≡ position_or_len p keys
-absent_place p keys none = by (nat_lt (position_or_len p keys) (length keys)) refl none
-  where
-    by : (b : Bool) → nat_lt (position_or_len p keys) (length keys) ≡ b → None ≡ cond b (Some (position_or_len p keys)) None → length keys ≡ position_or_len p keys
-    by true is none = absurd (cc)
-    by false is none = grind (arith, nat_tests, prefix_len-le-length (λ (k : GroupKey). not (p k)) keys)

@@ -6,6 +6,7 @@ pub mod PlaceTests
 pub mod Earlier
 pub mod Live
 pub mod Numbers
+pub mod Numbered
 pub mod Rulings
 pub mod Memory
 pub mod Marks

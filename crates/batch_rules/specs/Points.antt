@@ -33,11 +33,12 @@ told_after told (p ∷ earlier) group =
     if p.group == group then Some (with_later (told_after told earlier group) p.time p.dec)
     else told_after told earlier group
 
--- the keys of groups, each once, and what is said of each group, at the same place
+-- the keys of groups, each once; what is told of each group, at the same place; and the points of lines
 pub record KeptGroups : Type 0 where
   pub keys : List GroupKey
   pub told : List (Option Summary)
+  pub points : List Point
 
--- what is said of the group with a key, if it is there
+-- what is told of the group with a key, if it is there
 abbrev pub found_at : KeptGroups → GroupKey → Option Summary
 found_at groups key = slice_index_or groups.told (position_or_len (same_key key) groups.keys) None

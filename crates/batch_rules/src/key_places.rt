@@ -48,20 +48,3 @@ pub(crate) fn placed(
     *last = place as u32;
     Ok(place as u32)
 }
-
-/// The place of a key among these, or how many they are where it isn't among them. It is searched for only where it
-/// isn't at the place of the last one, which is kept.
-pub(crate) fn place_in(keys: &IndexSet<GroupKey>, last: &mut usize, key: &GroupKey) -> usize
-    ensures { result ≡ position_or_len (same_key key.now) keys.now.keys }
-{
-    if is_at(keys, *last, key) {
-        return *last;
-    }
-    match keys.get_index_of(key) {
-        Some(place) => {
-            *last = place;
-            place
-        }
-        None => keys.len(),
-    }
-}

@@ -11,6 +11,7 @@ mod judging;
 mod key_places;
 mod keys;
 mod names;
+mod numbering;
 mod places;
 mod points;
 mod rules;
