@@ -26,21 +26,21 @@ fn first_home<V: Known>(known: &V, name: TrackName) -> Option<Designation>
 fn found_in<V: Known>(
     known: &V,
     track: u64,
-    read: Result<Sighting, RuleCode>,
+    read: &Result<Sighting, RuleCode>,
     fault: Option<RuleCode>,
 ) -> Result<Placed, RuleCode>
-    ensures { result ≡ found_in (V.office known.now) track read fault }
+    ensures { result ≡ found_in (V.office known.now) track read.now fault }
 {
-    match (fault, read) {
-        (Some(rule), _) | (None, Err(rule)) => Err(rule),
-        (None, Ok(sighting)) => {
-            let home = first_home(known, name_of(&sighting));
-            Ok(Placed {
-                sighting,
-                track,
-                home,
-            })
-        }
+    if let Some(rule) = fault {
+        return Err(rule);
+    }
+    match read {
+        Ok(sighting) => Ok(Placed {
+            sighting: *sighting,
+            track,
+            home: first_home(known, name_of(sighting)),
+        }),
+        Err(rule) => Err(*rule),
     }
 }
 
@@ -54,7 +54,7 @@ fn taken_line<V: Known>(known: &V, before: u64, now: u64, line: &Line, ruling: &
     let track = (before + u64::from(ruling.group) + 1).min(now + 1);
     Taken {
         line: line.number,
-        found: found_in(known, track, line.read, ruling.fault),
+        found: found_in(known, track, &line.read, ruling.fault),
     }
 }
 
