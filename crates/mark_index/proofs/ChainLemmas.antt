@@ -1,22 +1,25 @@
 -- Chains of entries, as one more comes, and as an entry's mark is taken.
-use Rattle.std.proofs.Common.{◌≡◌, ◌≢◌, ℕ, ◌+◌, ◌-◌, ◌^◌, ◌<◌, ◌≤◌, true, List, [], ◌∷◌, ◌++◌, length, replicate, Option, Some, None, IfSome, IfNone, refl, ap, sym, subst, ◌∙◌, inl, inr, arith}
-use Rattle.std.specs.Prelude.{slice_index, slice_set}
+use Rattle.std.proofs.Common.{◌≡◌, ◌≢◌, ℕ, ◌+◌, ◌-◌, ◌^◌, ◌<◌, ◌≤◌, List, [], ◌∷◌, ◌++◌, length, replicate, Option, Some, None, IfSome, IfNone, refl, ap, sym, subst, ◌∙◌, inl, inr, arith}
+use Rattle.std.specs.Prelude.{slice_index, slice_set, set}
 use Rattle.std.proofs.lemmas.Bool.{cases_eq, cases_lt}
 use Rattle.std.proofs.lemmas.List.{length-append, length-set, length-replicate, get_or_append_left, get_or_push, get_or-set_same, get_or-set_other, get_or-replicate}
-use Rattle.mark_index.specs.Slots.{slot_of, tag_of, joined, may_be}
+use Rattle.mark_index.specs.declared.table.Slot.{Slot}
+use Rattle.mark_index.specs.Slots.{slot_of, slot_at, HasTag}
 use Rattle.mark_index.specs.Marked.{IsLast, AreChained}
-use Rattle.mark_index.proofs.TagLemmas.{joined_has, joined_keeps}
 
 -- ---- no entries
 
-pub none_chained : (slots places : ℕ) → 0 < slots → 0 < places → AreChained [] [] (replicate slots 0) (replicate places 0)
-none_chained slots places some more = record {
+-- a slot to which no mark came
+abbrev pub no_mark : Slot
+no_mark = record { head = 0; tags = 0 }
+
+pub none_chained : (slots : ℕ) → 0 < slots → AreChained [] [] (replicate slots no_mark)
+none_chained slots some = record {
   few = omega arith;
   as_many = refl;
-  slots = omega (arith, length-replicate {A = ℕ} slots 0, some);
-  places = omega (arith, length-replicate {A = ℕ} places 0, more);
+  slots = omega (arith, length-replicate slots no_mark, some);
   before_is = λ i within marked. absurd (omega (arith, within));
-  head_is = λ s within. subst (IsLast (length (replicate slots 0)) [] 0 s) (sym (get_or-replicate slots s 0 0 (omega (arith, length-replicate {A = ℕ} slots 0, within)))) (record {
+  head_is = λ s within. subst (λ (slot : Slot). IsLast (length (replicate slots no_mark)) [] 0 s slot.head) (sym (get_or-replicate slots s no_mark no_mark (omega (arith, length-replicate slots no_mark, within)))) (record {
     within = omega arith;
     marked = λ above. absurd (omega (arith, above));
     of_slot = λ above. absurd (omega (arith, above));
@@ -26,9 +29,6 @@ none_chained slots places some more = record {
 }
 
 -- ---- one more entry
-
-tag_is_some : (mark : ℕ) → 0 < tag_of mark
-tag_is_some mark = omega arith
 
 module _ (marks : List ℕ) (mark : ℕ) where
   abbrev more : List ℕ
@@ -91,23 +91,22 @@ module _ (marks befores : List ℕ) (as_many : length befores ≡ length marks) 
       (subst (λ (m : ℕ). IsLast slots (more marks mark) i (slot_of slots m) (slice_index befores i)) (sym (old marks mark i low))
       (last_stays marks mark slots i (slot_of slots (slice_index marks i)) (slice_index befores i) (omega (arith, low)) was))
 
-module _ (marks befores heads tags : List ℕ) (was : AreChained marks befores heads tags) where
+module _ (marks befores : List ℕ) (table : List Slot) (was : AreChained marks befores table) where
   -- one that has no mark
-  pub unmarked_chained : length marks + 1 < 2 ^ 32 → AreChained (marks ++ 0 ∷ []) (befores ++ 0 ∷ []) heads tags
+  pub unmarked_chained : length marks + 1 < 2 ^ 32 → AreChained (marks ++ 0 ∷ []) (befores ++ 0 ∷ []) table
   unmarked_chained few = record {
     few = omega (arith, longer marks 0, few);
     as_many = omega (arith, longer marks 0, longer befores 0, was.as_many);
     slots = was.slots;
-    places = was.places;
     before_is = λ i within some.
         let low = lower i within some in
-        earlier marks befores was.as_many 0 0 (length heads) i low (was.before_is i low (subst (λ (m : ℕ). 0 < m) (old marks 0 i low) some));
-    head_is = λ s within. subst (λ (n : ℕ). IsLast (length heads) (more marks 0) n s (slice_index heads s)) (sym (longer marks 0))
-        (last_of_other marks 0 (length heads) s (slice_index heads s) (λ none. absurd (omega (arith, none))) (was.head_is s within));
+        earlier marks befores was.as_many 0 0 (length table) i low (was.before_is i low (subst (λ (m : ℕ). 0 < m) (old marks 0 i low) some));
+    head_is = λ s within. subst (λ (n : ℕ). IsLast (length table) (more marks 0) n s (slot_at table s).head) (sym (longer marks 0))
+        (last_of_other marks 0 (length table) s (slot_at table s).head (λ none. absurd (omega (arith, none))) (was.head_is s within));
     tagged = λ i within some.
         let low = lower i within some in
         let at = old marks 0 i low in
-        subst (λ (m : ℕ). may_be (slice_index tags (slot_of (length tags) m)) (tag_of m) ≡ true) (sym at)
+        subst (λ (m : ℕ). HasTag (slot_at table (slot_of (length table) m)).tags m) (sym at)
         (was.tagged i low (subst (λ (m : ℕ). 0 < m) at some));
   }
     where
@@ -117,71 +116,76 @@ module _ (marks befores heads tags : List ℕ) (was : AreChained marks befores h
         | inr other ↦ omega (arith, within, other, longer marks 0)
       ]
 
--- what stands at a place of the small table after a mark came there
-abbrev tag_after : List ℕ → ℕ → ℕ → ℕ
-tag_after tags place mark = joined (slice_index tags place) (tag_of mark)
+module _ (marks befores : List ℕ) (table : List Slot) (was : AreChained marks befores table) (mark slot tags : ℕ) (marked : 0 < mark) where
+  abbrev head : ℕ
+  head = (slot_at table slot).head
 
-module _ (marks befores heads tags : List ℕ) (was : AreChained marks befores heads tags) (mark slot place : ℕ) (marked : 0 < mark) where
-  pub one_chained : length marks + 1 < 2 ^ 32 → slot ≡ slot_of (length heads) mark → slot < length heads → place ≡ slot_of (length tags) mark → place < length tags
-      → AreChained (marks ++ mark ∷ []) (befores ++ slice_index heads slot ∷ []) (slice_set heads slot (length marks + 1))
-      (slice_set tags place (joined (slice_index tags place) (tag_of mark)))
-  one_chained few slot_is slot_within place_is place_within = record {
+  -- the slot after a mark came to it, with these tags
+  abbrev joined : Slot
+  joined = record { head = length marks + 1; tags = tags }
+
+  pub one_chained : length marks + 1 < 2 ^ 32 → slot ≡ slot_of (length table) mark → slot < length table
+      → HasTag tags mark → ((other : ℕ) → HasTag (slot_at table slot).tags other → HasTag tags other)
+      → AreChained (marks ++ mark ∷ []) (befores ++ (slot_at table slot).head ∷ []) (set table slot (record { head = length marks + 1; tags = tags }))
+  one_chained few slot_is slot_within own_tag other_tags = record {
     few = omega (arith, longer marks mark, few);
-    as_many = omega (arith, longer marks mark, longer befores (slice_index heads slot), was.as_many);
-    slots = omega (arith, length-set heads slot (length marks + 1), was.slots);
-    places = omega (arith, length-set tags place (tag_after tags place mark), was.places);
-    before_is = λ i within some. subst (λ (slots : ℕ). HasBefore slots (more marks mark) (more befores (slice_index heads slot)) i) (sym same_slots) (before_is i within some);
-    head_is = λ s within. subst (λ (slots : ℕ). IsLast slots (more marks mark) (length (more marks mark)) s (slice_index (slice_set heads slot (length marks + 1)) s)) (sym same_slots)
-        (subst (λ (n : ℕ). IsLast (length heads) (more marks mark) n s (slice_index (slice_set heads slot (length marks + 1)) s)) (sym (longer marks mark)) (head_is s (omega (arith, within, same_slots))));
-    tagged = λ i within some. subst (λ (places : ℕ). may_be (slice_index (slice_set tags place (tag_after tags place mark)) (slot_of places (slice_index (more marks mark) i))) (tag_of (slice_index (more marks mark) i)) ≡ true) (sym same_places) (tagged i within some);
+    as_many = omega (arith, longer marks mark, longer befores head, was.as_many);
+    slots = omega (arith, same_slots, was.slots);
+    before_is = λ i within some. subst (λ (slots : ℕ). HasBefore slots (more marks mark) (more befores head) i) (sym same_slots) (before_is i within some);
+    head_is = λ s within. subst (λ (slots : ℕ). IsLast slots (more marks mark) (length (more marks mark)) s (slot_at (set table slot joined) s).head) (sym same_slots)
+        (subst (λ (n : ℕ). IsLast (length table) (more marks mark) n s (slot_at (set table slot joined) s).head) (sym (longer marks mark)) (head_is s (omega (arith, within, same_slots))));
+    tagged = λ i within some. subst (λ (slots : ℕ). HasTag (slot_at (set table slot joined) (slot_of slots (slice_index (more marks mark) i))).tags (slice_index (more marks mark) i)) (sym same_slots) (tagged i within some);
   }
     where
-      same_slots : length (slice_set heads slot (length marks + 1)) ≡ length heads
-      same_slots = length-set heads slot (length marks + 1)
+      same_slots : length (set table slot joined) ≡ length table
+      same_slots = length-set table slot joined
 
-      same_places : length (slice_set tags place (tag_after tags place mark)) ≡ length tags
-      same_places = length-set tags place (tag_after tags place mark)
+      at_own : slot_at (set table slot joined) slot ≡ joined
+      at_own = get_or-set_same table slot joined _ slot_within
 
-      before_is : (i : ℕ) → i < length (more marks mark) → 0 < slice_index (more marks mark) i → HasBefore (length heads) (more marks mark) (more befores (slice_index heads slot)) i
+      at_other : (s : ℕ) → slot ≢ s → slot_at (set table slot joined) s ≡ slot_at table s
+      at_other s other = get_or-set_other table slot s joined _ (λ is. other (sym is))
+
+      before_is : (i : ℕ) → i < length (more marks mark) → 0 < slice_index (more marks mark) i → HasBefore (length table) (more marks mark) (more befores head) i
       before_is i within some = elim (cases_eq i (length marks)) [
-        | inl same ↦ subst (λ (n : ℕ). HasBefore (length heads) (more marks mark) (more befores (slice_index heads slot)) n) (sym same) newest
+        | inl same ↦ subst (λ (n : ℕ). HasBefore (length table) (more marks mark) (more befores head) n) (sym same) newest
         | inr other ↦ (let low : i < length marks = omega (arith, within, other, longer marks mark) in
-            earlier marks befores was.as_many mark (slice_index heads slot) (length heads) i low (was.before_is i low (subst (λ (m : ℕ). 0 < m) (old marks mark i low) some)))
+            earlier marks befores was.as_many mark head (length table) i low (was.before_is i low (subst (λ (m : ℕ). 0 < m) (old marks mark i low) some)))
       ]
         where
-          newest : HasBefore (length heads) (more marks mark) (more befores (slice_index heads slot)) (length marks)
+          newest : HasBefore (length table) (more marks mark) (more befores head) (length marks)
           newest =
-              subst (λ (k : ℕ). IsLast (length heads) (more marks mark) (length marks) (slot_of (length heads) (slice_index (more marks mark) (length marks))) k)
-              (sym (ap (slice_index (more befores (slice_index heads slot))) (sym was.as_many) ∙ own befores (slice_index heads slot)))
-              (subst (λ (s : ℕ). IsLast (length heads) (more marks mark) (length marks) s (slice_index heads slot)) (slot_is ∙ ap (slot_of (length heads)) (sym (own marks mark)))
-              (last_stays marks mark (length heads) (length marks) slot (slice_index heads slot) (omega arith) (was.head_is slot slot_within)))
+              subst (λ (k : ℕ). IsLast (length table) (more marks mark) (length marks) (slot_of (length table) (slice_index (more marks mark) (length marks))) k)
+              (sym (ap (slice_index (more befores head)) (sym was.as_many) ∙ own befores head))
+              (subst (λ (s : ℕ). IsLast (length table) (more marks mark) (length marks) s head) (slot_is ∙ ap (slot_of (length table)) (sym (own marks mark)))
+              (last_stays marks mark (length table) (length marks) slot head (omega arith) (was.head_is slot slot_within)))
 
-      head_is : (s : ℕ) → s < length heads → IsLast (length heads) (more marks mark) (length marks + 1) s (slice_index (slice_set heads slot (length marks + 1)) s)
+      head_is : (s : ℕ) → s < length table → IsLast (length table) (more marks mark) (length marks + 1) s (slot_at (set table slot joined) s).head
       head_is s within = elim (cases_eq slot s) [
-        | inl same ↦ subst (λ (t : ℕ). IsLast (length heads) (more marks mark) (length marks + 1) t (slice_index (slice_set heads slot (length marks + 1)) t)) same
-            (subst (λ (k : ℕ). IsLast (length heads) (more marks mark) (length marks + 1) slot k) (sym (get_or-set_same heads slot (length marks + 1) 0 slot_within))
-            (subst (λ (t : ℕ). IsLast (length heads) (more marks mark) (length marks + 1) t (length marks + 1)) (sym slot_is) (last_is_own marks mark (length heads) marked)))
-        | inr other ↦ subst (λ (k : ℕ). IsLast (length heads) (more marks mark) (length marks + 1) s k) (sym (get_or-set_other heads slot s (length marks + 1) 0 (λ is. other (sym is))))
-            (last_of_other marks mark (length heads) s (slice_index heads s) (λ some is. other (slot_is ∙ is)) (was.head_is s within))
+        | inl same ↦ subst (λ (t : ℕ). IsLast (length table) (more marks mark) (length marks + 1) t (slot_at (set table slot joined) t).head) same
+            (subst (λ (found : Slot). IsLast (length table) (more marks mark) (length marks + 1) slot found.head) (sym at_own)
+            (subst (λ (t : ℕ). IsLast (length table) (more marks mark) (length marks + 1) t (length marks + 1)) (sym slot_is) (last_is_own marks mark (length table) marked)))
+        | inr other ↦ subst (λ (found : Slot). IsLast (length table) (more marks mark) (length marks + 1) s found.head) (sym (at_other s other))
+            (last_of_other marks mark (length table) s (slot_at table s).head (λ some is. other (slot_is ∙ is)) (was.head_is s within))
       ]
 
-      -- a mark that was told still is
-      told_still : (p wanted : ℕ) → 0 < wanted → may_be (slice_index tags p) wanted ≡ true → may_be (slice_index (slice_set tags place (tag_after tags place mark)) p) wanted ≡ true
-      told_still p wanted some was_told = elim (cases_eq place p) [
-        | inl same ↦ subst (λ (q : ℕ). may_be (slice_index (slice_set tags place (tag_after tags place mark)) q) wanted ≡ true) same
-            (subst (λ (tag : ℕ). may_be tag wanted ≡ true) (sym (get_or-set_same tags place (tag_after tags place mark) 0 place_within))
-            (joined_keeps (slice_index tags place) (tag_of mark) wanted some (subst (λ (q : ℕ). may_be (slice_index tags q) wanted ≡ true) (sym same) was_told)))
-        | inr other ↦ subst (λ (tag : ℕ). may_be tag wanted ≡ true) (sym (get_or-set_other tags place p (tag_after tags place mark) 0 (λ is. other (sym is)))) was_told
+      -- a tag that was there still is
+      tag_stays : (s wanted : ℕ) → HasTag (slot_at table s).tags wanted → HasTag (slot_at (set table slot joined) s).tags wanted
+      tag_stays s wanted was_there = elim (cases_eq slot s) [
+        | inl same ↦ subst (λ (t : ℕ). HasTag (slot_at (set table slot joined) t).tags wanted) same
+            (subst (λ (found : Slot). HasTag found.tags wanted) (sym at_own)
+            (other_tags wanted (subst (λ (t : ℕ). HasTag (slot_at table t).tags wanted) (sym same) was_there)))
+        | inr other ↦ subst (λ (found : Slot). HasTag found.tags wanted) (sym (at_other s other)) was_there
       ]
 
-      tagged : (i : ℕ) → i < length (more marks mark) → 0 < slice_index (more marks mark) i → may_be (slice_index (slice_set tags place (tag_after tags place mark)) (slot_of (length tags) (slice_index (more marks mark) i))) (tag_of (slice_index (more marks mark) i)) ≡ true
+      tagged : (i : ℕ) → i < length (more marks mark) → 0 < slice_index (more marks mark) i → HasTag (slot_at (set table slot joined) (slot_of (length table) (slice_index (more marks mark) i))).tags (slice_index (more marks mark) i)
       tagged i within some = elim (cases_eq i (length marks)) [
-        | inl same ↦ subst (λ (m : ℕ). may_be (slice_index (slice_set tags place (tag_after tags place mark)) (slot_of (length tags) m)) (tag_of m) ≡ true) (sym (ap (slice_index (more marks mark)) same ∙ own marks mark))
-            (subst (λ (q : ℕ). may_be (slice_index (slice_set tags place (tag_after tags place mark)) q) (tag_of mark) ≡ true) place_is
-            (subst (λ (tag : ℕ). may_be tag (tag_of mark) ≡ true) (sym (get_or-set_same tags place (tag_after tags place mark) 0 place_within)) (joined_has (slice_index tags place) (tag_of mark))))
+        | inl same ↦ subst (λ (m : ℕ). HasTag (slot_at (set table slot joined) (slot_of (length table) m)).tags m) (sym (ap (slice_index (more marks mark)) same ∙ own marks mark))
+            (subst (λ (s : ℕ). HasTag (slot_at (set table slot joined) s).tags mark) slot_is
+            (subst (λ (found : Slot). HasTag found.tags mark) (sym at_own) own_tag))
         | inr other ↦ (let low : i < length marks = omega (arith, within, other, longer marks mark) in
-            subst (λ (m : ℕ). may_be (slice_index (slice_set tags place (tag_after tags place mark)) (slot_of (length tags) m)) (tag_of m) ≡ true) (sym (old marks mark i low))
-            (told_still (slot_of (length tags) (slice_index marks i)) (tag_of (slice_index marks i)) (tag_is_some (slice_index marks i)) (was.tagged i low (subst (λ (m : ℕ). 0 < m) (old marks mark i low) some))))
+            subst (λ (m : ℕ). HasTag (slot_at (set table slot joined) (slot_of (length table) m)).tags m) (sym (old marks mark i low))
+            (tag_stays (slot_of (length table) (slice_index marks i)) (slice_index marks i) (was.tagged i low (subst (λ (m : ℕ). 0 < m) (old marks mark i low) some))))
       ]
 
 -- ---- an entry's mark is taken
@@ -242,82 +246,102 @@ pub record LeadsOn (marks befores : List ℕ) (slots r p k : ℕ) : Type 0 where
   pub before : slice_index befores p ≡ k
   pub earlier : k ≤ p
 
-module _ (marks befores heads tags : List ℕ) (was : AreChained marks befores heads tags) (r : ℕ) (within : r < length marks) (some : 0 < slice_index marks r) where
+module _ (marks befores : List ℕ) (table : List Slot) (was : AreChained marks befores table) (r : ℕ) (within : r < length marks) (some : 0 < slice_index marks r) where
   abbrev slot : ℕ
-  slot = slot_of (length heads) (slice_index marks r)
+  slot = slot_of (length table) (slice_index marks r)
 
   abbrev before : ℕ
   before = slice_index befores r
 
   -- what is left to show where a number before an entry, or that of a slot, is another one
-  rechained : (befores' heads' : List ℕ) → length befores' ≡ length befores → length heads' ≡ length heads
-      → ((i : ℕ) → i < length marks → i ≢ r → 0 < slice_index marks i → IsLast (length heads) (taken marks r within) i (slot_of (length heads) (slice_index marks i)) (slice_index befores' i))
-      → ((s : ℕ) → s < length heads → IsLast (length heads) (taken marks r within) (length marks) s (slice_index heads' s))
-      → AreChained (taken marks r within) befores' heads' tags
-  rechained befores' heads' befores_long heads_long befores_are heads_are = record {
+  rechained : (befores' : List ℕ) (table' : List Slot) → length befores' ≡ length befores → length table' ≡ length table
+      → ((i : ℕ) → i < length marks → i ≢ r → 0 < slice_index marks i → IsLast (length table) (taken marks r within) i (slot_of (length table) (slice_index marks i)) (slice_index befores' i))
+      → ((s : ℕ) → s < length table → IsLast (length table) (taken marks r within) (length marks) s (slot_at table' s).head)
+      → ((s : ℕ) → (slot_at table' s).tags ≡ (slot_at table s).tags)
+      → AreChained (taken marks r within) befores' table'
+  rechained befores' table' befores_long table_long befores_are heads_are tags_are = record {
     few = omega (arith, as_long marks r within, was.few);
     as_many = omega (arith, as_long marks r within, befores_long, was.as_many);
-    slots = omega (arith, heads_long, was.slots);
-    places = was.places;
+    slots = omega (arith, table_long, was.slots);
     before_is = λ i below marked.
-        subst (λ (slots : ℕ). IsLast slots (taken marks r within) i (slot_of slots (slice_index (taken marks r within) i)) (slice_index befores' i)) (sym heads_long)
-        (subst (λ (m : ℕ). IsLast (length heads) (taken marks r within) i (slot_of (length heads) m) (slice_index befores' i)) (sym (still marks r within i marked))
+        subst (λ (slots : ℕ). IsLast slots (taken marks r within) i (slot_of slots (slice_index (taken marks r within) i)) (slice_index befores' i)) (sym table_long)
+        (subst (λ (m : ℕ). IsLast (length table) (taken marks r within) i (slot_of (length table) m) (slice_index befores' i)) (sym (still marks r within i marked))
         (befores_are i (omega (arith, below, as_long marks r within)) (is_other marks r within i marked) (still_some marks r within i marked)));
     head_is = λ s below.
-        subst (λ (slots : ℕ). IsLast slots (taken marks r within) (length (taken marks r within)) s (slice_index heads' s)) (sym heads_long)
-        (subst (λ (n : ℕ). IsLast (length heads) (taken marks r within) n s (slice_index heads' s)) (sym (as_long marks r within))
-        (heads_are s (omega (arith, below, heads_long))));
+        subst (λ (slots : ℕ). IsLast slots (taken marks r within) (length (taken marks r within)) s (slot_at table' s).head) (sym table_long)
+        (subst (λ (n : ℕ). IsLast (length table) (taken marks r within) n s (slot_at table' s).head) (sym (as_long marks r within))
+        (heads_are s (omega (arith, below, table_long))));
     tagged = λ i below marked.
-        subst (λ (m : ℕ). may_be (slice_index tags (slot_of (length tags) m)) (tag_of m) ≡ true) (sym (still marks r within i marked))
-        (was.tagged i (omega (arith, below, as_long marks r within)) (still_some marks r within i marked));
+        subst (λ (slots : ℕ). HasTag (slot_at table' (slot_of slots (slice_index (taken marks r within) i))).tags (slice_index (taken marks r within) i)) (sym table_long)
+        (subst (λ (tags : ℕ). HasTag tags (slice_index (taken marks r within) i)) (sym (tags_are (slot_of (length table) (slice_index (taken marks r within) i))))
+        (subst (λ (m : ℕ). HasTag (slot_at table (slot_of (length table) m)).tags m) (sym (still marks r within i marked))
+        (was.tagged i (omega (arith, below, as_long marks r within)) (still_some marks r within i marked))));
   }
 
   -- what leads to the entry is of its slot
-  same_slot : (n s k : ℕ) → IsLast (length heads) marks n s k → k ≡ r + 1 → slot ≡ s
+  same_slot : (n s k : ℕ) → IsLast (length table) marks n s k → k ≡ r + 1 → slot ≡ s
   same_slot n s k last is =
       let here : k - 1 ≡ r = omega (arith, is) in
-      sym (ap (λ (i : ℕ). slot_of (length heads) (slice_index marks i)) here) ∙ last.of_slot (omega (arith, is))
+      sym (ap (λ (i : ℕ). slot_of (length table) (slice_index marks i)) here) ∙ last.of_slot (omega (arith, is))
 
   -- the entry is the newest of its slot
-  pub unlinked_head : slot < length heads → slice_index heads slot ≡ r + 1 → AreChained (slice_set marks r 0) befores (slice_set heads slot before) tags
-  unlinked_head slot_within newest = rechained befores (slice_set heads slot before) refl (length-set heads slot before) befores_are heads_are
+  pub unlinked_head : slot < length table → (slot_at table slot).head ≡ r + 1 → AreChained (slice_set marks r 0) befores (set table slot (record { head = before; tags = (slot_at table slot).tags }))
+  unlinked_head slot_within newest = rechained befores shorter refl (length-set table slot cut) befores_are heads_are tags_are
     where
-      head : IsLast (length heads) marks (length marks) slot (r + 1)
-      head = subst (λ (k : ℕ). IsLast (length heads) marks (length marks) slot k) newest (was.head_is slot slot_within)
+      cut : Slot
+      cut = record { head = before; tags = (slot_at table slot).tags }
 
-      befores_are : (i : ℕ) → i < length marks → i ≢ r → 0 < slice_index marks i → IsLast (length heads) (taken marks r within) i (slot_of (length heads) (slice_index marks i)) (slice_index befores i)
+      shorter : List Slot
+      shorter = set table slot cut
+
+      at_own : slot_at shorter slot ≡ cut
+      at_own = get_or-set_same table slot cut _ slot_within
+
+      at_other : (s : ℕ) → slot ≢ s → slot_at shorter s ≡ slot_at table s
+      at_other s other = get_or-set_other table slot s cut _ (λ is. other (sym is))
+
+      tags_are : (s : ℕ) → (slot_at shorter s).tags ≡ (slot_at table s).tags
+      tags_are s = elim (cases_eq slot s) [
+        | inl same ↦ subst (λ (t : ℕ). (slot_at shorter t).tags ≡ (slot_at table t).tags) same (ap (λ (found : Slot). found.tags) at_own)
+        | inr other ↦ ap (λ (found : Slot). found.tags) (at_other s other)
+      ]
+
+      head : IsLast (length table) marks (length marks) slot (r + 1)
+      head = subst (λ (k : ℕ). IsLast (length table) marks (length marks) slot k) newest (was.head_is slot slot_within)
+
+      befores_are : (i : ℕ) → i < length marks → i ≢ r → 0 < slice_index marks i → IsLast (length table) (taken marks r within) i (slot_of (length table) (slice_index marks i)) (slice_index befores i)
       befores_are i below other marked =
           let last = was.before_is i below marked in
-          others_stay marks r within (length heads) i _ _
+          others_stay marks r within (length table) i _ _
           (λ is. head.none_later i (omega (arith, is, last.within)) below marked (sym (same_slot i _ _ last is)))
           last
 
-      heads_are : (s : ℕ) → s < length heads → IsLast (length heads) (taken marks r within) (length marks) s (slice_index (slice_set heads slot before) s)
+      heads_are : (s : ℕ) → s < length table → IsLast (length table) (taken marks r within) (length marks) s (slot_at shorter s).head
       heads_are s below = elim (cases_eq slot s) [
-        | inl same ↦ subst (λ (t : ℕ). IsLast (length heads) (taken marks r within) (length marks) t (slice_index (slice_set heads slot before) t)) same
-            (subst (λ (k : ℕ). IsLast (length heads) (taken marks r within) (length marks) slot k) (sym (get_or-set_same heads slot before 0 slot_within))
-            (takes_over marks r within (length heads) (length marks) slot before head (was.before_is r within some)))
-        | inr other ↦ subst (λ (k : ℕ). IsLast (length heads) (taken marks r within) (length marks) s k) (sym (get_or-set_other heads slot s before 0 (λ is. other (sym is))))
-            (others_stay marks r within (length heads) (length marks) s _ (λ is. other (same_slot _ s _ (was.head_is s below) is)) (was.head_is s below))
+        | inl same ↦ subst (λ (t : ℕ). IsLast (length table) (taken marks r within) (length marks) t (slot_at shorter t).head) same
+            (subst (λ (found : Slot). IsLast (length table) (taken marks r within) (length marks) slot found.head) (sym at_own)
+            (takes_over marks r within (length table) (length marks) slot before head (was.before_is r within some)))
+        | inr other ↦ subst (λ (found : Slot). IsLast (length table) (taken marks r within) (length marks) s found.head) (sym (at_other s other))
+            (others_stay marks r within (length table) (length marks) s _ (λ is. other (same_slot _ s _ (was.head_is s below) is)) (was.head_is s below))
       ]
 
   -- a later entry leads to it
-  pub unlinked_before : (p : ℕ) → LeadsOn marks befores (length heads) r p (r + 1) → AreChained (slice_set marks r 0) (slice_set befores p before) heads tags
-  unlinked_before p on = rechained (slice_set befores p before) heads (length-set befores p before) refl befores_are heads_are
+  pub unlinked_before : (p : ℕ) → LeadsOn marks befores (length table) r p (r + 1) → AreChained (slice_set marks r 0) (slice_set befores p before) table
+  unlinked_before p on = rechained (slice_set befores p before) table (length-set befores p before) refl befores_are heads_are (λ s. refl)
     where
-      own : IsLast (length heads) marks p slot (r + 1)
+      own : IsLast (length table) marks p slot (r + 1)
       own =
-          subst (λ (s : ℕ). IsLast (length heads) marks p s (r + 1)) on.of_slot
-          (subst (λ (k : ℕ). IsLast (length heads) marks p (slot_of (length heads) (slice_index marks p)) k) on.before (was.before_is p on.within on.marked))
+          subst (λ (s : ℕ). IsLast (length table) marks p s (r + 1)) on.of_slot
+          (subst (λ (k : ℕ). IsLast (length table) marks p (slot_of (length table) (slice_index marks p)) k) on.before (was.before_is p on.within on.marked))
 
-      befores_are : (i : ℕ) → i < length marks → i ≢ r → 0 < slice_index marks i → IsLast (length heads) (taken marks r within) i (slot_of (length heads) (slice_index marks i)) (slice_index (slice_set befores p before) i)
+      befores_are : (i : ℕ) → i < length marks → i ≢ r → 0 < slice_index marks i → IsLast (length table) (taken marks r within) i (slot_of (length table) (slice_index marks i)) (slice_index (slice_set befores p before) i)
       befores_are i below other marked = elim (cases_eq p i) [
-        | inl same ↦ subst (λ (j : ℕ). IsLast (length heads) (taken marks r within) j (slot_of (length heads) (slice_index marks j)) (slice_index (slice_set befores p before) j)) same
-            (subst (λ (k : ℕ). IsLast (length heads) (taken marks r within) p (slot_of (length heads) (slice_index marks p)) k) (sym (get_or-set_same befores p before 0 (omega (arith, on.within, was.as_many))))
-            (subst (λ (s : ℕ). IsLast (length heads) (taken marks r within) p s before) (sym on.of_slot)
-            (takes_over marks r within (length heads) p slot before own (was.before_is r within some))))
-        | inr apart ↦ subst (λ (k : ℕ). IsLast (length heads) (taken marks r within) i (slot_of (length heads) (slice_index marks i)) k) (sym (get_or-set_other befores p i before 0 (λ is. apart (sym is))))
-            (others_stay marks r within (length heads) i _ _ (not_led i below marked apart) (was.before_is i below marked))
+        | inl same ↦ subst (λ (j : ℕ). IsLast (length table) (taken marks r within) j (slot_of (length table) (slice_index marks j)) (slice_index (slice_set befores p before) j)) same
+            (subst (λ (k : ℕ). IsLast (length table) (taken marks r within) p (slot_of (length table) (slice_index marks p)) k) (sym (get_or-set_same befores p before 0 (omega (arith, on.within, was.as_many))))
+            (subst (λ (s : ℕ). IsLast (length table) (taken marks r within) p s before) (sym on.of_slot)
+            (takes_over marks r within (length table) p slot before own (was.before_is r within some))))
+        | inr apart ↦ subst (λ (k : ℕ). IsLast (length table) (taken marks r within) i (slot_of (length table) (slice_index marks i)) k) (sym (get_or-set_other befores p i before 0 (λ is. apart (sym is))))
+            (others_stay marks r within (length table) i _ _ (not_led i below marked apart) (was.before_is i below marked))
       ]
         where
           not_led : (i : ℕ) → i < length marks → 0 < slice_index marks i → p ≢ i → slice_index befores i ≢ r + 1
@@ -329,33 +353,33 @@ module _ (marks befores heads tags : List ℕ) (was : AreChained marks befores h
                 | inr late ↦ last.none_later p (omega (arith, is, own.within)) (omega (arith, late, apart)) on.marked (on.of_slot ∙ same)
               ]
 
-      heads_are : (s : ℕ) → s < length heads → IsLast (length heads) (taken marks r within) (length marks) s (slice_index heads s)
+      heads_are : (s : ℕ) → s < length table → IsLast (length table) (taken marks r within) (length marks) s (slot_at table s).head
       heads_are s below =
           let last = was.head_is s below in
-          others_stay marks r within (length heads) (length marks) s _
+          others_stay marks r within (length table) (length marks) s _
           (λ is. last.none_later p (omega (arith, is, own.within)) on.within on.marked (on.of_slot ∙ same_slot _ s _ last is))
           last
 
 -- ---- a walk to an entry along its chain
 
 -- number k is of the slot of entry r and not before it; after the entry `after` it comes next, or it is the newest
-pub record IsWalked (marks befores heads : List ℕ) (r k : ℕ) (after : Option ℕ) : Type 0 where
+pub record IsWalked (marks befores : List ℕ) (table : List Slot) (r k : ℕ) (after : Option ℕ) : Type 0 where
   pub within : k ≤ length marks
   pub late : r < k
   pub marked : 0 < slice_index marks (k - 1)
-  pub of_slot : slot_of (length heads) (slice_index marks (k - 1)) ≡ slot_of (length heads) (slice_index marks r)
-  pub newest : IfNone after (slice_index heads (slot_of (length heads) (slice_index marks r)) ≡ k)
-  pub next : IfSome after (λ p. LeadsOn marks befores (length heads) r p k)
+  pub of_slot : slot_of (length table) (slice_index marks (k - 1)) ≡ slot_of (length table) (slice_index marks r)
+  pub newest : IfNone after ((slot_at table (slot_of (length table) (slice_index marks r))).head ≡ k)
+  pub next : IfSome after (λ p. LeadsOn marks befores (length table) r p k)
 
-module _ (marks befores heads tags : List ℕ) (was : AreChained marks befores heads tags) (r : ℕ) (within : r < length marks) (some : 0 < slice_index marks r) where
+module _ (marks befores : List ℕ) (table : List Slot) (was : AreChained marks befores table) (r : ℕ) (within : r < length marks) (some : 0 < slice_index marks r) where
   -- the last entry of the slot of r, of more than are before r
-  not_before : (n k : ℕ) → r < n → IsLast (length heads) marks n (slot_of (length heads) (slice_index marks r)) k → r < k
+  not_before : (n k : ℕ) → r < n → IsLast (length table) marks n (slot_of (length table) (slice_index marks r)) k → r < k
   not_before n k more last = elim (cases_lt r k) [ inl is ↦ is | inr low ↦ absurd (last.none_later r low more some refl) ]
 
   -- from the newest on
-  pub walk_begins : (k : ℕ) → slot_of (length heads) (slice_index marks r) < length heads → k ≡ slice_index heads (slot_of (length heads) (slice_index marks r)) → IsWalked marks befores heads r k None
+  pub walk_begins : (k : ℕ) → slot_of (length table) (slice_index marks r) < length table → k ≡ (slot_at table (slot_of (length table) (slice_index marks r))).head → IsWalked marks befores table r k None
   walk_begins k slot_within is =
-      let last = subst (λ (k : ℕ). IsLast (length heads) marks (length marks) (slot_of (length heads) (slice_index marks r)) k) (sym is) (was.head_is _ slot_within) in
+      let last = subst (λ (k : ℕ). IsLast (length table) marks (length marks) (slot_of (length table) (slice_index marks r)) k) (sym is) (was.head_is _ slot_within) in
       let late = not_before (length marks) k within last in
       record {
         within = last.within;
@@ -367,12 +391,12 @@ module _ (marks befores heads tags : List ℕ) (was : AreChained marks befores h
       }
 
   -- to the one before
-  pub walk_goes_on : (k b : ℕ) (after : Option ℕ) → IsWalked marks befores heads r k after → r + 1 < k → b ≡ slice_index befores (k - 1) → IsWalked marks befores heads r b (Some (k - 1))
+  pub walk_goes_on : (k b : ℕ) (after : Option ℕ) → IsWalked marks befores table r k after → r + 1 < k → b ≡ slice_index befores (k - 1) → IsWalked marks befores table r b (Some (k - 1))
   walk_goes_on k b after walked more is =
       let below : k - 1 < length marks = omega (arith, walked.within, more) in
-      let last : IsLast (length heads) marks (k - 1) (slot_of (length heads) (slice_index marks r)) b =
-      subst (λ (b : ℕ). IsLast (length heads) marks (k - 1) (slot_of (length heads) (slice_index marks r)) b) (sym is)
-      (subst (λ (s : ℕ). IsLast (length heads) marks (k - 1) s (slice_index befores (k - 1))) walked.of_slot (was.before_is (k - 1) below walked.marked)) in
+      let last : IsLast (length table) marks (k - 1) (slot_of (length table) (slice_index marks r)) b =
+      subst (λ (b : ℕ). IsLast (length table) marks (k - 1) (slot_of (length table) (slice_index marks r)) b) (sym is)
+      (subst (λ (s : ℕ). IsLast (length table) marks (k - 1) s (slice_index befores (k - 1))) walked.of_slot (was.before_is (k - 1) below walked.marked)) in
       let late = not_before (k - 1) b (omega (arith, more)) last in
       record {
         within = omega (arith, last.within, below);

@@ -1,2 +1,1 @@
-mod TagLemmas
 mod ChainLemmas

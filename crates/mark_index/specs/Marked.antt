@@ -1,6 +1,7 @@
--- The marks of a list's entries, oldest first, and the tables in which they are found.
-use Rattle.std.specs.Prelude.{◌≡◌, ◌≢◌, ℕ, ◌-◌, ◌^◌, ◌<◌, ◌≤◌, true, List, length, slice_index}
-use Rattle.mark_index.specs.Slots.{slot_of, tag_of, may_be}
+-- The marks of a list's entries, oldest first, and the table in which they are found.
+use Rattle.std.specs.Prelude.{◌≡◌, ◌≢◌, ℕ, ◌-◌, ◌^◌, ◌<◌, ◌≤◌, List, length, slice_index}
+use Rattle.mark_index.specs.declared.table.Slot.{Slot}
+use Rattle.mark_index.specs.Slots.{slot_of, slot_at, HasTag}
 
 -- the mark of each entry, and for how many more entries there is room. Marks are numbers from 1: 0 stands for an entry
 -- that has no mark, or none any more, and is never found
@@ -16,15 +17,14 @@ pub record IsLast (slots : ℕ) (marks : List ℕ) (n s k : ℕ) : Type 0 where
   pub of_slot : 0 < k → slot_of slots (slice_index marks (k - 1)) ≡ s
   pub none_later : (i : ℕ) → k ≤ i → i < n → 0 < slice_index marks i → slot_of slots (slice_index marks i) ≢ s
 
--- each entry with a mark has the number of the one before it in its slot, each slot that of its last entry, and each
--- mark is told by its tag. Of an entry without a mark nothing is said: no chain leads to it
-pub record AreChained (marks befores heads tags : List ℕ) : Type 0 where
+-- each entry with a mark has the number of the one before it in its slot, each slot that of its last entry and the tags
+-- of all. Of an entry without a mark nothing is said: no chain leads to it
+pub record AreChained (marks befores : List ℕ) (table : List Slot) : Type 0 where
   pub few : length marks < 2 ^ 32
   pub as_many : length befores ≡ length marks
-  pub slots : 0 < length heads
-  pub places : 0 < length tags
+  pub slots : 0 < length table
   pub before_is : (i : ℕ) → i < length marks → 0 < slice_index marks i
-      → IsLast (length heads) marks i (slot_of (length heads) (slice_index marks i)) (slice_index befores i)
-  pub head_is : (s : ℕ) → s < length heads → IsLast (length heads) marks (length marks) s (slice_index heads s)
+      → IsLast (length table) marks i (slot_of (length table) (slice_index marks i)) (slice_index befores i)
+  pub head_is : (s : ℕ) → s < length table → IsLast (length table) marks (length marks) s (slot_at table s).head
   pub tagged : (i : ℕ) → i < length marks → 0 < slice_index marks i
-      → may_be (slice_index tags (slot_of (length tags) (slice_index marks i))) (tag_of (slice_index marks i)) ≡ true
+      → HasTag (slot_at table (slot_of (length table) (slice_index marks i))).tags (slice_index marks i)

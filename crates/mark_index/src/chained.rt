@@ -2,9 +2,8 @@
 
 ghost use Rattle.std.specs.Prelude.{◌≡◌, ℕ, ◌+◌, ◌<◌, ◌≤◌, ◌∷◌, [], ◌++◌, length, true, false, IfOk, OnOk};
 ghost use Rattle.std.specs.Prelude.{IfSome, IfNone, slice_index, slice_set};
-ghost use Rattle.mark_index.specs.Slots.{tag_of};
 
-use crate::table::{joined, may_be, slot_of, tag_of};
+use crate::table::{Slot, has_tag, slot_of, with_tag};
 use item_list::NoMemory;
 use std::alloc::{AllocError, Global};
 use std::marker::Model;
@@ -19,10 +18,8 @@ pub struct MarkIndex {
     marks: Vec<u32>,
     // For each entry with a mark the number of the one before it in its slot, counted from 1; 0 where there is none.
     befores: Vec<u32>,
-    // The number of the newest entry of each slot; 0 where there is none.
-    heads: Vec<u32>,
-    // What stands for the marks that lead to a place of this table: 0 where none does. It is small, and asked first.
-    tags: Vec<u8>,
+    // The newest entry of each slot, and the tags of the marks that came to it.
+    slots: Vec<Slot>,
 }
 
 impl Model for MarkIndex {
@@ -37,8 +34,7 @@ impl Model for MarkIndex {
           (vec_capacity index.befores - vec_len index.befores));
     } };
 
-    ghost invariant = { λ index.
-        AreChained index.marks.items index.befores.items index.heads.items index.tags.items };
+    ghost invariant = { λ index. AreChained index.marks.items index.befores.items index.slots.items };
 }
 
 impl MarkIndex {
@@ -65,12 +61,10 @@ impl MarkIndex {
         if capacity > u32::MAX as usize {
             return Err(AllocError);
         }
-        let slots = capacity.next_power_of_two();
         Ok(MarkIndex {
             marks: Vec::with_capacity(alloc, capacity)?,
             befores: Vec::with_capacity(alloc, capacity)?,
-            heads: vec![in alloc; 0; slots]?,
-            tags: vec![in alloc; 0; 2 * slots]?,
+            slots: vec![in alloc; Slot { head: 0, tags: 0 }; capacity.next_power_of_two()]?,
         })
     }
 
@@ -83,6 +77,7 @@ impl MarkIndex {
     }
 
     // For how many more entries there is room.
+    #[inline]
     fn room(&self) -> usize
         ensures { result ≡ self.now.room }
     {
@@ -97,6 +92,7 @@ impl MarkIndex {
     /// # Errors
     ///
     /// Memory was refused, or they are 2^32 entries or more.
+    #[inline]
     pub fn reserve(&mut self, more: usize) -> Result<(), NoMemory>
         ensures marks { self.new.marks ≡ self.old.marks }
         ensures room { OnOk result (more ≤ self.new.room) }
@@ -105,6 +101,16 @@ impl MarkIndex {
         if more <= self.room() {
             return Ok(());
         }
+        self.grow(more)
+    }
+
+    // Makes the tables anew, with room for so many more entries: there is too little.
+    fn grow(&mut self, more: usize) -> Result<(), NoMemory>
+        requires { self.old.room < more }
+        ensures marks { self.new.marks ≡ self.old.marks }
+        ensures room { OnOk result (more ≤ self.new.room) }
+        ensures room_stays { self.old.room ≤ self.new.room }
+    {
         let least = self.len().saturating_add(more);
         let capacity = least
             .max(self.marks.capacity().saturating_mul(4))
@@ -142,12 +148,14 @@ impl MarkIndex {
         ensures marks { self.new.marks ≡ self.old.marks ++ mark ∷ [] }
         ensures room { self.new.room + 1 ≡ self.old.room }
     {
-        let slot = slot_of(mark, self.heads.len());
-        let place = slot_of(mark, self.tags.len());
-        self.tags[place] = joined(self.tags[place], tag_of(mark));
-        self.befores.push_reserved(self.heads[slot]);
+        let slot = slot_of(mark, self.slots.len());
+        let found = self.slots[slot];
+        self.befores.push_reserved(found.head);
         self.marks.push_reserved(mark);
-        self.heads[slot] = self.marks.len() as u32;
+        self.slots[slot] = Slot {
+            head: self.marks.len() as u32,
+            tags: with_tag(found.tags, mark),
+        };
     }
 
     /// One entry more that has no mark, so that no search comes to it. It takes no memory: there is room.
@@ -172,10 +180,10 @@ impl MarkIndex {
         if mark == 0 {
             return;
         }
-        let slot = slot_of(mark, self.heads.len());
+        let slot = slot_of(mark, self.slots.len());
         // The entry after it in its slot, which is to lead to the one before it; None where it is the newest.
         let mut after = None;
-        let mut number = self.heads[slot];
+        let mut number = self.slots[slot].head;
         while number as usize > place + 1 {
             let newer = (number - 1) as usize;
             after = Some(newer);
@@ -183,7 +191,7 @@ impl MarkIndex {
         }
         match after {
             Some(newer) => self.befores[newer] = self.befores[place],
-            None => self.heads[slot] = self.befores[place],
+            None => self.slots[slot].head = self.befores[place],
         }
         self.marks[place] = 0;
     }
@@ -199,7 +207,7 @@ impl MarkIndex {
         ensures none { IfNone result ((place : ℕ) → place < length self.now.marks
             → slice_index self.now.marks place ≡ mark → F.post is_it place false) }
     {
-        if may_be(self.tags[slot_of(mark, self.tags.len())], tag_of(mark)) {
+        if has_tag(self.slots[slot_of(mark, self.slots.len())].tags, mark) {
             self.find_in_chain(mark, is_it)
         } else {
             None
@@ -216,7 +224,7 @@ impl MarkIndex {
         ensures none { IfNone result ((place : ℕ) → place < length self.now.marks
             → slice_index self.now.marks place ≡ mark → F.post is_it place false) }
     {
-        let mut number = self.heads[slot_of(mark, self.heads.len())];
+        let mut number = self.slots[slot_of(mark, self.slots.len())].head;
         while number > 0 {
             let place = (number - 1) as usize;
             if self.marks[place] == mark && is_it(place) {

@@ -1,7 +1,18 @@
-//! Which marks are surely none of a list's.
+//! The table of the slots that marks lead to.
 
-ghost use Rattle.std.specs.Prelude.{◌≡◌, ◌<◌};
-ghost use Rattle.mark_index.specs.Slots.{slot_of, tag_of, joined, may_be};
+ghost use Rattle.std.specs.Prelude.{◌≡◌, ◌≢◌, ℕ, ◌<◌, ◌↔◌, IsTrue};
+ghost use Rattle.mark_index.specs.Slots.{slot_of, tag_of, HasTag};
+
+/// A slot of the table: the number of its newest entry, counted from 1, 0 where there is none; and a set of tags, with
+/// that of each mark that ever came to it. A mark's tag is one of 32, its topmost five bits.
+///
+/// A search asks the tags first, and then goes on from the head: they stand side by side, so that one miss of the
+/// cache brings both.
+#[derive(Clone, Copy, Debug)]
+pub(crate) struct Slot {
+    pub(crate) head: u32,
+    pub(crate) tags: u32,
+}
 
 /// The slot of a mark, of so many.
 #[inline(always)]
@@ -14,30 +25,20 @@ pub(crate) fn slot_of(mark: u32, slots: usize) -> usize
     mark as usize & (slots - 1)
 }
 
-/// What stands in a table of tags for the marks that are in it: 1 to 255.
+/// A set of tags with that of a mark.
 #[inline(always)]
-pub(crate) fn tag_of(mark: u32) -> u8
-    ensures { result ≡ tag_of mark }
+pub(crate) fn with_tag(tags: u32, mark: u32) -> u32
+    ensures own { HasTag result mark }
+    ensures others { (other : ℕ) → HasTag tags other → HasTag result other }
+    ensures no_more { (other : ℕ) → tag_of other ≢ tag_of mark → HasTag result other → HasTag tags other }
 {
-    ((mark >> 24) as u8).max(1)
+    tags | 1 << (mark >> 27)
 }
 
-/// A tag that stands for two: for one of them where they are the same, else for all.
+/// Whether a set of tags has that of a mark.
 #[inline(always)]
-pub(crate) fn joined(tag: u8, other: u8) -> u8
-    ensures { result ≡ joined tag other }
+pub(crate) fn has_tag(tags: u32, mark: u32) -> bool
+    ensures { IsTrue result ↔ HasTag tags mark }
 {
-    if tag == 0 || tag == other {
-        other
-    } else {
-        u8::MAX
-    }
-}
-
-/// Whether a tag stands for another one.
-#[inline(always)]
-pub(crate) fn may_be(tag: u8, other: u8) -> bool
-    ensures { result ≡ may_be tag other }
-{
-    tag == other || tag == u8::MAX
+    (tags >> (mark >> 27)) & 1 == 1
 }

@@ -7,9 +7,8 @@ pub invariant_of-self : goal.invariant_of-self
 invariant_of-self c =
     let marks = c.self.inside.marks.items in
     let befores = c.self.inside.befores.items in
-    let heads = c.self.inside.heads.items in
-    let tags = c.self.inside.tags.items in
+    let table = c.self.inside.slots.items in
     let few : length marks + 1 < 2 ^ 32 = omega (arith, ap (λ (m : Marked). m.room) c.self.view_is, c.requires) in
-    subst (λ (xs : List ℕ). AreChained xs c.push_reserved.new.self.items heads tags) (sym c.push_reserved-2.ensures.items)
-    (subst (λ (xs : List ℕ). AreChained (marks ++ 0 ∷ []) xs heads tags) (sym c.push_reserved.ensures.items)
-    (unmarked_chained marks befores heads tags c.self.invariant few))
+    subst (λ (xs : List ℕ). AreChained xs c.push_reserved.new.self.items table) (sym c.push_reserved-2.ensures.items)
+    (subst (λ (xs : List ℕ). AreChained (marks ++ 0 ∷ []) xs table) (sym c.push_reserved.ensures.items)
+    (unmarked_chained marks befores table c.self.invariant few))
