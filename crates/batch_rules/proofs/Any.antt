@@ -1,8 +1,9 @@
--- Tests over lists, and what is in a list.
-use Rattle.std.proofs.Common.{◌≡◌, ℕ, ◌<◌, ◌≤◌, Bool, true, false, ◌||◌, cond, List, [], ◌∷◌, refl, ap, sym, ◌∙◌, inl, inr, true≢false, lit≤, arith}
+-- Tests over lists, what is in a list, and the place of the first that passes a test.
+use Rattle.std.proofs.Common.{◌≡◌, ℕ, suc, ◌+◌, ◌<◌, ◌≤◌, Bool, true, false, not, ◌||◌, cond, List, [], ◌∷◌, ◌++◌, length, refl, ap, sym, ◌∙◌, inl, inr, true≢false, lit≤, arith}
 use Rattle.std.specs.Prelude.{◌⊎◌, count_by}
-use Rattle.std.specs.List.{list_any}
-use Rattle.std.proofs.lemmas.List.Sums.{sum_by-cons}
+use Rattle.std.specs.List.{list_any, position_or_len}
+use Rattle.std.proofs.lemmas.Bool.{cases_lt}
+use Rattle.std.proofs.lemmas.List.Sums.{sum_by-cons, prefix_len-le-length}
 
 module _ {A : Type 0} where
   -- an item is in a list
@@ -78,3 +79,42 @@ module _ {A : Type 0} where
       omega (arith, counts_no_more p q ys less, sum_by-cons (λ (z : A). cond (p z) 1 0) y ys, sum_by-cons (λ (z : A). cond (q z) 1 0) y ys)
   counts_fewer p q (y ∷ ys) x (inr there) fails pass less =
       omega (arith, one_no_more p q y (less y), counts_fewer p q ys x there fails pass less, sum_by-cons (λ (z : A). cond (p z) 1 0) y ys, sum_by-cons (λ (z : A). cond (q z) 1 0) y ys)
+
+  -- one more goes last
+  pub any_push : (p : A → Bool) (xs : List A) (x : A) → list_any p (xs ++ x ∷ []) ≡ p x || list_any p xs
+  any_push p [] x = refl
+  any_push p (y ∷ ys) x = ap (λ (b : Bool). p y || b) (any_push p ys x) ∙ turned (p y) (p x) (list_any p ys)
+    where
+      turned : (a b c : Bool) → a || (b || c) ≡ b || (a || c)
+      turned true true c = refl
+      turned true false c = refl
+      turned false b c = refl
+
+  -- ---- the place of the first that passes
+
+  pub any_placed : (p : A → Bool) (xs : List A) → position_or_len p xs < length xs → list_any p xs ≡ true
+  any_placed p [] within = absurd (omega (arith, within))
+  any_placed p (x ∷ xs) within = by (p x) within (any_placed p xs)
+    where
+      by : (b : Bool) → cond (not b) (1 + position_or_len p xs) 0 < suc (length xs) → (position_or_len p xs < length xs → list_any p xs ≡ true) → b || list_any p xs ≡ true
+      by true within rest = refl
+      by false within rest = rest (omega (arith, within))
+
+  pub placed_any : (p : A → Bool) (xs : List A) → list_any p xs ≡ true → position_or_len p xs < length xs
+  placed_any p [] found = absurd (true≢false (sym found))
+  placed_any p (x ∷ xs) found = by (p x) found (placed_any p xs)
+    where
+      by : (b : Bool) → b || list_any p xs ≡ true → (list_any p xs ≡ true → position_or_len p xs < length xs) → cond (not b) (1 + position_or_len p xs) 0 < suc (length xs)
+      by true found rest = omega arith
+      by false found rest = omega (arith, rest found)
+
+  -- no place is past the end
+  pub longest : (p : A → Bool) (xs : List A) → position_or_len p xs ≤ length xs
+  longest p xs = prefix_len-le-length (λ (x : A). not (p x)) xs
+
+  -- where none passes, it is the end
+  pub none_placed : (p : A → Bool) (xs : List A) → list_any p xs ≡ false → position_or_len p xs ≡ length xs
+  none_placed p xs none = elim (cases_lt (position_or_len p xs) (length xs)) [
+    | inl low ↦ absurd (true≢false (sym (any_placed p xs low) ∙ none))
+    | inr high ↦ omega (arith, high, longest p xs)
+  ]

@@ -1,5 +1,5 @@
 -- The groups in the order of their firsts, by their keys; and rulings by them.
-use Rattle.std.proofs.Common.{◌≡◌, ℕ, suc, ◌+◌, length, Bool, true, false, not, ◌||◌, cond, List, [], ◌∷◌, ◌++◌, map, Option, Some, None, Result, Ok, Err, refl, ap, sym, ◌∙◌, true≢false, append_assoc, arith}
+use Rattle.std.proofs.Common.{◌≡◌, ℕ, ◌+◌, ◌<◌, length, Bool, true, false, not, ◌||◌, cond, List, [], ◌∷◌, ◌++◌, map, Option, Some, None, Result, Ok, Err, refl, ap, sym, ◌∙◌, true≢false, append_assoc, arith}
 use Rattle.std.specs.Prelude.{position, unwrap_or, is_none, nat_lt}
 use Rattle.std.specs.List.{list_any, position_or_len}
 use Rattle.std.proofs.lemmas.Bool.Decides.{nat_tests}
@@ -16,19 +16,11 @@ use Rattle.batch_rules.specs.declared.groups.Summary.{Summary}
 use Rattle.batch_rules.specs.KeyTests.{same_key}
 use Rattle.batch_rules.specs.Groups.{group_key, fault_by, reading_by, accepted_by}
 use Rattle.batch_rules.specs.Numbers.{keys_after, number_by, ruling_by}
+use Rattle.batch_rules.proofs.Any.{any_push, placed_any}
 use Rattle.batch_rules.proofs.KeyLemmas.{same_keys}
 use Rattle.batch_rules.proofs.Lists.{filter_same}
 
 -- ---- keys of groups, each once
-
-any_push : {A : Type 0} (p : A → Bool) (xs : List A) (x : A) → list_any p (xs ++ x ∷ []) ≡ p x || list_any p xs
-any_push p [] x = refl
-any_push p (y ∷ ys) x = ap (λ (b : Bool). p y || b) (any_push p ys x) ∙ turned (p y) (p x) (list_any p ys)
-  where
-    turned : (a b c : Bool) → a || (b || c) ≡ b || (a || c)
-    turned true true c = refl
-    turned true false c = refl
-    turned false b c = refl
 
 -- the keys of firsts among further lines go after those that were seen
 keys_first : (seen xs : List Sighting) (keys : List GroupKey) → ((x : Sighting) → list_any (same_key (group_key x)) keys ≡ list_any (same_group x) seen)
@@ -102,19 +94,9 @@ module _ (k : GroupKey) where
 
   place_found : (place : ℕ) (keys : List GroupKey) → StandsAt place keys → place ≡ unwrap_or (position (same_key k) keys) 0
   place_found place keys stands =
-      sym stands.1 ∙ sym (ap (λ (b : Bool). unwrap_or (cond b (Some (position_or_len (same_key k) keys)) None) 0) (within keys stands.0))
-    where
-      up : (a b : ℕ) → nat_lt a b ≡ true → nat_lt (1 + a) (suc b) ≡ true
-      up a b low = grind (arith, nat_tests)
-
-      within : (keys : List GroupKey) → list_any (same_key k) keys ≡ true → nat_lt (position_or_len (same_key k) keys) (length keys) ≡ true
-      within [] found = absurd (true≢false (sym found))
-      within (y ∷ ys) found = by (same_key k y) found (within ys)
-        where
-          by : (b : Bool) → b || list_any (same_key k) ys ≡ true → (list_any (same_key k) ys ≡ true → nat_lt (position_or_len (same_key k) ys) (length ys) ≡ true)
-              → nat_lt (cond (not b) (1 + position_or_len (same_key k) ys) 0) (suc (length ys)) ≡ true
-          by true is rest = grind (arith, nat_tests)
-          by false is rest = up (position_or_len (same_key k) ys) (length ys) (rest is)
+      let low : position_or_len (same_key k) keys < length keys = placed_any (same_key k) keys stands.0 in
+      let there : nat_lt (position_or_len (same_key k) keys) (length keys) ≡ true = grind (arith, nat_tests) in
+      sym stands.1 ∙ sym (ap (λ (b : Bool). unwrap_or (cond b (Some (position_or_len (same_key k) keys)) None) 0) there)
 
 -- ---- one more line
 

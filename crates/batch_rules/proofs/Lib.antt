@@ -14,5 +14,6 @@ mod PointLemmas
 mod SortedLemmas
 mod ToldLemmas
 mod NumberedLemmas
+mod Marked
 mod Standing
 mod Beside

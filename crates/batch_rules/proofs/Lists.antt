@@ -92,11 +92,3 @@ any_fast_moved p xs ys moved =
 abbrev pub IsDescending : List Sighting → Type 0
 IsDescending [] = Unit {0}
 IsDescending (s ∷ earlier) = Each (λ e. int_lt e.time s.time ≡ true) earlier × IsDescending earlier
-
-pub descending_filter : (p : Sighting → Bool) (xs : List Sighting) → IsDescending xs → IsDescending (filter p xs)
-descending_filter p [] falls = tt
-descending_filter p (x ∷ xs) falls = by (p x) (descending_filter p xs falls.1)
-  where
-    by : (b : Bool) → IsDescending (filter p xs) → IsDescending (cond b (x ∷ filter p xs) (filter p xs))
-    by true rest = (each_filter (λ e. int_lt e.time x.time ≡ true) p xs falls.0, rest)
-    by false rest = rest

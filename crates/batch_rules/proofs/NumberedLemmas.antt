@@ -1,5 +1,5 @@
 -- Groups that get numbers, and the keys of groups that lines bring one after another.
-use Rattle.std.proofs.Common.{◌≡◌, ℕ, zero, suc, slice_get, ◌+◌, ◌<◌, ◌≤◌, Bool, true, false, cond, List, [], ◌∷◌, ◌++◌, length, get_or, set, map, drop, Option, Some, None, Result, Ok, Err, refl, ap, sym, subst, ◌∙◌, inl, inr, true≢false, arith}
+use Rattle.std.proofs.Common.{◌≡◌, ℕ, zero, suc, slice_get, ◌+◌, ◌<◌, Bool, true, false, cond, List, [], ◌∷◌, ◌++◌, length, get_or, set, map, drop, Option, Some, None, Result, Ok, Err, refl, ap, sym, subst, ◌∙◌, inl, inr, true≢false, arith}
 use Rattle.std.specs.Prelude.{◌==◌, nat_lt, is_none, position}
 use Rattle.std.specs.Result.{result_ok}
 use Rattle.std.specs.List.{list_any, position_or_len}
@@ -18,14 +18,14 @@ use Rattle.act_model.specs.BatchRules.{same_group, passed_in}
 use Rattle.batch_rules.specs.declared.keys.GroupKey.{GroupKey}
 use Rattle.batch_rules.specs.declared.groups.Summary.{Summary}
 use Rattle.batch_rules.specs.declared.points.Point.{Point}
-use Rattle.batch_rules.specs.declared.numbering.Numbering.{Numbering}
 use Rattle.batch_rules.specs.KeyTests.{same_key}
 use Rattle.batch_rules.specs.Groups.{group_key, fault_by, accepted_by}
 use Rattle.batch_rules.specs.Points.{KeptGroups, place_of, point_of}
 use Rattle.batch_rules.specs.Numbers.{keys_after}
-use Rattle.batch_rules.specs.Numbered.{IsNumbered, IsNext, points_in}
+use Rattle.batch_rules.specs.Numbered.{KeptNumbers, IsNumbered, IsNext, points_in}
+use Rattle.batch_rules.proofs.Any.{any_placed, placed_any, longest, none_placed}
 use Rattle.batch_rules.proofs.KeyLemmas.{same_keys}
-use Rattle.batch_rules.proofs.PointLemmas.{AreWithin, any_placed, placed_any, longest, one_place, place_of_one}
+use Rattle.batch_rules.proofs.PointLemmas.{AreWithin, one_place, place_of_one}
 
 -- ---- what the place of a key tells
 
@@ -74,11 +74,7 @@ module _ (p : GroupKey → Bool) where
   -- the first that passes goes last
   place_last : (keys : List GroupKey) (key : GroupKey) → list_any p keys ≡ false → p key ≡ true → position p (keys ++ key ∷ []) ≡ Some (length keys)
   place_last keys key none passes =
-      let past : length keys ≤ position_or_len p keys = elim (cases_lt (position_or_len p keys) (length keys)) [
-        | inl low ↦ absurd (true≢false (sym (any_placed p keys low) ∙ none))
-        | inr high ↦ high
-      ] in
-      let at_end : position_or_len p keys ≡ length keys = omega (arith, past, longest p keys) in
+      let at_end : position_or_len p keys ≡ length keys = none_placed p keys none in
       let place : position_or_len p (keys ++ key ∷ []) ≡ length keys + 0 =
       position_or_len_push p keys key ∙ ap (λ (b : Bool). cond b (length keys + cond (p key) 0 1) (position_or_len p keys)) (eq-eqb (position_or_len p keys) (length keys) at_end)
       ∙ ap (λ (b : Bool). length keys + cond b 0 1) passes in
@@ -88,47 +84,42 @@ module _ (p : GroupKey → Bool) where
 
 -- ---- one more group gets a number
 
-module _ (keys firsts : List GroupKey) (was : Numbering) (numbered : IsNumbered keys firsts was) (s : Sighting) (there : place_of keys s < length keys) where
+module _ (keys firsts : List GroupKey) (was : KeptNumbers) (numbered : IsNumbered keys firsts was) (s : Sighting) (there : place_of keys s < length keys) where
   -- it has one
-  pub known_number : (n : ℕ) → get_or was.numbers.items (place_of keys s) None ≡ Some n → n ≡ position_or_len (same_key (group_key s)) firsts
+  pub known_number : (n : ℕ) → get_or was.numbers (place_of keys s) None ≡ Some n → n ≡ position_or_len (same_key (group_key s)) firsts
   known_number n is = (placed_some (same_key (group_key s)) firsts n (sym (numbered.at s there) ∙ is)).0
 
-  pub still_numbered : (n : ℕ) → get_or was.numbers.items (place_of keys s) None ≡ Some n → IsNumbered keys (insert_key same_key firsts (group_key s)) was
+  pub still_numbered : (n : ℕ) → get_or was.numbers (place_of keys s) None ≡ Some n → IsNumbered keys (insert_key same_key firsts (group_key s)) was
   still_numbered n is =
       subst (λ (b : Bool). IsNumbered keys (cond b firsts (firsts ++ group_key s ∷ [])) was) (sym (placed_some (same_key (group_key s)) firsts n (sym (numbered.at s there) ∙ is)).1) numbered
 
   -- it had none
-  module _ (none : get_or was.numbers.items (place_of keys s) None ≡ None) where
+  module _ (none : get_or was.numbers (place_of keys s) None ≡ None) where
     new_one : list_any (same_key (group_key s)) firsts ≡ false
     new_one = placed_none (same_key (group_key s)) firsts (sym (numbered.at s there) ∙ none)
 
     pub new_number : was.count ≡ position_or_len (same_key (group_key s)) firsts
-    new_number =
-        let past : length firsts ≤ position_or_len (same_key (group_key s)) firsts = elim (cases_lt (position_or_len (same_key (group_key s)) firsts) (length firsts)) [
-          | inl low ↦ absurd (true≢false (sym (any_placed (same_key (group_key s)) firsts low) ∙ new_one))
-          | inr high ↦ high
-        ] in
-        omega (arith, numbered.count, past, longest (same_key (group_key s)) firsts)
+    new_number = numbered.count ∙ sym (none_placed (same_key (group_key s)) firsts new_one)
 
-    pub newly_numbered : (now : Numbering) → now.numbers.items ≡ set was.numbers.items (place_of keys s) (Some was.count) → now.count ≡ was.count + 1 → IsNumbered keys (insert_key same_key firsts (group_key s)) now
+    pub newly_numbered : (now : KeptNumbers) → now.numbers ≡ set was.numbers (place_of keys s) (Some was.count) → now.count ≡ was.count + 1 → IsNumbered keys (insert_key same_key firsts (group_key s)) now
     newly_numbered now numbers count =
         subst (λ (b : Bool). IsNumbered keys (cond b firsts (firsts ++ group_key s ∷ [])) now) (sym new_one) (record {
-          many = ap (λ (os : List (Option ℕ)). length os) numbers ∙ length-set was.numbers.items (place_of keys s) (Some was.count) ∙ numbered.many;
+          many = ap (λ (os : List (Option ℕ)). length os) numbers ∙ length-set was.numbers (place_of keys s) (Some was.count) ∙ numbered.many;
           count = omega (arith, count, numbered.count, length-append firsts (group_key s ∷ []));
           at = λ x within. ap (λ (os : List (Option ℕ)). get_or os (place_of keys x) None) numbers ∙ at x within;
         })
       where
-        at : (x : Sighting) → place_of keys x < length keys → get_or (set was.numbers.items (place_of keys s) (Some was.count)) (place_of keys x) None ≡ position (same_key (group_key x)) (firsts ++ group_key s ∷ [])
+        at : (x : Sighting) → place_of keys x < length keys → get_or (set was.numbers (place_of keys s) (Some was.count)) (place_of keys x) None ≡ position (same_key (group_key x)) (firsts ++ group_key s ∷ [])
         at x within = elim (cases_eq (place_of keys x) (place_of keys s)) [
           | inl same ↦ (
               let one : same_group x s ≡ true = one_place keys s x within (sym same) in
               let passes : same_key (group_key x) (group_key s) ≡ true = same_keys x s ∙ one in
-              let none_yet : list_any (same_key (group_key x)) firsts ≡ false = placed_none (same_key (group_key x)) firsts (sym (numbered.at x within) ∙ ap (λ (n : ℕ). get_or was.numbers.items n None) same ∙ none) in
-              ap (λ (n : ℕ). get_or (set was.numbers.items (place_of keys s) (Some was.count)) n None) same
-              ∙ get_or-set_same was.numbers.items (place_of keys s) (Some was.count) None (omega (arith, there, numbered.many))
+              let none_yet : list_any (same_key (group_key x)) firsts ≡ false = placed_none (same_key (group_key x)) firsts (sym (numbered.at x within) ∙ ap (λ (n : ℕ). get_or was.numbers n None) same ∙ none) in
+              ap (λ (n : ℕ). get_or (set was.numbers (place_of keys s) (Some was.count)) n None) same
+              ∙ get_or-set_same was.numbers (place_of keys s) (Some was.count) None (omega (arith, there, numbered.many))
               ∙ ap (λ (n : ℕ). Some n) numbered.count ∙ sym (place_last (same_key (group_key x)) firsts (group_key s) none_yet passes))
           | inr differs ↦ (
-              get_or-set_other was.numbers.items (place_of keys s) (place_of keys x) (Some was.count) None differs ∙ numbered.at x within
+              get_or-set_other was.numbers (place_of keys s) (place_of keys x) (Some was.count) None differs ∙ numbered.at x within
               ∙ sym (place_stays (same_key (group_key x)) firsts (group_key s) (apart differs (same_key (group_key x) (group_key s)) refl)))
         ]
           where

@@ -1,28 +1,46 @@
--- A key that stands at a place among distinct keys is first found there.
-use Rattle.std.proofs.Common.{◌≡◌, ℕ, zero, suc, ◌+◌, Bool, true, false, not, ◌||◌, cond, List, [], ◌∷◌, slice_get, Some, ap, sym, subst, ◌∙◌, arith}
-use Rattle.std.specs.List.{list_any, position_or_len, IsDistinct, AllByRecursion}
+-- Distinct keys of groups: one of them that is the same as a key is the first that is, and a key that is found by its
+-- mark nowhere is none of them.
+use Rattle.std.proofs.Common.{◌≡◌, ℕ, ◌<◌, true, false, List, length, get_or, map, ap, sym, ◌∙◌, rules, arith}
+use Rattle.std.specs.Prelude.{◌/◌, ◌^◌, max, slice_index}
+use Rattle.std.specs.Cmp.Rules.{hashing}
+use Rattle.std.specs.List.{list_any, IsDistinct}
+use Rattle.std.proofs.lemmas.List.Folds.{list_any_at}
+use Rattle.std.proofs.lemmas.List.Sums.{position_or_len_is}
+use Rattle.std.proofs.lemmas.Map.Keys.{apart_from_distinct}
+use Rattle.place_keys.specs.Marks.{mixed}
 use Rattle.batch_rules.specs.contracts.keys.GroupKeyEq.TheImpl.Laws.{laws-law}
 use Rattle.batch_rules.specs.declared.keys.GroupKey.{GroupKey}
 use Rattle.batch_rules.specs.KeyTests.{same_key}
+use Rattle.batch_rules.specs.Marks.{group_mark, key_mark}
 use Rattle.batch_rules.specs.Numbers.{StandsIn}
+use Rattle.batch_rules.proofs.Marked.{none_with_mark}
 
-all_at : (P : GroupKey → Type 0) (keys : List GroupKey) (place : ℕ) (own : GroupKey) → AllByRecursion P keys → slice_get keys place ≡ Some own → P own
-all_at P [] place own all at = absurd (cc)
-all_at P (x ∷ xs) zero own all at =
-    let same : x ≡ own = cc in
-    subst P same all.0
-all_at P (x ∷ xs) (suc place) own all at = all_at P xs place own all.1 at
+pub stands_at : (keys : List GroupKey) (place : ℕ) (key : GroupKey) → IsDistinct same_key keys → place < length keys → same_key (get_or keys place key) key ≡ true → StandsIn key place keys
+stands_at keys place key distinct within same = (
+  list_any_at (same_key key) keys place key within here,
+  sym (position_or_len_is (same_key key) keys place key (omega (arith, within)) before (λ low. here)),
+)
+  where
+    own : GroupKey
+    own = get_or keys place key
 
-pub stands_at : (keys : List GroupKey) (place : ℕ) (own key : GroupKey) → IsDistinct same_key keys → slice_get keys place ≡ Some own → same_key own key ≡ true → StandsIn key place keys
-unfolding IsDistinct
-stands_at [] place own key distinct at same = absurd (cc)
-stands_at (x ∷ xs) zero own key distinct at same =
-    let is : x ≡ own = cc in
-    let found : same_key key x ≡ true = ap (same_key key) is ∙ laws-law.symm key own ∙ same in
-    (ap (λ (b : Bool). b || list_any (same_key key) xs) found, sym (ap (λ (b : Bool). cond (not b) (1 + position_or_len (same_key key) xs) 0) found))
-stands_at (x ∷ xs) (suc place) own key distinct at same =
-    let rest = stands_at xs place own key distinct.1 at same in
-    let apart : same_key x own ≡ false = all_at (λ y. same_key x y ≡ false) xs place own distinct.0 at in
-    let other : same_key key x ≡ false = sym (laws-law.congr own key x same) ∙ laws-law.symm own x ∙ apart in
-    let next : suc place ≡ 1 + position_or_len (same_key key) xs = omega (arith, rest.1) in
-    (ap (λ (b : Bool). b || list_any (same_key key) xs) other ∙ rest.0, next ∙ sym (ap (λ (b : Bool). cond (not b) (1 + position_or_len (same_key key) xs) 0) other))
+    here : same_key key own ≡ true
+    here = laws-law.symm key own ∙ same
+
+    before : (k : ℕ) → k < place → same_key key (get_or keys k key) ≡ false
+    before k less =
+        laws-law.congr key own (get_or keys k key) here ∙ laws-law.symm own (get_or keys k key)
+        ∙ apart_from_distinct same_key keys k place key distinct less within
+
+same_mark : (one other : GroupKey) → same_key one other ≡ true → key_mark one ≡ key_mark other
+same_mark one other same = ap (λ (n : ℕ). max (mixed 0 n / 2 ^ 32) 1) group
+  where
+    group : group_mark one ≡ group_mark other
+    group = search (hashing, rules)
+
+pub none_marked : (keys : List GroupKey) (key : GroupKey) (marks : List ℕ) → marks ≡ map key_mark keys
+    → ((place : ℕ) → place < length keys → slice_index marks place ≡ key_mark key → (d : GroupKey) → same_key (get_or keys place d) key ≡ false)
+    → list_any (same_key key) keys ≡ false
+none_marked keys key marks are none =
+    none_with_mark (same_key key) key_mark (key_mark key) keys marks are (λ own same. sym (same_mark key own same))
+    (λ place within marked d. laws-law.symm key (get_or keys place d) ∙ none place within marked d)

@@ -1,6 +1,7 @@
 -- What is found of the earlier lines of a batch, and lines that were checked beside them.
 use Rattle.std.specs.Prelude.{◌≡◌, ℤ, List, map, Result, Ok, Err}
 use Rattle.std.specs.Borrow.{Bor}
+use Rattle.std.specs.List.{list_any}
 use Rattle.std.specs.Ordering.{int_eq}
 use Rattle.indexmap.specs.IndexSet.{contains}
 use Rattle.obs_record.specs.declared.sighting.Sighting.{Sighting}
@@ -9,7 +10,6 @@ use Rattle.obs_record.specs.declared.line.Line.{Line}
 use Rattle.place_keys.specs.Places.{place_key, same_place}
 use Rattle.batch_rules.specs.declared.checking.Checked.{Checked}
 use Rattle.batch_rules.specs.declared.index.Index.{Index}
-use Rattle.batch_rules.specs.declared.times.Times.{Times}
 use Rattle.batch_rules.specs.Places.{moment_key}
 use Rattle.batch_rules.specs.PlaceTests.{same_moment, has_place, has_moment, has_time}
 
@@ -22,9 +22,9 @@ pub record Finds (index : Index) (earlier : List Sighting) : Type 0 where
   pub place : (s : Sighting) → contains same_place index.places (place_key s) ≡ has_place earlier s
   pub moment : (s : Sighting) → contains same_moment index.moments (moment_key s) ≡ has_moment earlier s
 
--- a set has the times of these observations, and no others
-pub record HasTimes (times : Times) (earlier : List Sighting) : Type 0 where
-  pub at : (time : ℤ) → contains int_eq times.set time ≡ has_time earlier time
+-- these are the times of the observations, and no others
+pub record HasTimes (times : List ℤ) (earlier : List Sighting) : Type 0 where
+  pub at : (time : ℤ) → list_any (λ own. int_eq own time) times ≡ has_time earlier time
 
 -- what a line comes to once it is checked, without the reference
 abbrev pub reading_of : Result (Bor Sighting) RuleCode → Result Sighting RuleCode

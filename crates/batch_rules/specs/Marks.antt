@@ -1,5 +1,6 @@
--- Numbers that are hashed in the place of keys.
-use Rattle.std.specs.Prelude.{ℕ}
+-- Numbers that times and keys make, by which they are looked for.
+use Rattle.std.specs.Prelude.{ℕ, ℤ, ◌/◌, ◌^◌, max}
+use Rattle.std.specs.Int.{w64, cast_unsigned}
 use Rattle.place_keys.specs.Marks.{mixed, text_mark}
 use Rattle.batch_rules.specs.declared.keys.NameKey.{NameKey}
 use Rattle.batch_rules.specs.declared.keys.NameKey.TheVariants as keys
@@ -13,3 +14,11 @@ name_mark (keys.Sub len text) = text_mark text.bytes
 
 abbrev pub group_mark : GroupKey → ℕ
 group_mark key = mixed (text_mark key.bytes.bytes) (name_mark key.name)
+
+-- a number from 1 that a group makes
+abbrev pub key_mark : GroupKey → ℕ
+key_mark key = max (mixed 0 (group_mark key) / 2 ^ 32) 1
+
+-- a number from 1 that a time makes
+abbrev pub time_mark : ℤ → ℕ
+time_mark time = max (mixed 0 (cast_unsigned w64 time) / 2 ^ 32) 1

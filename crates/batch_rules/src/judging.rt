@@ -34,7 +34,7 @@ fn ruled(
     s: &Sighting,
 ) -> Result<(Option<RuleCode>, u32), NoMemory>
     requires next { IsNext groups.now place (Ok s.now) }
-    requires many { length numbering.old.numbers.items ≡ length groups.now.keys }
+    requires many { length numbering.old.numbers ≡ length groups.now.keys }
     ensures small { IfOk result (λ ruled. place < 2 ^ 63) }
     ensures fault { IfOk result (λ ruled. ruled.0 ≡ fault_by (found_at groups.now (group_key s.now)) s.now) }
     ensures number { IfOk result (λ ruled. (firsts : List Key) → IsNumbered groups.now.keys firsts numbering.old →
@@ -58,7 +58,7 @@ fn ruling(
     line: &Checked,
 ) -> Result<Ruling, NoMemory>
     requires next { IsNext groups.now next.old (reading_of line.now.read) }
-    requires many { length numbering.old.numbers.items ≡ length groups.now.keys }
+    requires many { length numbering.old.numbers ≡ length groups.now.keys }
     ensures numbered { OnOk result ((firsts : List Key) → IsNumbered groups.now.keys firsts numbering.old →
         IsNumbered groups.now.keys (keys_after (found_at groups.now) firsts (line_of line.now ∷ [])) numbering.new) }
     ensures ruling { IfOk result (λ ruling. (firsts : List Key) → IsNumbered groups.now.keys firsts numbering.old →

@@ -1,18 +1,14 @@
 //! Keys of groups: what tells the names and the stations of observations apart.
 
 ghost use Rattle.std.specs.Prelude.{◌≡◌};
-ghost use Rattle.std.proofs.Common.{rules};
-ghost use Rattle.std.specs.Hash as fed;
-ghost use Rattle.std.specs.Cmp.Rules.{hashing};
 ghost use Rattle.packed_names.specs.Order.{survey_place};
 ghost use Rattle.batch_rules.specs.Groups.{name_key, group_key};
-ghost use Rattle.batch_rules.specs.Marks.{name_mark, group_mark};
+ghost use Rattle.batch_rules.specs.Marks.{name_mark, group_mark, key_mark};
 
 use crate::names::track_name;
 use obs_record::{Sighting, TrackName};
 use packed_names::{Designation, Survey};
 use place_keys::{Text, mixed, text_mark};
-use std::hash::{Hash, Hasher};
 
 /// What tells the names of observations apart.
 #[derive(Clone, Copy, PartialEq, Eq)]
@@ -48,21 +44,19 @@ fn name_mark(name: &NameKey) -> u64
     }
 }
 
-/// A number that a group makes, by which it is hashed.
+/// A number that a group makes.
 pub(crate) fn group_mark(key: &GroupKey) -> u64
     ensures { result ≡ group_mark key.now }
 {
     mixed(text_mark(&key.bytes), name_mark(&key.name))
 }
 
-impl Hash for GroupKey {
-    ghost hash_input = { λ key. fed.u64 (group_mark key) };
-
-    ghost respects_eq = { Prim.search (hashing, rules) };
-
-    fn hash<H: Hasher>(&self, state: &mut H) {
-        state.write_u64(group_mark(self));
-    }
+/// A number from 1 that a group makes, by which it is looked for. Of two groups that differ in the station alone other
+/// numbers have other low bits, and the same high ones: they are mixed once more, so that the high ones differ too.
+pub(crate) fn key_mark(key: &GroupKey) -> u32
+    ensures { result ≡ key_mark key.now }
+{
+    ((mixed(0, group_mark(key)) >> 32) as u32).max(1)
 }
 
 fn survey_place(survey: Survey) -> u8

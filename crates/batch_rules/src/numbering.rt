@@ -12,12 +12,21 @@ ghost use Rattle.batch_rules.specs.Numbered.{IsNumbered};
 
 use item_list::NoMemory;
 use std::alloc::{AllocError, Global};
+use std::marker::Model;
 
 /// The number of each group that has one, and how many have one.
 #[derive(Drop)]
 pub(crate) struct Numbering {
     numbers: Vec<Option<u32>>,
     count: u32,
+}
+
+impl Model for Numbering {
+    ghost use Rattle.batch_rules.specs.Numbered.{KeptNumbers};
+
+    ghost Value = { KeptNumbers };
+
+    ghost view = { λ n. record { numbers = n.numbers.items; count = n.count } };
 }
 
 impl Numbering {
@@ -41,14 +50,14 @@ impl Numbering {
     ///
     /// There are more groups than a number has. It counts as out of memory: no memory holds so many.
     pub(crate) fn number(&mut self, group: usize) -> Result<u32, NoMemory>
-        requires { group < length self.old.numbers.items }
+        requires { group < length self.old.numbers }
         ensures number { IfOk result (λ number. (keys firsts : List Key) (s : Sighting) →
             IsNumbered keys firsts self.old → place_of keys s < length keys → group ≡ place_of keys s →
             number ≡ position_or_len (same_key (group_key s)) firsts) }
         ensures numbered { OnOk result ((keys firsts : List Key) (s : Sighting) →
             IsNumbered keys firsts self.old → place_of keys s < length keys → group ≡ place_of keys s →
             IsNumbered keys (insert_key same_key firsts (group_key s)) self.new) }
-        ensures many { length self.new.numbers.items ≡ length self.old.numbers.items }
+        ensures many { length self.new.numbers ≡ length self.old.numbers }
     {
         if let Some(number) = self.numbers[group] {
             return Ok(number);

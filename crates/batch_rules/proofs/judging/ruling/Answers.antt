@@ -3,13 +3,12 @@ use Rattle.std.specs.Prelude.{is_none}
 use Rattle.indexmap.specs.IndexSet.{insert_key}
 use Rattle.obs_record.specs.declared.rule.RuleCode.{RuleCode}
 use Rattle.batch_rules.specs.declared.keys.GroupKey.{GroupKey}
-use Rattle.batch_rules.specs.declared.numbering.Numbering.{Numbering}
 use Rattle.batch_rules.specs.KeyTests.{same_key}
 use Rattle.batch_rules.specs.Earlier.{reading_of, line_of}
 use Rattle.batch_rules.specs.Groups.{group_key}
 use Rattle.batch_rules.specs.Points.{found_at}
 use Rattle.batch_rules.specs.Numbers.{keys_after, ruling_by}
-use Rattle.batch_rules.specs.Numbered.{IsNumbered}
+use Rattle.batch_rules.specs.Numbered.{KeptNumbers, IsNumbered}
 use Rattle.batch_rules.proofs.Firsts.{ruling, ruling_more, ruling_still}
 use Rattle.batch_rules.proofs.NumberedLemmas.{keys_append, keys_one, keys_none}
 use Rattle.batch_rules.proofs.judging.ruling.Goals as goal
@@ -21,10 +20,10 @@ returns-clause-numbered c firsts numbered =
     let found = found_at c.args.groups.now in
     let line = line_of c.args.line.now in
     elim c.match-line.branch [
-      | in-Ok+in_ok-ruled-in-Ok w ↦ subst (λ (n : Numbering). IsNumbered keys (keys_after found firsts (line ∷ [])) n) (sym w.numbering-is)
+      | in-Ok+in_ok-ruled-in-Ok w ↦ subst (λ (n : KeptNumbers). IsNumbered keys (keys_after found firsts (line ∷ [])) n) (sym w.numbering-is)
           (subst (λ (ks : List GroupKey). IsNumbered keys ks w.ruled.new.numbering) (sym (keys_one found firsts line w.in-Ok.s.now w.in_ok-ruled-in-Ok.ruled.0 (ap reading_of w.in-Ok.is) w.in_ok-ruled-in-Ok.ensures.fault))
           (w.in_ok-ruled-in-Ok.ensures.numbered firsts numbered))
-      | in-Err w ↦ subst (λ (n : Numbering). IsNumbered keys (keys_after found firsts (line ∷ [])) n) (sym w.numbering-is)
+      | in-Err w ↦ subst (λ (n : KeptNumbers). IsNumbered keys (keys_after found firsts (line ∷ [])) n) (sym w.numbering-is)
           (subst (λ (ks : List GroupKey). IsNumbered keys ks c.args.numbering.now) (sym (keys_none found firsts line w.in-Err.rule (ap reading_of w.in-Err.is))) numbered)
     ]
 
