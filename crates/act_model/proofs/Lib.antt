@@ -10,6 +10,7 @@ mod DiskFaults
 mod Acknowledged
 mod RowLemmas
 mod DeedCases
+mod TakenWith
 mod Years
 mod Given
 mod Halves

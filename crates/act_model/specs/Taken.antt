@@ -12,6 +12,7 @@ use Rattle.obs_record.specs.declared.sighting.Sighting.{Sighting}
 use Rattle.act_model.specs.declared.reply.Fault.{Fault}
 use Rattle.act_model.specs.declared.ruling.Ruling.{Ruling}
 use Rattle.act_model.specs.declared.taken.Placed.{Placed}
+use Rattle.act_model.specs.declared.taken.Placing.{Placing}
 use Rattle.act_model.specs.declared.taken.Taken.{Taken}
 use Rattle.act_model.specs.BatchRules.{name_of}
 use Rattle.act_model.specs.Known.{KnownOffice}
@@ -47,6 +48,21 @@ taken_line known before now line ruling =
     }
 
 -- ---- a batch
+
+-- a line that was read so, with what was found of it: where its observation is filed, or the rule that it breaks
+abbrev pub placed_by : Result Sighting RuleCode → Result Placing RuleCode → Result Placed RuleCode
+placed_by read (Err rule) = Err rule
+placed_by (Err rule) (Ok placing) = Err rule
+placed_by (Ok s) (Ok placing) = Ok (record { sighting = s; track = placing.track; home = placing.home })
+
+abbrev pub taken_by : Line → Result Placing RuleCode → Taken
+taken_by line found = record { line = line.number; found = placed_by line.read found }
+
+-- lines as they were read, with what was found of each, line by line
+abbrev pub taken_with : List Line → List (Result Placing RuleCode) → List Taken
+taken_with [] found = []
+taken_with (line ∷ lines) [] = []
+taken_with (line ∷ lines) (first ∷ found) = taken_by line first ∷ taken_with lines found
 
 -- how many tracklets there are after a line of which this became
 abbrev pub tracks_with : ℕ → Result Placed RuleCode → ℕ

@@ -1,7 +1,7 @@
 //! What acts do where they stand in the history.
 
 use crate::roster::Member;
-use crate::taken::Taken;
+use crate::taken::TakenLines;
 use act_bodies::Ids;
 use item_list::ItemList;
 use numbering_core::Numbering;
@@ -33,7 +33,7 @@ pub enum Deed {
         word: Short,
     },
     /// It takes in a batch. These are its observation lines, each with what became of it.
-    Submitted(ItemList<Taken>),
+    Submitted(TakenLines),
     /// It makes tracklets an object, and gives it a designation.
     Designated {
         /// The numbers of the tracklets.

@@ -41,7 +41,7 @@ pub use roster::{CALLERS, Caller, Member};
 pub use ruling::Ruling;
 pub use seen::{Seen, is_sooner};
 pub use shelf::{Names, Place, Shelf, TrackHead};
-pub use taken::{Placed, Taken, accepted_in, faults_in, name_of};
+pub use taken::{Placed, PlacedLine, Placing, Taken, TakenLine, TakenLines, faults_in, name_of};
 pub use tally::{Tally, tally_answer};
 pub use texts::{
     batch_answer, enrol_answer, numbers_answer, object_answer, push_decimal, push_designation,

@@ -9,7 +9,7 @@ ghost use Rattle.act_model.specs.Texts.{number_lines};
 ghost use Rattle.act_model.specs.Replies.{line_answer, line_answers, observations_with, batch_answer, fault_lines};
 
 use crate::reply::Fault;
-use crate::taken::{Taken, accepted_in};
+use crate::taken::{TakenLine, TakenLines};
 use arrayvec::ArrayString;
 use item_list::{Bytes, NoMemory};
 use itoa::Buffer;
@@ -119,7 +119,7 @@ pub(crate) fn push_fault_lines(out: &mut Bytes, faults: &[Fault]) -> Result<(), 
 }
 
 /// Writes the answer to a line, and says how many observations there are after it.
-fn push_line_answer(out: &mut Bytes, before: u64, taken: &Taken) -> Result<u64, NoMemory>
+fn push_line_answer(out: &mut Bytes, before: u64, taken: &TakenLine) -> Result<u64, NoMemory>
     requires { before + 1 < 2 ^ 64 }
     ensures text { OnOk result (out.new ≡ out.old ++ line_answer before taken.now.line taken.now.found) }
     ensures count { IfOk result (λ after. after ≡ observations_with before taken.now.found) }
@@ -127,7 +127,7 @@ fn push_line_answer(out: &mut Bytes, before: u64, taken: &Taken) -> Result<u64, 
 {
     match &taken.found {
         Ok(placed) => {
-            let line = accepted_line(taken.line, before + 1, placed.track);
+            let line = accepted_line(taken.line, before + 1, placed.track());
             out.extend_from_slice(line.as_bytes())?;
             Ok(before + 1)
         }
@@ -138,13 +138,13 @@ fn push_line_answer(out: &mut Bytes, before: u64, taken: &Taken) -> Result<u64, 
     }
 }
 
-fn push_line_answers(out: &mut Bytes, lines: &[Taken], before: u64) -> Result<(), NoMemory>
+fn push_line_answers(out: &mut Bytes, lines: &TakenLines, before: u64) -> Result<(), NoMemory>
     requires { before + length lines.now < 2 ^ 64 }
     ensures { OnOk result (out.new ≡ out.old ++ line_answers lines.now before) }
 {
     let mut observations = before;
-    for taken in lines {
-        observations = push_line_answer(out, observations, taken)?;
+    for place in 0..lines.len() {
+        observations = push_line_answer(out, observations, &lines.at(place))?;
     }
     Ok(())
 }
@@ -161,12 +161,12 @@ pub fn batch_answer(
     alloc: Global,
     receipt: u64,
     before: u64,
-    lines: &[Taken],
+    lines: &TakenLines,
 ) -> Result<Bytes, NoMemory>
     requires { before + length lines.now < 2 ^ 64 }
     ensures { IfOk result (λ text. text ≡ batch_answer receipt before lines.now) }
 {
-    let accepted = accepted_in(lines);
+    let accepted = lines.accepted();
     let mut out = Bytes::new(alloc);
     push_receipt_line(&mut out, receipt)?;
     push_counts_line(&mut out, accepted, lines.len() as u64 - accepted)?;

@@ -16,9 +16,9 @@ use crate::filed::caller_at;
 use crate::office::Core;
 use crate::refusals::{batch_refusal, enrol_refusal, retract_refusal, row_refusal, unless};
 use crate::taking::taken_lines;
-use act_model::{Act, Asked, Deed, Heard, Key, Member, Part, Rank, Refusal, Taken};
+use act_model::{Act, Asked, Deed, Heard, Key, Member, Part, Rank, Refusal, TakenLines};
 use batch_rules::judge;
-use item_list::{ItemList, NoMemory};
+use item_list::NoMemory;
 use object_rules::{attributes, designates, identifies, judges, numbers, releases, separates};
 use obs_record::{Lines, Short};
 use obs_time::Instant;
@@ -103,7 +103,7 @@ impl Core {
             Act::Enrol { key, role, .. } => self.enrols(key, role),
             Act::Station { code, from, to, .. } => self.enters_station(code, from, to),
             Act::Code { kind, letter, word } => self.enters_code(kind, letter, word),
-            Act::Submit80(lines) | Act::SubmitPsv(lines) => self.submits(alloc, moment, &lines),
+            Act::Submit80(lines) | Act::SubmitPsv(lines) => self.submits(alloc, moment, lines),
             Act::Designate(tracklets) => designates(self, alloc, tracklets),
             Act::Attribute { tracklet, to } => attributes(self, alloc, tracklet, to),
             Act::Release(t) => releases(self, t),
@@ -155,28 +155,28 @@ impl Core {
         &self,
         alloc: Global,
         moment: Instant,
-        lines: &Lines,
-    ) -> Result<ItemList<Taken>, NoMemory>
-        ensures taken { IfOk result (λ taken. taken ≡ taken_after (deeds self.now.history) moment lines.now) }
+        lines: Lines,
+    ) -> Result<TakenLines, NoMemory>
+        ensures taken { IfOk result (λ taken. taken ≡ taken_after (deeds self.now.history) moment lines) }
         ensures tracked { IfOk result (AreTracked (length (holdings (deeds self.now.history)).tracklets)) }
     {
         let tracks = self.held().tracks();
         if tracks >= 1 << 62 || lines.len() >= 1 << 62 {
             return Err(AllocError);
         }
-        let rulings = judge(alloc, self.tables(), self, moment, lines)?;
-        taken_lines(alloc, self, tracks, lines.as_slice(), rulings.as_slice())
+        let rulings = judge(alloc, self.tables(), self, moment, &lines)?;
+        taken_lines(alloc, self, tracks, lines, rulings.as_slice())
     }
 
     /// A batch, unless none of its lines is accepted.
-    fn submits(&self, alloc: Global, moment: Instant, lines: &Lines) -> Result<Deed, Refusal>
-        ensures due { IsDue (submits (taken_after (deeds self.now.history) moment lines.now)) result }
+    fn submits(&self, alloc: Global, moment: Instant, lines: Lines) -> Result<Deed, Refusal>
+        ensures due { IsDue (submits (taken_after (deeds self.now.history) moment lines)) result }
         ensures fits { IfOk result (Fits (deeds self.now.history)) }
     {
         let Ok(taken) = self.taken_after(alloc, moment, lines) else {
             return Err(Refusal::NoMemory);
         };
-        let Ok(refusal) = batch_refusal(alloc, taken.as_slice()) else {
+        let Ok(refusal) = batch_refusal(alloc, &taken) else {
             return Err(Refusal::NoMemory);
         };
         unless(refusal, Deed::Submitted(taken))

@@ -8,12 +8,12 @@ ghost use Rattle.act_model.specs.Taken.{tracks_with, accepted_in};
 ghost use Rattle.desk_core.specs.Office.{held_in, IsTracked, AreTracked};
 ghost use Rattle.desk_core.specs.Holding.{is_added, HoldsDeed};
 
-use act_model::{Deed, Placed, Taken, accepted_in, name_of};
+use act_model::{Deed, PlacedLine, TakenLine, TakenLines, name_of};
 use object_rules::home_tracklets;
 use tracklet_file::TrackletFile;
 
 /// Begins the tracklet of an accepted observation, where it isn't there.
-fn begin(file: &mut TrackletFile, placed: &Placed)
+fn begin(file: &mut TrackletFile, placed: &PlacedLine)
     requires tracked { IsTracked (length file.old.tracklets) (Ok placed.now) }
     requires tracklets { 1 ≤ file.old.tracklet_room }
     ensures begun { file.new.tracklets ≡ with_begun placed.now file.old.tracklets }
@@ -23,17 +23,14 @@ fn begin(file: &mut TrackletFile, placed: &Placed)
     ensures observation_room { file.new.observation_room ≡ file.old.observation_room }
     ensures tracklet_room { file.old.tracklet_room ≤ file.new.tracklet_room + 1 }
 {
-    if placed.track > file.tracks() {
-        file.add_track(
-            name_of(&placed.sighting),
-            placed.sighting.station,
-            placed.home,
-        );
+    if placed.track() > file.tracks() {
+        let sighting = placed.sighting();
+        file.add_track(name_of(sighting), sighting.station, placed.home());
     }
 }
 
 /// Adds an accepted observation. The first one of a tracklet begins it.
-fn hold_placed(file: &mut TrackletFile, receipt: u64, placed: &Placed)
+fn hold_placed(file: &mut TrackletFile, receipt: u64, placed: &PlacedLine)
     requires tracked { IsTracked (length file.old.tracklets) (Ok placed.now) }
     requires observations { 1 ≤ file.old.observation_room }
     requires tracklets { 1 ≤ file.old.tracklet_room }
@@ -43,11 +40,11 @@ fn hold_placed(file: &mut TrackletFile, receipt: u64, placed: &Placed)
     ensures tracklets { file.old.tracklet_room ≤ file.new.tracklet_room + 1 }
 {
     begin(file, placed);
-    file.add(placed.track, placed.sighting, receipt);
+    file.add(placed.track(), *placed.sighting(), receipt);
 }
 
 /// Adds what became of a line, where it was accepted.
-fn hold_line(file: &mut TrackletFile, receipt: u64, taken: &Taken)
+fn hold_line(file: &mut TrackletFile, receipt: u64, taken: &TakenLine)
     requires tracked { IsTracked (length file.old.tracklets) taken.now.found }
     requires observations { is_added taken.now ≤ file.old.observation_room }
     requires tracklets { is_added taken.now ≤ file.old.tracklet_room }
@@ -62,7 +59,7 @@ fn hold_line(file: &mut TrackletFile, receipt: u64, taken: &Taken)
 }
 
 /// Adds the accepted lines of a batch, one after the other.
-fn hold_batch(file: &mut TrackletFile, receipt: u64, lines: &[Taken])
+fn hold_batch(file: &mut TrackletFile, receipt: u64, lines: &TakenLines)
     requires tracked { AreTracked (length file.old.tracklets) lines.now }
     requires observations { accepted_in lines.now ≤ file.old.observation_room }
     requires tracklets { accepted_in lines.now ≤ file.old.tracklet_room }
@@ -70,8 +67,8 @@ fn hold_batch(file: &mut TrackletFile, receipt: u64, lines: &[Taken])
     ensures observations { file.old.observation_room ≤ file.new.observation_room + accepted_in lines.now }
     ensures tracklets { file.old.tracklet_room ≤ file.new.tracklet_room + accepted_in lines.now }
 {
-    for taken in lines {
-        hold_line(file, receipt, taken);
+    for place in 0..lines.len() {
+        hold_line(file, receipt, &lines.at(place));
     }
 }
 
@@ -80,7 +77,7 @@ pub fn added_by(deed: &Deed) -> u64
     ensures { result ≡ added_by deed.now }
 {
     match deed {
-        Deed::Submitted(lines) => accepted_in(lines.as_slice()),
+        Deed::Submitted(lines) => lines.accepted(),
         _ => 0,
     }
 }
@@ -95,7 +92,7 @@ pub fn hold(file: &mut TrackletFile, receipt: u64, deed: &Deed)
     ensures tracklets { file.old.tracklet_room ≤ file.new.tracklet_room + added_by deed.now }
 {
     match deed {
-        Deed::Submitted(lines) => hold_batch(file, receipt, lines.as_slice()),
+        Deed::Submitted(lines) => hold_batch(file, receipt, lines),
         Deed::Retracted(k) => file.retract(*k),
         Deed::Designated { .. } | Deed::Attributed { .. } | Deed::Released(_) => {
             home_tracklets(file, deed);

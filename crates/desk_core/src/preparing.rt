@@ -185,10 +185,10 @@ impl Core {
             Deed::Enrolled(_) => enrol_answer(alloc, receipt, self.members().len() as u64 + 1),
             Deed::Submitted(lines) => {
                 let before = self.held().observations();
-                if lines.len() > u64::MAX - before {
+                if lines.len() as u64 > u64::MAX - before {
                     return Err(AllocError);
                 }
-                batch_answer(alloc, receipt, before, lines.as_slice())
+                batch_answer(alloc, receipt, before, lines)
             }
             Deed::Designated { given, .. } => {
                 object_answer(alloc, receipt, Designation::Provisional(*given))

@@ -6,7 +6,7 @@ ghost use Rattle.act_model.specs.Rows.{first_row, unless};
 ghost use Rattle.act_model.specs.Doing.{enrol_rows, row_rows, batch_rows, retract_rows};
 
 use crate::roster::Roster;
-use act_model::{CALLERS, Deed, Key, Refusal, Taken, Thing, accepted_in, faults_in};
+use act_model::{CALLERS, Deed, Key, Refusal, TakenLines, Thing, faults_in};
 use item_list::NoMemory;
 use std::alloc::Global;
 use tracklet_file::TrackletFile;
@@ -56,10 +56,10 @@ pub fn row_refusal(is_there: bool) -> Option<Refusal>
 /// # Errors
 ///
 /// Memory was refused for the faults.
-pub fn batch_refusal(alloc: Global, lines: &[Taken]) -> Result<Option<Refusal>, NoMemory>
+pub fn batch_refusal(alloc: Global, lines: &TakenLines) -> Result<Option<Refusal>, NoMemory>
     ensures { IfOk result (λ refusal. refusal ≡ first_row (batch_rows lines.now)) }
 {
-    if accepted_in(lines) > 0 {
+    if lines.accepted() > 0 {
         return Ok(None);
     }
     let faults = faults_in(alloc, lines)?;

@@ -1,13 +1,13 @@
 //! The lines of a batch, taken in by the rulings on them.
 
 ghost use Rattle.std.specs.Prelude.{◌≡◌, ◌+◌, ◌<◌, ◌≤◌, ◌^◌, length, IfOk};
-ghost use Rattle.act_model.specs.Taken.{first_home, track_of_group, placed_in, found_in, taken_line, tracks_with};
-ghost use Rattle.act_model.specs.Taken.{taken_lines};
+ghost use Rattle.act_model.specs.Taken.{first_home, track_of_group, found_in, taken_line, tracks_with};
+ghost use Rattle.act_model.specs.Taken.{placed_by, taken_lines};
 ghost use Rattle.desk_core.specs.Office.{IsTracked, AreTracked};
 
-use act_model::{Known, Placed, Ruling, Taken, name_of};
+use act_model::{Known, Placing, Ruling, TakenLines, name_of};
 use item_list::{ItemList, NoMemory};
-use obs_record::{Line, RuleCode, Sighting, TrackName};
+use obs_record::{Line, Lines, RuleCode, Sighting, TrackName};
 use packed_names::{Designation, Name};
 use std::alloc::Global;
 
@@ -22,21 +22,21 @@ fn first_home<V: Known>(known: &V, name: TrackName) -> Option<Designation>
     }
 }
 
-/// What becomes of a line that was read so, with this fault.
+/// What is found of a line that was read so, with this fault: where its observation is filed, or the first rule that it
+/// breaks.
 fn found_in<V: Known>(
     known: &V,
     track: u64,
     read: &Result<Sighting, RuleCode>,
     fault: Option<RuleCode>,
-) -> Result<Placed, RuleCode>
-    ensures { result ≡ found_in (V.office known.now) track read.now fault }
+) -> Result<Placing, RuleCode>
+    ensures { placed_by read.now result ≡ found_in (V.office known.now) track read.now fault }
 {
     if let Some(rule) = fault {
         return Err(rule);
     }
     match read {
-        Ok(sighting) => Ok(Placed {
-            sighting: *sighting,
+        Ok(sighting) => Ok(Placing {
             track,
             home: first_home(known, name_of(sighting)),
         }),
@@ -44,29 +44,38 @@ fn found_in<V: Known>(
     }
 }
 
-/// A line with the ruling on it, where there were `before` tracklets before the batch and there are `now` by this line.
-fn taken_line<V: Known>(known: &V, before: u64, now: u64, line: &Line, ruling: &Ruling) -> Taken
+/// What is found of a line by the ruling on it, where there were `before` tracklets before the batch and there are
+/// `now` by this line.
+fn taken_line<V: Known>(
+    known: &V,
+    before: u64,
+    now: u64,
+    line: &Line,
+    ruling: &Ruling,
+) -> Result<Placing, RuleCode>
     requires before { before + 2 ^ 32 < 2 ^ 64 }
     requires now { now + 1 < 2 ^ 64 }
-    ensures taken { result ≡ taken_line (V.office known.now) before now line.now ruling.now }
-    ensures tracked { IsTracked now result.found }
+    ensures taken { placed_by line.now.read result
+        ≡ (taken_line (V.office known.now) before now line.now ruling.now).found }
+    ensures tracked { IsTracked now (placed_by line.now.read result) }
 {
     let track = (before + u64::from(ruling.group) + 1).min(now + 1);
-    Taken {
-        line: line.number,
-        found: found_in(known, track, &line.read, ruling.fault),
-    }
+    found_in(known, track, &line.read, ruling.fault)
 }
 
-/// How many tracklets there are after a line of which this became.
-fn tracks_with(now: u64, found: &Result<Placed, RuleCode>) -> u64
-    requires { IsTracked now found.now }
-    ensures tracks { result ≡ tracks_with now found.now }
+/// How many tracklets there are after a line that was read so, of which this was found.
+fn tracks_with(
+    now: u64,
+    read: &Result<Sighting, RuleCode>,
+    found: &Result<Placing, RuleCode>,
+) -> u64
+    requires { IsTracked now (placed_by read.now found.now) }
+    ensures tracks { result ≡ tracks_with now (placed_by read.now found.now) }
     ensures more { result ≤ now + 1 }
 {
-    match found {
-        Ok(placed) => now.max(placed.track),
-        Err(_) => now,
+    match (read, found) {
+        (Ok(_), Ok(placing)) => now.max(placing.track),
+        _ => now,
     }
 }
 
@@ -79,23 +88,22 @@ pub fn taken_lines<V: Known>(
     alloc: Global,
     known: &V,
     tracks: u64,
-    lines: &[Line],
+    lines: Lines,
     rulings: &[Ruling],
-) -> Result<ItemList<Taken>, NoMemory>
-    requires { tracks + length lines.now + 2 ^ 32 < 2 ^ 64 }
+) -> Result<TakenLines, NoMemory>
+    requires { tracks + length lines + 2 ^ 32 < 2 ^ 64 }
     ensures taken { IfOk result (λ taken.
-        taken ≡ taken_lines (V.office known.now) tracks tracks lines.now rulings.now) }
+        taken ≡ taken_lines (V.office known.now) tracks tracks lines rulings.now) }
     ensures tracked { IfOk result (AreTracked tracks) }
 {
-    let mut list = ItemList::with_capacity(alloc, lines.len())?;
+    let count = lines.as_slice().len().min(rulings.len());
+    let mut list = ItemList::with_capacity(alloc, count)?;
     let mut now = tracks;
-    for place in 0..lines.len() {
-        let Some(ruling) = rulings.get(place) else {
-            return Ok(list);
-        };
-        let taken = taken_line(known, tracks, now, &lines[place], ruling);
-        now = tracks_with(now, &taken.found);
-        list.push(taken)?;
+    for place in 0..count {
+        let line = &lines.as_slice()[place];
+        let found = taken_line(known, tracks, now, line, &rulings[place]);
+        now = tracks_with(now, &line.read, &found);
+        list.push(found)?;
     }
-    Ok(list)
+    Ok(TakenLines::new(lines, list))
 }

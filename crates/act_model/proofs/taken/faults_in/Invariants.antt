@@ -3,5 +3,5 @@ use Rattle.act_model.specs.Taken.{faults_in}
 use Rattle.act_model.proofs.taken.faults_in.Given as goal
 
 -- the faults so far and those of what is left are those of all
-abbrev pub invariant-loop-taken : goal.invariant-loop-taken
-invariant-loop-taken l = l.faults ++ faults_in (drop l.taken-index l.lines) ≡ faults_in l.lines
+abbrev pub invariant-loop-place : goal.invariant-loop-place
+invariant-loop-place l = l.faults ++ faults_in (drop l.place l.lines) ≡ faults_in l.lines

@@ -5,9 +5,9 @@ use Rattle.desk_core.specs.Office.{held_in, AreTracked}
 use Rattle.desk_core.proofs.holding.hold_batch.Given as goal
 
 -- what is left of the batch goes on from what the file holds, and has its room
-abbrev pub invariant-loop-taken : goal.invariant-loop-taken
-invariant-loop-taken l =
-    let left = drop l.taken-index l.lines in
+abbrev pub invariant-loop-place : goal.invariant-loop-place
+invariant-loop-place l =
+    let left = drop l.place l.lines in
     record {
       tracked : AreTracked (length l.file.tracklets) left;
       held : with_batch l.receipt left (held_in l.file) ≡ with_batch l.receipt l.lines (held_in l.fn.file);

@@ -1,6 +1,6 @@
-use Rattle.std.proofs.Common.{◌≡◌, ◌+◌, ◌≤◌, List, ◌++◌, drop}
+use Rattle.std.proofs.Common.{◌≡◌, ◌+◌, ◌≤◌, List, ◌++◌, length, drop}
 use Rattle.act_model.specs.declared.taken.Taken.{Taken}
-use Rattle.act_model.specs.Taken.{taken_lines}
+use Rattle.act_model.specs.Taken.{taken_with, taken_lines}
 use Rattle.desk_core.specs.Office.{AreTracked}
 use Rattle.desk_core.proofs.taking.taken_lines.Given as goal
 
@@ -9,7 +9,8 @@ abbrev pub invariant-loop-place : goal.invariant-loop-place
 invariant-loop-place g l =
     let office = g.V.Known.office l.known in
     record {
-      taken : l.list ++ taken_lines office l.tracks l.now (drop l.place l.lines) (drop l.place l.rulings) ≡ taken_lines office l.tracks l.tracks l.lines l.rulings;
-      tracked : (rest : List Taken) → AreTracked l.now rest → AreTracked l.tracks (l.list ++ rest);
+      placed : length l.list ≡ l.place;
+      taken : taken_with l.fn.lines l.list ++ taken_lines office l.tracks l.now (drop l.place l.fn.lines) (drop l.place l.rulings) ≡ taken_lines office l.tracks l.tracks l.fn.lines l.rulings;
+      tracked : (rest : List Taken) → AreTracked l.now rest → AreTracked l.tracks (taken_with l.fn.lines l.list ++ rest);
       more : l.now ≤ l.tracks + l.place;
     }
