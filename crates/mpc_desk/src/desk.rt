@@ -51,7 +51,11 @@ fn settle(core: &mut Core, doubt: Option<Prepared>, settled: Settled)
     ensures history { core.new.history ≡ settled_by settled doubt core.old.history }
     ensures founder { core.new.founder ≡ core.old.founder }
 {
-    if let (Settled::Added, Some(prepared)) = (settled, doubt) {
+    match settled {
+        Settled::Dropped | Settled::Nothing => return,
+        Settled::Added => {}
+    }
+    if let Some(prepared) = doubt {
         core.commit(prepared);
     }
 }
