@@ -1,8 +1,10 @@
 -- Chains of entries, as one more comes, and as an entry's mark is taken.
-use Rattle.std.proofs.Common.{◌≡◌, ◌≢◌, ℕ, ◌+◌, ◌-◌, ◌^◌, ◌<◌, ◌≤◌, List, [], ◌∷◌, ◌++◌, length, replicate, Option, Some, None, IfSome, IfNone, refl, ap, sym, subst, ◌∙◌, inl, inr, arith}
-use Rattle.std.specs.Prelude.{slice_index, slice_set, set}
-use Rattle.std.proofs.lemmas.Bool.{cases_eq, cases_lt}
-use Rattle.std.proofs.lemmas.List.{length-append, length-set, length-replicate, get_or_append_left, get_or_push, get_or-set_same, get_or-set_other, get_or-replicate}
+use Rattle.std.proofs.Common.{◌≡◌, ◌≢◌, ◌==◌, Bool, true, false, rules, get_or, ℕ, ◌+◌, ◌-◌, ◌^◌, ◌<◌, ◌≤◌, List, [], ◌∷◌, ◌++◌, length, replicate, Option, Some, None, IfSome, IfNone, refl, ap, sym, subst, ◌∙◌, inl, inr, arith}
+use Rattle.std.specs.Prelude.{slice_index, slice_set, set, is_some}
+use Rattle.std.specs.List.{list_any}
+use Rattle.std.proofs.lemmas.Bool.{cases_eq, cases_lt, eqb-true}
+use Rattle.std.proofs.lemmas.List.{length-append, length-set, length-replicate, get_or_append_left, get_or_push, get_or-set_same, get_or-set_other, get_or-replicate, get_or_default}
+use Rattle.std.proofs.lemmas.List.Folds.{list_any_none, list_any_at}
 use Rattle.mark_index.specs.declared.table.Slot.{Slot}
 use Rattle.mark_index.specs.Slots.{slot_of, slot_at, HasTag}
 use Rattle.mark_index.specs.Marked.{IsLast, AreChained}
@@ -421,3 +423,27 @@ pub record IsSought (slots : ℕ) (marks : List ℕ) (mark k : ℕ) (Fails : ℕ
   pub marked : 0 < k → 0 < slice_index marks (k - 1)
   pub of_slot : 0 < k → slot_of slots (slice_index marks (k - 1)) ≡ slot_of slots mark
   pub none : (i : ℕ) → k ≤ i → i < length marks → slice_index marks i ≡ mark → Fails i
+
+-- ---- whether an entry has a mark
+
+-- none has it where each that has is refused
+pub none_has : (mark : ℕ) (marks : List ℕ) → ((i : ℕ) → i < length marks → slice_index marks i ≡ mark → ⊥) → false ≡ list_any (λ own. own == mark) marks
+none_has mark marks none = sym (list_any_none (λ (own : ℕ). own == mark) marks (λ k d below. by k d below (get_or marks k d == mark) refl))
+  where
+    by : (k d : ℕ) → k < length marks → (b : Bool) → (get_or marks k d == mark) ≡ b → (get_or marks k d == mark) ≡ false
+    by k d below false is = is
+    by k d below true is = absurd (none k below (get_or_default marks k 0 d below ∙ eqb-true (get_or marks k d) mark is))
+
+-- what a search for it tells
+pub told : (r : Option ℕ) (mark : ℕ) (marks : List ℕ) (N : Type 0) → IfSome r (λ i. i < length marks) → IfSome r (λ i. slice_index marks i ≡ mark) → IfNone r N
+    → (N → (i : ℕ) → i < length marks → slice_index marks i ≡ mark → ⊥) → is_some r ≡ list_any (λ own. own == mark) marks
+told None mark marks N within marked none refused = none_has mark marks (refused none)
+told (Some i) mark marks N within marked none refused = sym (list_any_at (λ (own : ℕ). own == mark) marks i 0 within (search (rules, marked)))
+
+-- an entry's mark has its tag in its slot
+pub has_own_tag : (marks befores : List ℕ) (table : List Slot) (slots s mark : ℕ) (at : Slot) → AreChained marks befores table → slots ≡ length table → s ≡ slot_of slots mark → at ≡ slot_at table s
+    → 0 < mark → (i : ℕ) → i < length marks → slice_index marks i ≡ mark → HasTag at.tags mark
+has_own_tag marks befores table slots s mark at was many of_mark found some i within marked =
+    let own : HasTag (slot_at table (slot_of (length table) mark)).tags mark =
+    subst (λ (m : ℕ). HasTag (slot_at table (slot_of (length table) m)).tags m) marked (was.tagged i within (subst (λ (m : ℕ). 0 < m) (sym marked) some)) in
+    subst (λ (t : Slot). HasTag t.tags mark) (sym (found ∙ ap (slot_at table) (of_mark ∙ ap (λ (n : ℕ). slot_of n mark) many))) own

@@ -1,7 +1,8 @@
 //! The index.
 
 ghost use Rattle.std.specs.Prelude.{◌≡◌, ℕ, ◌+◌, ◌<◌, ◌≤◌, ◌∷◌, [], ◌++◌, length, true, false, IfOk, OnOk};
-ghost use Rattle.std.specs.Prelude.{IfSome, IfNone, slice_index, slice_set};
+ghost use Rattle.std.specs.Prelude.{IfSome, IfNone, slice_index, slice_set, ◌==◌};
+ghost use Rattle.std.specs.List.{list_any};
 
 use crate::table::{Slot, has_tag, slot_of, with_tag};
 use item_list::NoMemory;
@@ -125,8 +126,9 @@ impl MarkIndex {
         Ok(())
     }
 
-    // The entries more. It takes no memory: there is room.
-    fn push_all(&mut self, marks: &[u32])
+    /// The entries more, each with its mark, or with 0 for none, one right after another: what each needs of the memory
+    /// comes while others are put in. It takes no memory: there is room.
+    pub fn push_all(&mut self, marks: &[u32])
         requires { length marks.now ≤ self.old.room }
         ensures marks { self.new.marks ≡ self.old.marks ++ marks.now }
         ensures room { self.new.room + length marks.now ≡ self.old.room }
@@ -194,6 +196,25 @@ impl MarkIndex {
             None => self.slots[slot].head = self.befores[place],
         }
         self.marks[place] = 0;
+    }
+
+    /// Whether an entry has this mark.
+    #[inline]
+    pub fn has(&self, mark: u32) -> bool
+        requires { 0 < mark }
+        ensures { result ≡ list_any (λ own. own == mark) self.now.marks }
+    {
+        has_tag(self.slots[slot_of(mark, self.slots.len())].tags, mark) && self.is_in_chain(mark)
+    }
+
+    // Whether an entry has this mark, along the chain of the mark's slot. It doesn't stand in line with its callers, so
+    // that a loop over many marks, of which few are there, is short.
+    #[inline(never)]
+    fn is_in_chain(&self, mark: u32) -> bool
+        requires { 0 < mark }
+        ensures { result ≡ list_any (λ own. own == mark) self.now.marks }
+    {
+        self.find_in_chain(mark, |_| true).is_some()
     }
 
     /// The place of an entry with this mark that passes a test; None exactly where none does.
