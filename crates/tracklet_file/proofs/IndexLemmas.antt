@@ -1,6 +1,6 @@
 -- The places of observations, as more are filed, put into the index and retracted. The lists here stand oldest first.
-use Rattle.std.proofs.Common.{◌≡◌, ℕ, ℤ, ◌+◌, ◌-◌, ◌<◌, ◌≤◌, ◌<ℤ◌, ◌≤ℤ◌, zero, suc, Bool, true, false, cond, List, [], ◌∷◌, ◌++◌, length, get_or, set, take, drop, map, refl, ap, sym, subst, ◌∙◌, inl, inr, arith}
-use Rattle.std.specs.Prelude.{◌&&◌, ◌||◌, int_lt, Result, Ok, Err, MatchResult, All, slice_index}
+use Rattle.std.proofs.Common.{◌≡◌, ℕ, ℤ, ◌+◌, ◌-◌, ◌<◌, ◌≤◌, ◌<ℤ◌, ◌≤ℤ◌, zero, suc, Bool, true, false, cond, List, [], ◌∷◌, ◌++◌, length, get_or, set, take, drop, map, refl, ap, sym, subst, ◌∙◌, inl, inr, arith, rules}
+use Rattle.std.specs.Prelude.{◌&&◌, ◌||◌, ◌==◌, nat_lt, reverse, int_lt, Result, Ok, Err, MatchResult, All, slice_index}
 use Rattle.std.specs.List.{list_any}
 use Rattle.std.specs.List.Sorted.{IsSearchInRange, IsBinarySearchResult, IsSortedBy}
 use Rattle.std.specs.Ordering.{int_cmp, int_eq, is_lt}
@@ -11,15 +11,18 @@ use Rattle.std.proofs.lemmas.Cmp.{int_cmp_total, int_ranked}
 use Rattle.std.proofs.lemmas.Int.{ints}
 use Rattle.std.proofs.lemmas.List.{take-append-drop, take-append-le, take_all, take-set-le, length-append, length-drop, length-set, length-take-le, length-map, map-append, get_or_append_left, get_or_push, get_or-map, get_or-drop, get_or-take, get_or-set_same, get_or-set_other, get_or_default}
 use Rattle.std.proofs.lemmas.List.Elements.{All-append}
-use Rattle.std.proofs.lemmas.List.Folds.{list_any-append, list_any_none}
-use Rattle.std.proofs.lemmas.List.Sorted.{searchable_from_sorted}
+use Rattle.std.proofs.lemmas.List.Folds.{list_any-append, list_any_none, list_any_at}
+use Rattle.std.proofs.lemmas.List.Sorted.{searchable_from_sorted, list_any-IsPermutation, IsPermutation-reverse}
+use Rattle.obs_record.specs.declared.line.Line.{Line}
+use Rattle.obs_record.specs.declared.rule.RuleCode.{RuleCode}
+use Rattle.obs_record.specs.declared.sighting.Sighting.{Sighting}
 use Rattle.obs_record.specs.declared.short.Short.{Short}
 use Rattle.place_keys.specs.declared.place.PlaceKey.{PlaceKey}
-use Rattle.place_keys.specs.Places.{place_key}
+use Rattle.place_keys.specs.Places.{key_at, place_key}
 use Rattle.tracklet_file.specs.declared.observation.Observation.{Observation}
-use Rattle.tracklet_file.specs.Observations.{is_live_at}
-use Rattle.tracklet_file.specs.Places.{counts_at, mark_of, mark_in, time_of, AscendFrom, KeptPlaces, IsIndexed}
-use Rattle.tracklet_file.proofs.PlaceLemmas.{same_key}
+use Rattle.tracklet_file.specs.Observations.{is_live_at, has_live, is_live_reading, is_live_line}
+use Rattle.tracklet_file.specs.Places.{counts_at, mark_of, mark_in, asked_reading, asked, has_mark, time_of, AscendFrom, KeptPlaces, IsIndexed}
+use Rattle.tracklet_file.proofs.PlaceLemmas.{same_key, same_at}
 
 -- ---- tests of times
 
@@ -123,6 +126,25 @@ mark_taken (suc n) place [] x none within = refl
 mark_taken (suc n) zero (o ∷ later) x none within = ap (λ (m : ℕ). m ∷ map mark_in (take n later)) none
 mark_taken (suc n) (suc place) (o ∷ later) x none within = ap (λ (ms : List ℕ). mark_in o ∷ ms) (mark_taken n place later x none (omega (arith, within)))
 
+-- ---- places and keys
+
+-- what counts at a key is what is live at its station, time and position
+pub counted_at : (filed : List Observation) (station : Short) (time : ℤ) (ra : ℕ) (dec : ℤ) → list_any (counts_at (key_at station time ra dec)) filed ≡ has_live filed station time ra dec
+counted_at filed station time ra dec =
+    let counts : (o : Observation) → counts_at (key_at station time ra dec) o ≡ is_live_at station time ra dec o = λ o. ap (λ (b : Bool). o.live && b) (same_at station time ra dec o.sighting) in
+    ap (λ (p : Observation → Bool). list_any p filed) (λ i o. counts o i)
+
+-- the oldest first or the newest
+pub in_order_of_age : (filed : List Observation) (station : Short) (time : ℤ) (ra : ℕ) (dec : ℤ) → has_live filed station time ra dec ≡ has_live (reverse filed) station time ra dec
+in_order_of_age filed station time ra dec = list_any-IsPermutation (is_live_at station time ra dec) filed (reverse filed) (IsPermutation-reverse filed)
+
+-- the mark that is asked for one of a block of lines
+pub mark_asked_at : (latest : ℤ) (block : List Line) (marks : List ℕ) (place : ℕ) (d : Line) → take (length block) marks ≡ map (asked latest) block → place < length block → slice_index marks place ≡ asked latest (get_or block place d)
+mark_asked_at latest block marks place d made within =
+    sym (get_or-take (length block) marks place 0 within)
+    ∙ ap (λ (ms : List ℕ). get_or ms place 0) made
+    ∙ get_or-map (asked latest) block place d 0 within
+
 -- ---- changes
 
 module _ (filed : List Observation) (places : KeptPlaces) (was : IsIndexed filed places) where
@@ -163,6 +185,35 @@ module _ (filed : List Observation) (places : KeptPlaces) (was : IsIndexed filed
           let o = get_or filed k d in
           let parts = and_parts o.live _ is in
           none k d within (mark_at k d within ∙ ap (λ (b : Bool). cond b (mark_of (place_key o.sighting)) 0) parts.0 ∙ ap mark_of (same_key _ key parts.1))
+
+  -- where all are in the index, and none has the mark that is asked for a line, none has the line's place
+  module _ (all : n ≡ length filed) where
+    unmarked_reading : (read : Result Sighting RuleCode) → has_mark places.marks (asked_reading places.latest read) ≡ false → is_live_reading (has_live filed) read ≡ false
+    unmarked_reading (Err rule) none = refl
+    unmarked_reading (Ok s) none = by (int_lt places.latest s.time) refl
+      where
+        above : nat_lt 0 (mark_of (place_key s)) ≡ true
+        above = grind arith
+
+        without : list_any (λ own. own == mark_of (place_key s)) places.marks ≡ false → has_live filed s.station s.time s.ra s.dec ≡ false
+        without none =
+            sym (counted_at filed s.station s.time s.ra s.dec)
+            ∙ ap (list_any (counts_at (place_key s))) (sym (take_all n filed (omega (arith, all))))
+            ∙ none_marked (place_key s) (λ place d within marked. absurd (refuted place within marked))
+          where
+            refuted : (place : ℕ) → place < n → slice_index places.marks place ≡ mark_of (place_key s) → ⊥
+            refuted place within marked =
+                let found = list_any_at (λ (own : ℕ). own == mark_of (place_key s)) places.marks place 0 within (search (rules, marked)) in
+                cc
+
+        by : (late : Bool) → int_lt places.latest s.time ≡ late → has_live filed s.station s.time s.ra s.dec ≡ false
+        by true is = none_as_late s.station s.time s.ra s.dec is
+        by false is =
+            without (sym (ap (λ (b : Bool). b && list_any (λ own. own == mark_of (place_key s)) places.marks) above)
+            ∙ sym (ap (λ (late : Bool). has_mark places.marks (cond late 0 (mark_of (place_key s)))) is) ∙ none)
+
+    pub unmarked : (line : Line) → has_mark places.marks (asked places.latest line) ≡ false → is_live_line (has_live filed) line ≡ false
+    unmarked line none = unmarked_reading line.read none
 
   -- one that counts is among them
   pub some_counts : (key : PlaceKey) (place : ℕ) → place < n → ((d : Observation) → counts_at key (get_or filed place d) ≡ true) → list_any (counts_at key) filed ≡ true

@@ -1,10 +1,12 @@
 -- The observations that the office accepted, the newest first.
 use Rattle.std.specs.Prelude.{◌≡◌, ℕ, ℤ, Bool, true, false, ◌&&◌, ◌==◌, nat_lt, List, [], ◌∷◌, ◌++◌, Option, Some}
-use Rattle.std.specs.Prelude.{IsSome, slice_get, if◌then◌else◌}
+use Rattle.std.specs.Prelude.{IsSome, slice_get, if◌then◌else◌, Result, Ok, Err}
 use Rattle.std.specs.List.{list_any}
 use Rattle.std.specs.Option.{option_map, option_map_or, option_and_then}
 use Rattle.std.specs.Str.{bytes_eq}
 use Rattle.std.specs.Ordering.{int_eq}
+use Rattle.obs_record.specs.declared.line.Line.{Line}
+use Rattle.obs_record.specs.declared.rule.RuleCode.{RuleCode}
 use Rattle.obs_record.specs.declared.short.Short.{Short}
 use Rattle.obs_record.specs.declared.sighting.Sighting.{Sighting}
 use Rattle.tracklet_file.specs.declared.observation.Observation.{Observation}
@@ -48,6 +50,17 @@ is_live_at station time ra dec o = o.live && is_at station time ra dec o.sightin
 -- a live observation has this station, time and position
 abbrev pub has_live : List Observation → Short → ℤ → ℕ → ℤ → Bool
 has_live observations station time ra dec = list_any (is_live_at station time ra dec) observations
+
+-- ---- the places of lines
+
+-- a live observation has the place of what a line says, by what is told of places; a line that says no observation has
+-- no place
+abbrev pub is_live_reading : (Short → ℤ → ℕ → ℤ → Bool) → Result Sighting RuleCode → Bool
+is_live_reading has_live (Ok s) = has_live s.station s.time s.ra s.dec
+is_live_reading has_live (Err rule) = false
+
+abbrev pub is_live_line : (Short → ℤ → ℕ → ℤ → Bool) → Line → Bool
+is_live_line has_live line = is_live_reading has_live line.read
 
 -- ---- the observations of a tracklet, retracted ones included
 

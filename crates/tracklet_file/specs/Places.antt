@@ -1,8 +1,13 @@
 -- The places of observations: those that are found by their marks, and those that wait. The lists here stand oldest
 -- first.
-use Rattle.std.specs.Prelude.{◌≡◌, ◌+◌, ◌-◌, ◌/◌, ◌^◌, ◌<◌, ◌≤◌, ◌<ℤ◌, ◌≤ℤ◌, ℕ, ℤ, Bool, true, ◌&&◌, List, length, take, map, All}
-use Rattle.std.specs.Prelude.{slice_index_or, max, if◌then◌else◌}
+use Rattle.std.specs.Prelude.{◌≡◌, ◌+◌, ◌-◌, ◌/◌, ◌^◌, ◌<◌, ◌≤◌, ◌<ℤ◌, ◌≤ℤ◌, ℕ, ℤ, Bool, true, ◌&&◌}
+use Rattle.std.specs.Prelude.{List, length, take, map, All, slice_index_or, max, if◌then◌else◌, ◌==◌, nat_lt, int_lt}
+use Rattle.std.specs.Prelude.{Result, Ok, Err}
+use Rattle.std.specs.List.{list_any}
 use Rattle.std.specs.Int.{w64, cast_unsigned}
+use Rattle.obs_record.specs.declared.line.Line.{Line}
+use Rattle.obs_record.specs.declared.rule.RuleCode.{RuleCode}
+use Rattle.obs_record.specs.declared.sighting.Sighting.{Sighting}
 use Rattle.place_keys.specs.declared.place.PlaceKey.{PlaceKey}
 use Rattle.place_keys.specs.Marks.{mixed}
 use Rattle.place_keys.specs.Places.{place_key, same_place}
@@ -20,6 +25,19 @@ mark_of key = max (mixed 0 (mixed (cast_unsigned w64 key.time) (mixed key.ra (ca
 -- is retracted, and 0 stands there
 abbrev pub mark_in : Observation → ℕ
 mark_in o = if o.live then mark_of (place_key o.sighting) else 0
+
+-- the mark that is asked for where the place of a line is looked for, by the time of the latest of all: 0 where the
+-- line says no observation, or a later one
+abbrev pub asked_reading : ℤ → Result Sighting RuleCode → ℕ
+asked_reading latest (Ok s) = if int_lt latest s.time then 0 else mark_of (place_key s)
+asked_reading latest (Err rule) = 0
+
+abbrev pub asked : ℤ → Line → ℕ
+asked latest line = asked_reading latest line.read
+
+-- a mark that is asked for is among these; 0 is none
+abbrev pub has_mark : List ℕ → ℕ → Bool
+has_mark marks mark = nat_lt 0 mark && list_any (λ own. own == mark) marks
 
 -- when it was observed
 abbrev pub time_of : Observation → ℤ

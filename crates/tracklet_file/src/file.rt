@@ -1,11 +1,11 @@
 //! The file of observations and tracklets.
 
-ghost use Rattle.std.specs.Prelude.{◌≡◌, ◌+◌, ◌<◌, ◌≤◌, ◌∷◌, [], length, IsTrue, IfOk, OnOk, IfSome, Some};
-ghost use Rattle.std.specs.Prelude.{option_copied};
+ghost use Rattle.std.specs.Prelude.{◌≡◌, ◌+◌, ◌<◌, ◌≤◌, ◌∷◌, ◌++◌, [], length, map, IsTrue, IfOk, OnOk, IfSome, Some};
+ghost use Rattle.std.specs.Prelude.{option_copied, vec_len, vec_capacity};
 ghost use Rattle.tracklet_file.specs.Numbering.{next_number};
 ghost use Rattle.tracklet_file.specs.Observations.{IsObservation, sighting_of, entry_of, track_of, is_live, has_live};
 ghost use Rattle.tracklet_file.specs.Observations.{later_of_track, observations_of, first_of, next_of, IsFollowedBy};
-ghost use Rattle.tracklet_file.specs.Observations.{with_observation, with_retraction};
+ghost use Rattle.tracklet_file.specs.Observations.{with_observation, with_retraction, is_live_line};
 ghost use Rattle.tracklet_file.specs.Tracklets.{IsTracklet, name_of_track, station_of, home_of, retracted_in};
 ghost use Rattle.tracklet_file.specs.Tracklets.{isolated_in, homed_in, with_tracklet, with_home, later_at, next_at};
 ghost use Rattle.tracklet_file.specs.Contents.{UsesOne, KeepsRoom};
@@ -19,12 +19,11 @@ use crate::searches::numbered;
 use crate::tracklet::Tracklet;
 use angle_fixed::{Dec, Ra};
 use item_list::NoMemory;
-use obs_record::{Short, Sighting, TrackName};
+use obs_record::{Line, Short, Sighting, TrackName};
 use obs_time::Instant;
 use ordered_list::OrderedList;
 use packed_names::Designation;
 use packed_names::laws::orders;
-use place_keys::key_at;
 use std::alloc::Global;
 use std::marker::Model;
 
@@ -228,14 +227,21 @@ impl TrackletFile {
     pub fn has_live(&self, station: Short, time: Instant, ra: Ra, dec: Dec) -> bool
         ensures { result ≡ has_live self.now.observations station time ra dec }
     {
-        // A line that comes in the order of the times is told from all that is filed by its time alone.
-        if self.places.end_before(time) {
-            return false;
-        }
-        self.places.has(
-            self.observations.as_slice(),
-            &key_at(&station, time, ra, dec),
-        )
+        self.places
+            .has_live(self.observations.as_slice(), station, time, ra, dec)
+    }
+
+    /// Whether a live observation has the place of each line's observation: an answer for each line, after those that
+    /// are there. A line without an observation has no place. All are asked for at once: what one needs of the memory
+    /// comes while others are asked for. It takes no memory: there is room for the answers.
+    pub fn have_live(&self, lines: &[Line], live: &mut Vec<bool>)
+        requires { vec_len live.old + length lines.now ≤ vec_capacity live.old }
+        ensures live { live.new.items
+            ≡ live.old.items ++ map (is_live_line (has_live self.now.observations)) lines.now }
+        ensures capacity { vec_capacity live.new ≡ vec_capacity live.old }
+    {
+        self.places
+            .have_live(self.observations.as_slice(), lines, live);
     }
 
     /// What was observed; None exactly for what isn't there.

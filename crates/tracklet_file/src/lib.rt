@@ -9,6 +9,7 @@
 //! change takes any.
 #![tactic(auto)]
 
+mod asking;
 mod chain;
 mod counting;
 mod file;

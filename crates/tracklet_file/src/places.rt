@@ -1,23 +1,27 @@
 //! The places of observations: which of them live observations have.
 
-ghost use Rattle.std.specs.Prelude.{◌≡◌, ◌+◌, ◌<◌, ◌≤◌, ◌++◌, ◌∷◌, [], length, map, true, IfOk, OnOk, int_lt};
+ghost use Rattle.std.specs.Prelude.{◌≡◌, ◌+◌, ◌<◌, ◌≤◌, ◌++◌, ◌∷◌, [], length, map, take, true, IfOk, OnOk, int_lt};
 ghost use Rattle.std.specs.Prelude.{slice_index_or, slice_set, false};
 ghost use Rattle.std.specs.List.{list_any};
 ghost use Rattle.place_keys.specs.declared.place.PlaceKey.{PlaceKey};
 ghost use Rattle.tracklet_file.specs.declared.observation.Observation.{Observation};
-ghost use Rattle.tracklet_file.specs.Places.{counts_at, mark_of, mark_in, AscendFrom, IsIndexed};
+ghost use Rattle.tracklet_file.specs.Observations.{has_live};
+ghost use Rattle.tracklet_file.specs.Places.{counts_at, mark_of, mark_in, asked, has_mark};
+ghost use Rattle.tracklet_file.specs.Places.{AscendFrom, IsIndexed};
 
 use crate::observation::Observation;
+use angle_fixed::{Dec, Ra};
 use item_list::NoMemory;
 use mark_index::MarkIndex;
+use obs_record::{Line, Short};
 use obs_time::Instant;
-use place_keys::{PlaceKey, mixed, place_key};
+use place_keys::{PlaceKey, key_at, mixed, place_key};
 use std::alloc::Global;
 use std::marker::Model;
 
-/// So many observations may wait that don't ascend in time. They are put into the index one right after another: what
-/// each needs of the memory then comes while others are put in.
-const BLOCK: usize = 64;
+/// So many observations may wait that don't ascend in time. They are put into the index one right after another, and so
+/// many lines are asked for one right after another: what each needs of the memory then comes while others are at work.
+pub(crate) const BLOCK: usize = 64;
 
 /// Which places the live observations of a file have.
 ///
@@ -127,6 +131,60 @@ impl Places {
         self.latest < time.ns()
     }
 
+    /// Whether all that is filed is in the index.
+    #[inline]
+    pub(crate) fn none_waits(&self, filed: &[Observation]) -> bool
+        ensures { result ≡ true → length self.now.marks ≡ length filed.now }
+    {
+        self.index.len() == filed.len()
+    }
+
+    /// The mark that is asked for where the place of a line is looked for: 0 where no observation can have the place,
+    /// since the line says none, or one that is later than all that is filed.
+    #[inline]
+    pub(crate) fn mark_asked(&self, line: &Line) -> u32
+        ensures { result ≡ asked self.now.latest line.now }
+    {
+        match &line.read {
+            Ok(s) => {
+                if self.end_before(s.time) {
+                    0
+                } else {
+                    mark_of(&place_key(s))
+                }
+            }
+            Err(_) => 0,
+        }
+    }
+
+    /// Whether the index has a mark that is asked for; 0 is none.
+    #[inline]
+    pub(crate) fn has_mark(&self, mark: u32) -> bool
+        ensures { result ≡ has_mark self.now.marks mark }
+    {
+        mark != 0 && self.index.has(mark)
+    }
+
+    /// Whether a live observation has this station, time and position.
+    #[inline]
+    pub(crate) fn has_live(
+        &self,
+        filed: &[Observation],
+        station: Short,
+        time: Instant,
+        ra: Ra,
+        dec: Dec,
+    ) -> bool
+        requires { IsIndexed filed.now self.now }
+        ensures { result ≡ has_live filed.now station time ra dec }
+    {
+        // A line that comes in the order of the times is told from all that is filed by its time alone.
+        if self.end_before(time) {
+            return false;
+        }
+        self.has(filed, &key_at(&station, time, ra, dec))
+    }
+
     /// Whether a live observation has the place.
     #[inline]
     pub(crate) fn has(&self, filed: &[Observation], key: &PlaceKey) -> bool
@@ -180,8 +238,47 @@ fn enter(index: &mut MarkIndex, o: &Observation)
     }
 }
 
-/// Observations more come into the index, one after another. It takes no memory: there is room.
+/// What the index has for an observation: the mark of its place where it is live, else 0 for none.
+#[inline]
+fn mark_in(o: &Observation) -> u32
+    ensures { result ≡ mark_in o.now }
+{
+    if o.live {
+        mark_of(&place_key(&o.sighting))
+    } else {
+        0
+    }
+}
+
+/// What the index has for each of these observations, and zeros after that.
+fn marks_in(waiting: &[Observation]) -> [u32; BLOCK]
+    requires { length waiting.now ≤ BLOCK }
+    ensures length { length result ≡ BLOCK }
+    ensures marks { take (length waiting.now) result ≡ map mark_in waiting.now }
+{
+    let mut marks = [0; BLOCK];
+    for place in 0..waiting.len() {
+        marks[place] = mark_in(&waiting[place]);
+    }
+    marks
+}
+
+/// Observations more come into the index. It takes no memory: there is room.
 fn mark_all(index: &mut MarkIndex, waiting: &[Observation])
+    requires { length waiting.now ≤ index.old.room }
+    ensures marks { index.new.marks ≡ index.old.marks ++ map mark_in waiting.now }
+    ensures room { index.new.room + length waiting.now ≡ index.old.room }
+{
+    if waiting.len() <= BLOCK {
+        let marks = marks_in(waiting);
+        index.push_all(&marks[..waiting.len()]);
+        return;
+    }
+    enter_all(index, waiting);
+}
+
+/// Observations more come into the index, one after another. It takes no memory: there is room.
+fn enter_all(index: &mut MarkIndex, waiting: &[Observation])
     requires { length waiting.now ≤ index.old.room }
     ensures marks { index.new.marks ≡ index.old.marks ++ map mark_in waiting.now }
     ensures room { index.new.room + length waiting.now ≡ index.old.room }

@@ -1,6 +1,6 @@
 use Rattle.std.proofs.Common.{◌≡◌, ◌+◌, ◌++◌, take, map}
 use Rattle.tracklet_file.specs.Places.{mark_in}
-use Rattle.tracklet_file.proofs.places.mark_all.Given as goal
+use Rattle.tracklet_file.proofs.places.enter_all.Given as goal
 
 abbrev pub invariant-loop-o : goal.invariant-loop-o
 invariant-loop-o l = record {

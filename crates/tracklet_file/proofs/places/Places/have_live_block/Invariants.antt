@@ -1,0 +1,10 @@
+use Rattle.std.proofs.Common.{◌≡◌, ◌++◌, take, map}
+use Rattle.std.specs.Prelude.{vec_capacity}
+use Rattle.tracklet_file.specs.Observations.{has_live, is_live_line}
+use Rattle.tracklet_file.proofs.places.Places.have_live_block.Given as goal
+
+abbrev pub invariant-loop-place : goal.invariant-loop-place
+invariant-loop-place l = record {
+  live : l.live.items ≡ l.fn.live.items ++ map (is_live_line (has_live l.filed)) (take l.place l.block);
+  capacity : vec_capacity l.live ≡ vec_capacity l.fn.live;
+}
