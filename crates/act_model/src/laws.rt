@@ -35,6 +35,8 @@ ghost use Rattle.packed_names.specs.declared.number.Number.{Number};
 ghost use Rattle.packed_names.specs.Ranges.{IsNumber, IsDesignation};
 ghost use Rattle.obs_record.specs.declared.short.Short.{Short};
 ghost use Rattle.obs_record.specs.Filed.{IsTrackName, IsFiled};
+ghost use Rattle.obs_record.specs.declared.line.Line.{Line};
+ghost use Rattle.act_model.specs.Taken.{taken_with};
 ghost use Rattle.station_tables.specs.declared.kind.Kind.{Kind};
 ghost use Rattle.station_tables.specs.Codes.{letter_of};
 ghost use Rattle.station_tables.specs.Letters.{IsLetterOf};
@@ -233,6 +235,11 @@ pub fn kept_replies_stay()
         step founder limit past request first ≡ (Done text, entry ∷ past) →
         IsLegal founder later → Extends (entry ∷ past) later →
         step founder other later request again ≡ (Done text, later) }
+{}
+
+/// Where nothing was found of the lines of a batch, none is taken in.
+pub fn nothing_found()
+    ensures { (lines : List Line) → taken_with lines [] ≡ [] }
 {}
 
 /// Each accepted observation stands in exactly one place: isolated, in one object, or retracted. The home of a

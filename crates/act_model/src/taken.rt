@@ -1,7 +1,7 @@
 //! The observation lines of a batch, as the office took them in.
 
 ghost use Rattle.std.specs.Prelude.{◌≡◌, ◌≤◌, ◌<◌, ◌++◌, length, is_ok, Result, IfOk, OnOk, option_to_list};
-ghost use Rattle.std.specs.Prelude.{slice_index_or};
+ghost use Rattle.std.specs.Prelude.{slice_index_or, ◌∷◌, ◌+◌, drop};
 ghost use Rattle.obs_record.specs.declared.line.Line.{Line as Line};
 ghost use Rattle.obs_record.specs.declared.rule.RuleCode.{RuleCode as RuleCode};
 ghost use Rattle.act_model.specs.declared.taken.Placing.{Placing as Placing};
@@ -199,7 +199,8 @@ impl TakenLines {
     #[inline]
     pub fn at(&self, place: usize) -> TakenLine<'_>
         requires { place < length self.now }
-        ensures { (d : Taken) → result ≡ slice_index_or self.now place d }
+        ensures line { (d : Taken) → result ≡ slice_index_or self.now place d }
+        ensures left { drop place self.now ≡ result ∷ drop (place + 1) self.now }
     {
         taken_at(self.lines.as_slice(), self.found.as_slice(), place)
     }

@@ -21,6 +21,12 @@ use std::alloc::Global;
 /// As many bytes as the longest answer to a line has: three words, three numbers of twenty digits, and a line feed.
 const LINE_BYTES: usize = 78;
 
+// As many bytes as the receipt and the counts of the answer to a batch have at most.
+const ANSWER_ROOM: usize = 64;
+
+// As many bytes as the answer to a line has as a rule.
+const LINE_ROOM: usize = 40;
+
 /// The answer to a line while it is made. It is put to the others at once, since each piece that is put there costs a
 /// question for room.
 type LineText = ArrayString<LINE_BYTES>;
@@ -167,7 +173,11 @@ pub fn batch_answer(
     ensures { IfOk result (λ text. text ≡ batch_answer receipt before lines.now) }
 {
     let accepted = lines.accepted();
-    let mut out = Bytes::new(alloc);
+    let room = lines
+        .len()
+        .saturating_mul(LINE_ROOM)
+        .saturating_add(ANSWER_ROOM);
+    let mut out = Bytes::with_capacity(alloc, room)?;
     push_receipt_line(&mut out, receipt)?;
     push_counts_line(&mut out, accepted, lines.len() as u64 - accepted)?;
     push_line_answers(&mut out, lines, before)?;

@@ -1,6 +1,5 @@
-use Rattle.std.proofs.Common.{◌≡◌, ℕ, ◌<◌, ◌+◌, ◌∷◌, ◌++◌, List, Option, Result, Ok, Err, drop, length, refl, sym, ap, ◌∙◌, append_assoc, arith}
+use Rattle.std.proofs.Common.{◌≡◌, ℕ, ◌+◌, ◌∷◌, ◌++◌, List, Option, Result, Ok, Err, drop, refl, sym, ap, ◌∙◌, append_assoc}
 use Rattle.std.specs.Prelude.{option_to_list}
-use Rattle.std.proofs.lemmas.List.{drop_more}
 use Rattle.obs_record.specs.declared.rule.RuleCode.{RuleCode}
 use Rattle.act_model.specs.declared.reply.Fault.{Fault}
 use Rattle.act_model.specs.declared.taken.Placed.{Placed}
@@ -16,12 +15,9 @@ first_fault line (Err rule) rest = refl
 
 pub loop-place-preserved : goal.loop-place-preserved
 loop-place-preserved c =
-    let within : c.loop-place.place < length c.args.lines.now = omega (arith, c.loop-place-test.true, c.len-place-end.ensures) in
     let rest = drop (c.loop-place.place + 1) c.args.lines.now in
-    let step : drop c.loop-place.place c.args.lines.now ≡ c.at.result ∷ rest =
-    drop_more c.args.lines.now c.loop-place.place c.at.result within ∙ ap (λ (taken : Taken). taken ∷ rest) (sym (c.at.ensures c.at.result)) in
     ap (λ (faults : List Fault). faults ++ faults_in rest) (c.in_ok-push_fault.ensures ∙ ap (λ (fault : Option Fault). c.loop-place.faults ++ option_to_list fault) c.fault_in.ensures)
     ∙ append_assoc c.loop-place.faults (option_to_list (fault_with c.at.result.line c.at.result.found)) (faults_in rest)
     ∙ ap (λ (faults : List Fault). c.loop-place.faults ++ faults) (sym (first_fault c.at.result.line c.at.result.found rest))
-    ∙ ap (λ (left : List Taken). c.loop-place.faults ++ faults_in left) (sym step)
+    ∙ ap (λ (left : List Taken). c.loop-place.faults ++ faults_in left) (sym c.at.ensures.left)
     ∙ c.loop-place.invariant
