@@ -1,6 +1,7 @@
 //! Batches that are judged for an office in memory.
 
 ghost use Rattle.std.specs.Prelude.{◌≡◌};
+ghost use Rattle.tracklet_file.specs.Observations.{is_live_line};
 ghost use Rattle.batch_rules.specs.Memory.{order_of_2024, memory_office};
 
 use act_model::Known;
@@ -38,11 +39,27 @@ pub const LIVE: i64 = 1_600_000_000_000_000_000;
 /// has one live observation, and asks for its time alone.
 struct Office;
 
+// Whether the office's live observation has the time of a line's observation.
+fn is_live_line(line: &Line) -> bool
+    ensures { result ≡ is_live_line memory_office.has_live line.now }
+{
+    match &line.read {
+        Ok(s) => s.time.ns() == LIVE,
+        Err(_) => false,
+    }
+}
+
 impl Known for Office {
     ghost office = { λ o. memory_office };
 
     fn has_live(&self, _station: Short, time: Instant, _ra: Ra, _dec: Dec) -> bool {
         time.ns() == LIVE
+    }
+
+    fn have_live(&self, lines: &[Line], live: &mut Vec<bool>) {
+        for line in lines {
+            live.push_reserved(is_live_line(line));
+        }
     }
 
     fn stands_for(&self, name: Name) -> Option<Designation> {

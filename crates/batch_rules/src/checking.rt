@@ -3,7 +3,7 @@
 ghost use Rattle.std.specs.Prelude.{◌≡◌, [], map, IfOk};
 ghost use Rattle.act_model.specs.BatchRules.{checked_reading, with_passed, checked_lines, passed_in};
 ghost use Rattle.batch_rules.specs.Earlier.{pointed, reading_of, line_of};
-ghost use Rattle.batch_rules.specs.Live.{is_live_reading, is_live_line};
+ghost use Rattle.tracklet_file.specs.Observations.{is_live_reading, is_live_line};
 
 use crate::earlier::Earlier;
 use crate::found_rows::Rows;
@@ -33,7 +33,7 @@ fn checked_reading<'a, V: Known>(
     is_live: bool,
     read: &'a Result<Sighting, RuleCode>,
 ) -> Result<Result<&'a Sighting, RuleCode>, NoMemory>
-    requires { is_live ≡ is_live_reading (V.office known.now) read.now }
+    requires { is_live ≡ is_live_reading (V.office known.now).has_live read.now }
     ensures read { IfOk result (λ checked. reading_of checked
         ≡ checked_reading (V.office known.now) rows.old moment earlier.old read.now) }
     ensures earlier { IfOk result (λ checked. earlier.new ≡ with_passed (reading_of checked) earlier.old) }
@@ -53,26 +53,13 @@ fn checked_reading<'a, V: Known>(
     }
 }
 
-// Whether a live observation has the place of a line's observation. A line without one has no place.
-#[inline]
-fn is_live_line<V: Known>(known: &V, line: &Line) -> bool
-    ensures { result ≡ is_live_reading (V.office known.now) line.now.read }
-{
-    match &line.read {
-        Ok(s) => known.has_live(s.station, s.time, s.ra, s.dec),
-        Err(_) => false,
-    }
-}
-
-// Whether a live observation has the place of each line's observation. They are asked for one right after another,
-// before all else: what one needs of the memory then comes while others are asked for.
+// Whether a live observation has the place of each line's observation. All are asked for at once, before all else: what
+// one needs of the memory then comes while others are asked for.
 fn live_lines<V: Known>(alloc: Global, known: &V, lines: &[Line]) -> Result<Vec<bool>, NoMemory>
-    ensures { IfOk result (λ live. live.items ≡ map (is_live_line (V.office known.now)) lines.now) }
+    ensures { IfOk result (λ live. live.items ≡ map (is_live_line (V.office known.now).has_live) lines.now) }
 {
     let mut live = Vec::with_capacity(alloc, lines.len())?;
-    for line in lines {
-        live.push_reserved(is_live_line(known, line));
-    }
+    known.have_live(lines, &mut live);
     Ok(live)
 }
 

@@ -5,15 +5,15 @@ use Rattle.obs_record.specs.declared.line.Line.{Line}
 use Rattle.obs_record.specs.declared.sighting.Sighting.{Sighting}
 use Rattle.obs_record.specs.declared.rule.RuleCode.{RuleCode}
 use Rattle.station_tables.specs.Rows.{TableRows}
+use Rattle.tracklet_file.specs.Observations.{is_live_line}
 use Rattle.act_model.specs.BatchRules.{checked_reading, with_passed, checked_lines, passed_in}
 use Rattle.batch_rules.specs.Earlier.{reading_of, line_of}
-use Rattle.batch_rules.specs.Live.{is_live_line}
 use Rattle.batch_rules.proofs.Passed.{passed_more}
 use Rattle.batch_rules.proofs.checking.checked_lines.Goals as goal
 
 pub checked_reading-requires : goal.checked_reading-requires
 checked_reading-requires g c =
-    let is_live = is_live_line (g.V.Known.office c.args.known.now) in
+    let is_live = is_live_line (g.V.Known.office c.args.known.now).has_live in
     let place = c.loop-place.place in
     c.index.ensures
     ∙ ap (λ (live : List Bool). get_or live place c.index.result.now) c.in_ok-live.ensures
