@@ -1,41 +1,35 @@
 -- The lines of a batch as they are taken in, and as they are filed.
 use Rattle.std.proofs.Common.{◌≡◌, ℕ, ◌+◌, ◌<◌, ◌≤◌, min, List, [], ◌∷◌, ◌++◌, length, drop, refl, sym, ap, ◌∙◌, arith}
-use Rattle.std.specs.Prelude.{Result, slice_index_or}
+use Rattle.std.specs.Prelude.{Result}
 use Rattle.std.proofs.lemmas.Bool.Decides.{nat_tests}
-use Rattle.std.proofs.lemmas.List.{drop_all, drop_more}
+use Rattle.std.proofs.lemmas.List.{drop_all}
 use Rattle.std.proofs.lemmas.List.Sums.{sum_by-cons}
 use Rattle.obs_record.specs.declared.line.Line.{Line}
 use Rattle.obs_record.specs.declared.rule.RuleCode.{RuleCode}
 use Rattle.act_model.specs.declared.ruling.Ruling.{Ruling}
-use Rattle.act_model.specs.declared.taken.Placed.{Placed}
 use Rattle.act_model.specs.declared.taken.Placing.{Placing}
 use Rattle.act_model.specs.declared.taken.Taken.{Taken}
 use Rattle.act_model.specs.Known.{KnownOffice}
-use Rattle.act_model.specs.Taken.{placed_by, taken_with, taken_line, taken_lines, tracks_with, accepted_in}
+use Rattle.act_model.specs.Taken.{placed_by, taken_by, taken_with, taken_line, taken_lines, tracks_with, accepted_in}
 use Rattle.desk_core.specs.Holding.{is_added}
 
 -- ---- taken in
 
--- where nothing is found, no line is taken in
-pub none_found : (lines : List Line) → taken_with lines [] ≡ []
-none_found [] = refl
-none_found (line ∷ lines) = refl
-
 -- what is found next is of the next line
-pub one_more : (lines : List Line) (list : List (Result Placing RuleCode)) (line : Line) (left : List Line) (found : Result Placing RuleCode) (rest : List Taken) → drop (length list) lines ≡ line ∷ left
-    → taken_with lines (list ++ found ∷ []) ++ rest ≡ taken_with lines list ++ record { line = line.number; found = placed_by line.read found } ∷ rest
-one_more [] [] line left found rest is = absurd cc
-one_more [] (first ∷ list) line left found rest is = absurd cc
-one_more (next ∷ lines) [] line left found rest is = grind (arith, none_found)
-one_more (next ∷ lines) (first ∷ list) line left found rest is = ap (λ (more : List Taken). record { line = next.number; found = placed_by next.read first } ∷ more) (one_more lines list line left found rest is)
+pub one_more : (none : (lines : List Line) → taken_with lines [] ≡ []) (lines : List Line) (list : List (Result Placing RuleCode)) (line : Line) (left : List Line) (found : Result Placing RuleCode) (rest : List Taken) → drop (length list) lines ≡ line ∷ left
+    → taken_with lines (list ++ found ∷ []) ++ rest ≡ taken_with lines list ++ taken_by line found ∷ rest
+one_more none [] [] line left found rest is = absurd cc
+one_more none [] (first ∷ list) line left found rest is = absurd cc
+one_more none (next ∷ lines) [] line left found rest is = grind (arith, none)
+one_more none (next ∷ lines) (first ∷ list) line left found rest is = ap (λ (more : List Taken). taken_by next first ∷ more) (one_more none lines list line left found rest is)
 
 -- a line with the ruling on it, and those that are left after it
 pub next_taken : (known : KnownOffice) (before now after : ℕ) (lines left : List Line) (line : Line) (all rulings : List Ruling) (ruling : Ruling) (found : Result Placing RuleCode)
-    → lines ≡ line ∷ left → all ≡ ruling ∷ rulings → placed_by line.read found ≡ (taken_line known before now line ruling).found → after ≡ tracks_with now (placed_by line.read found)
-    → record { line = line.number; found = placed_by line.read found } ∷ taken_lines known before after left rulings ≡ taken_lines known before now lines all
+    → lines ≡ line ∷ left → all ≡ ruling ∷ rulings → taken_by line found ≡ taken_line known before now line ruling → after ≡ tracks_with now (placed_by line.read found)
+    → taken_by line found ∷ taken_lines known before after left rulings ≡ taken_lines known before now lines all
 next_taken known before now after lines left line all rulings ruling found is are taken tracks =
-    ap (λ (n : ℕ). record { line = line.number; found = placed_by line.read found } ∷ taken_lines known before n left rulings) tracks
-    ∙ ap (λ (became : Result Placed RuleCode). record { line = line.number; found = became } ∷ taken_lines known before (tracks_with now became) left rulings) taken
+    ap (λ (n : ℕ). taken_by line found ∷ taken_lines known before n left rulings) tracks
+    ∙ ap (λ (became : Taken). became ∷ taken_lines known before (tracks_with now became.found) left rulings) taken
     ∙ ap (λ (some : List Ruling). taken_lines known before now (line ∷ left) some) (sym are)
     ∙ ap (λ (some : List Line). taken_lines known before now some all) (sym is)
 
@@ -50,10 +44,6 @@ none_left known before now place lines rulings past = grind (arith, nat_tests, d
 
 -- ---- filed
 
--- the line at a place, and those that are left after it
-pub left_at : (lines : List Taken) (place : ℕ) (taken : Taken) → place < length lines → ((d : Taken) → taken ≡ slice_index_or lines place d) → drop place lines ≡ taken ∷ drop (place + 1) lines
-left_at lines place taken there is = drop_more lines place taken there ∙ ap (λ (at : Taken). at ∷ drop (place + 1) lines) (sym (is taken))
-
 -- how many are accepted from a place on
-pub accepted_at : (lines : List Taken) (place : ℕ) (taken : Taken) → place < length lines → ((d : Taken) → taken ≡ slice_index_or lines place d) → accepted_in (drop place lines) ≡ is_added taken + accepted_in (drop (place + 1) lines)
-accepted_at lines place taken there is = ap accepted_in (left_at lines place taken there is) ∙ sum_by-cons is_added taken (drop (place + 1) lines)
+pub accepted_at : (lines : List Taken) (place : ℕ) (taken : Taken) → drop place lines ≡ taken ∷ drop (place + 1) lines → accepted_in (drop place lines) ≡ is_added taken + accepted_in (drop (place + 1) lines)
+accepted_at lines place taken left = ap accepted_in left ∙ sum_by-cons is_added taken (drop (place + 1) lines)

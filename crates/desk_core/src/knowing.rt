@@ -3,7 +3,7 @@
 use crate::office::Core;
 use act_model::Known;
 use angle_fixed::{Dec, Ra};
-use obs_record::Short;
+use obs_record::{Line, Short};
 use obs_time::Instant;
 use packed_names::{Designation, Name};
 
@@ -15,6 +15,10 @@ impl Known for Core {
 
     fn has_live(&self, station: Short, time: Instant, ra: Ra, dec: Dec) -> bool {
         self.held().has_live(station, time, ra, dec)
+    }
+
+    fn have_live(&self, lines: &[Line], live: &mut Vec<bool>) {
+        self.held().have_live(lines, live);
     }
 
     fn stands_for(&self, name: Name) -> Option<Designation> {

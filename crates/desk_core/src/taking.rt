@@ -2,7 +2,7 @@
 
 ghost use Rattle.std.specs.Prelude.{◌≡◌, ◌+◌, ◌<◌, ◌≤◌, ◌^◌, length, IfOk};
 ghost use Rattle.act_model.specs.Taken.{first_home, track_of_group, found_in, taken_line, tracks_with};
-ghost use Rattle.act_model.specs.Taken.{placed_by, taken_lines};
+ghost use Rattle.act_model.specs.Taken.{placed_by, taken_by, taken_lines};
 ghost use Rattle.desk_core.specs.Office.{IsTracked, AreTracked};
 
 use act_model::{Known, Placing, Ruling, TakenLines, name_of};
@@ -55,8 +55,7 @@ fn taken_line<V: Known>(
 ) -> Result<Placing, RuleCode>
     requires before { before + 2 ^ 32 < 2 ^ 64 }
     requires now { now + 1 < 2 ^ 64 }
-    ensures taken { placed_by line.now.read result
-        ≡ (taken_line (V.office known.now) before now line.now ruling.now).found }
+    ensures taken { taken_by line.now result ≡ taken_line (V.office known.now) before now line.now ruling.now }
     ensures tracked { IsTracked now (placed_by line.now.read result) }
 {
     let track = (before + u64::from(ruling.group) + 1).min(now + 1);
@@ -96,6 +95,7 @@ pub fn taken_lines<V: Known>(
         taken ≡ taken_lines (V.office known.now) tracks tracks lines rulings.now) }
     ensures tracked { IfOk result (AreTracked tracks) }
 {
+    act_model::laws::nothing_found();
     let count = lines.as_slice().len().min(rulings.len());
     let mut list = ItemList::with_capacity(alloc, count)?;
     let mut now = tracks;
