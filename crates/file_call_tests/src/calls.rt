@@ -1,5 +1,6 @@
 //! Calls on the file of observations and tracklets and on plain lists of them, and whether both answer alike.
 
+pub(crate) mod lines;
 pub(crate) mod plain;
 
 use file_calls::{ENTRY, HOME, begin_track, counts, name, observe, retract, seen, set_home};

@@ -1,5 +1,6 @@
 //! Many observations whose times are in no order, and whether the file finds their places as a plain list does.
 
+use crate::calls::lines::live_lines;
 use crate::calls::plain::Plain;
 use file_calls::{ENTRY, begin_track, observe, retract, seen};
 use item_list::NoMemory;
@@ -23,8 +24,9 @@ fn add(file: &mut TrackletFile, plain: &mut Plain, number: u32) -> Result<(), No
     }
 }
 
-// How many of the times from 0 to 159 have a live observation; None where the two forms don't agree on each.
-fn places(file: &TrackletFile, plain: &Plain) -> Option<u32> {
+// How many of the times from 0 to 159 have a live observation, and how many of as many lines of those times, each third
+// of which says none; None where the two forms don't agree on each.
+fn places(alloc: Global, file: &TrackletFile, plain: &Plain) -> Option<(u32, usize)> {
     let mut found = 0u32;
     for ns in 0..160 {
         let s = seen(ns)?;
@@ -34,7 +36,7 @@ fn places(file: &TrackletFile, plain: &Plain) -> Option<u32> {
         }
         found = found.wrapping_add(live as u32);
     }
-    Some(found)
+    Some((found, live_lines(alloc, file, plain, 160)?))
 }
 
 fn add_all(file: &mut TrackletFile, plain: &mut Plain, from: u32, to: u32) -> Result<(), NoMemory> {
@@ -45,27 +47,38 @@ fn add_all(file: &mut TrackletFile, plain: &mut Plain, from: u32, to: u32) -> Re
 }
 
 // How many places are found after 100 observations, after all, after every third is retracted, and after 20 of them, of
-// which 7 are retracted, are added once more. The room for all of them is taken at once, so that some wait.
-fn found(alloc: Global) -> Option<[Option<u32>; 4]> {
+// which 7 are retracted, are added once more. The room for all, and for more than those 20, is taken at once: so some
+// wait outside the index of places at first and at last, and none between.
+fn found(alloc: Global) -> Option<[Option<(u32, usize)>; 4]> {
     let mut file = TrackletFile::new(alloc).ok()?;
     let mut plain = Plain::new(alloc);
     let _track = begin_track(&mut file, None).ok()?;
-    file.reserve(200, 0).ok()?;
+    file.reserve(OBSERVATIONS, 0).ok()?;
     add_all(&mut file, &mut plain, 0, 100).ok()?;
-    let some = places(&file, &plain);
+    let some = places(alloc, &file, &plain);
     add_all(&mut file, &mut plain, 100, OBSERVATIONS).ok()?;
-    let all = places(&file, &plain);
+    let all = places(alloc, &file, &plain);
     for k in (1..OBSERVATIONS as u64).step_by(3) {
         retract(&mut file, k);
         plain.retract(k);
     }
-    let retracted = places(&file, &plain);
+    let retracted = places(alloc, &file, &plain);
+    file.reserve(40, 0).ok()?;
     add_all(&mut file, &mut plain, 0, 20).ok()?;
-    Some([some, all, retracted, places(&file, &plain)])
+    let again = places(alloc, &file, &plain);
+    Some([some, all, retracted, again])
 }
 
 #[test]
 fn places_in_no_order_are_found(rt: HostRuntime) {
     let found = found(rt.alloc());
-    assert_eq!(rt; found, Some([Some(100), Some(150), Some(100), Some(107)]));
+    assert_eq!(rt;
+        found,
+        Some([
+            Some((100, 74)),
+            Some((150, 100)),
+            Some((100, 68)),
+            Some((107, 72))
+        ])
+    );
 }
