@@ -65,7 +65,7 @@ impl MarkIndex {
         Ok(MarkIndex {
             marks: Vec::with_capacity(alloc, capacity)?,
             befores: Vec::with_capacity(alloc, capacity)?,
-            slots: vec![in alloc; Slot { head: 0, tags: 0 }; capacity.next_power_of_two()]?,
+            slots: vec![in alloc; Slot { head: 0, tags: 0 }; (capacity / 2).next_power_of_two()]?,
         })
     }
 
