@@ -21,7 +21,7 @@ use std::alloc::Global;
 /// As many bytes as the longest answer to a line has: three words, three numbers of twenty digits, and a line feed.
 const LINE_BYTES: usize = 78;
 
-// As many bytes as the receipt and the counts of the answer to a batch have at most.
+// As many bytes as the receipt and the counts of the answer to a batch have as a rule.
 const ANSWER_ROOM: usize = 64;
 
 // As many bytes as the answer to a line has as a rule.

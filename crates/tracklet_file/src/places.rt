@@ -21,7 +21,7 @@ use std::marker::Model;
 
 /// So many observations may wait that don't ascend in time. They are put into the index one right after another, and so
 /// many lines are asked for one right after another: what each needs of the memory then comes while others are at work.
-pub(crate) const BLOCK: usize = 64;
+pub(crate) const BLOCK: usize = 256;
 
 /// Which places the live observations of a file have.
 ///
