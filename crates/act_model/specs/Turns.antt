@@ -2,8 +2,8 @@
 -- act may be left in doubt, and the next act mends it first.
 use Rattle.std.specs.Prelude.{◌≡◌, ◌⊎◌, Bool, true, false, if◌then◌else◌, ℕ, ◌+◌, ◌<◌, ℤ, pos, List, [], ◌∷◌, map}
 use Rattle.std.specs.Prelude.{flat_map, filter_map, Option, Some, None, IfSome, IsSome, sum_by}
-use Rattle.desk_frames.specs.Frames.{Frame}
-use Rattle.desk_frames.specs.Replies.{reply_frame}
+use Rattle.frame_grammar.specs.Frames.{Frame}
+use Rattle.frame_grammar.specs.Replies.{reply_frame}
 use Rattle.obs_time.specs.Instants.{IsInstantNs}
 use Rattle.act_bodies.specs.declared.key.Key.{Key}
 use Rattle.act_model.specs.declared.request.Verb.{Verb}

@@ -4,8 +4,8 @@ ghost use Rattle.std.specs.Prelude.{◌≡◌, None};
 
 use act_model::{Key, Refusal, Reply, Request};
 use desk_io::{Clock, MemSink, MemSource, Sink, Source, TickClock};
+use http_connection::{Left, attend};
 use intake_lock::{Clerk, TurnLock};
-use link_desk::{Left, attend};
 use obs_time::Instant;
 use std::alloc::Global;
 use std::sync::Wait;

@@ -7,10 +7,12 @@ ghost use Rattle.desk_io.specs.Outside.{Rises, one_more};
 ghost use Rattle.desk_io.specs.Streams.{after_read, GivesOnce};
 
 use crate::{Failed, Sink, Source};
-use std::io::{Read, Write};
+use std::io;
+use std::io::{ErrorKind, Read, Write};
 use std::marker::Model;
 
-/// A source over a reader. It tells nothing of its bytes, and counts each error as a fault.
+/// A source over a reader. It tells nothing of its bytes, and counts each error as a fault. A read that was interrupted
+/// is made again.
 #[derive(Debug, Drop)]
 pub struct StreamSource<R: Read + Drop> {
     stream: Option<R>,
@@ -25,6 +27,32 @@ impl<R: Read + Drop> Model for StreamSource<R> {
     ghost Value = { StreamSourceState };
 
     ghost view = { λ s. record { is_open = is_some s.stream; faults = s.faults; reads = s.reads } };
+}
+
+// Reads once, and again after an interrupt.
+fn read_some<R: Read>(stream: &mut R, piece: &mut [u8]) -> io::Result<usize>
+    ensures { IfOk result (λ n. n ≤ length piece.old) }
+{
+    for _ in 0..u64::MAX {
+        match stream.read(piece) {
+            Err(error) if error.kind() == ErrorKind::Interrupted => {}
+            answer => return answer,
+        }
+    }
+    Err(io::Error::from(ErrorKind::Interrupted))
+}
+
+// Writes once, and again after an interrupt.
+fn write_some<W: Write>(stream: &mut W, piece: &[u8]) -> io::Result<usize>
+    ensures { IfOk result (λ n. n ≤ length piece.now) }
+{
+    for _ in 0..u64::MAX {
+        match stream.write(piece) {
+            Err(error) if error.kind() == ErrorKind::Interrupted => {}
+            answer => return answer,
+        }
+    }
+    Err(io::Error::from(ErrorKind::Interrupted))
 }
 
 impl<R: Read + Drop> StreamSource<R> {
@@ -72,7 +100,7 @@ impl<R: Read + Drop> Source for StreamSource<R> {
             return Ok(0);
         };
         if self.reads > 0 {
-            if let Ok(count) = stream.read(piece) {
+            if let Ok(count) = read_some(stream, piece) {
                 if count > 0 {
                     self.reads -= 1;
                 }
@@ -97,7 +125,7 @@ impl<R: Read + Drop> Source for StreamSource<R> {
 }
 
 /// A sink over a writer. It tells nothing of its bytes, and counts each error as a fault; so it does
-/// where the writer takes nothing of a piece that isn't empty.
+/// where the writer takes nothing of a piece that isn't empty. A write that was interrupted is made again.
 #[derive(Debug, Drop)]
 pub struct StreamSink<W: Write + Drop> {
     stream: Option<W>,
@@ -146,7 +174,7 @@ impl<W: Write + Drop> Sink for StreamSink<W> {
         ensures stays { self.new.is_open ≡ self.old.is_open }
     {
         if let Some(stream) = &mut self.stream {
-            if let Ok(count) = stream.write(piece) {
+            if let Ok(count) = write_some(stream, piece) {
                 if count > 0 || piece.is_empty() {
                     return Ok(count);
                 }

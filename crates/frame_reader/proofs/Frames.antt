@@ -2,7 +2,7 @@
 use Rattle.std.proofs.Common.{◌≡◌, ℕ, ◌+◌, ◌<◌, inr, List, [], ◌++◌, length, Option, refl, sym, ap, subst, ◌∙◌, append_assoc, arith}
 use Rattle.std.proofs.lemmas.List.{append-nil, length-append}
 use Rattle.desk_io.specs.Reads.{Passes, Comes, Comes-weaker, Comes-trans}
-use Rattle.desk_frames.specs.Frames.{IsFrame, framed, frame_of, NoFrame, NeverFrame, NoHead, HeadParts, IsHead, headed}
+use Rattle.frame_grammar.specs.Frames.{IsFrame, framed, frame_of, NoFrame, NeverFrame, NoHead, HeadParts, IsHead, headed}
 use Rattle.frame_reader.specs.declared.frame.Ending.{Ending}
 use Rattle.frame_reader.specs.declared.frame.FrameBody.{FrameBody}
 use Rattle.frame_reader.specs.declared.frame.ReadFrame.{ReadFrame}

@@ -2,7 +2,7 @@
 use Rattle.std.proofs.Common.{◌≡◌, ℕ, ◌+◌, List, ◌++◌, length, drop, Option, sym, subst}
 use Rattle.std.specs.Io.KnownBytes.{IsAtEnd}
 use Rattle.desk_io.specs.Reads.{Passes, Comes}
-use Rattle.desk_frames.specs.Frames.{NoFrame}
+use Rattle.frame_grammar.specs.Frames.{NoFrame}
 use Rattle.read_ahead.specs.Reading.{ReadsOnce}
 use Rattle.read_ahead.specs.Growing.{nothing_more, Grows, of_last}
 use Rattle.frame_reader.specs.declared.frame.Ending.{Ending}

@@ -5,7 +5,7 @@ use Rattle.std.proofs.KnownBytes.{Appends-trans}
 use Rattle.std.specs.Io.KnownBytes.{Appends}
 use lib.Seq.{take-add}
 use Rattle.desk_io.specs.Outside.{AppendsPart}
-use Rattle.desk_frames.specs.Replies.{reply_frame}
+use Rattle.frame_grammar.specs.Replies.{reply_frame}
 
 -- the bytes of a head
 abbrev pub reply_head : ℕ → ℕ → List ℕ

@@ -4,8 +4,8 @@ use Rattle.std.specs.Prelude.{◌≡◌, ℕ, ◌<◌, ◌≤◌, ◌⊎◌, Lis
 use Rattle.std.specs.declared.option.Option.{Option}
 use Rattle.std.specs.Io.KnownBytes.{IsAtEnd}
 use Rattle.desk_io.specs.Outside.{Rises}
-use Rattle.desk_frames.specs.declared.TheConstants.{HEAD_BYTES}
-use Rattle.desk_frames.specs.Frames.{Frame, IsFrame, framed, NoFrame, NeverFrame, HeadParts, IsHead, headed}
+use Rattle.frame_grammar.specs.declared.TheConstants.{HEAD_BYTES}
+use Rattle.frame_grammar.specs.Frames.{Frame, IsFrame, framed, NoFrame, NeverFrame, HeadParts, IsHead, headed}
 use Rattle.read_ahead.specs.declared.cut.Cut.{Cut}
 use Rattle.read_ahead.specs.declared.cut.Cut.TheVariants as cuts
 use Rattle.read_ahead.specs.Reading.{IsTextRead, IsCut}

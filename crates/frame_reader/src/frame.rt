@@ -1,7 +1,7 @@
 //! Frames that were read, and why none was.
 
 use arrayvec::ArrayVec;
-use desk_frames::{KEY_BYTES, VERB_BYTES};
+use frame_grammar::{KEY_BYTES, VERB_BYTES};
 use item_list::Bytes;
 use read_ahead::Cut;
 

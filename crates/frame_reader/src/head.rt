@@ -4,7 +4,7 @@ ghost use Rattle.std.specs.Prelude.{◌≡◌, ◌≤◌, length};
 ghost use Rattle.frame_reader.specs.Frames.{ReadsFront};
 
 use arrayvec::ArrayVec;
-use desk_frames::{Front, KEY_BYTES, VERB_BYTES, laws, read_head};
+use frame_grammar::{Front, KEY_BYTES, VERB_BYTES, laws, read_head};
 
 /// The head of a frame.
 #[derive(Debug, Drop)]

@@ -3,7 +3,7 @@
 ghost use Rattle.std.specs.Prelude.{◌≡◌, ◌≢◌, ℕ, ◌<◌, ◌≤◌, List, [], ◌++◌, Option, IfOk, OnOk};
 ghost use Rattle.std.specs.Io.KnownBytes.{IsAtEnd};
 ghost use Rattle.desk_io.specs.Reads.{Comes};
-ghost use Rattle.desk_frames.specs.Frames.{NoFrame};
+ghost use Rattle.frame_grammar.specs.Frames.{NoFrame};
 ghost use Rattle.frame_reader.specs.Reading.{AwaitsFrame, LacksText, work};
 ghost use Rattle.frame_reader.specs.Frames.{ReadsFrame, OnFrame, Counts, Ends, Counted, IfKept, ReadsHead};
 ghost use Rattle.frame_reader.specs.Frames.{ReadsBody, ReadsWhole};
@@ -11,8 +11,8 @@ ghost use Rattle.frame_reader.specs.Frames.{ReadsBody, ReadsWhole};
 use crate::BODY_BYTES;
 use crate::frame::{Ending, FrameBody, NextFrame, ReadFrame};
 use crate::head::{HeldFront, HeldHead, held_front};
-use desk_frames::laws;
 use desk_io::{Failed, NoMemory, Source};
+use frame_grammar::laws;
 use read_ahead::{Cut, ReadAhead};
 use std::alloc::Global;
 use std::marker::Model;

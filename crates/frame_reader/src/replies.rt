@@ -3,7 +3,7 @@
 ghost use Rattle.std.specs.Prelude.{◌≡◌, ◌≤◌, [], ◌∷◌, ◌++◌, OnOk, OnErr, decimal};
 ghost use Rattle.std.specs.Io.KnownBytes.{Appends};
 ghost use Rattle.desk_io.specs.Outside.{Rises, AppendsPart};
-ghost use Rattle.desk_frames.specs.Replies.{reply_frame};
+ghost use Rattle.frame_grammar.specs.Replies.{reply_frame};
 
 use arrayvec::ArrayVec;
 use ascii_text::writing::put_decimal;

@@ -1,6 +1,6 @@
 //! Heads at the front of bytes, and replies as frames.
 
-use desk_frames::{Front, put_reply, read_head};
+use frame_grammar::{Front, put_reply, read_head};
 use std::alloc::{AllocError, Global};
 use std::test::Fail;
 

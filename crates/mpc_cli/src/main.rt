@@ -2,7 +2,7 @@
 //! and writes reply frames to standard output, `serve --key K --connections N` attends connections at port 8017,
 //! `export` writes the catalogue. The office stands on the journal in the current folder.
 //!
-//! `top` of program_call does all that the program does, over any source, sink, disk, clock and door, and carries the
+//! `top` of program_top does all that the program does, over any source, sink, disk, clock and door, and carries the
 //! theorem. `main` hands it the real ones.
 #![tactic(auto)]
 
@@ -14,8 +14,8 @@ ghost use Rattle.command_ends.specs.Statuses.{number_of};
 use desk_io::{NoMemory, StreamSink, StreamSource, SystemClock, TcpDoor};
 use disk_model::FileDisk;
 use item_list::Bytes;
-pub use program_call::top::{single, top};
-pub use program_call::{Ended, Left, Status, Words, answer_one, attend, model};
+pub use program_top::top::{single, top};
+pub use program_top::{Ended, Left, Status, Words, answer_one, attend, model};
 use std::alloc::Global;
 use std::env;
 use std::io::ErrorKind;

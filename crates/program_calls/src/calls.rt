@@ -2,11 +2,11 @@
 
 use crate::links::{End, Sent, door_of, wrong_end};
 use desk_io::{Clock, Door, MemSink, MemSource, NoMemory, Sink, Source, TcpDoor, TickClock};
-use desk_serve::LinkEnds;
 use disk_model::{Disk, MemDisk};
 use obs_time::Instant;
-use program_call::top::{single, top};
-use program_call::{Ended, Words};
+use program_top::top::{single, top};
+use program_top::{Ended, Words};
+use serve_command::LinkEnds;
 use session_calls::{Call, Found, Wrong, words_of};
 use std::alloc::Global;
 use std::net::{Net, TcpListener, TcpStream};

@@ -10,4 +10,4 @@ mod links;
 
 pub use calls::{call_over_links, call_over_port, call_single, call_top};
 pub use links::{End, Sent, Took, wrong_end};
-pub use program_call::Left;
+pub use program_top::Left;

@@ -1,8 +1,8 @@
 //! The links of `serve`, and how they end.
 
 use desk_io::{MemDoor, MemSink, MemSource, NoMemory};
-use desk_serve::LinkEnds;
-use program_call::Left;
+use program_top::Left;
+use serve_command::LinkEnds;
 use std::alloc::Global;
 
 /// A sink of a link that tells what it took.

@@ -6,10 +6,10 @@ use command_ends::{Ended, Status};
 use command_line::{Command, Words, command_of};
 use desk_io::{Clock, MemSink, MemSource, Sink, Source, TickClock};
 use disk_model::{Disk, MemDisk};
-use export_desk::export;
-use frame_desk::run;
+use export_command::export;
 use item_list::Bytes;
 use obs_time::Instant;
+use run_command::run;
 use std::alloc::Global;
 
 /// A call of the program: what it is given, and what is wanted of it.

@@ -4,9 +4,9 @@ ghost use Rattle.std.specs.Prelude.{◌≡◌};
 
 use act_model::{Body, Keeper, Key, Reply, Request, Verb};
 use desk_io::TickClock;
+use http_connection::answer_one;
 use intake_lock::{Clerk, Pass, TurnLock};
 use item_list::Bytes;
-use link_desk::answer_one;
 use obs_time::Instant;
 use std::alloc::Global;
 use std::sync::Wait;

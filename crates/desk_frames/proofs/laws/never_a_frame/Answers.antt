@@ -1,5 +1,0 @@
-use Rattle.desk_frames.proofs.Streams.{never_no_frame, never_goes_on, never_head, never_some}
-use Rattle.desk_frames.proofs.laws.never_a_frame.Goals as goal
-
-pub returns : goal.returns
-returns c = record { now = never_no_frame; later = never_goes_on; heads = never_head; some = never_some }

@@ -1,5 +1,0 @@
-use Rattle.desk_frames.proofs.Streams.{no_head_no_frame, body_missing, no_frame_in_nothing}
-use Rattle.desk_frames.proofs.laws.no_frame_yet.Goals as goal
-
-pub returns : goal.returns
-returns c = record { head = no_head_no_frame; body = body_missing; nothing = no_frame_in_nothing }

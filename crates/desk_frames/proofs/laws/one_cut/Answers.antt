@@ -1,6 +1,0 @@
-use Rattle.desk_frames.proofs.Tokens.{one_cut}
-use Rattle.std.proofs.Common.{◌≢◌}
-use Rattle.desk_frames.proofs.laws.one_cut.Goals as goal
-
-pub returns : goal.returns
-returns c stop a b x y = one_cut (λ byte. byte ≢ stop) stop (λ byte other. other) a b x y

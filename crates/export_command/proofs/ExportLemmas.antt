@@ -1,0 +1,97 @@
+-- Writing out the catalogue of an office that was opened and is closed again as it was.
+use Rattle.std.proofs.Common.{◌≡◌, ℕ, ◌-◌, ◌<◌, true, List, ◌∷◌, Option, Some, None, refl, sym, subst, inl, inr, arith}
+use Rattle.std.specs.Prelude.{IfSome, IsSomeAnd}
+use Rattle.disk_model.specs.Counts.{Rises}
+use Rattle.act_bodies.specs.declared.key.Key.{Key}
+use Rattle.act_bodies.specs.Keys.{key_text, begins_with_plus}
+use Rattle.act_model.specs.declared.entry.Entry.{Entry}
+use Rattle.act_model.specs.declared.keeper.OfficeState.{OfficeState}
+use Rattle.act_model.specs.History.{EachNumberOnce}
+use Rattle.act_model.specs.Keepers.{RoseBy}
+use Rattle.act_model.specs.Legal.{IsLegal}
+use Rattle.act_model.specs.Places.{OnePlace}
+use Rattle.act_model.specs.Unbroken.{UnbrokenRows, UnbrokenNumbers}
+use Rattle.mpc_desk.specs.Desks.{DeskState, RestsAt, count_of}
+use Rattle.mpc_desk.specs.Files.{Stands}
+use Rattle.mpc_desk.specs.Opening.{IsDamagedDesk}
+use Rattle.command_ends.specs.declared.status.Status.{Status}
+use Rattle.command_ends.specs.declared.status.Status.TheVariants.{Done, Usage, BadFrame, DiskFault, Damaged, ReadFault, WriteFault, NoMemory, DoorFault}
+use Rattle.command_ends.specs.Disks.{DiskWords}
+use Rattle.command_ends.specs.Opening.{Opens}
+use Rattle.command_ends.specs.Statuses.{IsDoneOrNoMemory}
+use Rattle.export_command.specs.Exports.{exporter, KeepsOffice, Course, Exports, IsOwn}
+
+-- with nothing in doubt an image stands for the settled history
+stands_settled : (state : OfficeState) (image : List ℕ) → state.doubt ≡ None → RestsAt state image → Stands image state.settled
+stands_settled state image none (inl stands) = stands
+stands_settled state image none (inr stands) = absurd (subst (λ (o : Option Entry). IsSomeAnd o (λ entry. Stands image (entry ∷ state.settled))) none stands)
+
+module _ (once : (founder : Key) (history : List Entry) → IsLegal founder history → EachNumberOnce history)
+    (places : (history : List Entry) → OnePlace history) (rows : (history : List Entry) → UnbrokenRows history) (numbers : (history : List Entry) → UnbrokenNumbers history) where
+  pub keeps : {D : Type 0} (on : DiskWords D) (disk now : D) (desk : DeskState D) → Opens on exporter disk desk → now ≡ desk.disk → KeepsOffice on disk now 0 desk.state.settled
+  keeps {D} on disk now desk opens same = subst (λ (d : D). KeepsOffice on disk d 0 desk.state.settled) (sym same) (record {
+    rise = count_of (on.faults desk.disk) - count_of (on.faults disk);
+    stood = opens.stood;
+    legal = opens.legal;
+    counts = let later = opens.later in omega (arith, later);
+    images = opens.images;
+    stands = λ image leaves. stands_settled desk.state image opens.settled (opens.at_rest image leaves);
+    is_left = record {
+      entries = omega arith;
+      once = once exporter desk.state.settled opens.legal;
+      places = places desk.state.settled;
+      rows = rows desk.state.settled;
+      numbers = numbers desk.state.settled;
+    };
+  })
+
+-- ---- what follows from the ends
+
+rises_by : (a b rise : ℕ) → 0 < rise → RoseBy rise (count_of a) (count_of b) → Rises a b
+rises_by a b rise some rose = omega arith
+
+module _ {D : Type 0} (on : DiskWords D) (course : Course D) (Uncalled : Type 0) where
+  fault_rises : Exports on course Uncalled DiskFault → Rises (on.faults course.disk) (on.faults course.disk_after)
+  fault_rises (inl (uncalled, (rise, some, shut))) = rises_by (on.faults course.disk) (on.faults course.disk_after) rise some shut.counts
+  fault_rises (inr writes) = absurd writes.written
+
+  pub disk_rises : (status : Status) → Exports on course Uncalled status → status ≡ DiskFault → Rises (on.faults course.disk) (on.faults course.disk_after)
+  disk_rises status ends is = fault_rises (subst (λ (s : Status). Exports on course Uncalled s) is ends)
+
+  pub own : (status : Status) → Exports on course Uncalled status → IsOwn status
+  own Done ends = tt
+  own DiskFault ends = tt
+  own (Damaged offset) ends = tt
+  own WriteFault ends = tt
+  own NoMemory ends = tt
+  own Usage (inl ends) = ends.1
+  own Usage (inr writes) = writes.written
+  own (BadFrame offset) (inl ends) = ends.1
+  own (BadFrame offset) (inr writes) = writes.written
+  own ReadFault (inl ends) = ends.1
+  own ReadFault (inr writes) = writes.written
+  own DoorFault (inl ends) = ends.1
+  own DoorFault (inr writes) = writes.written
+
+  module _ (damage : (founder : Key) (file : List ℕ) (offset : ℕ) (history : List Entry) → IsDamagedDesk founder file offset → IsLegal founder history → Stands file history → ⊥)
+      (any_founder : (founder other : Key) (history : List Entry) → begins_with_plus (key_text other) ≡ true → IsLegal founder history → IsLegal other history)
+      (plus : begins_with_plus (key_text exporter) ≡ true)
+      (key : Key) (file : List ℕ) (history : List Entry) (reads : on.reads course.disk ≡ Some file) (stands : Stands file history) (legal : IsLegal key history) where
+    undamaged : (offset : ℕ) → Exports on course Uncalled (Damaged offset) → ⊥
+    undamaged offset (inl (uncalled, (damaged, was))) =
+        damage exporter file offset history (subst (λ (o : Option (List ℕ)). IfSome o (λ known. IsDamagedDesk exporter known offset)) reads damaged) (any_founder key exporter history plus legal) stands
+    undamaged offset (inr writes) = writes.written
+
+    pub sound : (status : Status) (offset : ℕ) → Exports on course Uncalled status → status ≡ Damaged offset → ⊥
+    sound status offset ends is = undamaged offset (subst (λ (s : Status). Exports on course Uncalled s) is ends)
+
+    pub complete : (status : Status) → Exports on course Uncalled status → (status ≡ DiskFault → ⊥) → (status ≡ WriteFault → ⊥) → IsDoneOrNoMemory status
+    complete Done ends disks writes = tt
+    complete NoMemory ends disks writes = tt
+    complete DiskFault ends disks writes = disks refl
+    complete WriteFault ends disks writes = writes refl
+    complete (Damaged offset) ends disks writes = undamaged offset ends
+    complete Usage ends disks writes = own Usage ends
+    complete (BadFrame offset) ends disks writes = own (BadFrame offset) ends
+    complete ReadFault ends disks writes = own ReadFault ends
+    complete DoorFault ends disks writes = own DoorFault ends

@@ -1,0 +1,68 @@
+-- One request asked in a turn of its own.
+use Rattle.std.proofs.Common.{◌≡◌, ℕ, ◌+◌, ℤ, List, [], ◌∷◌, ◌++◌, Option, Some, None, sym, ap, subst, ◌∙◌, arith}
+use Rattle.std.specs.Prelude.{IfSome, option_to_list}
+use Rattle.act_bodies.specs.declared.key.Key.{Key}
+use Rattle.intake_lock.specs.declared.clerk.Office.{Office}
+use Rattle.act_model.specs.declared.reply.Reply.{Reply}
+use Rattle.act_model.specs.declared.request.Request.{Request}
+use Rattle.act_model.specs.Conducts.{Extends}
+use Rattle.intake_lock.specs.declared.view.Item.{Item}
+use Rattle.intake_lock.specs.declared.view.View.{View}
+use Rattle.intake_lock.specs.Clerks.{StampsOn}
+use Rattle.intake_lock.specs.Items.{IsTrue, Noted}
+use Rattle.intake_lock.specs.Views.{seen, holding, published, idle}
+use Rattle.act_model.specs.Clocks.{ClockState, Gives}
+use Rattle.http_connection.specs.Calls.{Asks, TakesCall}
+use Rattle.http_connection.specs.Laws.{CallLaws}
+use Rattle.http_connection.proofs.Readings.{gives_none, gives_one}
+use Rattle.http_connection.proofs.Calls.{StepKnowsNoDisk, caused}
+
+module _ (before : Office) (request : Request) (reply : Reply) (after : Office) (items noted : List Item) where
+  -- an act, with the clock's next reading
+  pub asks_act : (reading : ℤ) (clock clock_after : ClockState) → Noted before request (Some reading) reply after items noted
+      → IfSome (clock.to_come 0) (λ t. reading ≡ t) → ((k : ℕ) → clock_after.to_come k ≡ clock.to_come (k + 1)) → clock_after.last ≡ reading
+      → Asks (record { office = before; items = items; clock = clock }) (record { office = after; items = noted; clock = clock_after }) request reply
+  asks_act reading clock clock_after call told later last = record { reading = Some reading; noted = call; clock = gives_one clock clock_after reading told later last }
+
+  -- a query
+  pub asks_query : (clock : ClockState) → Noted before request None reply after items noted
+      → Asks (record { office = before; items = items; clock = clock }) (record { office = after; items = noted; clock = clock }) request reply
+  asks_query clock call = record { reading = None; noted = call; clock = gives_none clock }
+
+module _ (laws : CallLaws) (never : StepKnowsNoDisk) (before : View) (ticket : ℕ) (first last : Office) (items noted : List Item) (request : Request) (reply : Reply) (clock clock_after : ClockState)
+    (founder : first.founder ≡ before.office.founder) (limit : first.limit ≡ before.office.limit) (goes_on : Extends (seen before) first.state.settled) (stamps : StampsOn before.office.stamps first.stamps) (none : items ≡ [])
+    (asks : Asks (record { office = first; items = items; clock = clock }) (record { office = last; items = noted; clock = clock_after }) request reply) where
+  -- the pass that has the turn's calls has this one more
+  taken_here : (item : Item) × (item.request ≡ request) × (item.reply ≡ reply) × TakesCall before (idle (published last noted (holding ticket first before))) clock clock_after item
+  taken_here =
+      let item = asks.noted.0 in
+      let of_item = asks.noted.2 in
+      let here = laws.here first last item of_item.calls in
+      let true_here : IsTrue before.office.founder before.office.limit last.state.settled item =
+      subst (λ (l : Option ℕ). IsTrue before.office.founder l last.state.settled item) limit (subst (λ (f : Key). IsTrue f first.limit last.state.settled item) founder here) in
+      let least = laws.longer (seen before) first.state.settled goes_on in
+      let place = laws.place first last item of_item.calls in (
+        item,
+        of_item.asked,
+        of_item.answered,
+        record {
+          mine = ap (λ (l : List Item). l ++ before.mine) (asks.noted.1 ∙ ap (λ (l : List Item). item ∷ l) none);
+          entered = first;
+          goes_on = goes_on;
+          call = of_item.calls;
+          true_of = true_here;
+          cause = caused never before.office.founder before.office.limit last.state.settled item true_here;
+          place = omega arith;
+          grows = laws.follow (seen before) first.state.settled last.state.settled goes_on (laws.grows first last item of_item.calls);
+          stamps = laws.stamps_follow before.office.stamps first.stamps last.stamps stamps (laws.stamps first last item of_item.calls);
+          clock = subst (λ (r : Option ℤ). Gives clock clock_after (option_to_list r)) (sym of_item.read) asks.clock;
+          founder = of_item.calls.founder ∙ founder;
+          limit = of_item.calls.limit ∙ limit;
+        },
+      )
+
+  pub taken : (entered turned after : View) → entered ≡ holding ticket first before → turned ≡ entered → after ≡ idle (published last noted turned)
+      → (item : Item) × (item.request ≡ request) × (item.reply ≡ reply) × TakesCall before after clock clock_after item
+  taken entered turned after enters same leaves =
+      let view : after ≡ idle (published last noted (holding ticket first before)) = leaves ∙ ap (λ (v : View). idle (published last noted v)) (same ∙ enters) in
+      subst (λ (v : View). (item : Item) × (item.request ≡ request) × (item.reply ≡ reply) × TakesCall before v clock clock_after item) (sym view) taken_here

@@ -1,0 +1,12 @@
+//! All that the program does, as one call: the words of a command line choose a command, which is done over any source,
+//! sink, disk, clock and door.
+//!
+//! `top` carries the theorem; the program, mpc_cli, hands it the real ones.
+#![tactic(auto)]
+
+pub mod top;
+
+pub use act_model as model;
+pub use command_ends::{Ended, Status};
+pub use command_line::Words;
+pub use http_connection::{Left, answer_one, attend};

@@ -1,0 +1,51 @@
+-- The laws of frames, of readings and of the office on which the proofs of a run rest, as the crates below ensure them.
+use Rattle.std.proofs.Common.{◌≡◌, ℕ, ℤ, List, [], ◌++◌, Option}
+use Rattle.frame_grammar.specs.Frames.{Frame, framed, streamed, NoFrame}
+use Rattle.act_bodies.specs.declared.key.Key.{Key}
+use Rattle.act_model.specs.declared.entry.Entry.{Entry}
+use Rattle.act_model.specs.declared.keeper.OfficeState.{OfficeState}
+use Rattle.act_model.specs.declared.request.Body.TheVariants.{NoRoom}
+use Rattle.act_model.specs.declared.request.Request.{Request}
+use Rattle.act_model.specs.declared.reply.Refusal.{Refusal}
+use Rattle.act_model.specs.declared.reply.Refusal.TheVariants.{NoMemory}
+use Rattle.act_model.specs.declared.reply.Reply.{Reply}
+use Rattle.act_model.specs.declared.reply.Reply.TheVariants.{Refused}
+use Rattle.act_model.specs.History.{EachNumberOnce}
+use Rattle.act_model.specs.Legal.{IsLegal}
+use Rattle.act_model.specs.Places.{OnePlace}
+use Rattle.act_model.specs.Step.{step}
+use Rattle.act_model.specs.Unbroken.{UnbrokenRows, UnbrokenNumbers}
+use Rattle.act_model.specs.Conducts.{Extends, HadMemory, HadNoFault, IsStepped, EitherWay}
+use Rattle.act_model.specs.Clocks.{ClockState, Gives}
+use Rattle.act_model.specs.Turns.{Turn, Answers, Conduct, at_rest}
+
+pub record FrameLaws : Type 0 where
+  -- bytes that come later stand after a frame, and after frames
+  pub frame_goes_on : (f : Frame) (rest more : List ℕ) → framed f rest ++ more ≡ framed f (rest ++ more)
+  pub stream_goes_on : (fs : List Frame) (rest more : List ℕ) → streamed fs rest ++ more ≡ streamed fs (rest ++ more)
+  pub stream_joins : (fs gs : List Frame) (rest : List ℕ) → streamed (fs ++ gs) rest ≡ streamed fs (streamed gs rest)
+  -- no frame stands where nothing does
+  pub nothing : NoFrame []
+  -- a clock that gave some readings and then others gave them all
+  pub readings : (before between after : ClockState) (xs ys : List ℤ) → Gives before between xs → Gives between after ys → Gives before after (xs ++ ys)
+
+pub record OfficeLaws : Type 0 where
+  -- histories grow, and keep each number once; a legal history has each number once
+  pub grow : (founder : Key) (limit : Option ℕ) (before after : OfficeState) (turns : List Turn) → Conduct founder limit before turns after → Extends before.settled after.settled
+  pub once : (founder : Key) (limit : Option ℕ) (before after : OfficeState) (turns : List Turn) → Conduct founder limit before turns after → EitherWay EachNumberOnce before → EitherWay EachNumberOnce after
+  pub legal_once : (founder : Key) (history : List Entry) → IsLegal founder history → EachNumberOnce history
+  -- each accepted observation stands in one place, and designations and numbers follow one another
+  pub places : (history : List Entry) → OnePlace history
+  pub rows : (history : List Entry) → UnbrokenRows history
+  pub numbers : (history : List Entry) → UnbrokenNumbers history
+  -- where no fault was counted nothing is in doubt, and where memory was never refused either a conduct is the step
+  pub rests : (founder : Key) (limit : Option ℕ) (past : List Entry) (after : OfficeState) (turns : List Turn) → Conduct founder limit (at_rest past) turns after → HadNoFault turns → after ≡ at_rest after.settled
+  pub steps : (founder : Key) (limit : Option ℕ) (past : List Entry) (after : OfficeState) (turns : List Turn) → Conduct founder limit (at_rest past) turns after → HadNoFault turns → HadMemory turns → IsStepped founder limit past turns after.settled
+
+-- what is known of out of memory
+pub record WantLaws : Type 0 where
+  -- it may stand in the place of a refusal
+  pub instead : (founder : Key) (limit : Option ℕ) (past after : List Entry) (request : Request) (reading : ℤ) (refusal : Refusal) → Answers founder limit past request reading (Refused refusal) after → Answers founder limit past request reading (Refused NoMemory) after
+  -- it is the answer to a body without room, and changes nothing
+  pub no_step : (founder : Key) (limit : Option ℕ) (past : List Entry) (request : Request) (reading : ℤ) → request.body ≡ NoRoom → step founder limit past request reading ≡ (Refused NoMemory, past)
+  pub no_room : (founder : Key) (limit : Option ℕ) (past after : List Entry) (request : Request) (reading : ℤ) (reply : Reply) → request.body ≡ NoRoom → Answers founder limit past request reading reply after → (reply ≡ Refused NoMemory) × (after ≡ past)

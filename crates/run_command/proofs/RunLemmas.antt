@@ -1,0 +1,204 @@
+-- The office of a run: from what opening found to what is there at the end.
+use Rattle.std.proofs.Common.{◌≡◌, ℕ, ◌+◌, ◌-◌, ◌≤◌, List, [], ◌∷◌, length, Option, Some, None, refl, sym, ap, subst, inl, inr, arith}
+use Rattle.std.specs.Io.KnownBytes.{Appends}
+use Rattle.std.proofs.KnownBytes.{Appends-nil}
+use Rattle.std.proofs.lemmas.List.{length-append}
+use Rattle.std.proofs.lemmas.List.Sums.{sum_by-cons}
+use Rattle.disk_model.specs.Counts.{Rises}
+use Rattle.disk_model.specs.Crashes.{During}
+use Rattle.disk_model.specs.Moments.{during_weaker, during_joined}
+use Rattle.desk_io.specs.Reads.{Passes}
+use Rattle.act_bodies.specs.declared.key.Key.{Key}
+use Rattle.act_model.specs.declared.entry.Entry.{Entry}
+use Rattle.act_model.specs.declared.keeper.OfficeState.{OfficeState}
+use Rattle.act_model.specs.History.{EachNumberOnce}
+use Rattle.act_model.specs.Conducts.{Extends, HadMemory, HadNoFault, IsStepped}
+use Rattle.act_model.specs.Turns.{Turn, Conduct, Mends, at_rest, rises_of}
+use Rattle.mpc_desk.specs.Desks.{DeskState, count_of}
+use Rattle.run_command.specs.declared.serving.Stop.{Stop}
+use Rattle.run_command.specs.declared.serving.Stop.TheVariants as stop
+use Rattle.command_ends.specs.declared.status.Status.{Status}
+use Rattle.command_ends.specs.declared.status.Status.TheVariants.{Done, Usage, BadFrame, DiskFault, Damaged, ReadFault, WriteFault, NoMemory, DoorFault}
+use Rattle.act_model.specs.Clocks.{ClockState}
+use Rattle.command_ends.specs.Disks.{DiskWords, DiskRose}
+use Rattle.run_command.specs.Conducted.{LeavesIn, TakesTurns}
+use Rattle.run_command.specs.Runs.{Run, Supplies, Stops, RunsOn, ServesNothing, Course, Ends}
+use Rattle.command_ends.specs.Opening.{journal_bytes, Opens, EndsUnopened}
+use Rattle.command_ends.specs.Closing.{IsNotMended, IsMended, IsStillInDoubt, IsClosed}
+use Rattle.run_command.specs.Closing.{Finishes}
+use Rattle.run_command.proofs.Laws.{OfficeLaws}
+use Rattle.run_command.proofs.Conducting.{leaves_first, grows, extends_on, rose_more}
+use Rattle.run_command.proofs.Closings.{never_rose, rise_between, nothing_mended, mended_extends, mended_has, mended_none, closed_as_is}
+use Rattle.run_command.proofs.Progress.{untaken}
+
+-- ---- the office
+
+rests_so : (state : OfficeState) → state.doubt ≡ None → state ≡ at_rest state.settled
+rests_so state none = by state.settled state.doubt none
+  where
+    by : (h : List Entry) (o : Option Entry) → o ≡ None → ◌≡◌ {A = OfficeState} (record { settled = h; doubt = o }) (at_rest h)
+    by h o none = cc
+
+-- where the rises of turns come to nothing, none of them rose
+none_rose : (turns : List Turn) → rises_of turns ≡ 0 → HadNoFault turns
+none_rose [] is = tt
+none_rose (turn ∷ turns) is =
+    let sum = sum_by-cons (λ (t : Turn). t.rise) turn turns in
+    (omega (arith, sum, is), none_rose turns (omega (arith, sum, is)))
+
+longer : (first last : List Entry) → Extends first last → (added : ℕ) → added ≡ length last - length first → length last ≡ length first + added
+longer first last (newer, is) added counted = omega (arith, counted, ap length is, length-append newer first)
+
+module _ (laws : OfficeLaws) {D : Type 0} (on : DiskWords D) (founder : Key) (disk : D) (opened served : DeskState D) (turns : List Turn)
+    (opens : Opens on founder disk opened) (takes : TakesTurns on opened turns served) where
+  -- the turns as a conduct from the history that the disk stood for, and its images
+  record Conducted (k : Key) (limit : ℕ) (start : OfficeState) : Type 0 where
+    conduct : Conduct k (Some limit) start turns served.state
+    images : During on.moment on.since opened.disk served.disk (LeavesIn k (Some limit) start turns served.state conduct)
+
+  conducted : Conducted founder journal_bytes (at_rest opened.state.settled)
+  conducted =
+      subst (λ (s : OfficeState). Conducted founder journal_bytes s) (rests_so opened.state opens.settled)
+      (subst (λ (n : ℕ). Conducted founder n opened.state) opens.limit_is
+      (subst (λ (k : Key). Conducted k opened.limit opened.state) opens.founder_is (record { conduct = takes.conduct; images = takes.images })))
+
+  module _ (Closes : OfficeState → ℕ → OfficeState → Type 0) (mending : ℕ) (last : DeskState D) (now : D) (added : ℕ)
+      (closes : Closes served.state mending last.state) (mends : Mends served.state.settled served.state.doubt last.state.settled)
+      (closed : IsClosed on mending served last) (disk_is : now ≡ last.disk) (counted : added ≡ length last.state.settled - length opened.state.settled) where
+    all_extends : Extends opened.state.settled last.state.settled
+    all_extends =
+        extends_on founder (Some journal_bytes) opened.state.settled served.state.settled last.state.settled
+        (laws.grow founder (Some journal_bytes) (at_rest opened.state.settled) served.state turns conducted.conduct)
+        (mended_extends served.state.settled served.state.doubt last.state.settled mends)
+
+    all_counts : DiskRose on (count_of (on.faults opened.disk) - count_of (on.faults disk) + rises_of turns + mending) disk last.disk
+    all_counts =
+        rose_more (on.faults disk) (on.faults served.disk) (on.faults last.disk) (count_of (on.faults opened.disk) - count_of (on.faults disk) + rises_of turns) mending _
+        (rose_more (on.faults disk) (on.faults opened.disk) (on.faults served.disk) (count_of (on.faults opened.disk) - count_of (on.faults disk)) (rises_of turns) _ (rise_between (on.faults disk) (on.faults opened.disk) opens.later) takes.counts refl)
+        closed.counts refl
+
+    all_images : During on.moment on.since disk last.disk (LeavesIn founder (Some journal_bytes) (at_rest opened.state.settled) turns served.state conducted.conduct)
+    all_images =
+        during_joined
+        (during_weaker _ (λ image alike. leaves_first founder (Some journal_bytes) (at_rest opened.state.settled) turns served.state conducted.conduct image (inl alike.now)) opens.images)
+        (during_joined conducted.images (during_weaker _ (λ image never. absurd never) closed.no_image))
+
+    once : EachNumberOnce last.state.settled
+    once =
+        mended_has EachNumberOnce served.state last.state.settled
+        (laws.once founder (Some journal_bytes) (at_rest opened.state.settled) served.state turns conducted.conduct (laws.legal_once founder opened.state.settled opens.legal, tt)) mends
+
+    all_stepped : (Rises (on.faults disk) (on.faults last.disk) → ⊥) → HadMemory turns → IsStepped founder (Some journal_bytes) opened.state.settled turns last.state.settled
+    all_stepped never memory =
+        let none = never_rose (on.faults disk) (on.faults last.disk) _ never all_counts in
+        let faultless = none_rose turns (omega (arith, none)) in
+        let rests = laws.rests founder (Some journal_bytes) opened.state.settled served.state turns conducted.conduct faultless in
+        let same = mended_none served.state last.state.settled (ap (λ (s : OfficeState). s.doubt) rests) mends in
+        subst (λ (h : List Entry). IsStepped founder (Some journal_bytes) opened.state.settled turns h) (sym same)
+        (laws.steps founder (Some journal_bytes) opened.state.settled served.state turns conducted.conduct faultless memory)
+
+    runs_to : RunsOn on founder disk last.disk turns Closes added
+    runs_to = record {
+      first = opened.state.settled;
+      left = served.state;
+      last = last.state;
+      opening = count_of (on.faults opened.disk) - count_of (on.faults disk);
+      mending = mending;
+      stood = opens.stood;
+      legal = opens.legal;
+      conduct = conducted.conduct;
+      grows = grows founder (Some journal_bytes) (laws.grow founder (Some journal_bytes)) (at_rest opened.state.settled) turns served.state conducted.conduct;
+      closes = closes;
+      counts = all_counts;
+      images = all_images;
+      stands = closed.at_rest;
+      is_left = record {
+        entries = longer opened.state.settled last.state.settled all_extends added counted;
+        once = once;
+        places = laws.places last.state.settled;
+        rows = laws.rows last.state.settled;
+        numbers = laws.numbers last.state.settled;
+      };
+      stepped = all_stepped;
+    }
+
+    pub runs_on : RunsOn on founder disk now turns Closes added
+    runs_on = subst (λ (d : D). RunsOn on founder disk d turns Closes added) (sym disk_is) runs_to
+
+  -- the history at the end isn't shorter
+  pub fewer_before : (last : DeskState D) → Mends served.state.settled served.state.doubt last.state.settled → length opened.state.settled ≤ length last.state.settled
+  fewer_before last mends =
+      let (newer, is) =
+      extends_on founder (Some journal_bytes) opened.state.settled served.state.settled last.state.settled
+      (laws.grow founder (Some journal_bytes) (at_rest opened.state.settled) served.state turns conducted.conduct)
+      (mended_extends served.state.settled served.state.doubt last.state.settled mends) in
+      omega (arith, ap length is, length-append newer opened.state.settled)
+
+  -- ---- the ends of a run that was served
+
+  module _ (before after : ClockState) (run : Run) (Uncalled : Type 0) (last : DeskState D) (now : D) (added : ℕ)
+      (disk_is : now ≡ last.disk) (counted : added ≡ length last.state.settled - length opened.state.settled) where
+    not_mended : last ≡ served → RunsOn on founder disk now turns IsNotMended added
+    not_mended same =
+        runs_on IsNotMended 0 last now added (ap (λ (d : DeskState D). d.state) same, refl)
+        (subst (λ (d : DeskState D). Mends served.state.settled served.state.doubt d.state.settled) (sym same) (nothing_mended served.state.settled served.state.doubt))
+        (subst (λ (d : DeskState D). IsClosed on 0 served d) (sym same) (closed_as_is on served (takes.stays.at_rest opens.at_rest)))
+        disk_is counted
+
+    abbrev course : Course D
+    course = record { founder = founder; disk = disk; disk_after = now; clock = before; clock_after = after; run = run; added = added }
+
+    pub served_ends : (stopped : Stop) (status : Status) → Stops before after run turns stopped → Finishes on served stopped status last → Ends on course Uncalled status
+    served_ends stop.Over Done stops (rise, mended, closed) =
+        (turns, stops, runs_on IsMended rise last now added mended mended.mends closed disk_is counted)
+    served_ends stop.Over DiskFault stops (rise, doubted, closed) =
+        inr (
+          turns,
+          stops,
+          runs_on IsStillInDoubt rise last now added doubted
+              (subst (λ (s : OfficeState). Mends served.state.settled served.state.doubt s.settled) (sym doubted.stays) (nothing_mended served.state.settled served.state.doubt))
+              closed disk_is counted,
+        )
+    served_ends stop.Over Usage stops ends = absurd ends
+    served_ends stop.Over (BadFrame offset) stops ends = absurd ends
+    served_ends stop.Over (Damaged offset) stops ends = absurd ends
+    served_ends stop.Over ReadFault stops ends = absurd ends
+    served_ends stop.Over WriteFault stops ends = absurd ends
+    served_ends stop.Over NoMemory stops ends = absurd ends
+    served_ends stop.Over DoorFault stops ends = absurd ends
+    served_ends (stop.NoFrameAt offset) status stops (is, same) =
+        subst (λ (s : Status). Ends on course Uncalled s) (sym is) (turns, stops, not_mended same)
+    served_ends stop.ReadFailed status stops (is, same) =
+        subst (λ (s : Status). Ends on course Uncalled s) (sym is) (turns, stops, not_mended same)
+    served_ends stop.WriteFailed status stops (is, same) =
+        subst (λ (s : Status). Ends on course Uncalled s) (sym is) (turns, stops, not_mended same)
+
+-- ---- the ends of a run whose office wasn't opened
+
+module _ {D : Type 0} (on : DiskWords D) (founder : Key) (disk now : D) (clock : ClockState) (Uncalled : Type 0) (uncalled : Uncalled) (added : ℕ) (more : List ℕ) where
+  idle : ServesNothing (record { came = []; more = more; answered = 0; texts = [] }) Uncalled
+  idle = record { uncalled = uncalled; came = refl; texts = refl }
+
+  abbrev not_run : Run → Course D
+  not_run run = record { founder = founder; disk = disk; disk_after = now; clock = clock; clock_after = clock; run = run; added = added }
+
+  pub unopened_ends : (status : Status) → EndsUnopened on founder disk now added status
+      → Ends on (not_run (record { came = []; more = more; answered = 0; texts = [] })) Uncalled status
+  unopened_ends DiskFault ends = inl (idle, ends)
+  unopened_ends (Damaged offset) ends = (idle, ends)
+  unopened_ends NoMemory ends = (idle, ends)
+  unopened_ends Done ends = absurd ends
+  unopened_ends Usage ends = absurd ends
+  unopened_ends (BadFrame offset) ends = absurd ends
+  unopened_ends ReadFault ends = absurd ends
+  unopened_ends WriteFault ends = absurd ends
+  unopened_ends DoorFault ends = absurd ends
+
+-- nothing was served
+pub nothing_served : {S : Type 0} (left : S → Option (List ℕ)) (gives : Passes S) (source : S) (taken : Option (List ℕ)) {D : Type 0} (on : DiskWords D) (founder : Key) (disk now : D) (clock : ClockState)
+    (Uncalled : Type 0) (uncalled : Uncalled) (added : ℕ) (status : Status) → EndsUnopened on founder disk now added status
+    → (run : Run) × Supplies left gives source source run × Appends taken taken run.texts × Ends on (record { founder = founder; disk = disk; disk_after = now; clock = clock; clock_after = clock; run = run; added = added }) Uncalled status
+nothing_served left gives source taken on founder disk now clock Uncalled uncalled added status ends =
+    let u = untaken left gives source in
+    let run : Run = record { came = []; more = u.0; answered = 0; texts = [] } in
+    (run, u.1, Appends-nil taken, unopened_ends on founder disk now clock Uncalled uncalled added u.0 status ends)

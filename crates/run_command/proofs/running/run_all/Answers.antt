@@ -1,0 +1,70 @@
+use Rattle.std.proofs.Common.{◌≡◌, ◌-◌, length, refl, arith}
+use Rattle.command_ends.specs.Disks.{disk_words}
+use Rattle.run_command.proofs.Laws.{OfficeLaws}
+use Rattle.run_command.proofs.Closings.{finish_mends, read_failed, write_failed}
+use Rattle.run_command.proofs.RunLemmas.{fewer_before, served_ends, nothing_served}
+use Rattle.run_command.proofs.running.run_all.Goals as goal
+
+pub returns-in_default-clause-ends : goal.returns-in_default-clause-ends
+returns-in_default-clause-ends g c =
+    nothing_served _ _ _ _ (disk_words g.D.Disk.reads g.D.Disk.leaves g.D.Disk.moment g.D.Disk.since g.D.Disk.faults) c.args.founder c.args.disk c.not_begun.result.disk _ _ (refl, refl, refl) c.not_begun.result.added c.not_begun.result.status
+    (c.not_begun.ensures.no_memory c.args.founder refl)
+
+pub returns-in-Err-clause-ends : goal.returns-in-Err-clause-ends
+returns-in-Err-clause-ends g c =
+    nothing_served _ _ _ _ (disk_words g.D.Disk.reads g.D.Disk.leaves g.D.Disk.moment g.D.Disk.since g.D.Disk.faults) c.args.founder c.args.disk c.in-Err.ended.disk _ _ (refl, refl, refl) c.in-Err.ended.added c.in-Err.ended.status
+    c.in-Err.ensures.unopened
+
+pub overflow_sub-added : goal.overflow_sub-added
+overflow_sub-added g c =
+    let on = (disk_words g.D.Disk.reads g.D.Disk.leaves g.D.Disk.moment g.D.Disk.since g.D.Disk.faults) in
+    let laws : OfficeLaws = record {
+      grow = c.histories_grow.ensures;
+      once = c.each_once.ensures;
+      legal_once = c.legal_numbers_once.ensures;
+      places = c.one_place.ensures;
+      rows = c.unbroken_rows.ensures;
+      numbers = c.unbroken_numbers.ensures;
+      rests = c.no_faults.ensures.settled;
+      steps = c.no_faults.ensures.stepped;
+    } in
+    let s = c.serve-stop.ensures.stops in
+    let mends = finish_mends on c.serve-stop.new.desk c.finish-status.new.desk c.serve-stop.result c.finish-status.result c.finish-status.ensures in
+    let fewer = fewer_before laws on c.args.founder c.args.disk c.in-Ok-open_desk.desk c.serve-stop.new.desk s.1 c.in-Ok-open_desk.ensures.opens s.5 c.finish-status.new.desk mends in
+    let after = c.entries.ensures in
+    let before = c.entries-before.ensures in
+    omega (arith, fewer, after, before)
+
+pub returns-clause-ends : goal.returns-clause-ends
+returns-clause-ends g c =
+    let on = (disk_words g.D.Disk.reads g.D.Disk.leaves g.D.Disk.moment g.D.Disk.since g.D.Disk.faults) in
+    let laws : OfficeLaws = record {
+      grow = c.histories_grow.ensures;
+      once = c.each_once.ensures;
+      legal_once = c.legal_numbers_once.ensures;
+      places = c.one_place.ensures;
+      rows = c.unbroken_rows.ensures;
+      numbers = c.unbroken_numbers.ensures;
+      rests = c.no_faults.ensures.settled;
+      steps = c.no_faults.ensures.stepped;
+    } in
+    let s = c.serve-stop.ensures.stops in
+    let after = c.entries.ensures in
+    let before = c.entries-before.ensures in
+    let counted : c.entries.result - c.entries-before.result ≡ length c.finish-status.new.desk.state.settled - length c.in-Ok-open_desk.desk.state.settled = omega (arith, after, before) in (
+      s.0,
+      s.2,
+      s.3,
+      served_ends laws on c.args.founder c.args.disk c.in-Ok-open_desk.desk c.serve-stop.new.desk s.1 c.in-Ok-open_desk.ensures.opens s.5 _ _ s.0 _ c.finish-status.new.desk c.close.result (c.entries.result - c.entries-before.result) c.close.ensures counted
+          c.serve-stop.result c.finish-status.result s.4 c.finish-status.ensures,
+    )
+
+pub returns-clause-read_faultless : goal.returns-clause-read_faultless
+returns-clause-read_faultless g c = λ never.
+    let on = (disk_words g.D.Disk.reads g.D.Disk.leaves g.D.Disk.moment g.D.Disk.since g.D.Disk.faults) in
+    c.serve-stop.ensures.read_faultless (λ is. never (read_failed on c.serve-stop.new.desk c.finish-status.new.desk c.serve-stop.result c.finish-status.result c.finish-status.ensures is))
+
+pub returns-clause-write_faultless : goal.returns-clause-write_faultless
+returns-clause-write_faultless g c = λ never.
+    let on = (disk_words g.D.Disk.reads g.D.Disk.leaves g.D.Disk.moment g.D.Disk.since g.D.Disk.faults) in
+    c.serve-stop.ensures.write_faultless (λ is. never (write_failed on c.serve-stop.new.desk c.finish-status.new.desk c.serve-stop.result c.finish-status.result c.finish-status.ensures is))

@@ -1,0 +1,24 @@
+use Rattle.std.proofs.Common.{◌≡◌}
+use Rattle.frame_reader.specs.Reading.{work}
+use Rattle.act_model.specs.Clocks.{clock_of}
+use Rattle.command_ends.specs.Disks.{disk_words}
+use Rattle.run_command.specs.Steps.{Progress}
+use Rattle.run_command.proofs.Laws.{FrameLaws}
+use Rattle.run_command.proofs.serving.serve.Given as goal
+
+-- the laws of frames hold, serving has come so far, no fault of the source or the sink was counted, and what was open is
+-- open
+abbrev pub invariant-frames : goal.invariant-frames
+invariant-frames g l = record {
+  laws : FrameLaws;
+  progress : Progress g.S.Source.left g.S.Source.gives (disk_words g.D.Disk.reads g.D.Disk.leaves g.D.Disk.moment g.D.Disk.since g.D.Disk.faults)
+      (record { desk = l.initial.desk; clock = clock_of g.C.Clock.reading g.C.Clock.last l.initial.clock; taken = g.K.Sink.taken l.initial.sink; source = l.initial.source; ahead = l.initial.reader })
+      (record { desk = l.desk; clock = clock_of g.C.Clock.reading g.C.Clock.last l.clock; taken = g.K.Sink.taken l.sink; source = l.source; ahead = l.reader }) l.offset;
+  source_faultless : g.S.Source.faults l.source ≡ g.S.Source.faults l.initial.source;
+  sink_faultless : g.K.Sink.faults l.sink ≡ g.K.Sink.faults l.initial.sink;
+  source_stays : g.S.Source.is_open l.source ≡ g.S.Source.is_open l.initial.source;
+  sink_stays : g.K.Sink.is_open l.sink ≡ g.K.Sink.is_open l.initial.sink;
+}
+
+abbrev pub decreases-frames : goal.decreases-frames
+decreases-frames g l = work (g.S.Source.reads l.source) l.reader

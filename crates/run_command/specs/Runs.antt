@@ -1,0 +1,188 @@
+-- What a run of the program leaves, by the status with which it ended.
+use Rattle.std.specs.Prelude.{◌≡◌, ◌⊎◌, ℕ, ◌+◌, ◌-◌, ◌^◌, ◌<◌, ◌≤◌, min, List, [], ◌∷◌, ◌++◌, length, take, Option}
+use Rattle.std.specs.Prelude.{Some, None, IfSome}
+use Rattle.disk_model.specs.Counts.{Rises}
+use Rattle.disk_model.specs.Crashes.{During}
+use Rattle.desk_io.specs.Reads.{Passes, Comes}
+use Rattle.frame_grammar.specs.Frames.{Frame, NoFrame, NeverFrame, IsSession, reached}
+use Rattle.act_bodies.specs.declared.key.Key.{Key}
+use Rattle.act_model.specs.declared.entry.Entry.{Entry}
+use Rattle.act_model.specs.declared.keeper.OfficeState.{OfficeState}
+use Rattle.act_model.specs.Legal.{IsLegal}
+use Rattle.act_model.specs.Conducts.{HadMemory, IsStepped}
+use Rattle.act_model.specs.Turns.{Turn, Conduct, at_rest, rises_of, written_reply, written}
+use Rattle.mpc_desk.specs.Desks.{RestsAt}
+use Rattle.mpc_desk.specs.Files.{Stands}
+use Rattle.command_ends.specs.Disks.{DiskWords, DiskRose}
+use Rattle.command_ends.specs.Opening.{journal_bytes, EndsUnopened}
+use Rattle.command_ends.specs.Closing.{IsNotMended, IsMended, IsStillInDoubt}
+use Rattle.command_ends.specs.Left.{IsLeft}
+use Rattle.run_command.specs.declared.serving.Stop.{Stop}
+use Rattle.run_command.specs.declared.serving.Stop.TheVariants.{Over, NoFrameAt, ReadFailed, WriteFailed}
+use Rattle.command_ends.specs.declared.status.Status.{Status}
+use Rattle.command_ends.specs.declared.status.Status.TheVariants.{Done, Usage, BadFrame, DiskFault, Damaged, ReadFault}
+use Rattle.command_ends.specs.declared.status.Status.TheVariants.{WriteFault, NoMemory, DoorFault}
+use Rattle.act_model.specs.Clocks.{ClockState}
+use Rattle.run_command.specs.Serving.{Serves}
+use Rattle.run_command.specs.Conducted.{LeavesIn, Grows}
+
+-- ---- what a run took from its source and wrote
+
+-- The bytes that came from the source, and after them those that are left there, none where that isn't known; how many
+-- frames were answered, each with its whole reply; and the bytes that were written.
+pub record Run : Type 0 where
+  pub came : List ℕ
+  pub more : List ℕ
+  pub answered : ℕ
+  pub texts : List ℕ
+
+-- these are the bytes that are left in a source, as far as they are known
+abbrev pub Remains : Option (List ℕ) → List ℕ → Type 0
+Remains None more = more ≡ []
+Remains (Some left) more = left ≡ more
+
+-- after the frames that have come, which were all answered, a further frame may still come
+abbrev pub AwaitsNext : ℕ → List ℕ → Type 0
+AwaitsNext answered came =
+    (frames : List Frame) × (rest : List ℕ) × IsSession came frames rest × (length frames ≤ answered)
+    × ¬ NeverFrame rest
+
+-- The run's bytes came out of the source, and all bytes that the source held, where they are known, are those and what
+-- is left. No read was made but while the next frame was awaited, so that no byte was taken without need.
+pub record Supplies {S : Type 0} (left : S → Option (List ℕ)) (gives : Passes S) (before after : S) (run : Run)
+    : Type 0 where
+  pub whole : IfSome (left before) (λ bytes. bytes ≡ run.came ++ run.more)
+  pub rest : Remains (left after) run.more
+  pub comes : Comes left gives (AwaitsNext run.answered) before after run.came
+
+-- ---- which frames were answered
+
+-- the frames of the bytes' session were answered, up to a rest at which no frame stands, and their replies were written
+pub record AnswersFrames (before after : ClockState) (bytes rest : List ℕ) (run : Run) (turns : List Turn)
+    : Type 0 where
+  pub serves : Serves before after bytes rest turns
+  pub answered : run.answered ≡ length serves.frames
+  pub ended : NoFrame rest
+  pub texts : run.texts ≡ written turns
+
+-- the bytes are frames and nothing else
+abbrev pub IsWhole : List ℕ → Type 0
+IsWhole bytes = (frames : List Frame) × IsSession bytes frames []
+
+-- an offset is counted up to the greatest that its type has
+abbrev pub offset_at : ℕ → ℕ
+offset_at place = min place (2 ^ 64 - 1)
+
+-- the source was read to its end, and its bytes are frames, which were answered
+abbrev pub AnswersAll : ClockState → ClockState → Run → List Turn → Type 0
+AnswersAll before after run turns = (run.more ≡ []) × AnswersFrames before after run.came [] run turns
+
+-- the frames before the bytes' first place at which no frame stands were answered, and that place is the offset
+pub record StopsAt (before after : ClockState) (run : Run) (turns : List Turn) (offset : ℕ) : Type 0 where
+  pub rest : List ℕ
+  pub over : AnswersFrames before after (run.came ++ run.more) rest run turns
+  pub some : 0 < length rest
+  pub place : offset ≡ offset_at (reached (run.came ++ run.more) rest)
+
+-- the source failed: the frames of the bytes that came were answered
+abbrev pub StopsReading : ClockState → ClockState → Run → List Turn → Type 0
+StopsReading before after run turns = (rest : List ℕ) × AnswersFrames before after run.came rest run turns
+
+-- The sink failed inside a reply: the frames before one frame were answered whole, and of the reply of that frame's
+-- turn the sink took a front and not all of it.
+pub record StopsWriting (before after : ClockState) (run : Run) (turns : List Turn) : Type 0 where
+  pub whole : List Turn
+  pub last : Turn
+  pub rest : List ℕ
+  pub taken : ℕ
+  pub turns_are : turns ≡ whole ++ last ∷ []
+  pub serves : Serves before after run.came rest turns
+  pub answered : run.answered + 1 ≡ length serves.frames
+  pub part : taken < length (written_reply last.reply)
+  pub texts : run.texts ≡ written whole ++ take taken (written_reply last.reply)
+
+-- which frames were answered where serving stopped so
+abbrev pub Stops : ClockState → ClockState → Run → List Turn → Stop → Type 0
+Stops before after run turns Over = AnswersAll before after run turns
+Stops before after run turns (NoFrameAt offset) = StopsAt before after run turns offset
+Stops before after run turns ReadFailed = StopsReading before after run turns
+Stops before after run turns WriteFailed = StopsWriting before after run turns
+
+-- ---- the office
+
+-- The office of a run, from the disk at its start to the disk at its end. The disk stood for a legal history, and the
+-- turns are a conduct from there, each of whose settled histories is an end of every later one. What is in doubt then
+-- is closed. The disk's count of faults rose by what it rose in opening, in the turns and in the last mending. Each
+-- image at some moment of the run was one at its start, or one that the conduct allows; at the end the disk is at rest.
+-- Where the count didn't rise and no turn ran out of memory, the conduct is the step, one after another.
+pub record RunsOn {D : Type 0} (on : DiskWords D) (founder : Key) (disk now : D) (turns : List Turn)
+    (Closes : OfficeState → ℕ → OfficeState → Type 0) (added : ℕ) : Type 0 where
+  pub first : List Entry
+  pub left : OfficeState
+  pub last : OfficeState
+  pub opening : ℕ
+  pub mending : ℕ
+  pub stood : IfSome (on.reads disk) (λ file. Stands file first)
+  pub legal : IsLegal founder first
+  pub conduct : Conduct founder (Some journal_bytes) (at_rest first) turns left
+  pub grows : Grows founder (Some journal_bytes) (at_rest first) turns left conduct
+  pub closes : Closes left mending last
+  pub counts : DiskRose on (opening + rises_of turns + mending) disk now
+  pub images : During on.moment on.since disk now
+      (LeavesIn founder (Some journal_bytes) (at_rest first) turns left conduct)
+  pub stands : (image : List ℕ) → on.leaves now image → RestsAt last image
+  pub is_left : IsLeft first last.settled added
+  pub stepped : ¬ Rises (on.faults disk) (on.faults now) → HadMemory turns
+      → IsStepped founder (Some journal_bytes) first turns last.settled
+
+-- the office wasn't opened: nothing was served, and no byte came and none was written
+pub record ServesNothing (run : Run) (Uncalled : Type 0) : Type 0 where
+  pub uncalled : Uncalled
+  pub came : run.came ≡ []
+  pub texts : run.texts ≡ []
+
+-- ---- what stands at each end
+
+-- the course of a run: the founding officer's key, the disk and the clock before it and after it, what came, was
+-- answered and written, and by how many entries the history grew
+pub record Course (D : Type 0) : Type 0 where
+  pub founder : Key
+  pub disk : D
+  pub disk_after : D
+  pub clock : ClockState
+  pub clock_after : ClockState
+  pub run : Run
+  pub added : ℕ
+
+-- the office was opened, these turns were taken there, and what was in doubt was closed so
+abbrev pub RunsSo : {D : Type 0} → DiskWords D → Course D → List Turn → (OfficeState → ℕ → OfficeState → Type 0)
+    → Type 0
+RunsSo on course turns Closes = RunsOn on course.founder course.disk course.disk_after turns Closes course.added
+
+-- it was not opened, and nothing was served
+abbrev pub IsNotRun : {D : Type 0} → DiskWords D → Course D → Type 0 → Status → Type 0
+IsNotRun on course Uncalled status =
+    ServesNothing course.run Uncalled
+    × EndsUnopened on course.founder course.disk course.disk_after course.added status
+
+-- What stands at each end of a run. `Uncalled` says that the source, the sink and the clock were not called.
+abbrev pub Ends : {D : Type 0} → DiskWords D → Course D → Type 0 → Status → Type 0
+Ends on course Uncalled Done =
+    (turns : List Turn) × AnswersAll course.clock course.clock_after course.run turns × RunsSo on course turns IsMended
+Ends on course Uncalled (BadFrame offset) =
+    (turns : List Turn) × StopsAt course.clock course.clock_after course.run turns offset
+    × RunsSo on course turns IsNotMended
+Ends on course Uncalled ReadFault =
+    (turns : List Turn) × StopsReading course.clock course.clock_after course.run turns
+    × RunsSo on course turns IsNotMended
+Ends on course Uncalled WriteFault =
+    (turns : List Turn) × StopsWriting course.clock course.clock_after course.run turns
+    × RunsSo on course turns IsNotMended
+Ends on course Uncalled DiskFault =
+    IsNotRun on course Uncalled DiskFault
+    ⊎ ((turns : List Turn) × AnswersAll course.clock course.clock_after course.run turns
+    × RunsSo on course turns IsStillInDoubt)
+Ends on course Uncalled (Damaged offset) = IsNotRun on course Uncalled (Damaged offset)
+Ends on course Uncalled NoMemory = IsNotRun on course Uncalled NoMemory
+Ends on course Uncalled Usage = ⊥
+Ends on course Uncalled DoorFault = ⊥

@@ -1,0 +1,160 @@
+//! A run: the office is opened, the frames of the source are answered, and what is in doubt is mended.
+
+ghost use Rattle.std.specs.Prelude.{◌≡◌, ◌≤◌, ℕ, List, Some};
+ghost use Rattle.std.specs.Io.KnownBytes.{Appends};
+ghost use Rattle.desk_io.specs.Outside.{Rises};
+ghost use Rattle.act_model.specs.declared.entry.Entry.{Entry};
+ghost use Rattle.act_model.specs.Clocks.{clock_of};
+ghost use Rattle.act_model.specs.Legal.{IsLegal};
+ghost use Rattle.act_model.specs.Roster.{IsFounder};
+ghost use Rattle.mpc_desk.specs.Files.{Stands};
+ghost use Rattle.command_ends.specs.Disks.{disk_words};
+ghost use Rattle.command_ends.specs.Statuses.{IsDoneOrNoMemory};
+ghost use Rattle.run_command.specs.Closing.{Finishes};
+ghost use Rattle.run_command.specs.Runs.{Run, Supplies, Ends, IsWhole};
+
+use crate::serving::{Stop, serve};
+use act_model::{Keeper, Key, laws as office_laws};
+use command_ends::{Ended, Status, mend_last, not_begun, open_desk};
+use desk_io::{Clock, Sink, Source};
+use disk_model::Disk;
+use frame_grammar::laws as frame_laws;
+use frame_reader::FrameReader;
+use mpc_desk::{Desk, laws as desk_laws};
+use std::alloc::Global;
+
+/// What is done when serving has stopped: an act in doubt is mended where the source was read to its end, and the
+/// status says how the call ended.
+fn finish<D: Disk>(desk: &mut Desk<D>, stop: Stop) -> Status
+    ensures { Finishes (disk_words D.reads D.leaves D.moment D.since D.faults) desk.old stop result desk.new }
+{
+    match stop {
+        Stop::Over => mend_last(desk),
+        Stop::NoFrameAt(offset) => Status::BadFrame { offset },
+        Stop::ReadFailed => Status::ReadFault,
+        Stop::WriteFailed => Status::WriteFault,
+    }
+}
+
+/// Opens the office, answers the frames, and closes it.
+fn run_all<S: Source, K: Sink, D: Disk, C: Clock>(
+    alloc: Global,
+    founder: Key,
+    source: &mut S,
+    sink: &mut K,
+    disk: D,
+    clock: &mut C,
+) -> Ended<D>
+    requires { IsFounder founder }
+    // What was read, answered, written and kept at each end: of the bytes that came, whether the source tells its bytes
+    // or not, and of each image that a crash may leave.
+    ensures ends { (run : Run) × Supplies S.left S.gives source.old source.new run
+        × Appends (K.taken sink.old) (K.taken sink.new) run.texts
+        × Ends (disk_words D.reads D.leaves D.moment D.since D.faults)
+        (record {
+          founder = founder;
+          disk = disk;
+          disk_after = result.disk;
+          clock = clock_of C.reading C.last clock.old;
+          clock_after = clock_of C.reading C.last clock.new;
+          run = run;
+          added = result.added;
+        })
+        ((source.new ≡ source.old) × (sink.new ≡ sink.old) × (clock.new ≡ clock.old)) result.status }
+
+    // The source failed where the end is `ReadFault`, and nowhere else; the sink where it is `WriteFault`.
+    ensures read_cause { result.status ≡ Status.ReadFault → Rises (S.faults source.old) (S.faults source.new) }
+    ensures read_faultless { (result.status ≡ Status.ReadFault → ⊥) → S.faults source.new ≡ S.faults source.old }
+    ensures write_cause { result.status ≡ Status.WriteFault → Rises (K.faults sink.old) (K.faults sink.new) }
+    ensures write_faultless { (result.status ≡ Status.WriteFault → ⊥) → K.faults sink.new ≡ K.faults sink.old }
+    ensures counts { (S.faults source.old ≤ S.faults source.new) × (K.faults sink.old ≤ K.faults sink.new) }
+    ensures stays { (S.is_open source.new ≡ S.is_open source.old) × (K.is_open sink.new ≡ K.is_open sink.old) }
+{
+    office_laws::histories_grow();
+    office_laws::each_once();
+    office_laws::legal_numbers_once();
+    office_laws::one_place();
+    office_laws::unbroken_rows();
+    office_laws::unbroken_numbers();
+    office_laws::no_faults();
+    let Ok(mut reader) = FrameReader::new(alloc) else {
+        return not_begun(Status::NoMemory, disk);
+    };
+    let mut desk = match open_desk(alloc, founder, disk) {
+        Ok(desk) => desk,
+        Err(ended) => return ended,
+    };
+    let before = desk.entries();
+    let stop = serve(alloc, &mut desk, &mut reader, source, sink, clock);
+    let status = finish(&mut desk, stop);
+    let added = desk.entries() - before;
+    Ended {
+        status,
+        disk: desk.close(),
+        added,
+    }
+}
+
+/// Serves the frames of the source with the founding officer's key, on the office that the disk stands for.
+///
+/// Over every source, however it cuts its bytes into pieces, the answers are those of one history: the requests of the
+/// frames that came, in their order, are answered by a conduct from the history that the disk stood for, each request
+/// under a caller's number acts at most once, and the sink takes the texts of the replies and nothing else. A crash at
+/// any moment leaves a file that stands for a history of that conduct. It takes memory.
+///
+/// Ends with `Done`, `BadFrame`, `DiskFault`, `Damaged`, `ReadFault`, `WriteFault` or `NoMemory`; the last only before
+/// the first read. The key begins with a plus and has at most 33 bytes.
+pub fn run<S: Source, K: Sink, D: Disk, C: Clock>(
+    alloc: Global,
+    founder: Key,
+    source: &mut S,
+    sink: &mut K,
+    disk: D,
+    clock: &mut C,
+) -> Ended<D>
+    requires { IsFounder founder }
+    // What was read, answered, written and kept at each end: of the bytes that came, whether the source tells its bytes
+    // or not, and of each image that a crash may leave.
+    ensures ends { (run : Run) × Supplies S.left S.gives source.old source.new run
+        × Appends (K.taken sink.old) (K.taken sink.new) run.texts
+        × Ends (disk_words D.reads D.leaves D.moment D.since D.faults)
+        (record {
+          founder = founder;
+          disk = disk;
+          disk_after = result.disk;
+          clock = clock_of C.reading C.last clock.old;
+          clock_after = clock_of C.reading C.last clock.new;
+          run = run;
+          added = result.added;
+        })
+        ((source.new ≡ source.old) × (sink.new ≡ sink.old) × (clock.new ≡ clock.old)) result.status }
+
+    // A whole session, a file that stands for a legal history, and no fault give `Done`, or `NoMemory`. A fresh file
+    // stands for the history without entries.
+    ensures complete { (bytes file : List ℕ) (history : List Entry) → S.left source.old ≡ Some bytes → IsWhole bytes →
+        D.reads disk ≡ Some file → Stands file history → IsLegal founder history →
+        ¬ Rises (S.faults source.old) (S.faults source.new) → ¬ Rises (K.faults sink.old) (K.faults sink.new) →
+        ¬ Rises (D.faults disk) (D.faults result.disk) → IsDoneOrNoMemory result.status }
+
+    // A file that stands for a legal history isn't damaged.
+    ensures sound { (file : List ℕ) (history : List Entry) (offset : ℕ) → D.reads disk ≡ Some file →
+        Stands file history → IsLegal founder history → result.status ≡ Status.Damaged offset → ⊥ }
+
+    // The disk failed where the end is `DiskFault`.
+    ensures disk_cause { result.status ≡ Status.DiskFault → Rises (D.faults disk) (D.faults result.disk) }
+
+    // The source failed where the end is `ReadFault`, and nowhere else; the sink where it is `WriteFault`.
+    ensures read_cause { result.status ≡ Status.ReadFault → Rises (S.faults source.old) (S.faults source.new) }
+    ensures read_faultless { (result.status ≡ Status.ReadFault → ⊥) → S.faults source.new ≡ S.faults source.old }
+    ensures write_cause { result.status ≡ Status.WriteFault → Rises (K.faults sink.old) (K.faults sink.new) }
+    ensures write_faultless { (result.status ≡ Status.WriteFault → ⊥) → K.faults sink.new ≡ K.faults sink.old }
+    ensures counts { (S.faults source.old ≤ S.faults source.new) × (K.faults sink.old ≤ K.faults sink.new) }
+    ensures stays { (S.is_open source.new ≡ S.is_open source.old) × (K.is_open sink.new ≡ K.is_open sink.old) }
+
+    // It ends neither with `Usage` nor with `DoorFault`.
+    ensures own { (result.status ≡ Status.Usage → ⊥) × (result.status ≡ Status.DoorFault → ⊥) }
+{
+    frame_laws::one_session();
+    desk_laws::damage();
+    run_all(alloc, founder, source, sink, disk, clock)
+}

@@ -1,0 +1,174 @@
+-- What a status of a whole call says of the counts of faults.
+use Rattle.std.proofs.Common.{◌≡◌, ℕ, ◌<◌, ◌≤◌, List, length, map, Option, Some, IfSome, refl, sym, subst, ◌∙◌, inl, inr, ⊎_elim, arith}
+use Rattle.std.specs.Prelude.{◌⊎◌}
+use Rattle.desk_io.specs.Outside.{Rises}
+use Rattle.act_bodies.specs.declared.key.Key.{Key}
+use Rattle.act_model.specs.declared.entry.Entry.{Entry}
+use Rattle.act_model.specs.Keepers.{RoseBy}
+use Rattle.act_model.specs.Legal.{IsLegal}
+use Rattle.mpc_desk.specs.Desks.{DeskState, count_of}
+use Rattle.mpc_desk.specs.Files.{Stands}
+use Rattle.mpc_desk.specs.Opening.{IsDamagedDesk}
+use Rattle.intake_lock.specs.Items.{RisesBy}
+use Rattle.command_ends.specs.declared.status.Status.{Status}
+use Rattle.command_ends.specs.declared.status.Status.TheVariants.{Done, Usage, BadFrame, DiskFault, Damaged, ReadFault, WriteFault, NoMemory, DoorFault}
+use Rattle.command_ends.specs.Disks.{DiskWords}
+use Rattle.command_ends.specs.Opening.{EndsUnopened}
+use Rattle.command_ends.specs.Closing.{MendsLast}
+use Rattle.command_ends.specs.Statuses.{IsDoneOrNoMemory}
+use Rattle.serve_command.specs.declared.accepting.Stop.{Stop}
+use Rattle.serve_command.specs.declared.accepting.Stop.TheVariants as stops
+use Rattle.serve_command.specs.Links.{LinkWords, link_of}
+use Rattle.serve_command.specs.Gathering.{DoorState, Stops}
+use Rattle.serve_command.specs.Runs.{first_fault, WritesLines, Writes, RunStart, RunEnd, Runs, Ends}
+use Rattle.serve_command.specs.Summaries.{summary}
+use Rattle.serve_command.proofs.Mending.{IsFromMending, first_so}
+
+-- the law that a file which stands for a legal history isn't damaged
+abbrev pub Undamaged : Type 0
+Undamaged = (founder : Key) (file : List ℕ) (offset : ℕ) (history : List Entry) → IsDamagedDesk founder file offset
+    → IsLegal founder history → Stands file history → ⊥
+
+pub rises_by : (a b rise : ℕ) → 0 < rise → RoseBy rise (count_of a) (count_of b) → Rises a b
+rises_by a b rise some rose = omega arith
+
+-- the count rose in the last mending
+rises_last : (a b c d calls rise : ℕ) → a ≤ b → RisesBy calls (count_of b) (count_of c) → 0 < rise → RoseBy rise (count_of c) (count_of d) → Rises a d
+rises_last a b c d calls rise later grew some rose = omega arith
+
+-- a status with which the call may end once the office was opened: one that the links and the last mending may leave, or
+-- that of a fault in writing the lines
+abbrev pub IsOwn : Status → Type 0
+IsOwn status = IsFromMending status ⊎ (status ≡ WriteFault)
+
+-- where the lines were written, wholly or not, the status is one of two
+lines_end : (old new : Option (List ℕ)) (lines : List ℕ) (status : Status) → WritesLines old new lines status → (status ≡ Done) ⊎ (status ≡ WriteFault)
+lines_end old new lines Done writes = inl refl
+lines_end old new lines WriteFault writes = inr refl
+lines_end old new lines Usage writes = absurd writes
+lines_end old new lines (BadFrame offset) writes = absurd writes
+lines_end old new lines DiskFault writes = absurd writes
+lines_end old new lines (Damaged offset) writes = absurd writes
+lines_end old new lines ReadFault writes = absurd writes
+lines_end old new lines NoMemory writes = absurd writes
+lines_end old new lines DoorFault writes = absurd writes
+
+-- ---- by why no further link was taken
+
+module _ {D I O : Type 0} (on : DiskWords D) (left last : DeskState D) (most : ℕ) (came : List (I × O)) (door after : DoorState I O) where
+  door_failed : (stop : Stop) (mended : Status) → Stops most came door after stop → MendsLast on left mended last → first_fault stop mended ≡ DoorFault
+      → Rises door.faults after.faults
+  door_failed stops.Full mended stopped mends is = absurd (subst (λ (s : Status). MendsLast on left s last) is mends)
+  door_failed stops.Shut mended stopped mends is = absurd (subst (λ (s : Status). MendsLast on left s last) is mends)
+  door_failed stops.Failed mended stopped mends is = stopped.1
+  door_failed stops.NoMemory mended stopped mends is = absurd cc
+
+  door_held : (stop : Stop) (mended : Status) → Stops most came door after stop → (first_fault stop mended ≡ DoorFault → ⊥) → after.faults ≡ door.faults
+  door_held stops.Full mended stopped never = stopped.1
+  door_held stops.Shut mended stopped never = stopped.1
+  door_held stops.Failed mended stopped never = absurd (never refl)
+  door_held stops.NoMemory mended stopped never = stopped
+
+  disk_failed : (stop : Stop) (mended : Status) → MendsLast on left mended last → first_fault stop mended ≡ DiskFault → MendsLast on left DiskFault last
+  disk_failed stops.Full mended mends is = subst (λ (s : Status). MendsLast on left s last) is mends
+  disk_failed stops.Shut mended mends is = subst (λ (s : Status). MendsLast on left s last) is mends
+  disk_failed stops.Failed mended mends is = absurd cc
+  disk_failed stops.NoMemory mended mends is = absurd cc
+
+-- ---- the whole call
+
+module _ {D I O : Type 0} (on : DiskWords D) (links : LinkWords I O) (start : RunStart D I O) (end : RunEnd D I O)
+    (Uncalled Unwritten : Type 0) (ran : Ends on links start end Uncalled Unwritten) where
+  -- the lines that are written where nothing failed
+  abbrev lines_of : Runs on links start end Unwritten → List ℕ
+  lines_of r = summary (length end.ends) (length r.last.state.settled)
+
+  pub door_caused : end.status ≡ DoorFault → Rises start.door.faults end.door.faults
+  door_caused is = by ran
+    where
+      of_run : (r : Runs on links start end Unwritten) → Writes (first_fault r.stop r.mended) Unwritten start.taken end.taken (lines_of r) end.status → Rises start.door.faults end.door.faults
+      of_run r (inl (good, lines)) = absurd (subst (WritesLines start.taken end.taken (lines_of r)) is lines)
+      of_run r (inr (bad, same, unwritten)) =
+          door_failed on r.left r.last start.most (map link_of r.serves.attendances) start.door end.door r.stop r.mended r.serves.stops r.mends (sym same ∙ is)
+
+      by : Ends on links start end Uncalled Unwritten → Rises start.door.faults end.door.faults
+      by (inl (uncalled, unopened)) = absurd (subst (λ (s : Status). EndsUnopened on start.founder start.disk end.disk end.added s) is unopened)
+      by (inr r) = of_run r r.writes
+
+  pub door_faultless : (Uncalled → end.door.faults ≡ start.door.faults) → (end.status ≡ DoorFault → ⊥) → end.door.faults ≡ start.door.faults
+  door_faultless untouched never = by ran
+    where
+      of_run : (r : Runs on links start end Unwritten) → Writes (first_fault r.stop r.mended) Unwritten start.taken end.taken (lines_of r) end.status → end.door.faults ≡ start.door.faults
+      of_run r (inl (good, lines)) =
+          door_held on r.left r.last start.most (map link_of r.serves.attendances) start.door end.door r.stop r.mended r.serves.stops (λ is. let no : Done ≡ DoorFault = sym good ∙ is in absurd cc)
+      of_run r (inr (bad, same, unwritten)) =
+          door_held on r.left r.last start.most (map link_of r.serves.attendances) start.door end.door r.stop r.mended r.serves.stops (λ is. never (same ∙ is))
+
+      by : Ends on links start end Uncalled Unwritten → end.door.faults ≡ start.door.faults
+      by (inl (uncalled, unopened)) = untouched uncalled
+      by (inr r) = of_run r r.writes
+
+  pub disk_caused : end.status ≡ DiskFault → Rises (on.faults start.disk) (on.faults end.disk)
+  disk_caused is = by ran
+    where
+      of_run : (r : Runs on links start end Unwritten) → Writes (first_fault r.stop r.mended) Unwritten start.taken end.taken (lines_of r) end.status → Rises (on.faults start.disk) (on.faults end.disk)
+      of_run r (inl (good, lines)) = absurd (subst (WritesLines start.taken end.taken (lines_of r)) is lines)
+      of_run r (inr (bad, same, unwritten)) =
+          let m = disk_failed on r.left r.last start.most (map link_of r.serves.attendances) start.door end.door r.stop r.mended r.mends (sym same ∙ is) in
+          subst (λ (d : D). Rises (on.faults start.disk) (on.faults d)) (sym r.disk_is)
+          (rises_last (on.faults start.disk) (on.faults r.opened.disk) (on.faults r.left.disk) (on.faults r.last.disk) _ m.0 r.opens.later r.serves.grows.counts m.1.rose m.2.counts)
+
+      by : Ends on links start end Uncalled Unwritten → Rises (on.faults start.disk) (on.faults end.disk)
+      by (inl (uncalled, unopened)) =
+          let u = subst (λ (s : Status). EndsUnopened on start.founder start.disk end.disk end.added s) is unopened in
+          rises_by (on.faults start.disk) (on.faults end.disk) u.0 u.1 u.2.counts
+      by (inr r) = of_run r r.writes
+
+  -- once the office was opened
+  own_run : Runs on links start end Unwritten → IsOwn end.status
+  own_run r = by r.writes
+    where
+      by : Writes (first_fault r.stop r.mended) Unwritten start.taken end.taken (lines_of r) end.status → IsOwn end.status
+      by (inl (good, lines)) =
+          ⊎_elim (λ done. inl (subst IsFromMending (sym done) tt)) (λ failed. inr failed) (lines_end start.taken end.taken (lines_of r) end.status lines)
+      by (inr (bad, same, unwritten)) = inl (subst IsFromMending (sym same) (first_so on r.left r.last r.stop r.mended r.mends))
+
+  -- a status that is of no end
+  none_such : (s : Status) → (EndsUnopened on start.founder start.disk end.disk end.added s → ⊥) → (IsFromMending s → ⊥) → (s ≡ WriteFault → ⊥) → end.status ≡ s → ⊥
+  none_such s unopened mended written is = by ran
+    where
+      by : Ends on links start end Uncalled Unwritten → ⊥
+      by (inl (uncalled, u)) = unopened (subst (λ (s : Status). EndsUnopened on start.founder start.disk end.disk end.added s) is u)
+      by (inr r) = ⊎_elim mended written (subst IsOwn is (own_run r))
+
+  pub no_usage : end.status ≡ Usage → ⊥
+  no_usage = none_such Usage (λ e. e) (λ e. e) (λ e. absurd cc)
+
+  pub no_read : end.status ≡ ReadFault → ⊥
+  no_read = none_such ReadFault (λ e. e) (λ e. e) (λ e. absurd cc)
+
+  pub no_frame : (offset : ℕ) → end.status ≡ BadFrame offset → ⊥
+  no_frame offset = none_such (BadFrame offset) (λ e. e) (λ e. e) (λ e. absurd cc)
+
+  pub undamaged : Undamaged → (file : List ℕ) (history : List Entry) (offset : ℕ) → on.reads start.disk ≡ Some file → Stands file history → IsLegal start.founder history
+      → end.status ≡ Damaged offset → ⊥
+  undamaged law file history offset reads stands legal =
+      none_such (Damaged offset)
+      (λ e. law start.founder file offset history (subst (λ (o : Option (List ℕ)). IfSome o (λ f. IsDamagedDesk start.founder f offset)) reads e.0) legal stands)
+      (λ e. e) (λ e. absurd cc)
+
+  pub completes : Undamaged → (write_rose : Type 0) → (end.status ≡ WriteFault → write_rose) → (file : List ℕ) (history : List Entry)
+      → on.reads start.disk ≡ Some file → Stands file history → IsLegal start.founder history → ¬ Rises (on.faults start.disk) (on.faults end.disk)
+      → ¬ Rises start.door.faults end.door.faults → ¬ write_rose → IsDoneOrNoMemory end.status
+  completes law write_rose wrote file history reads stands legal no_disk no_door no_write = by end.status refl
+    where
+      by : (s : Status) → end.status ≡ s → IsDoneOrNoMemory s
+      by Done is = tt
+      by NoMemory is = tt
+      by DiskFault is = no_disk (disk_caused is)
+      by DoorFault is = no_door (door_caused is)
+      by WriteFault is = no_write (wrote is)
+      by (Damaged offset) is = undamaged law file history offset reads stands legal is
+      by Usage is = no_usage is
+      by (BadFrame offset) is = no_frame offset is
+      by ReadFault is = no_read is

@@ -1,0 +1,186 @@
+-- An act on a desk that is watched.
+use Rattle.std.proofs.Common.{◌≡◌, ◌⊎◌, ℕ, ◌≤◌, ℤ, List, [], ◌∷◌, Bool, Option, Some, None, refl, sym, ap, subst, ◌∙◌, inl, inr, ⊎_elim, le_trans, arith}
+use Rattle.std.specs.Prelude.{IfSome, IsSomeAnd}
+use Rattle.obs_time.specs.Instants.{IsInstantNs}
+use Rattle.disk_model.specs.Crashes.{During}
+use Rattle.disk_model.specs.Moments.{during_joined, during_weaker}
+use Rattle.act_bodies.specs.declared.key.Key.{Key}
+use Rattle.act_model.specs.declared.entry.Entry.{Entry}
+use Rattle.act_model.specs.declared.keeper.OfficeState.{OfficeState}
+use Rattle.act_model.specs.declared.reply.Reply.{Reply}
+use Rattle.act_model.specs.declared.reply.Reply.TheVariants.{Done}
+use Rattle.act_model.specs.declared.request.Request.{Request}
+use Rattle.act_model.specs.Conducts.{Extends, EitherWay, Makes}
+use Rattle.act_model.specs.Keepers.{TakesTurn}
+use Rattle.act_model.specs.Legal.{IsLegal}
+use Rattle.act_model.specs.Replies.{entry_answer}
+use Rattle.act_model.specs.Step.{Adds, outcome, after, step}
+use Rattle.act_model.specs.Turns.{Turn, Conduct, Mends, Settles, FailsToKeep, unless_untouched, Answers}
+use Rattle.mpc_desk.specs.Desks.{DeskState, RestsAt, MayLeave, FailsOn, ActsOn, ActsInTurn, turn_of, office_of}
+use Rattle.mpc_desk.specs.Files.{Stands}
+use Rattle.mpc_desk.specs.Opening.{StandsAlike}
+use Rattle.command_ends.specs.Disks.{DiskWords}
+use Rattle.serve_command.specs.Images.{StandsWithin, IsWatched, LeavesInService}
+use Rattle.serve_command.proofs.Gathering.{extends_on}
+use Rattle.serve_command.proofs.Mending.{mends_extends, mends_legal}
+
+-- what the office's laws say of histories
+pub record GrowthLaws : Type 0 where
+  pub grow : (founder : Key) (limit : Option ℕ) (before after : OfficeState) (turns : List Turn) → Conduct founder limit before turns after → Extends before.settled after.settled
+  pub legal_step : (founder : Key) (limit : Option ℕ) (past after : List Entry) (request : Request) (reading : ℤ) (reply : Reply) → IsLegal founder past → IsInstantNs reading
+      → step founder limit past request reading ≡ (reply, after) → IsLegal founder after
+  pub legal_conduct : (founder : Key) (limit : Option ℕ) (before after : OfficeState) (turns : List Turn) → EitherWay (IsLegal founder) before → Conduct founder limit before turns after
+      → EitherWay (IsLegal founder) after
+  pub makes : (founder : Key) (limit : Option ℕ) (past after : List Entry) (request : Request) (reading : ℤ) (reply : Reply) → step founder limit past request reading ≡ (reply, after)
+      → Makes past (outcome founder limit past request reading) reply after
+
+-- an image of a shorter service is one of a longer
+pub within_on : (founder : Key) (first last later : List Entry) (image : List ℕ) → Extends last later → StandsWithin founder first last image → StandsWithin founder first later image
+within_on founder first last later image goes_on s = record {
+  past = s.past;
+  begins = s.begins;
+  ends = extends_on s.past last later s.ends goes_on;
+  history = s.history;
+  within = s.within;
+  legal = s.legal;
+  stands = s.stands;
+}
+
+-- the step makes this history where it adds an entry
+step_adds : (founder : Key) (limit : Option ℕ) (past : List Entry) (q : Request) (t : ℤ) (entry : Entry) → outcome founder limit past q t ≡ Adds entry
+    → step founder limit past q t ≡ (Done (entry_answer past entry), entry ∷ past)
+unfolding step
+step_adds founder limit past q t entry adds = ap (after past) adds
+
+untouched_settled : (doubt : Bool) (past : List Entry) (entry : Entry) → (unless_untouched doubt past entry).settled ≡ past
+untouched_settled doubt past entry = refl
+
+module _ (laws : GrowthLaws) (founder : Key) (limit : Option ℕ) where
+  -- what is settled after an act extends what mending left
+  acts_extend : (mended : List Entry) (turn : Turn) (reading : ℤ) (new : OfficeState) → Settles founder limit mended turn reading new ⊎ FailsToKeep founder limit mended turn reading new
+      → Extends mended new.settled
+  acts_extend mended turn reading new (inl settles) = by settles.answers
+    where
+      made : Makes mended (outcome founder limit mended turn.request reading) turn.reply new.settled → Extends mended new.settled
+      made (inl same) = ([], same)
+      made (inr (entry, adds, reply, is)) = (entry ∷ [], is)
+
+      by : Answers founder limit mended turn.request reading turn.reply new.settled → Extends mended new.settled
+      by (inl stepped) = made (laws.makes founder limit mended new.settled turn.request reading turn.reply stepped)
+      by (inr (wants, same)) = ([], same)
+  acts_extend mended turn reading new (inr fails) = ([], ap (λ (s : OfficeState). s.settled) fails.leaves ∙ untouched_settled fails.doubt mended fails.entry)
+
+module _ {D : Type 0} (laws : GrowthLaws) (moment : D → ℕ) (since : D → ℕ → List ℕ → Type 0) (faults : D → ℕ) (first : List Entry) (old new : DeskState D)
+    (begins : Extends first old.state.settled) (legal : EitherWay (IsLegal old.founder) old.state) where
+  -- an image of the office at rest
+  pub rests_within : (last : List Entry) (image : List ℕ) → Extends old.state.settled last → RestsAt old.state image → StandsWithin old.founder first last image
+  rests_within last image ends (inl stands) =
+      record { past = old.state.settled; begins = begins; ends = ends; history = old.state.settled; within = inl refl; legal = legal.0; stands = stands }
+  rests_within last image ends (inr doubted) = by old.state.doubt doubted legal.1
+    where
+      by : (doubt : Option Entry) → IsSomeAnd doubt (λ entry. Stands image (entry ∷ old.state.settled)) → IfSome doubt (λ entry. IsLegal old.founder (entry ∷ old.state.settled))
+          → StandsWithin old.founder first last image
+      by None none either_way = absurd none
+      by (Some entry) stands either_way =
+          record { past = old.state.settled; begins = begins; ends = ends; history = entry ∷ old.state.settled; within = inr (entry, refl); legal = either_way; stands = stands }
+
+  -- an image inside an act
+  inside_within : (mended last : List Entry) (request : Request) (reading : ℤ) (image : List ℕ) → IsInstantNs reading → Mends old.state.settled old.state.doubt mended
+      → Extends mended last → MayLeave old mended request reading image → StandsWithin old.founder first last image
+  inside_within mended last request reading image years mends ends (inl rests) =
+      rests_within last image (extends_on old.state.settled mended last (mends_extends old.state.settled old.state.doubt mended mends) ends) rests
+  inside_within mended last request reading image years mends ends (inr (entry, adds, stands)) =
+      record {
+        past = mended;
+        begins = extends_on first old.state.settled mended begins (mends_extends old.state.settled old.state.doubt mended mends);
+        ends = ends;
+        history = entry ∷ mended;
+        within = inr (entry, refl);
+        legal = laws.legal_step old.founder (Some old.limit) mended (entry ∷ mended) request reading (Done (entry_answer mended entry))
+            (mends_legal old.founder old.state.settled old.state.doubt mended mends legal.0 legal.1) years (step_adds old.founder (Some old.limit) mended request reading entry adds);
+        stands = stands;
+      }
+
+  -- each image of an act
+  pub act_within : (request : Request) (reading : ℤ) (reply : Reply) → IsInstantNs reading → ActsInTurn moment since faults (record { old = old; request = request; reading = reading; reply = reply; new = new })
+      → During moment since old.disk new.disk (StandsWithin old.founder first new.state.settled)
+  act_within request reading reply years inside = by inside.acts
+    where
+      by : FailsOn moment since old (turn_of request reading reply inside.rise) new ⊎ ActsOn moment since old (turn_of request reading reply inside.rise) reading new
+          → During moment since old.disk new.disk (StandsWithin old.founder first new.state.settled)
+      by (inl fails) = record {
+        later = fails.no_image.later;
+        either = λ t image le was. ⊎_elim (λ earlier. inl earlier) (λ none. absurd none) (fails.no_image.either t image le was);
+      }
+      by (inr acts) = record {
+        later = acts.images.later;
+        either = λ t image le was.
+            ⊎_elim (λ earlier. inl earlier)
+            (λ has. inr (inside_within acts.mended new.state.settled request reading image years acts.mends
+            (acts_extend laws old.founder (Some old.limit) acts.mended (turn_of request reading reply inside.rise) reading new.state acts.acts) has))
+            (acts.images.either t image le was);
+      }
+
+-- a desk is watched on over an act
+pub watched_on : {D : Type 0} (laws : GrowthLaws) (moment : D → ℕ) (since : D → ℕ → List ℕ → Type 0) (faults : D → ℕ) (first : List Entry) (from : ℕ) (images : ℕ → List ℕ → Type 0)
+    (old new : DeskState D) (request : Request) (reading : ℤ) (reply : Reply) → IsWatched moment since first from images old
+    → TakesTurn (office_of faults old) request (Some reading) reply (office_of faults new) → ActsInTurn moment since faults (record { old = old; request = request; reading = reading; reply = reply; new = new })
+    → new.founder ≡ old.founder → IsWatched moment since first from images new
+watched_on laws moment since faults first from images old new request reading reply was turn inside same =
+    let taken : Turn = record { request = request; reading = Some reading; reply = reply; rise = turn.rise } in
+    let one : Conduct old.founder (Some old.limit) old.state (taken ∷ []) new.state = (new.state, turn.turn, refl) in
+    let goes_on = laws.grow old.founder (Some old.limit) old.state new.state (taken ∷ []) one in
+    let during = act_within laws moment since faults first old new was.grows was.legal request reading reply turn.turn.reads.1 inside in
+    record {
+      later = le_trans was.later during.later;
+      grows = extends_on first old.state.settled new.state.settled was.grows goes_on;
+      legal = subst (λ (k : Key). EitherWay (IsLegal k) new.state) (sym same) (laws.legal_conduct old.founder (Some old.limit) old.state new.state (taken ∷ []) was.legal one);
+      each = λ t image le now.
+          subst (λ (k : Key). images t image ⊎ StandsWithin k first new.state.settled image) (sym same)
+          (⊎_elim
+          (λ earlier. ⊎_elim (λ before. inl before) (λ within. inr (within_on old.founder first old.state.settled new.state.settled image goes_on within)) (was.each t image le earlier))
+          (λ has. inr has)
+          (during.either t image (le_trans le was.later) now));
+    }
+
+-- from the desk's opening
+pub watched_first : {D : Type 0} (moment : D → ℕ) (since : D → ℕ → List ℕ → Type 0) (first : List Entry) (from : ℕ) (images : ℕ → List ℕ → Type 0) (desk : DeskState D)
+    → desk.state.doubt ≡ None → IsLegal desk.founder desk.state.settled → first ≡ desk.state.settled → from ≡ moment desk.disk
+    → ((t : ℕ) (image : List ℕ) → since desk.disk t image → images t image) → IsWatched moment since first from images desk
+watched_first moment since first from images desk settled legal first_is from_is are = record {
+  later = subst (λ (n : ℕ). n ≤ moment desk.disk) (sym from_is) (omega arith);
+  grows = ([], sym first_is);
+  legal = (legal, subst (λ (d : Option Entry). IfSome d (λ entry. IsLegal desk.founder (entry ∷ desk.state.settled))) (sym settled) tt);
+  each = λ t image le now. inl (are t image now);
+}
+
+-- what was left since the desk's opening
+pub watched_during : {D : Type 0} (moment : D → ℕ) (since : D → ℕ → List ℕ → Type 0) (first : List Entry) (from : ℕ) (images : ℕ → List ℕ → Type 0) (desk last : DeskState D)
+    → first ≡ desk.state.settled → from ≡ moment desk.disk → ((t : ℕ) (image : List ℕ) → images t image → since desk.disk t image) → last.founder ≡ desk.founder
+    → from ≤ moment last.disk → ((t : ℕ) (image : List ℕ) → t ≤ from → since last.disk t image → images t image ⊎ StandsWithin last.founder first last.state.settled image)
+    → During moment since desk.disk last.disk (StandsWithin desk.founder desk.state.settled last.state.settled)
+watched_during moment since first from images desk last first_is from_is are founder later each = record {
+  later = subst (λ (n : ℕ). n ≤ moment last.disk) from_is later;
+  either = λ t image le now.
+      ⊎_elim
+      (λ earlier. inl (are t image earlier))
+      (λ within. inr (subst (λ (h : List Entry). StandsWithin desk.founder h last.state.settled image) first_is (subst (λ (k : Key). StandsWithin k first last.state.settled image) founder within)))
+      (each t image (subst (λ (n : ℕ). t ≤ n) (sym from_is) le) now);
+}
+
+-- opening, the links and the last mending together
+pub service_images : {D : Type 0} (on : DiskWords D) (founder : Key) (disk now : D) (opened left last : DeskState D) → opened.founder ≡ founder
+    → During on.moment on.since disk opened.disk (StandsAlike (on.reads disk) opened.state.settled)
+    → During on.moment on.since opened.disk left.disk (StandsWithin opened.founder opened.state.settled left.state.settled)
+    → During on.moment on.since left.disk last.disk (λ _. ⊥) → Extends left.state.settled last.state.settled → now ≡ last.disk
+    → During on.moment on.since disk now (LeavesInService (on.reads disk) founder opened.state.settled last.state.settled)
+service_images {D = D} on founder disk now opened left last same opening service mending goes_on now_is =
+    let P : List ℕ → Type 0 = LeavesInService (on.reads disk) founder opened.state.settled last.state.settled in
+    subst (λ (d : D). During on.moment on.since disk d P) (sym now_is)
+    (during_joined
+    (during_joined (during_weaker P (λ image has. inl has) opening)
+    (during_weaker P
+    (λ image has. inr (within_on founder opened.state.settled left.state.settled last.state.settled image goes_on
+    (subst (λ (k : Key). StandsWithin k opened.state.settled left.state.settled image) same has)))
+    service))
+    (during_weaker P (λ image none. absurd none) mending))

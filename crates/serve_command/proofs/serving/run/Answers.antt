@@ -1,0 +1,88 @@
+use Rattle.std.proofs.Common.{◌+◌, ◌-◌, ◌≤◌, length, refl, inl, inr, sym, subst, arith}
+use Rattle.command_ends.specs.Disks.{disk_words}
+use Rattle.intake_lock.specs.Items.{RisesBy, rises}
+use Rattle.serve_command.specs.Links.{calls_in}
+use Rattle.mpc_desk.specs.Desks.{count_of}
+use Rattle.serve_command.proofs.Gathering.{no_longer}
+use Rattle.serve_command.proofs.Mending.{closed_so, mending_extends, extends_to, ends_legal, rose_between, counted, no_call_rose, quiet_calls, no_write_so_far, writes_as}
+use Rattle.serve_command.proofs.KeptLemmas.{kept_calls}
+use Rattle.serve_command.proofs.WatchLemmas.{service_images}
+use Rattle.serve_command.proofs.serving.run.Goals as goal
+
+pub returns-in-Err-clause-ends : goal.returns-in-Err-clause-ends
+returns-in-Err-clause-ends g c = inl ((refl, refl, refl, c.none.ensures), c.in-Err.ensures.unopened)
+
+pub write_lines-status-requires : goal.write_lines-status-requires
+write_lines-status-requires g c =
+    no_write_so_far (disk_words g.D.Disk.reads g.D.Disk.leaves g.D.Disk.moment g.D.Disk.since g.D.Disk.faults) c.attend_watched-desk.result.keeper
+    c.mend_last-mended.new.desk c.attend_watched-desk.result.stop c.mend_last-mended.result c.first_fault.result c.first_fault.ensures
+    c.mend_last-mended.ensures
+
+pub overflow_sub-added : goal.overflow_sub-added
+overflow_sub-added g c =
+    let on = disk_words g.D.Disk.reads g.D.Disk.leaves g.D.Disk.moment g.D.Disk.since g.D.Disk.faults in
+    let grows = c.attend_watched-desk.ensures.serves.1.grows in
+    let closed = closed_so on c.attend_watched-desk.result.keeper c.mend_last-mended.new.desk c.mend_last-mended.result c.mend_last-mended.ensures in
+    let longer : length c.in-Ok.desk.state.settled ≤ length c.mend_last-mended.new.desk.state.settled =
+    no_longer c.in-Ok.desk.state.settled c.mend_last-mended.new.desk.state.settled
+    (extends_to on c.attend_watched-desk.result.keeper c.mend_last-mended.new.desk closed c.in-Ok.desk.state.settled grows.newer grows.grown) in
+    omega (arith, c.entries-before.ensures, c.entries-entries.ensures)
+
+pub returns-clause-ends : goal.returns-clause-ends
+returns-clause-ends g c =
+    let on = disk_words g.D.Disk.reads g.D.Disk.leaves g.D.Disk.moment g.D.Disk.since g.D.Disk.faults in
+    let faults = g.D.Disk.faults in
+    let opened = c.in-Ok.desk in
+    let left = c.attend_watched-desk.result.keeper in
+    let last = c.mend_last-mended.new.desk in
+    let opens = c.in-Ok.ensures.opens in
+    let serves = c.attend_watched-desk.ensures.serves.1 in
+    let closed = closed_so on left last c.mend_last-mended.result c.mend_last-mended.ensures in
+    let grows = extends_to on left last closed opened.state.settled serves.grows.newer serves.grows.grown in
+    let longer = no_longer opened.state.settled last.state.settled grows in
+    let legal = ends_legal on left last closed c.args.founder opened opens.founder_is opens.legal serves.grows.legal in
+    let rose = rose_between (faults c.args.disk) (faults opened.disk) opens.later in
+    let calls = rises (calls_in serves.attendances) in
+    let opening = count_of (faults opened.disk) - count_of (faults c.args.disk) in
+    let counts : RisesBy (opening + calls + closed.rise) (count_of (faults c.args.disk)) (count_of (faults c.close.result)) =
+    subst (λ d. RisesBy (opening + calls + closed.rise) (count_of (faults c.args.disk)) (count_of (faults d))) (sym c.close.ensures)
+    (counted (faults c.args.disk) (faults opened.disk) (faults left.disk) (faults last.disk) opening calls closed.rise rose serves.grows.counts
+    closed.closed.counts) in
+    inr (
+    record {
+      opened = opened;
+      opens = opens;
+      left = left;
+      stop = c.attend_watched-desk.result.stop;
+      answered = c.attend_watched-desk.ensures.serves.0;
+      serves = serves;
+      last = last;
+      mended = c.mend_last-mended.result;
+      mends = c.mend_last-mended.ensures;
+      writes = writes_as _ _ _ _ _ _ _ _ _ _ c.first_fault.ensures c.len.ensures c.entries-entries.ensures c.write_lines-status.ensures.writes;
+      disk_is = c.close.ensures;
+      images = service_images on c.args.founder c.args.disk c.close.result opened left last opens.founder_is opens.images
+          c.attend_watched-desk.ensures.images closed.closed.no_image (mending_extends left.state last.state closed.rise closed.does) c.close.ensures;
+      kept = kept_calls g.D.Disk.moment g.D.Disk.since opened left last c.beginnings.ensures.one
+          (record { act = c.added_calls.ensures.act; stands = c.added_calls.ensures.stands; stamp = c.added_calls.ensures.stamp })
+          closed.closed.no_image (mending_extends left.state last.state closed.rise closed.does) c.attend_watched-desk.ensures.serves.0
+          c.attend_watched-desk.ensures.serves.2 (calls_in serves.attendances) serves.grows.true_of serves.grows.stamped;
+      at_rest = closed.closed.at_rest;
+      legal = legal;
+      grows = grows;
+      is_left = record {
+        entries = omega (arith, c.entries-before.ensures, c.entries-entries.ensures);
+        once = c.legal_numbers_once.ensures c.args.founder last.state.settled legal.0;
+        places = c.one_place.ensures last.state.settled;
+        rows = c.unbroken_rows.ensures last.state.settled;
+        numbers = c.unbroken_numbers.ensures last.state.settled;
+      };
+      opening = opening;
+      rose_opening = rose;
+      mending = closed.rise;
+      rose_mending = closed.closed.counts;
+      counts = counts;
+      quiet = λ never. quiet_calls (calls_in serves.attendances)
+          (no_call_rose (faults c.args.disk) (faults c.close.result) opening calls closed.rise never counts) serves.causes;
+    }
+    )

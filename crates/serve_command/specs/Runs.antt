@@ -1,0 +1,138 @@
+-- What a call that serves a door leaves, by the status with which it ended.
+use Rattle.std.specs.Prelude.{◌≡◌, ◌≢◌, ◌⊎◌, ℕ, ◌+◌, List, [], length, Option}
+use Rattle.std.specs.List.{AllByRecursion}
+use Rattle.std.specs.Io.KnownBytes.{Appends}
+use Rattle.desk_io.specs.Outside.{AppendsPart}
+use Rattle.disk_model.specs.Counts.{Rises}
+use Rattle.disk_model.specs.Crashes.{During}
+use Rattle.act_bodies.specs.declared.key.Key.{Key}
+use Rattle.act_model.specs.Clocks.{ClockState}
+use Rattle.act_model.specs.Conducts.{EitherWay, Extends}
+use Rattle.act_model.specs.Legal.{IsLegal}
+use Rattle.intake_lock.specs.Items.{RisesBy, rises}
+use Rattle.mpc_desk.specs.Desks.{DeskState, IsAtRest, count_of}
+use Rattle.command_ends.specs.declared.status.Status.{Status}
+use Rattle.command_ends.specs.declared.status.Status.TheVariants.{Done, Usage, BadFrame, DiskFault, Damaged, ReadFault}
+use Rattle.command_ends.specs.declared.status.Status.TheVariants.{WriteFault, NoMemory, DoorFault}
+use Rattle.command_ends.specs.Disks.{DiskWords, DiskRose}
+use Rattle.command_ends.specs.Opening.{Opens, EndsUnopened}
+use Rattle.command_ends.specs.Closing.{MendsLast}
+use Rattle.command_ends.specs.Left.{IsLeft}
+use Rattle.serve_command.specs.declared.accepting.Stop.{Stop}
+use Rattle.serve_command.specs.declared.accepting.Stop.TheVariants as stops
+use Rattle.serve_command.specs.declared.ends.LinkEnd.{LinkEnd}
+use Rattle.serve_command.specs.Images.{Answered, stamping, KeepsAdded, LeavesInService}
+use Rattle.serve_command.specs.Links.{LinkWords, calls_in}
+use Rattle.serve_command.specs.Gathering.{DoorState}
+use Rattle.serve_command.specs.Serving.{IsNoDiskFault, Serves}
+use Rattle.serve_command.specs.Summaries.{summary}
+
+-- ---- the first fault
+
+-- The first fault that arose: of the door, or out of memory, or else what the last mending gave, which is made
+-- whatever the links stopped at.
+abbrev pub first_fault : Stop → Status → Status
+first_fault stops.Full mended = mended
+first_fault stops.Shut mended = mended
+first_fault stops.Failed mended = DoorFault
+first_fault stops.NoMemory mended = NoMemory
+
+-- ---- the two lines
+
+-- the lines were written, or a front of them and not all
+abbrev pub WritesLines : Option (List ℕ) → Option (List ℕ) → List ℕ → Status → Type 0
+WritesLines old new lines Done = Appends old new lines
+WritesLines old new lines WriteFault = AppendsPart old new lines
+WritesLines old new lines Usage = ⊥
+WritesLines old new lines (BadFrame offset) = ⊥
+WritesLines old new lines DiskFault = ⊥
+WritesLines old new lines (Damaged offset) = ⊥
+WritesLines old new lines ReadFault = ⊥
+WritesLines old new lines NoMemory = ⊥
+WritesLines old new lines DoorFault = ⊥
+
+-- The lines are written where nothing failed so far; else nothing is, and the status is that of the first fault.
+abbrev pub Writes : Status → Type 0 → Option (List ℕ) → Option (List ℕ) → List ℕ → Status → Type 0
+Writes so_far Unwritten old new lines status =
+    ((so_far ≡ Done) × WritesLines old new lines status) ⊎ ((so_far ≢ Done) × (status ≡ so_far) × Unwritten)
+
+-- ---- the whole call
+
+-- what the call was given: the founder's key, the disk, the clock, the door, how many links may come, and what the sink
+-- took so far
+pub record RunStart (D I O : Type 0) : Type 0 where
+  pub founder : Key
+  pub disk : D
+  pub clock : ClockState
+  pub door : DoorState I O
+  pub most : ℕ
+  pub taken : Option (List ℕ)
+
+-- what the call left: the disk, the door, how the links ended, what the sink took, by how many entries the history
+-- grew, and the status
+pub record RunEnd (D I O : Type 0) : Type 0 where
+  pub disk : D
+  pub door : DoorState I O
+  pub ends : List (LinkEnd I O)
+  pub taken : Option (List ℕ)
+  pub added : ℕ
+  pub status : Status
+
+-- The desk was opened, the links of the door were attended, an act in doubt was mended once, and the two lines were
+-- written where nothing had failed. `Unwritten` says that the sink is as it was.
+--
+-- Each image at some moment of the call was one at its start, or stands for a legal history to which the office came,
+-- or for one entry more. At the end each stands for the settled history, or for that with the act in doubt. That
+-- history is legal, extends the one at the opening, and has all that every legal history has. The entry of each call
+-- that was done is in each image since the moment at which it was answered, its stamp's. The disk's count of
+-- faults rose by at least what it rose in opening, in the calls for the links and in the last mending; where it didn't
+-- rise no call is answered that the disk failed.
+pub record Runs {D I O : Type 0} (on : DiskWords D) (links : LinkWords I O) (start : RunStart D I O)
+    (end : RunEnd D I O) (Unwritten : Type 0) : Type 0 where
+  pub opened : DeskState D
+  pub opens : Opens on start.founder start.disk opened
+  pub left : DeskState D
+  pub stop : Stop
+  pub answered : Answered D
+  pub serves : Serves links
+      (record {
+        clock = start.clock;
+        office = stamping on.moment on.faults opened [];
+        door = start.door;
+        most = start.most;
+      })
+      (record {
+        office = stamping on.moment on.faults left answered;
+        door = end.door;
+        ends = end.ends;
+        stop = stop;
+      })
+  pub last : DeskState D
+  pub mended : Status
+  pub mends : MendsLast on left mended last
+  pub writes : Writes (first_fault stop mended) Unwritten start.taken end.taken
+      (summary (length end.ends) (length last.state.settled)) end.status
+  pub disk_is : end.disk ≡ last.disk
+  pub images : During on.moment on.since start.disk end.disk
+      (LeavesInService (on.reads start.disk) start.founder opened.state.settled last.state.settled)
+  pub kept : AllByRecursion (KeepsAdded on.moment on.since opened last) (calls_in serves.attendances)
+  pub at_rest : IsAtRest on.leaves last
+  pub legal : EitherWay (IsLegal start.founder) last.state
+  pub grows : Extends opened.state.settled last.state.settled
+  pub is_left : IsLeft opened.state.settled last.state.settled end.added
+  pub opening : ℕ
+  pub rose_opening : DiskRose on opening start.disk opened.disk
+  pub mending : ℕ
+  pub rose_mending : DiskRose on mending left.disk last.disk
+  pub counts : RisesBy (opening + rises (calls_in serves.attendances) + mending) (count_of (on.faults start.disk))
+      (count_of (on.faults end.disk))
+  pub quiet : ¬ Rises (on.faults start.disk) (on.faults end.disk)
+      → AllByRecursion IsNoDiskFault (calls_in serves.attendances)
+
+-- What stands at the end of the call. Either the office couldn't be opened, and `Uncalled` says that the sink, the
+-- clock and the door were not called and that there are no links; or it was opened, and the links were attended.
+abbrev pub Ends : {D I O : Type 0} → DiskWords D → LinkWords I O → RunStart D I O → RunEnd D I O → Type 0 → Type 0
+    → Type 0
+Ends on links start end Uncalled Unwritten =
+    (Uncalled × EndsUnopened on start.founder start.disk end.disk end.added end.status)
+    ⊎ Runs on links start end Unwritten
