@@ -1,7 +1,6 @@
 pub mod Padded
 pub mod Readings
 pub mod EnrolLaws
-pub mod StationLaws
 pub mod WholesLaws
 pub mod DesignateLaws
 pub mod NumberLaws

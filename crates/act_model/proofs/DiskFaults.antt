@@ -1,5 +1,5 @@
 -- Who answers that a disk failed: never the step, and a turn only where the count of faults rose.
-use Rattle.std.proofs.Common.{◌≡◌, ℕ, ℤ, pos, ◌<◌, Bool, true, false, cond, List, [], ◌∷◌, ◌++◌, map, flat_map, Option, Some, None, Result, Ok, Err, refl, sym, ap, subst, ◌∙◌, inl, inr, arith}
+use Rattle.std.proofs.Common.{◌≡◌, ℕ, ℤ, pos, ◌<◌, Bool, true, false, cond, List, [], ◌∷◌, ◌++◌, map, flat_map, Option, Some, None, Result, Ok, Err, sym, ap, subst, ◌∙◌, inl, inr, arith}
 use Rattle.std.specs.Prelude.{◌⊎◌, IsSomeAnd}
 use Rattle.act_bodies.specs.declared.key.Key.{Key}
 use Rattle.designate_core.specs.Takes.{Take, next_in}
@@ -245,10 +245,6 @@ tells_other (Err r) is = is
 either_other : (b : Bool) (x y : Outcome) → IsOtherOutcome x → IsOtherOutcome y → IsOtherOutcome (cond b x y)
 either_other true x y is other = is
 either_other false x y is other = other
-
-unheard_other : (x : Result Outcome Refusal) → ErrsOther x → ((o : Outcome) → x ≡ Ok o → IsOtherOutcome o) → IsOtherOutcome (unless_unheard x)
-unheard_other (Ok o) is on = on o refl
-unheard_other (Err r) is on = is
 
 module _ (founder : Key) (limit : Option ℕ) (past : List Entry) (q : Request) (t : ℤ) where
   step_other_of : (bytes : List ℕ) (heard : Heard) → IsOtherOutcome (heard_step limit past heard bytes (next_moment past t))

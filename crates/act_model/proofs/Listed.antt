@@ -232,10 +232,6 @@ module _ (past : List Deed) (k : ℕ) where
       by None = refl
       by (Some o) = both_if o.live (o.track == t)
 
-count_no : (numbers : List ℕ) → count_by (λ (n : ℕ). false) numbers ≡ 0
-count_no [] = refl
-count_no (n ∷ numbers) = sum_by-cons (λ (x : ℕ). 0) n numbers ∙ zero_more (count_by (λ (m : ℕ). false) numbers) ∙ count_no numbers
-
 some_in : (k : ℕ) (numbers : List ℕ) → times k numbers ≡ 1 → not (length numbers == 0) ≡ true
 some_in k [] is = absurd (omega arith)
 some_in k (n ∷ numbers) is = grind (arith, nat_tests)

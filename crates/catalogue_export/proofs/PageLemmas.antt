@@ -1,23 +1,13 @@
 -- Pages, one after the other.
-use Rattle.std.proofs.Common.{◌≡◌, ◌≢◌, ℕ, ◌+◌, ◌-◌, ◌^◌, ◌<◌, ◌≤◌, min, List, [], ◌++◌, length, take, drop, refl, sym, ap, subst, ◌∙◌, ◌⊎◌, inl, inr, append_assoc, append-nil, arith, true, false, is_err, Result, Ok, Err, OnOk, OnErr}
-use Rattle.std.proofs.lemmas.List.{take-append-drop, take-append-le, drop-append-le, length-append, length-take, length-take-le, length-drop, nil_from_length, take_at}
+use Rattle.std.proofs.Common.{◌≡◌, ◌≢◌, ℕ, ◌+◌, ◌-◌, ◌^◌, ◌<◌, ◌≤◌, min, List, [], ◌++◌, length, take, drop, refl, sym, ap, subst, ◌∙◌, ◌⊎◌, append_assoc, arith, true, false, is_err, Result, Ok, Err, OnOk, OnErr}
+use Rattle.std.proofs.lemmas.List.{take-append-drop, length-append, length-take, length-take-le, length-drop, take_at}
 use Rattle.std.specs.declared.option.Option.{Option}
 use Rattle.std.specs.Io.KnownBytes.{Appends}
-use Rattle.std.proofs.KnownBytes.{Appends-nil, Appends-trans}
+use Rattle.std.proofs.KnownBytes.{Appends-trans}
 use Rattle.desk_io.specs.Outside.{AppendsPart}
 use Rattle.catalogue_export.specs.Exports.{AppendsFront}
 
 -- ---- one page
-
-pub paged_count : (ready rest : List ℕ) → (4096 ≤ length ready) ⊎ (rest ≡ []) → min 4096 (length ready) ≡ min 4096 (length (ready ++ rest))
-paged_count ready rest (inl enough) = omega (arith, length-append ready rest, enough)
-paged_count ready rest (inr none) = ap (λ (l : List ℕ). min 4096 (length l)) (sym (ap (λ (r : List ℕ). ready ++ r) none ∙ append-nil ready))
-
-pub paged_bytes : (page ready rest : List ℕ) (n : ℕ) → n ≤ length ready → take n page ≡ take n ready → take n page ≡ take n (ready ++ rest)
-paged_bytes page ready rest n within is = is ∙ sym (take-append-le n ready rest within)
-
-pub paged_rest : (ready rest : List ℕ) (n : ℕ) → n ≤ length ready → drop n ready ++ rest ≡ drop n (ready ++ rest)
-paged_rest ready rest n within = sym (drop-append-le n ready rest within)
 
 -- ---- all pages
 
@@ -31,10 +21,6 @@ joined text page come rest n page_is rest_is =
 pub fewer : (come rest : List ℕ) (n : ℕ) → n ≡ min 4096 (length come) → n ≢ 0 → rest ≡ drop n come → length rest < length come
 fewer come rest n count some is = omega (arith, ap length is, length-drop n come, count, some)
 
--- none are to come
-pub none_come : (come : List ℕ) (n : ℕ) → n ≡ min 4096 (length come) → n ≡ 0 → come ≡ []
-none_come come n count none = nil_from_length come (omega (arith, count, none))
-
 -- ---- what a sink took
 
 -- bytes were sent, and with what is to come they are the whole text
@@ -43,9 +29,6 @@ pub record Sends (old new : Option (List ℕ)) (all come : List ℕ) (written : 
   pub taken : Appends old new sent
   pub whole : sent ++ come ≡ all
   pub amount : written ≡ min (length sent) (2 ^ 64 - 1)
-
-pub nothing_sent : (taken : Option (List ℕ)) (all come : List ℕ) → come ≡ all → Sends taken taken all come 0
-nothing_sent taken all come is = record { sent = []; taken = Appends-nil taken; whole = is; amount = omega arith }
 
 pub page_sent : (old mid new : Option (List ℕ)) (all come rest page : List ℕ) (n written more : ℕ) → Sends old mid all come written → page ≡ take n come → rest ≡ drop n come
     → n ≡ min 4096 (length come) → Appends mid new page → more ≡ min (written + n) (2 ^ 64 - 1) → Sends old new all rest more
@@ -56,14 +39,6 @@ page_sent old mid new all come rest page n written more sends page_is rest_is co
       whole = joined sends.sent page come rest n page_is rest_is ∙ sends.whole;
       amount = omega (arith, length-append sends.sent page, ap length page_is, length-take n come, count, added, sends.amount);
     }
-
-pub all_sent : (old new : Option (List ℕ)) (all come : List ℕ) (written : ℕ) → Sends old new all come written → come ≡ [] → Appends old new all
-all_sent old new all come written sends none =
-    subst (λ (l : List ℕ). Appends old new l) (sym (append-nil sends.sent) ∙ sym (ap (λ (l : List ℕ). sends.sent ++ l) none) ∙ sends.whole) sends.taken
-
-pub all_counted : (old new : Option (List ℕ)) (all come : List ℕ) (written : ℕ) → Sends old new all come written → come ≡ [] → written ≡ min (length all) (2 ^ 64 - 1)
-all_counted old new all come written sends none =
-    sends.amount ∙ ap (λ (l : List ℕ). min (length l) (2 ^ 64 - 1)) (sym (append-nil sends.sent) ∙ sym (ap (λ (l : List ℕ). sends.sent ++ l) none) ∙ sends.whole)
 
 pub front_sent : (old new : Option (List ℕ)) (all come : List ℕ) (written : ℕ) → Sends old new all come written → AppendsFront old new all
 front_sent old new all come written sends = (

@@ -7,9 +7,8 @@ use Rattle.packed_names.specs.declared.name.Name.{Name}
 use Rattle.identify_core.specs.Acts.{principal}
 use Rattle.act_model.specs.declared.entry.Entry.{Entry}
 use Rattle.act_model.specs.declared.query.Query.TheVariants as query
-use Rattle.act_model.specs.declared.reply.Refusal.{Refusal}
 use Rattle.act_model.specs.declared.reply.Refusal.TheVariants.{UnknownThing}
-use Rattle.act_model.specs.declared.reply.Reply.TheVariants.{Done, Refused}
+use Rattle.act_model.specs.declared.reply.Reply.TheVariants.{Done}
 use Rattle.act_model.specs.declared.reply.Thing.TheVariants as thing
 use Rattle.act_model.specs.declared.shelf.TrackHead.{TrackHead}
 use Rattle.act_model.specs.Catalogue.{catalogue}
@@ -33,10 +32,6 @@ if_made (Err e) P Q follows holds = tt
 kept_done : (number : ℕ) (o : Option Kept) (text : List ℕ) → Some (Done text) ≡ reply_kept o → told_receipt number o ≡ Ok text
 kept_done number (Some k) text is = let same : text ≡ entry_answer k.before k.entry = cc in ap (λ (t : List ℕ). Ok t) (sym same)
 kept_done number None text is = absurd cc
-
-pub never_refused : (o : Option Kept) (refusal : Refusal) → Some (Refused refusal) ≡ reply_kept o → ⊥
-never_refused (Some k) refusal is = cc
-never_refused None refusal is = cc
 
 kept_none : (number : ℕ) (o : Option Kept) → None ≡ reply_kept o → told_receipt number o ≡ Err (UnknownThing (thing.Receipt number))
 kept_none number None is = refl

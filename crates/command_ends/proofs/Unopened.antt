@@ -3,7 +3,6 @@ use Rattle.std.proofs.Common.{◌≡◌, ℕ, ◌-◌, ◌≤◌, List, Option, 
 use Rattle.std.specs.Prelude.{◌≢◌, IfSome, IsSome}
 use Rattle.disk_model.specs.Counts.{Rises}
 use Rattle.disk_model.specs.Crashes.{During}
-use Rattle.disk_model.specs.Moments.{during_nothing}
 use Rattle.obs_journal.specs.declared.fault.OpenFault.{OpenFault}
 use Rattle.obs_journal.specs.declared.fault.OpenFault.TheVariants as opening
 use Rattle.obs_journal.specs.Journals.{IsUnwritten}
@@ -18,7 +17,7 @@ use Rattle.command_ends.specs.declared.status.Status.{Status}
 use Rattle.command_ends.specs.declared.status.Status.TheVariants.{Damaged, NoMemory}
 use Rattle.command_ends.specs.Disks.{DiskWords, DiskRose}
 use Rattle.command_ends.specs.Opening.{status_of, IsUnopened, EndsUnopened}
-use Rattle.command_ends.proofs.Counts.{rose_any, rose_fault, rose_none}
+use Rattle.command_ends.proofs.Counts.{rose_any, rose_fault}
 
 module _ {D : Type 0} (on : DiskWords D) (founder : Key) (disk now : D) (added : ℕ) (none : added ≡ 0)
     (later : on.faults disk ≤ on.faults now) (images : During on.moment on.since disk now (SpellsAlike (on.reads disk))) where
@@ -37,11 +36,6 @@ module _ {D : Type 0} (on : DiskWords D) (founder : Key) (disk now : D) (added :
       (rise, some, shut rise rose)
   unopened_ends (opening.Damaged offset) cause damaged unwritten = (damaged offset refl, (_, any, unwritten (λ is. absurd cc)))
   unopened_ends opening.NoMemory cause damaged unwritten = (_, any, unwritten (λ is. absurd cc))
-
--- memory was refused before a device was called
-pub untouched : {D : Type 0} (on : DiskWords D) (founder : Key) (disk : D) → EndsUnopened on founder disk disk 0 NoMemory
-untouched on founder disk =
-    (0, record { added_is = refl; counts = rose_none (on.faults disk); images = during_nothing disk _ }, λ known. record { same = refl; no_image = during_nothing disk _ })
 
 -- the status tells of what damage it is
 status_damaged : (fault : OpenFault) (offset : ℕ) → status_of fault ≡ Damaged offset → fault ≡ opening.Damaged offset

@@ -1,9 +1,9 @@
 -- Digits, one after the other, and the ranges of their numbers.
-use Rattle.std.proofs.Common.{◌≡◌, ℕ, ◌+◌, ◌*◌, ◌<◌, ◌≤◌, Some, None, List, [], ◌∷◌, length, slice_index, sym, arith}
+use Rattle.std.proofs.Common.{◌≡◌, ℕ, ◌+◌, ◌*◌, ◌<◌, ◌≤◌, None, List, [], ◌∷◌, length, slice_index, sym, arith}
 use Rattle.std.specs.Char.{digit_value}
 use Rattle.std.specs.Str.Parse.{digits_value_after}
 use Rattle.std.proofs.lemmas.Bool.Decides.{nat_tests}
-use Rattle.command_line.specs.Numbers.{if_fits, if_within}
+use Rattle.command_line.specs.Numbers.{if_fits}
 
 -- further digits make no number smaller
 pub no_smaller : (number : ℕ) (digits : List ℕ) → number ≤ digits_value_after 10 number digits
@@ -12,20 +12,11 @@ no_smaller number (digit ∷ digits) =
     let more : number * 10 + digit_value digit ≤ digits_value_after 10 (number * 10 + digit_value digit) digits = no_smaller (number * 10 + digit_value digit) digits in
     omega arith
 
-pub fits : (number : ℕ) → number ≤ 18446744073709551615 → if_fits number ≡ Some number
-fits number small = grind (arith, nat_tests)
-
 pub too_large : (number : ℕ) → 18446744073709551615 < number → if_fits number ≡ None
 too_large number large = grind (arith, nat_tests)
 
-pub fitting : (number found : ℕ) → if_fits number ≡ Some found → found ≡ number
-fitting number found is = grind (arith, nat_tests)
-
 pub unfitting : (number : ℕ) → if_fits number ≡ None → 18446744073709551615 < number
 unfitting number is = grind (arith, nat_tests)
-
-pub within_none : (least most number : ℕ) → most < number → if_within least most number ≡ None
-within_none least most number large = grind (arith, nat_tests)
 
 -- where a number with its next digit is too large, it is with all of its digits
 pub stays_too_large : (number : ℕ) (digits : List ℕ) → 1 ≤ length digits → None ≡ if_fits (number * 10 + digit_value (slice_index digits 0))

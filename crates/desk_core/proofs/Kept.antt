@@ -1,7 +1,7 @@
 -- The answers that are kept are those of the entries' own time.
-use Rattle.std.proofs.Common.{◌≡◌, ℕ, ◌+◌, ◌<◌, Bool, true, false, cond, List, [], ◌∷◌, ◌++◌, length, get_or, take, drop, Some, suc, refl, ap, sym, subst, ◌∙◌, append_assoc, arith}
+use Rattle.std.proofs.Common.{◌≡◌, ℕ, ◌+◌, ◌<◌, Bool, true, cond, List, [], ◌∷◌, ◌++◌, length, get_or, take, drop, Some, suc, refl, ap, sym, subst, ◌∙◌, append_assoc}
 use Rattle.std.specs.Prelude.{slice_get, reverse}
-use Rattle.std.proofs.lemmas.List.{reverse-append, take-append-drop, length-take, length-map, length-reverse}
+use Rattle.std.proofs.lemmas.List.{reverse-append, take-append-drop}
 use Rattle.std.proofs.Math.Seq.{drop-cons}
 use Rattle.std.proofs.Math.Numerals.{add-one}
 use Rattle.std.proofs.lemmas.Option.{get_or_from_slice_get, slice_get_read, slice_get_within}
@@ -35,10 +35,6 @@ answered_at filed place f there answered =
     ap reverse (split_at filed place f there) ∙ reverse-append (take place filed) (f ∷ behind) ∙ ap (λ (newer : List Filed). newer ++ reverse (take place filed)) (reverse-append (f ∷ []) behind) ∙ append_assoc (reverse behind) (f ∷ []) (reverse (take place filed)) in
     answered_behind (reverse behind) f (reverse (take place filed)) (subst AreAnswered turned answered)
 
-pub receipt_at : (filed : List Filed) (place : ℕ) → place < length filed → next_receipt (history_of (take place filed)) ≡ place + 1
-receipt_at filed place within =
-    simp (length-map, length-reverse, length-take) (omega arith)
-
 -- what is filed is the reply to the act of its entry
 pub reply_given : (filed : List Filed) (place : ℕ) (f : Filed) → AreAnswered (reverse filed) → f ≡ get_or filed place f → (k : Kept) → IsFiledAt filed place k → f.reply ≡ done_reply k
 reply_given filed place f answered here k at =
@@ -52,10 +48,6 @@ reply_done filed place f answered within here =
     let there : slice_get filed place ≡ Some f = slice_get_read filed (length filed) place f refl within here in
     subst IsDone (sym (answered_at filed place f there answered)) tt
 
--- a copy of its text is the answer of its entry
-pub kept_given : (k : Kept) (given text copy : List ℕ) → Done given ≡ done_reply k → text ≡ given → copy ≡ text → copy ≡ entry_answer k.before k.entry
-kept_given k given text copy is same copied = cc
-
 pub kept_again : (filed : List Filed) (place : ℕ) (f : Filed) (verb : Verb) (bytes : List ℕ) (text : List ℕ) → f ≡ get_or filed place f → is_resend verb bytes f.entry ≡ true
     → ((k : Kept) → IsFiledAt filed place k → text ≡ entry_answer k.before k.entry)
     → (k : Kept) → IsFiledAt filed place k → Done text ≡ kept_reply verb bytes k
@@ -64,12 +56,3 @@ kept_again filed place f verb bytes text here resend given k at =
     let entry : k.entry ≡ f.entry = at.entry ∙ ap (λ (g : Filed). g.entry) same in
     let resent : is_resend verb bytes k.entry ≡ true = ap (is_resend verb bytes) entry ∙ resend in
     ap (λ (t : List ℕ). Done t) (given k at) ∙ sym (ap (λ (b : Bool). cond b (Done (entry_answer k.before k.entry)) (Refused (OtherRequest (next_receipt k.before)))) resent)
-
-pub kept_other : (filed : List Filed) (place : ℕ) (f : Filed) (verb : Verb) (bytes : List ℕ) → place < length filed → f ≡ get_or filed place f → is_resend verb bytes f.entry ≡ false
-    → (k : Kept) → IsFiledAt filed place k → Refused (OtherRequest (place + 1)) ≡ kept_reply verb bytes k
-kept_other filed place f verb bytes within here other k at =
-    let same : at.at ≡ f = sym (get_or_from_slice_get filed place at.at f at.there) ∙ sym here in
-    let entry : k.entry ≡ f.entry = at.entry ∙ ap (λ (g : Filed). g.entry) same in
-    let receipt : place + 1 ≡ next_receipt k.before = sym (receipt_at filed place within) ∙ ap (λ (h : List Entry). next_receipt h) (sym at.before) in
-    let not_resent : is_resend verb bytes k.entry ≡ false = ap (is_resend verb bytes) entry ∙ other in
-    ap (λ (r : ℕ). Refused (OtherRequest r)) receipt ∙ sym (ap (λ (b : Bool). cond b (Done (entry_answer k.before k.entry)) (Refused (OtherRequest (next_receipt k.before)))) not_resent)

@@ -6,7 +6,6 @@ pub mod RosterLemmas
 pub mod Steps
 pub mod Readying
 pub mod Working
-pub mod Fitting
 pub mod Numbered
 pub mod Telling
 pub mod TakenLines

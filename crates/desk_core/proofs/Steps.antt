@@ -1,5 +1,5 @@
 -- What becomes of a request, question by question.
-use Rattle.std.proofs.Common.{◌≡◌, ℕ, ℤ, Bool, true, false, cond, List, length, ◌<◌, Option, Some, None, Result, Ok, Err, refl, sym, ap, subst, ◌∙◌, inl, inr, arith}
+use Rattle.std.proofs.Common.{◌≡◌, ℕ, ℤ, Bool, true, false, cond, List, length, ◌<◌, Option, Some, Result, Ok, Err, refl, sym, ap, subst, ◌∙◌, inl, inr, arith}
 use Rattle.act_bodies.specs.declared.key.Key.{Key}
 use Rattle.act_model.specs.declared.deed.Deed.{Deed}
 use Rattle.act_model.specs.declared.deed.Deed.TheVariants.{Enrolled, Stationed, Coded, Submitted, Designated, Attributed, Released, Identified, Separated, Judged, Numbered, Retracted, Nothing}
@@ -20,7 +20,7 @@ use Rattle.act_model.specs.History.{Kept, kept, next_moment}
 use Rattle.act_model.specs.Hearing.{bytes_in, hear}
 use Rattle.act_model.specs.Refusals.{work_within}
 use Rattle.act_model.specs.Turns.{Answers}
-use Rattle.act_model.specs.Step.{Outcome, Refuses, Tells, Adds, outcome, unless_unheard, heard_step, act_step, query_step, query_in, told, tells, unless_kept, unless_refused, new_entry, step, after}
+use Rattle.act_model.specs.Step.{Outcome, Refuses, Tells, outcome, unless_unheard, heard_step, act_step, query_step, query_in, told, tells, unless_kept, unless_refused, new_entry, step, after}
 use Rattle.desk_core.specs.Office.{Room, Fits}
 use Rattle.desk_core.specs.Preparing.{IsRefused, Prepares, IsPrepared, IsTold}
 use Rattle.desk_core.specs.declared.prepared.Prep.{Prep}
@@ -106,20 +106,6 @@ pub kept_step : (limit : Option ℕ) (past : List Entry) (heard : Heard) (bytes 
     → act_step limit past heard bytes moment ≡ unless_kept (Some k) heard bytes (Refuses NoMemory)
 kept_step limit past heard bytes moment k used =
     ap (λ (o : Option Kept). unless_kept o heard bytes (unless_refused (work_within limit past bytes moment heard) (new_entry heard bytes moment))) used
-
--- a number that was not used
-pub new_step : (limit : Option ℕ) (past : List Entry) (heard : Heard) (bytes : List ℕ) (moment : ℤ) → kept past heard.caller.number heard.number ≡ None
-    → act_step limit past heard bytes moment ≡ unless_refused (work_within limit past bytes moment heard) (new_entry heard bytes moment)
-new_step limit past heard bytes moment unused =
-    ap (λ (o : Option Kept). unless_kept o heard bytes (unless_refused (work_within limit past bytes moment heard) (new_entry heard bytes moment))) unused
-
--- an act that is refused, and one that isn't
-pub refused_work : (work : Result Deed Refusal) (e : Entry) (r : Refusal) → IsDue work (Err r) → IsRefused (unless_refused work e) r
-refused_work work e r (inl due) = inl (ap (λ (w : Result Deed Refusal). unless_refused w e) due)
-refused_work work e r (inr wants) = inr wants
-
-pub added_work : (work : Result Deed Refusal) (e : Entry) (deed : Deed) → work ≡ Ok deed → unless_refused work e ≡ Adds e
-added_work work e deed is = ap (λ (w : Result Deed Refusal). unless_refused w e) is
 
 -- ---- the roster with a deed
 

@@ -62,11 +62,6 @@ body_missing bytes h rest a lacks m behind b =
     let same = one_head bytes h m.parts rest (m.body ++ behind) a b.head in
     absurd (omega (arith, ap length same.1, length-append m.body behind, b.long, ap (λ (p : HeadParts). p.length) same.0))
 
--- a head and its body
-pub message_of : (bytes : List ℕ) (h : HeadParts) (body rest : List ℕ) → IsHead bytes h (body ++ rest) → length body ≡ h.length
-    → IsMessage bytes (record { parts = h; body = body }) rest
-message_of bytes h body rest a long = record { head = a; long = long }
-
 pub never_now : (bytes : List ℕ) → NeverMessage bytes → NoMessage bytes
 never_now bytes never = subst NoMessage (append-nil bytes) (never [])
 

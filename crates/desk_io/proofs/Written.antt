@@ -1,5 +1,5 @@
 -- A piece that is written bit by bit.
-use Rattle.std.proofs.Common.{◌≡◌, ℕ, ◌<◌, List, [], ◌++◌, length, take, drop, refl, sym, ap, ◌∙◌, subst, append_assoc, append-nil, take-append-drop, length-append, arith, Option}
+use Rattle.std.proofs.Common.{◌≡◌, ℕ, ◌<◌, List, [], ◌++◌, length, take, drop, refl, sym, ap, ◌∙◌, subst, append_assoc, take-append-drop, length-append, arith, Option}
 use Rattle.std.proofs.KnownBytes.{Appends-nil, Appends-trans, Appends-kept}
 use Rattle.std.specs.Io.KnownBytes.{Appends, Keeps}
 use lib.Seq.{take-append_seam}
@@ -21,10 +21,6 @@ IsWritten-more old now next piece rest n so_far more = record {
   joined = so_far.joined ∙ ap (λ l. so_far.front ++ l) (sym (take-append-drop n rest)) ∙ sym (append_assoc so_far.front (take n rest) (drop n rest));
   took = Appends-trans old now next so_far.front (take n rest) so_far.took more;
 }
-
-pub IsWritten-all : (old now : Option (List ℕ)) (piece rest : List ℕ) → IsWritten old now piece rest → rest ≡ [] → Appends old now piece
-IsWritten-all old now piece rest so_far none =
-    subst (Appends old now) (sym (so_far.joined ∙ ap (λ l. so_far.front ++ l) none ∙ append-nil so_far.front)) so_far.took
 
 pub IsWritten-part : (old now next : Option (List ℕ)) (piece rest : List ℕ) → IsWritten old now piece rest → 0 < length rest → Keeps now next
     → AppendsPart old next piece

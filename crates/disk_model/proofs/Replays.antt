@@ -1,10 +1,9 @@
 -- A record's deeds, played again.
-use Rattle.std.proofs.Common.{◌≡◌, ℕ, ◌+◌, ◌<◌, Bool, true, List, [], ◌∷◌, length, get_or, take, drop, map, reverse, sym, ◌∙◌, ap, subst}
-use Rattle.std.proofs.lemmas.List.{take_more, map-append, reverse-append}
+use Rattle.std.proofs.Common.{◌≡◌, ℕ, ◌+◌, ◌<◌, Bool, true, List, [], ◌∷◌, length, take, drop, sym, ◌∙◌, ap, subst}
 use Rattle.disk_model.specs.Files.{written}
 use Rattle.disk_model.specs.Crashes.{Torn}
 use Rattle.disk_model.specs.Memory.{Deed, file_after, IsImage}
-use Rattle.disk_model.specs.Entries.{deed_of, deeds_of}
+use Rattle.disk_model.specs.Entries.{deed_of}
 use Rattle.disk_model.specs.declared.record.Entry.{Entry}
 use Rattle.disk_model.specs.declared.record.Entry.TheVariants.{Wrote}
 
@@ -21,10 +20,3 @@ pub image_torn : (pool first bytes old new : List ℕ) (past : List Deed) (entry
     → IsImage first (deed_of pool entry ∷ past) new
 image_torn pool first bytes old new past entry at start count done is part was torn =
     subst (λ (e : Entry). IsImage first (deed_of pool e ∷ past) new) (sym is) (old, was, subst (λ (l : List ℕ). Torn at (length l) old new) part torn)
-
--- one deed more of the record
-pub deeds_next : (pool : List ℕ) (entries : List Entry) (k : ℕ) (d : Entry) → k < length entries → deeds_of pool (take (k + 1) entries) ≡ deed_of pool (get_or entries k d) ∷ deeds_of pool (take k entries)
-deeds_next pool entries k d in_bounds =
-    ap (λ (l : List Entry). deeds_of pool l) (take_more entries k d in_bounds)
-    ∙ ap (λ (l : List Deed). reverse l) (map-append (deed_of pool) (take k entries) (get_or entries k d ∷ []))
-    ∙ reverse-append (map (deed_of pool) (take k entries)) (deed_of pool (get_or entries k d) ∷ [])

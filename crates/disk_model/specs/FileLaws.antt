@@ -2,7 +2,7 @@
 use Rattle.std.specs.Prelude.{◌≡◌, ℕ, ◌+◌, ◌-◌, ◌≤◌, min, max, List, [], ◌∷◌, ◌++◌, length, take, drop, replicate, refl}
 use Rattle.std.proofs.Common.{sym, ◌∙◌, ap, arith}
 use Rattle.std.proofs.lemmas.List.{take-append-le, take-take, take_min, take_all, drop-drop, drop_at, length-append}
-use Rattle.std.proofs.lemmas.List.{length-take, length-drop, length-replicate, take-append-drop, append-nil}
+use Rattle.std.proofs.lemmas.List.{length-take, length-drop, length-replicate}
 use Rattle.disk_model.specs.Files.{lengthened, written}
 use Rattle.disk_model.specs.Crashes.{Torn, CutTo}
 
@@ -23,22 +23,6 @@ length-written at byte bytes file =
     let whole = length-lengthened at file in
     let dropped = length-drop (at + length (byte ∷ bytes)) file in
     omega (arith, joined, fronts, taken, whole, dropped)
-
--- a write that begins inside the file, or at its end
-pub written_inside : (at : ℕ) (bytes file : List ℕ) → at ≤ length file
-    → written at bytes file ≡ take at file ++ bytes ++ drop (at + length bytes) file
-written_inside at [] file inside =
-    sym (take-append-drop at file)
-    ∙ ap (λ (front : List ℕ). front ++ drop at file) (sym (append-nil (take at file)))
-    ∙ ap (λ (k : ℕ). take at file ++ [] ++ drop k file) (let none : at ≡ at + 0 = omega arith in none)
-written_inside at (byte ∷ bytes) file inside =
-    ap (λ (front : List ℕ). front ++ (byte ∷ bytes) ++ drop (at + length (byte ∷ bytes)) file)
-    (take-append-le at file (replicate (at - length file) 0) inside)
-
--- of a write that begins inside the file, or at its end, all before it stays
-pub torn_inside : {at n : ℕ} {old new : List ℕ} → at ≤ length old → Torn at n old new → take at new ≡ take at old
-torn_inside {at} {n} {old} {new} inside torn =
-    let same : min at (length old) ≡ at = omega arith in ap (λ (m : ℕ). take m new) (sym same) ∙ torn.before
 
 -- a write may leave the file as it was
 pub torn_same : (at n : ℕ) (file : List ℕ) → Torn at n file file

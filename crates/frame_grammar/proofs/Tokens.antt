@@ -10,21 +10,9 @@ use Rattle.frame_grammar.specs.declared.parts.Unread.{Unread}
 use Rattle.frame_grammar.specs.declared.parts.Unread.TheVariants as unread
 use Rattle.frame_grammar.specs.Reading.{Lacks, Begins, Reads, ReadsToken, stopped, IsOf, IsBegun}
 
-pub each_push : (P : ℕ → Type 0) (xs : List ℕ) (y : ℕ) → AllByRecursion P xs → P y → AllByRecursion P (xs ++ y ∷ [])
-each_push P [] y all here = (here, tt)
-each_push P (x ∷ xs) y all here = (all.0, each_push P xs y all.1 here)
-
-pub each_front : (P : ℕ → Type 0) (xs ys : List ℕ) → AllByRecursion P (xs ++ ys) → AllByRecursion P xs
-each_front P [] ys all = tt
-each_front P (x ∷ xs) ys all = (all.0, each_front P xs ys all.1)
-
 pub each_next : (P : ℕ → Type 0) (xs : List ℕ) (y : ℕ) (ys : List ℕ) → AllByRecursion P (xs ++ y ∷ ys) → P y
 each_next P [] y ys all = all.0
 each_next P (x ∷ xs) y ys all = each_next P xs y ys all.1
-
-pub each_weaker : (P Q : ℕ → Type 0) → ((byte : ℕ) → P byte → Q byte) → (xs : List ℕ) → AllByRecursion P xs → AllByRecursion Q xs
-each_weaker P Q wider [] all = tt
-each_weaker P Q wider (x ∷ xs) all = (wider x all.0, each_weaker P Q wider xs all.1)
 
 head_is : (x y : ℕ) (xs ys : List ℕ) → x ∷ xs ≡ y ∷ ys → x ≡ y
 head_is x y xs ys e = cc

@@ -4,7 +4,7 @@ use Rattle.std.specs.declared.cmp.Ordering.{Ordering}
 use Rattle.std.specs.declared.cmp.Ordering.TheVariants.{Less, Equal, Greater}
 use Rattle.std.specs.Ordering.{nat_cmp, ordering_then, ordering_reverse, eq_by_cmp, is_eq}
 use Rattle.std.specs.Cmp.{IsTotalOrder}
-use Rattle.std.proofs.lemmas.Cmp.{tied_itself, nat_cmp_total, ranked, by_ranked}
+use Rattle.std.proofs.lemmas.Cmp.{tied_itself, ranked, by_ranked}
 use Rattle.packed_names.specs.declared.half_month.HalfMonth.{HalfMonth}
 use Rattle.packed_names.specs.declared.provisional.Provisional.{Provisional}
 use Rattle.packed_names.specs.declared.name.Designation.{Designation}
@@ -23,9 +23,6 @@ use Rattle.identify_core.specs.Keeping.{link_cmp}
 pub numbers_same : (x y : ℕ) → is_eq (nat_cmp x y) ≡ true → x ≡ y
 numbers_same x y same = by_ranked _ _ _ (nat_cmp x y) (ranked x y _ refl) (λ e _. cc) (λ _ e. e) (λ e _. cc)
 
-number_itself : (x : ℕ) → nat_cmp x x ≡ Equal
-number_itself x = tied_itself nat_cmp_total x
-
 pub then_parts : (o p : Ordering) → is_eq (ordering_then o p) ≡ true → (is_eq o ≡ true) × (is_eq p ≡ true)
 then_parts Less p h = cc
 then_parts Equal p h = (refl, h)
@@ -39,9 +36,6 @@ half_same one other same =
     ap (λ (y : ℕ). let half : HalfMonth = record { year = y; index = one.index } in half) year
     ∙ ap (λ (i : ℕ). let half : HalfMonth = record { year = other.year; index = i } in half) index
 
-pub half_itself : (half : HalfMonth) → eq_by_cmp half_cmp half half ≡ true
-half_itself half = let year = number_itself half.year in let index = number_itself half.index in rw (year, index) refl
-
 pub provisional_same : (one other : Provisional) → is_eq (provisional_cmp one other) ≡ true → one ≡ other
 provisional_same one other same =
     let parts = then_parts (half_cmp one.half other.half) (nat_cmp one.order other.order) same in
@@ -49,10 +43,6 @@ provisional_same one other same =
     let order = numbers_same one.order other.order parts.1 in
     ap (λ (h : HalfMonth). let given : Provisional = record { half = h; order = one.order } in given) half
     ∙ ap (λ (n : ℕ). let given : Provisional = record { half = other.half; order = n } in given) order
-
-pub provisional_itself : (given : Provisional) → is_eq (provisional_cmp given given) ≡ true
-provisional_itself given =
-    let year = number_itself given.half.year in let index = number_itself given.half.index in let order = number_itself given.order in rw (year, index, order) refl
 
 survey_same : (one other : Survey) → survey_place one ≡ survey_place other → one ≡ other
 survey_same PalomarLeiden PalomarLeiden e = refl

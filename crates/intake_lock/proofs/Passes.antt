@@ -21,9 +21,9 @@ use Rattle.intake_lock.specs.declared.view.Stage.{Stage}
 use Rattle.intake_lock.specs.declared.view.Stage.TheVariants.{Idle}
 use Rattle.intake_lock.specs.declared.view.View.{View}
 use Rattle.intake_lock.specs.Items.{AreTrue, RisesBy, rises}
-use Rattle.intake_lock.specs.Views.{seen, live, one_if_live, ticketed, one_if_ticketed, made_by, rises_by, HasTicketAt, HasTicket, HasTurnAt, HasTurn, stem, branch, joined, spent, longer_office, shorter_office, one_in, first_view}
-use Rattle.intake_lock.specs.Rule.{MOST, word, FitsStage, IsKnown, Fits, At, Apart, Rooted, Latest, IsCall, Comes, IsHome, IsOut, Standing, Closes}
-use Rattle.intake_lock.proofs.Histories.{same_length, extends_length, StepLaw, extends_refl, extends_on, comes_kept, are_true_later, are_true_both, rises_none}
+use Rattle.intake_lock.specs.Views.{seen, live, one_if_live, ticketed, one_if_ticketed, made_by, rises_by, HasTicketAt, HasTicket, HasTurnAt, HasTurn, stem, branch, joined, spent, one_in, first_view}
+use Rattle.intake_lock.specs.Rule.{MOST, word, FitsStage, IsKnown, Fits, At, Apart, Latest, IsCall, IsHome, IsOut, Standing, Closes}
+use Rattle.intake_lock.proofs.Histories.{same_length, extends_length, StepLaw, extends_refl, comes_kept, are_true_later, are_true_both, rises_none}
 use Rattle.intake_lock.proofs.Stamps.{stamps_refl, stamped_both}
 use Rattle.intake_lock.proofs.Sums.{sum_set, sum_push, sum_two, sum_none, at_below}
 use Rattle.intake_lock.proofs.Views.{latest_set, here, fits_live, live_known, one_there, each, apart_set, sum_same, calls_set, kept_set}
@@ -416,15 +416,6 @@ module _ {V : Type 0} (office_of : V → Office) where
         )
 
 -- ---- what a join tells
-
--- the longer history extends both
-pub both_seen : (v w : View) → Extends (joined v w).also (seen (joined v w)) → Extends (seen v) (seen (joined v w)) × Extends (seen w) (seen (joined v w))
-both_seen v w = by (nat_lt (length (seen v)) (length (seen w)))
-  where
-    by : (b : Bool) → Extends (cond b v.office w.office).state.settled (cond b w.office v.office).state.settled
-        → Extends (seen v) (cond b w.office v.office).state.settled × Extends (seen w) (cond b w.office v.office).state.settled
-    by true short = (short, extends_refl (seen w))
-    by false short = (extends_refl (seen v), short)
 
 pub may_split : (role : Role) → Rattle.intake_lock.specs.Passes.MaySplit role → (out : ℕ) × (role ≡ Root out) × (out < MOST)
 may_split (Root out) room = (out, refl, room)

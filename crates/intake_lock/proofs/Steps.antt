@@ -7,7 +7,7 @@ use mathlib.Core.Option as slot
 use mathlib.Core.Logic.{dite}
 use native.Mathlib.Decide.{ℕ_discrete}
 use lib.ListN.{get_elem?}
-use Rattle.atomic_table.specs.Table.{State, Me, Act, keeps, takes, gives, Allows, stepped}
+use Rattle.atomic_table.specs.Table.{State, Act, keeps, takes, gives, Allows, stepped}
 use Rattle.atomic_table.proofs.Lists.{set_again}
 use Rattle.act_bodies.specs.declared.key.Key.{Key}
 use Rattle.intake_lock.specs.declared.clerk.Office.{Office}
@@ -30,10 +30,6 @@ use Rattle.intake_lock.proofs.Views.{fits_live, live_known, ticket_range, turn_t
 -- a pass waits for one ticket
 one_ticket : (t u : ℕ) → Waiting t ≡ Waiting u → t ≡ u
 one_ticket t u is = cc
-
--- and has the turn of one
-one_turn : (t u : ℕ) → Holding t ≡ Holding u → t ≡ u
-one_turn t u is = cc
 
 word_more : (n : ℕ) → (word n + 1) % 2 ^ 64 ≡ word (n + 1)
 word_more n = omega arith

@@ -34,14 +34,6 @@ below newest (last ∷ past) row n (zero, within, here) = omega (arith, row.1, h
 below newest (last ∷ past) row n (suc k, within, here) =
     let rest = below last past row.3 n (k, omega (arith, within), here) in omega (arith, row.1, rest)
 
-named_among : (n : ℕ) (d : Designation) (past : List Numbering) → named past n ≡ Some d → Contains (numbers past) n
-named_among n d [] some = absurd (cc)
-named_among n d (newest ∷ past) some =
-    elim (cases_Bool (newest.number.0 == n)) [
-      | inl same ↦ (0, omega arith, eqb-true newest.number.0 n same)
-      | inr apart ↦ let rest = named_among n d past (sym (named-past n newest past apart) ∙ some) in (suc rest.0, omega (arith, rest.1), rest.2)
-    ]
-
 numbered_among : (n : Number) (d : Designation) (past : List Numbering) → number_of past d ≡ Some n → Contains (numbers past) n.0
 numbered_among n d [] some = absurd (cc)
 numbered_among n d (newest ∷ past) some =

@@ -1,12 +1,11 @@
 -- Requests that were taken, one after another.
 use Rattle.std.proofs.Common.{◌≡◌, ℕ, suc, ◌+◌, ◌-◌, ◌<◌, ◌≤◌, List, [], ◌∷◌, ◌++◌, None, Result, Ok, Err, flat_map, refl, sym, ap, subst, ◌∙◌, append_assoc, append-nil, inl, inr, arith}
-use Rattle.std.specs.Prelude.{ℤ, Bool, true, false, OnOk, IfErr, IfOk}
+use Rattle.std.specs.Prelude.{ℤ, false, OnOk, IfErr, IfOk}
 use Rattle.std.specs.List.{range_with_len}
 use Rattle.std.proofs.Math.Numerals.{add-one}
 use Rattle.act_bodies.specs.declared.key.Key.{Key}
 use Rattle.act_model.specs.declared.entry.Entry.{Entry}
 use Rattle.act_model.specs.declared.reply.Refusal.{Refusal}
-use Rattle.act_model.specs.declared.reply.Refusal.TheVariants.{NoMemory}
 use Rattle.act_model.specs.declared.reply.Reply.{Reply}
 use Rattle.act_model.specs.declared.reply.Reply.TheVariants.{Done, Refused}
 use Rattle.act_model.specs.declared.request.Request.{Request}
@@ -106,11 +105,6 @@ module _ (seed count : ℕ) (past now : List Entry) (before : ℕ) (goes : Goes 
 
   pub number_is : x ≡ number_at seed (before + 1)
   number_is = is ∙ sym (number_next seed before)
-
-pub goes_all : (seed count : ℕ) (past now : List Entry) → Goes seed count past count now → AreTaken past (left_after seed 0 count) now
-goes_all seed count past now goes rest =
-    let none : count - count ≡ 0 = omega arith in
-    goes rest ∙ ap (λ (n : ℕ). history_after now (left_after seed count n ++ rest)) none
 
 -- ---- the whole workload
 

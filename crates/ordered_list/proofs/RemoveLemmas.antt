@@ -1,5 +1,5 @@
 -- What removing leaves, and removing from either part of merged lists.
-use Rattle.std.proofs.Common.{◌≡◌, ◌≤◌, true, false, Bool, cond, List, [], ◌∷◌, length, Option, Some, None, refl, ap, sym, subst, ◌∙◌, arith}
+use Rattle.std.proofs.Common.{◌≡◌, ◌≤◌, true, false, Bool, cond, List, [], ◌∷◌, Option, Some, None, refl, ap, sym, subst, ◌∙◌}
 use Rattle.std.specs.Prelude.{if◌then◌else◌}
 use Rattle.std.specs.Cmp.{IsTotalOrder}
 use Rattle.std.specs.List.{AllByRecursion}
@@ -23,14 +23,6 @@ all-removed cmp P key (x ∷ xs) all = by (ties cmp key x) refl (all-removed cmp
     by : (b : Bool) → ties cmp key x ≡ b → AllByRecursion P (removed cmp key xs) → AllByRecursion P (removed cmp key (x ∷ xs))
     by true is rest = subst (AllByRecursion P) (sym (removed_by cmp key x xs true is)) all.1
     by false is rest = subst (AllByRecursion P) (sym (removed_by cmp key x xs false is)) (all.0, rest)
-
-pub length-removed : {T : Type 0} (cmp : T → T → Ordering) (key : T) (xs : List T) → length (removed cmp key xs) ≤ length xs
-length-removed cmp key [] = omega arith
-length-removed cmp key (x ∷ xs) = by (ties cmp key x) refl (length-removed cmp key xs)
-  where
-    by : (b : Bool) → ties cmp key x ≡ b → length (removed cmp key xs) ≤ length xs → length (removed cmp key (x ∷ xs)) ≤ length (x ∷ xs)
-    by true is rest = let same = ap length (removed_by cmp key x xs true is) in omega arith
-    by false is rest = let same = ap length (removed_by cmp key x xs false is) in omega arith
 
 -- where nothing ties with the key nothing is removed
 removed_none_by : {T : Type 0} (cmp : T → T → Ordering) (key : T) (xs : List T) → AllByRecursion (λ x. ties cmp key x ≡ false) xs → removed cmp key xs ≡ xs

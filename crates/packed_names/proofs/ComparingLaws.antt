@@ -46,10 +46,6 @@ provisional_same one other same =
     ap (λ (h : HalfMonth). let given : Provisional = record { half = h; order = one.order } in given) half
     ∙ ap (λ (n : ℕ). let given : Provisional = record { half = other.half; order = n } in given) order
 
-provisional_itself : (given : Provisional) → is_eq (provisional_cmp given given) ≡ true
-provisional_itself given =
-    let year = number_itself given.half.year in let index = number_itself given.half.index in let order = number_itself given.order in rw (year, index, order) refl
-
 survey_same : (one other : Survey) → survey_place one ≡ survey_place other → one ≡ other
 survey_same PalomarLeiden PalomarLeiden e = refl
 survey_same T1 T1 e = refl

@@ -2,7 +2,7 @@
 -- laws stand beside the words that they are of.
 use Rattle.std.specs.Prelude.{◌≡◌, Bool, true, false, if◌then◌else◌, List, [], ◌∷◌, ◌++◌, Result, Ok, Err, refl}
 use Rattle.std.proofs.Common.{inl, inr, sym, ap, ◌∙◌}
-use Rattle.text_lines.specs.Steps.{◌>>=◌, or_breaks}
+use Rattle.text_lines.specs.Steps.{◌>>=◌}
 use Rattle.text_lines.specs.Rules.{KeepsEach, IsFirstBroken, Judges}
 
 -- one of the rules at most is the first broken one
@@ -56,23 +56,6 @@ pub judged_test : {R A : Type 0} (Keeps : R → Type 0) (rule : R) (more : List 
 judged_test Keeps rule more IsRight true r breaks keeps rest = inl (breaks refl, refl)
 judged_test Keeps rule more IsRight false r breaks keeps rest =
     behind_one Keeps rule more IsRight r (keeps refl) (rest refl)
-
--- a part that one rule is of: what is read is right, the rule is kept exactly where something is read, and the part
--- breaks no other rule
-pub judged_part : {R A : Type 0} (Keeps : R → Type 0) (rule : R) (IsRight : A → Type 0) (r : Result A R)
-    → ((x : A) → r ≡ Ok x → IsRight x) → ((x : A) → IsRight x → Keeps rule) → (Keeps rule → (x : A) × (r ≡ Ok x))
-    → ((other : R) → r ≡ Err other → other ≡ rule)
-    → Judges Keeps (rule ∷ []) IsRight r
-judged_part Keeps rule IsRight (Ok x) given keeps found fault = let right = given x refl in ((keeps x right, tt), right)
-judged_part Keeps rule IsRight (Err other) given keeps found fault =
-    inl (λ kept. (let read = (found kept).1 in cc), fault other refl)
-
--- the same of a part whose own faults all break the rule
-pub judged_breaks : {R A F : Type 0} (Keeps : R → Type 0) (rule : R) (IsRight : A → Type 0) (r : Result A F)
-    → ((x : A) → r ≡ Ok x → IsRight x) → ((x : A) → IsRight x → Keeps rule) → (Keeps rule → (x : A) × (r ≡ Ok x))
-    → Judges Keeps (rule ∷ []) IsRight (or_breaks rule r)
-judged_breaks Keeps rule IsRight (Ok x) given keeps found = let right = given x refl in ((keeps x right, tt), right)
-judged_breaks Keeps rule IsRight (Err fault) given keeps found = inl (λ kept. (let read = (found kept).1 in cc), refl)
 
 -- What is said under the rules is determined, where what is right of a thing that keeps them all is.
 pub one_judgement : {R A : Type 0} (Keeps : R → Type 0) (rules : List R) (IsRight : A → Type 0) (one other : Result A R)

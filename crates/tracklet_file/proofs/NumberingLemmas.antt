@@ -1,9 +1,9 @@
 -- Lists that stand newest first, over the vectors that keep them oldest first.
-use Rattle.std.proofs.Common.{◌≡◌, ℕ, ◌+◌, ◌-◌, ◌<◌, ◌≤◌, Bool, true, false, cond, List, [], ◌∷◌, ◌++◌, length, get_or, take, Option, Some, None, zero, suc, refl, ap, sym, ◌∙◌, inl, inr, eq-or-lt_of_le, arith}
+use Rattle.std.proofs.Common.{◌≡◌, ℕ, ◌+◌, ◌-◌, ◌<◌, ◌≤◌, Bool, true, false, cond, List, [], ◌∷◌, ◌++◌, length, get_or, Option, Some, None, zero, suc, refl, ap, sym, ◌∙◌, inl, inr, eq-or-lt_of_le, arith}
 use Rattle.std.specs.Prelude.{reverse, ◌==◌, ◌≢◌, slice_get, IsSome}
 use Rattle.std.specs.Option.{option_map}
 use Rattle.std.proofs.Math.ListN.{set}
-use Rattle.std.proofs.lemmas.List.{take_more, reverse-append, reverse-reverse, length-reverse, set_at, set-append_left}
+use Rattle.std.proofs.lemmas.List.{reverse-append, reverse-reverse, length-reverse, set_at, set-append_left}
 use Rattle.std.proofs.lemmas.Option.{slice_get_read, slice_get_within, none-some, same_Some}
 use Rattle.std.proofs.lemmas.Bool.{eqb-true, eqb-false, false≢true}
 use Rattle.std.proofs.lemmas.Bool.Decides.{nat_tests}
@@ -12,9 +12,6 @@ use Rattle.tracklet_file.specs.Numbering.{next_number, numbered, changed_at}
 -- one more item at the end of the vector is the newest
 pub reverse_push : {A : Type 0} (items : List A) (item : A) → reverse (items ++ item ∷ []) ≡ item ∷ reverse items
 reverse_push items item = reverse-append items (item ∷ [])
-
-pub reverse_more : {A : Type 0} (items : List A) (place : ℕ) (item : A) → place < length items → reverse (take (place + 1) items) ≡ get_or items place item ∷ reverse (take place items)
-reverse_more items place item within = ap reverse (take_more items place item within) ∙ reverse_push (take place items) (get_or items place item)
 
 slice_get_end : {A : Type 0} (items : List A) (item : A) → slice_get (items ++ item ∷ []) (length items) ≡ Some item
 slice_get_end [] item = refl
