@@ -7,7 +7,7 @@ mod Transfer
 mod Sorting
 mod Apart
 mod Firsts
-mod Rows
+mod WorkedExamples
 mod Passed
 mod Pointed
 mod PointLemmas

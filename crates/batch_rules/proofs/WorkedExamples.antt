@@ -1,4 +1,4 @@
--- The rules of groups at their edges, computed.
+-- Worked examples: the rules of groups at their edges, computed.
 use Rattle.std.proofs.Common.{◌≡◌, ℕ, ◌+◌, ◌*◌, pos, [], ◌∷◌, replicate, Some, None, refl}
 use Rattle.obs_record.specs.declared.short.Short.{Short}
 use Rattle.obs_record.specs.declared.sighting.Coded.TheVariants.{Nothing}
