@@ -1,5 +1,5 @@
 -- A record's deeds, played again.
-use Rattle.std.proofs.Common.{◌≡◌, ℕ, ◌+◌, ◌<◌, Bool, true, List, [], ◌∷◌, length, take, drop, sym, ◌∙◌, ap, subst}
+use Rattle.std.proofs.Common.{◌≡◌, ℕ, Bool, true, List, ◌∷◌, length, take, drop, sym, ◌∙◌, ap, subst}
 use Rattle.disk_model.specs.Files.{written}
 use Rattle.disk_model.specs.Crashes.{Torn}
 use Rattle.disk_model.specs.Memory.{Deed, file_after, IsImage}

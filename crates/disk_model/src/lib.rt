@@ -5,11 +5,14 @@ mod calls;
 mod disk;
 mod file;
 mod memory;
+mod named_file;
+mod opened;
 mod real;
 mod record;
 
 pub use disk::{Disk, Failed};
 pub use memory::MemDisk;
+pub use named_file::{NamedFile, Seen, SystemFile};
 pub use real::FileDisk;
 
 /// Memory was refused.

@@ -6,106 +6,78 @@ ghost use Rattle.disk_model.specs.Files.{Gives, written, cut_to};
 ghost use Rattle.disk_model.specs.Crashes.{Torn, CutTo, After, Passes, EachSince};
 ghost use Rattle.disk_model.specs.Real.{untold, unread, no_image, no_image_since, no_moment};
 
+use crate::named_file::{NamedFile, SystemFile};
+use crate::opened::{Opened, read_some};
 use crate::{Disk, Failed};
 use std::fs::File;
 use std::io;
-use std::io::ErrorKind;
 use std::marker::Model;
-use std::os::unix::fs::FileExt;
 use std::rt::Files;
 
-/// The file's name in the current folder.
-const NAME: &str = "desk.journal";
-
-/// The file `desk.journal` of the current folder. It is opened at the first call, and made where it isn't there. As
-/// long as the disk lives it holds an exclusive lock of the file, so that a second one on the same file gets a fault.
+/// A file under a name. It is opened at the first call, and made where it isn't there. As long as the disk lives it
+/// holds an exclusive lock of the file, so that a second one on the same file gets a fault.
+///
+/// What is no regular file is a fault, and stays as it is. So is a file that was removed, renamed, replaced or cut
+/// beside the disk, at the next write and the next sync. After a write, a cut or a sync that failed, the next sync
+/// writes again what was written since the last one that succeeded.
 ///
 /// It tells nothing of its content, and counts each error as a fault. An offset past 2^63 - 1 is an error of the
 /// system.
 #[derive(Debug, Drop)]
-pub struct FileDisk<R: Files<File = File> + Copy> {
-    system: R,
-    file: Option<Opened>,
+pub struct FileDisk<F: NamedFile> {
+    file: F,
+    opened: Option<Opened>,
     faults: u64,
 }
 
-// The journal, and the folder three times, which is opened before it and stays open as long. A file that is opened gets
-// the lowest free descriptor: where a standard stream was closed when the program started, the folder has its
-// descriptor, and not the journal, over which answers would else be written.
-#[derive(Debug, Drop)]
-struct Opened {
-    journal: File,
-    folders: [File; 3],
-}
-
-impl<R: Files<File = File> + Copy> Model for FileDisk<R> {
+impl<F: NamedFile> Model for FileDisk<F> {
     ghost use Rattle.std.specs.Prelude.{is_some};
     ghost use Rattle.disk_model.specs.Real.{FileState};
 
     ghost Value = { FileState };
 
-    ghost view = { λ disk. record { is_open = is_some disk.file; faults = disk.faults } };
+    ghost view = { λ disk. record { is_open = is_some disk.opened; faults = disk.faults } };
 }
 
-// Opens the file, takes its lock, and syncs the folder, so that a file that was made outlives a crash.
-fn open_file<R: Files<File = File>>(system: &R) -> io::Result<Opened> {
-    let folders = [
-        File::open(system, ".")?,
-        File::open(system, ".")?,
-        File::open(system, ".")?,
-    ];
-    let journal = File::options()
-        .read(true)
-        .write(true)
-        .create(true)
-        .open(system, NAME)?;
-    journal.try_lock()?;
-    folders[0].sync_all()?;
-    Ok(Opened { journal, folders })
-}
-
-// Reads once, and again after an interrupt.
-fn read_some(file: &File, at: u64, piece: &mut [u8]) -> io::Result<usize>
-    ensures { IfOk result (λ n. n ≤ length piece.old) }
-{
-    for _ in 0..u64::MAX {
-        match file.read_at(piece, at) {
-            Err(error) if error.kind() == ErrorKind::Interrupted => {}
-            answer => return answer,
-        }
+impl<R: Files<File = File> + Copy> FileDisk<SystemFile<R>> {
+    /// A disk over the file of this name in the current folder. It isn't opened yet.
+    pub fn new(system: R, name: &'static str) -> FileDisk<SystemFile<R>>
+        ensures { result ≡ record { is_open = false; faults = 0 } }
+    {
+        FileDisk::over(SystemFile::new(system, name))
     }
-    Err(io::Error::from(ErrorKind::Interrupted))
 }
 
-// Cuts a file that is longer.
-fn cut_file(file: &File, len: u64) -> io::Result<()> {
-    if len < file.metadata()?.len() {
-        file.set_len(len)?;
-    }
-    Ok(())
-}
-
-impl<R: Files<File = File> + Copy> FileDisk<R> {
-    /// A disk that isn't opened yet.
-    pub fn new(system: R) -> FileDisk<R>
+impl<F: NamedFile> FileDisk<F> {
+    /// A disk over this file, of which nothing is open.
+    pub fn over(file: F) -> FileDisk<F>
         ensures { result ≡ record { is_open = false; faults = 0 } }
     {
         FileDisk {
-            system,
-            file: None,
+            file,
+            opened: None,
             faults: 0,
         }
     }
 
-    // Opens the file, if it isn't open.
+    // Opens the file, if it isn't open. Where that fails nothing stays open, and the next call begins anew.
     fn open(&mut self) -> io::Result<()>
         ensures opened { OnOk result (self.new ≡ record self.old { is_open = true }) }
         ensures unopened { OnErr result (self.new ≡ self.old) }
     {
-        if self.file.is_none() {
-            self.file = Some(open_file(&self.system)?);
+        if self.opened.is_some() {
+            return Ok(());
         }
-        Ok(())
+        match Opened::open(&mut self.file) {
+            Ok(opened) => {
+                self.opened = Some(opened);
+                Ok(())
+            }
+            Err(error) => {
+                self.file.close();
+                Err(error)
+            }
+        }
     }
 
     fn try_len(&mut self) -> io::Result<u64>
@@ -114,10 +86,10 @@ impl<R: Files<File = File> + Copy> FileDisk<R> {
         ensures stays { self.old.is_open ≡ true → self.new.is_open ≡ true }
     {
         self.open()?;
-        let Some(Opened { journal: file, .. }) = &self.file else {
+        let Some(opened) = &mut self.opened else {
             unreachable!();
         };
-        Ok(file.metadata()?.len())
+        opened.len(&mut self.file)
     }
 
     fn try_read(&mut self, at: u64, piece: &mut [u8]) -> io::Result<usize>
@@ -127,10 +99,7 @@ impl<R: Files<File = File> + Copy> FileDisk<R> {
         ensures stays { self.old.is_open ≡ true → self.new.is_open ≡ true }
     {
         self.open()?;
-        let Some(Opened { journal: file, .. }) = &self.file else {
-            unreachable!();
-        };
-        read_some(file, at, piece)
+        read_some(&mut self.file, at, piece)
     }
 
     fn try_write(&mut self, at: u64, bytes: &[u8]) -> io::Result<()>
@@ -139,10 +108,10 @@ impl<R: Files<File = File> + Copy> FileDisk<R> {
         ensures stays { self.old.is_open ≡ true → self.new.is_open ≡ true }
     {
         self.open()?;
-        let Some(Opened { journal: file, .. }) = &self.file else {
+        let Some(opened) = &mut self.opened else {
             unreachable!();
         };
-        file.write_all_at(bytes, at)
+        opened.write(&mut self.file, at, bytes)
     }
 
     fn try_cut(&mut self, len: u64) -> io::Result<()>
@@ -151,10 +120,10 @@ impl<R: Files<File = File> + Copy> FileDisk<R> {
         ensures stays { self.old.is_open ≡ true → self.new.is_open ≡ true }
     {
         self.open()?;
-        let Some(Opened { journal: file, .. }) = &self.file else {
+        let Some(opened) = &mut self.opened else {
             unreachable!();
         };
-        cut_file(file, len)
+        opened.cut(&mut self.file, len)
     }
 
     fn try_sync(&mut self) -> io::Result<()>
@@ -163,10 +132,10 @@ impl<R: Files<File = File> + Copy> FileDisk<R> {
         ensures stays { self.old.is_open ≡ true → self.new.is_open ≡ true }
     {
         self.open()?;
-        let Some(Opened { journal: file, .. }) = &self.file else {
+        let Some(opened) = &mut self.opened else {
             unreachable!();
         };
-        file.sync_all()
+        opened.sync(&mut self.file)
     }
 }
 
@@ -187,7 +156,7 @@ fn counted<T: Drop>(answer: io::Result<T>, faults: &mut u64) -> Result<T, Failed
     }
 }
 
-impl<R: Files<File = File> + Copy> Disk for FileDisk<R> {
+impl<F: NamedFile> Disk for FileDisk<F> {
     ghost reads = { unread };
 
     ghost leaves = { no_image };

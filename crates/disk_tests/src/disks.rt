@@ -231,8 +231,8 @@ fn is_filled_again<D: Disk>(disk: &mut D) -> bool {
 #[test]
 fn real_file(rt: HostRuntime) -> Result<(), Fail> {
     let _ = fs::remove_file(&rt, "desk.journal");
-    let mut disk = FileDisk::new(rt);
-    let mut second = FileDisk::new(rt);
+    let mut disk = FileDisk::new(rt, "desk.journal");
+    let mut second = FileDisk::new(rt, "desk.journal");
     let filled = is_filled(&mut disk, &mut second);
     drop(disk);
     let again = is_filled_again(&mut second);

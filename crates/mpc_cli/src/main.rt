@@ -78,7 +78,7 @@ fn run<N: Net<Listener = TcpListener, Stream = TcpStream> + Copy, R: Threads + W
     let mut source = StreamSource::new(host.stdin());
     let mut sink = StreamSink::new(host.stdout());
     let mut clock = SystemClock::new(host);
-    let disk = FileDisk::new(host);
+    let disk = FileDisk::new(host, "desk.journal");
     let mut door = TcpDoor::new(net, alloc);
     let (ended, _) = top(
         rt,
