@@ -88,47 +88,6 @@ module _ {D : Type 0} (on : DiskWords D) where
     left_alone : new ≡ old → Mends old.state.settled old.state.doubt new.state.settled
     left_alone same = subst (λ (d : DeskState D). Mends old.state.settled old.state.doubt d.state.settled) (sym same) (nothing_mended old.state.settled old.state.doubt)
 
-    -- the statuses of the source's and the sink's faults stand for where serving stopped
-    pub read_stop : (stopped : Stop) (status : Status) → Finishes on old stopped status new → status ≡ ReadFault → stopped ≡ stop.ReadFailed
-    read_stop stop.Over Done ends is = absurd cc
-    read_stop stop.Over DiskFault ends is = absurd cc
-    read_stop stop.Over Usage ends is = absurd ends
-    read_stop stop.Over (BadFrame offset) ends is = absurd ends
-    read_stop stop.Over (Damaged offset) ends is = absurd ends
-    read_stop stop.Over ReadFault ends is = absurd ends
-    read_stop stop.Over WriteFault ends is = absurd ends
-    read_stop stop.Over NoMemory ends is = absurd ends
-    read_stop stop.Over DoorFault ends is = absurd ends
-    read_stop (stop.NoFrameAt offset) status ends is = let says = ends.0 in absurd cc
-    read_stop stop.ReadFailed status ends is = refl
-    read_stop stop.WriteFailed status ends is = let says = ends.0 in absurd cc
-
-    pub write_stop : (stopped : Stop) (status : Status) → Finishes on old stopped status new → status ≡ WriteFault → stopped ≡ stop.WriteFailed
-    write_stop stop.Over Done ends is = absurd cc
-    write_stop stop.Over DiskFault ends is = absurd cc
-    write_stop stop.Over Usage ends is = absurd ends
-    write_stop stop.Over (BadFrame offset) ends is = absurd ends
-    write_stop stop.Over (Damaged offset) ends is = absurd ends
-    write_stop stop.Over ReadFault ends is = absurd ends
-    write_stop stop.Over WriteFault ends is = absurd ends
-    write_stop stop.Over NoMemory ends is = absurd ends
-    write_stop stop.Over DoorFault ends is = absurd ends
-    write_stop (stop.NoFrameAt offset) status ends is = let says = ends.0 in absurd cc
-    write_stop stop.ReadFailed status ends is = let says = ends.0 in absurd cc
-    write_stop stop.WriteFailed status ends is = refl
-
-    pub read_status : (stopped : Stop) (status : Status) → Finishes on old stopped status new → stopped ≡ stop.ReadFailed → status ≡ ReadFault
-    read_status stop.Over status ends is = absurd cc
-    read_status (stop.NoFrameAt offset) status ends is = absurd cc
-    read_status stop.ReadFailed status ends is = ends.0
-    read_status stop.WriteFailed status ends is = absurd cc
-
-    pub write_status : (stopped : Stop) (status : Status) → Finishes on old stopped status new → stopped ≡ stop.WriteFailed → status ≡ WriteFault
-    write_status stop.Over status ends is = absurd cc
-    write_status (stop.NoFrameAt offset) status ends is = absurd cc
-    write_status stop.ReadFailed status ends is = absurd cc
-    write_status stop.WriteFailed status ends is = ends.0
-
     -- the end settles what was in doubt, or leaves it
     pub finish_mends : (stopped : Stop) (status : Status) → Finishes on old stopped status new → Mends old.state.settled old.state.doubt new.state.settled
     finish_mends stop.Over Done (rise, mended, closed) = mended.mends
