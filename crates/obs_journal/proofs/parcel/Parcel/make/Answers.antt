@@ -29,9 +29,6 @@ bytes_are c =
 body_is : (c : goal.In_ok-push-2) → body_of c.push-2.new.self.items ≡ c.args.body.now
 body_is c = body_of_bytes (kept c) _ (bytes_are c)
 
-with_body : (p : RawParcel) (body : List ℕ) → p.body ≡ body → record p { body = body } ≡ p
-with_body p body e = ap (λ b. record p { body = b }) (sym e)
-
 pub invariant_of-result : goal.invariant_of-result
 invariant_of-result c =
     let same = to_z-of_z w64 c.args.moment c.ranges.moment in
