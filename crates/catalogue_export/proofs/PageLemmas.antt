@@ -1,6 +1,6 @@
 -- Pages, one after the other.
 use Rattle.std.proofs.Common.{◌≡◌, ◌≢◌, ℕ, ◌+◌, ◌-◌, ◌^◌, ◌<◌, ◌≤◌, min, List, [], ◌++◌, length, take, drop, refl, sym, ap, subst, ◌∙◌, ◌⊎◌, append_assoc, arith, true, false, is_err, Result, Ok, Err, OnOk, OnErr}
-use Rattle.std.proofs.lemmas.List.{take-append-drop, length-append, length-take, length-take-le, length-drop, take_at}
+use Rattle.std.proofs.lemmas.List.{take-append-drop, length-append, length-take, length-take-le, take_at}
 use Rattle.std.specs.declared.option.Option.{Option}
 use Rattle.std.specs.Io.KnownBytes.{Appends}
 use Rattle.std.proofs.KnownBytes.{Appends-trans}
@@ -16,10 +16,6 @@ pub joined : (text page come rest : List ℕ) (n : ℕ) → page ≡ take n come
 joined text page come rest n page_is rest_is =
     append_assoc text page rest
     ∙ ap (λ (l : List ℕ). text ++ l) (ap (λ (l : List ℕ). l ++ rest) page_is ∙ ap (λ (l : List ℕ). take n come ++ l) rest_is ∙ take-append-drop n come)
-
--- fewer bytes are to come
-pub fewer : (come rest : List ℕ) (n : ℕ) → n ≡ min 4096 (length come) → n ≢ 0 → rest ≡ drop n come → length rest < length come
-fewer come rest n count some is = omega (arith, ap length is, length-drop n come, count, some)
 
 -- ---- what a sink took
 

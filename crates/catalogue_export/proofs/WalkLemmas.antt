@@ -20,8 +20,8 @@ use Rattle.act_model.specs.Holdings.{holdings}
 use Rattle.act_model.specs.Shelves.{has_no_home, numbers_to}
 use Rattle.act_model.specs.Tallies.{tally, tally_text}
 use Rattle.act_model.specs.Texts.{line_of}
-use Rattle.catalogue_export.specs.Pieces.{Piece, Front, ObjectHead, ObjectName, ObjectLine, TrackHead, TrackLine, End, name_text, is_listed, track_head, piece_text, listed_in, object_pieces, track_pieces}
-use Rattle.catalogue_export.specs.Walks.{tracks_after, objects_left, observations_left, left, to_write, turns_left, Steps}
+use Rattle.catalogue_export.specs.Pieces.{Piece, Front, ObjectName, ObjectLine, TrackHead, TrackLine, End, name_text, is_listed, track_head, piece_text, listed_in, object_pieces, track_pieces}
+use Rattle.catalogue_export.specs.Walks.{tracks_after, objects_left, left, to_write, turns_left, Steps}
 use Rattle.catalogue_export.specs.declared.walk.Walk.{Walk}
 
 -- ---- lists of lists
@@ -135,24 +135,7 @@ module _ (history : List Entry) where
         nearer = omega (arith, ap length is, fewer);
       }
 
-  pub turned : (old new : Walk) (text : List ℕ) → left (deeds history) old ≡ left (deeds history) new → turns_left new.stage < turns_left old.stage → Steps history old new text text
-  turned old new text is fewer =
-      record {
-        text = ap (λ (l : List ℕ). text ++ l) (sym (ap (flat_map (piece_text history)) is));
-        nearer = omega (arith, ap length is, fewer);
-      }
-
 -- ---- what is left
-
-pub objects_more : (past : List Deed) (p : Designation) (names : List Designation)
-    → objects_left past (p ∷ names) ≡ ObjectHead p ∷ (map (ObjectName p) (members (links_of past) p) ++ observations_left past p (in_object past p) names)
-objects_more past p names =
-    let named : List Piece = map (ObjectName p) (members (links_of past) p) in
-    let seen : List Piece = map (ObjectLine p) (in_object past p) in
-    let more : List Piece = flat_map (object_pieces past) names in
-    let rest : List Piece = tracks_after past 0 in
-    ap (λ (l : List Piece). ObjectHead p ∷ l)
-    (append_assoc (named ++ seen) more rest ∙ append_assoc named seen (more ++ rest))
 
 length-numbers_to : (n : ℕ) → length (numbers_to n) ≡ n
 length-numbers_to zero = refl
@@ -193,9 +176,3 @@ pub left_from : {X : Type 0} (xs : List X) (at : ℕ) (x : X) → slice_get xs a
 left_from [] at x is = absurd cc
 left_from (y ∷ ys) zero x is = let same : y ≡ x = cc in ap (λ (z : _). z ∷ ys) same
 left_from (y ∷ ys) (suc at) x is = left_from ys at x is
-
-pub left_none : {X : Type 0} (xs : List X) (at : ℕ) → slice_get xs at ≡ None → drop at xs ≡ []
-left_none [] zero is = refl
-left_none [] (suc at) is = refl
-left_none (y ∷ ys) zero is = absurd cc
-left_none (y ∷ ys) (suc at) is = left_none ys at is

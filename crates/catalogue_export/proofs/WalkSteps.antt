@@ -1,51 +1,21 @@
 -- One step of a walk from each of its stages.
-use Rattle.std.proofs.Common.{◌≡◌, ℕ, suc, ◌+◌, ◌<◌, ◌≤◌, List, ◌∷◌, ◌++◌, length, map, drop, slice_get, Some, None, refl, sym, ap, ◌∙◌, arith, add-one, codes}
+use Rattle.std.proofs.Common.{◌≡◌, ℕ, suc, ◌+◌, ◌<◌, ◌≤◌, List, ◌∷◌, ◌++◌, length, map, drop, slice_get, Some, refl, sym, ap, ◌∙◌, arith, add-one, codes}
 use Rattle.packed_names.specs.declared.name.Designation.{Designation}
-use Rattle.identify_core.specs.Acts.{members}
 use Rattle.act_model.specs.declared.entry.Entry.{Entry}
-use Rattle.act_model.specs.Catalogue.{in_object}
 use Rattle.act_model.specs.Deeds.{deeds}
-use Rattle.act_model.specs.Designations.{links_of, principals}
+use Rattle.act_model.specs.Designations.{principals}
 use Rattle.act_model.specs.Holdings.{holdings}
 use Rattle.act_model.specs.Texts.{line_of}
-use Rattle.catalogue_export.specs.Pieces.{Front, ObjectHead, ObjectName, ObjectLine, TrackHead, TrackLine, End, piece_text, listed_in}
-use Rattle.catalogue_export.specs.Walks.{tracks_after, objects_left, observations_left, left_at, left, turns_left, Steps}
+use Rattle.catalogue_export.specs.Pieces.{ObjectName, ObjectLine, TrackHead, TrackLine, End, piece_text, listed_in}
+use Rattle.catalogue_export.specs.Walks.{tracks_after, objects_left, observations_left, left_at, left, Steps}
 use Rattle.catalogue_export.specs.declared.walk.Stage.{Stage}
 use Rattle.catalogue_export.specs.declared.walk.Stage.TheVariants as stages
 use Rattle.catalogue_export.specs.declared.walk.Walk.{Walk}
-use Rattle.catalogue_export.proofs.WalkLemmas.{stepped, turned, objects_more, tracks_more, tracks_end, left_from, left_none}
+use Rattle.catalogue_export.proofs.WalkLemmas.{stepped, tracks_more, tracks_end, left_from}
 
 module _ (history : List Entry) (old : Walk) (before : List ℕ) where
   at_stage : (stage : Stage) → old.stage ≡ stage → left (deeds history) old ≡ left_at (deeds history) old stage
   at_stage stage is = ap (left_at (deeds history) old) is
-
-  -- the lines at the front were written
-  pub begun : (names : List Designation) (text after : List ℕ) → old.stage ≡ stages.Start → names ≡ principals (links_of (deeds history))
-      → text ≡ piece_text history Front → after ≡ before ++ text → Steps history old (record old { principals = names; stage = stages.Objects 0 }) before after
-  begun names text after is all text_is grew =
-      stepped history old (record old { principals = names; stage = stages.Objects 0 }) Front before text after
-      (at_stage stages.Start is ∙ ap (λ (ns : List Designation). Front ∷ objects_left (deeds history) ns) (sym all))
-      (omega arith) text_is grew
-
-  -- the head of an object was written
-  pub entered_object : (at next : ℕ) (p : Designation) (names : List Designation) (observations : List ℕ) (text after : List ℕ) → old.stage ≡ stages.Objects at
-      → drop at old.principals ≡ p ∷ drop next old.principals → names ≡ members (links_of (deeds history)) p → observations ≡ in_object (deeds history) p
-      → text ≡ piece_text history (ObjectHead p) → after ≡ before ++ text
-      → Steps history old (record old { names = names; observations = observations; stage = stages.Names p next 0 }) before after
-  entered_object at next p names observations text after is first names_are observations_are text_is grew =
-      let past = deeds history in
-      stepped history old (record old { names = names; observations = observations; stage = stages.Names p next 0 }) (ObjectHead p) before text after
-      (at_stage (stages.Objects at) is ∙ ap (objects_left past) first ∙ objects_more past p (drop next old.principals)
-      ∙ ap (λ (ns : List Designation). ObjectHead p ∷ (map (ObjectName p) ns ++ observations_left past p (in_object past p) (drop next old.principals))) (sym names_are)
-      ∙ ap (λ (ks : List ℕ). ObjectHead p ∷ (map (ObjectName p) names ++ observations_left past p ks (drop next old.principals))) (sym observations_are))
-      (omega arith) text_is grew
-
-  -- no object is left
-  pub left_objects : (at : ℕ) → old.stage ≡ stages.Objects at → slice_get old.principals at ≡ None → Steps history old (record old { stage = stages.Tracks 0 }) before before
-  left_objects at is none =
-      turned history old (record old { stage = stages.Tracks 0 }) before
-      (at_stage (stages.Objects at) is ∙ ap (objects_left (deeds history)) (left_none old.principals at none))
-      (omega (arith, ap turns_left is))
 
   -- a designation of an object was written
   pub named : (p : Designation) (next at : ℕ) (d : Designation) (text after : List ℕ) → old.stage ≡ stages.Names p next at → slice_get old.names at ≡ Some d
@@ -59,15 +29,6 @@ module _ (history : List Entry) (old : Walk) (before : List ℕ) where
       ∙ ap (λ (m : ℕ). ObjectName p d ∷ (map (ObjectName p) (drop m old.names) ++ rest)) (sym (add-one at)))
       (omega arith) text_is grew
 
-  -- no designation of the object is left
-  pub left_names : (p : Designation) (next at : ℕ) → old.stage ≡ stages.Names p next at → slice_get old.names at ≡ None
-      → Steps history old (record old { stage = stages.Observations p next 0 }) before before
-  left_names p next at is none =
-      let rest = observations_left (deeds history) p old.observations (drop next old.principals) in
-      turned history old (record old { stage = stages.Observations p next 0 }) before
-      (at_stage (stages.Names p next at) is ∙ ap (λ (ns : List Designation). map (ObjectName p) ns ++ rest) (left_none old.names at none))
-      (omega (arith, ap turns_left is))
-
   -- an observation of an object was written
   pub observed : (p : Designation) (next at k : ℕ) (text after : List ℕ) → old.stage ≡ stages.Observations p next at → slice_get old.observations at ≡ Some k
       → text ≡ piece_text history (ObjectLine p k) → after ≡ before ++ text → Steps history old (record old { stage = stages.Observations p next (at + 1) }) before after
@@ -78,15 +39,6 @@ module _ (history : List Entry) (old : Walk) (before : List ℕ) where
       ∙ ap (λ (ks : List ℕ). map (ObjectLine p) ks ++ rest) (left_from old.observations at k item)
       ∙ ap (λ (m : ℕ). ObjectLine p k ∷ (map (ObjectLine p) (drop m old.observations) ++ rest)) (sym (add-one at)))
       (omega arith) text_is grew
-
-  -- no observation of the object is left
-  pub left_observations : (p : Designation) (next at : ℕ) → old.stage ≡ stages.Observations p next at → slice_get old.observations at ≡ None
-      → Steps history old (record old { stage = stages.Objects next }) before before
-  left_observations p next at is none =
-      let rest = objects_left (deeds history) (drop next old.principals) in
-      turned history old (record old { stage = stages.Objects next }) before
-      (at_stage (stages.Observations p next at) is ∙ ap (λ (ks : List ℕ). map (ObjectLine p) ks ++ rest) (left_none old.observations at none))
-      (omega (arith, ap turns_left is))
 
   -- the head of a tracklet was written, if it is listed
   pub entered_track : (after_track t : ℕ) (observations : List ℕ) (text after : List ℕ) → old.stage ≡ stages.Tracks after_track → t ≡ after_track + 1
@@ -121,12 +73,3 @@ module _ (history : List Entry) (old : Walk) (before : List ℕ) where
       ∙ ap (λ (ks : List ℕ). map (TrackLine t) ks ++ rest) (left_from old.observations at k item)
       ∙ ap (λ (m : ℕ). TrackLine t k ∷ (map (TrackLine t) (drop m old.observations) ++ rest)) (sym (add-one at)))
       (omega arith) text_is grew
-
-  -- no observation of the tracklet is left
-  pub left_track : (t at : ℕ) → old.stage ≡ stages.Tracklet t at → slice_get old.observations at ≡ None
-      → Steps history old (record old { stage = stages.Tracks t }) before before
-  left_track t at is none =
-      let rest = tracks_after (deeds history) t in
-      turned history old (record old { stage = stages.Tracks t }) before
-      (at_stage (stages.Tracklet t at) is ∙ ap (λ (ks : List ℕ). map (TrackLine t) ks ++ rest) (left_none old.observations at none))
-      (omega (arith, ap turns_left is))

@@ -1,6 +1,6 @@
 -- One request asked in a turn of its own.
-use Rattle.std.proofs.Common.{◌≡◌, ℕ, ◌+◌, ℤ, List, [], ◌∷◌, ◌++◌, Option, Some, None, sym, ap, subst, ◌∙◌, arith}
-use Rattle.std.specs.Prelude.{IfSome, option_to_list}
+use Rattle.std.proofs.Common.{◌≡◌, ℕ, ◌+◌, ℤ, List, [], ◌∷◌, ◌++◌, Option, sym, ap, subst, ◌∙◌, arith}
+use Rattle.std.specs.Prelude.{option_to_list}
 use Rattle.act_bodies.specs.declared.key.Key.{Key}
 use Rattle.intake_lock.specs.declared.clerk.Office.{Office}
 use Rattle.act_model.specs.declared.reply.Reply.{Reply}
@@ -9,26 +9,14 @@ use Rattle.act_model.specs.Conducts.{Extends}
 use Rattle.intake_lock.specs.declared.view.Item.{Item}
 use Rattle.intake_lock.specs.declared.view.View.{View}
 use Rattle.intake_lock.specs.Clerks.{StampsOn}
-use Rattle.intake_lock.specs.Items.{IsTrue, Noted}
+use Rattle.intake_lock.specs.Items.{IsTrue}
 use Rattle.intake_lock.specs.Views.{seen, holding, published, idle}
 use Rattle.act_model.specs.Clocks.{ClockState, Gives}
 use Rattle.http_connection.specs.Calls.{Asks, TakesCall}
 use Rattle.http_connection.specs.Laws.{CallLaws}
-use Rattle.http_connection.proofs.Readings.{gives_none, gives_one}
 use Rattle.http_connection.proofs.Calls.{StepKnowsNoDisk, caused}
 
 module _ (before : Office) (request : Request) (reply : Reply) (after : Office) (items noted : List Item) where
-  -- an act, with the clock's next reading
-  pub asks_act : (reading : ℤ) (clock clock_after : ClockState) → Noted before request (Some reading) reply after items noted
-      → IfSome (clock.to_come 0) (λ t. reading ≡ t) → ((k : ℕ) → clock_after.to_come k ≡ clock.to_come (k + 1)) → clock_after.last ≡ reading
-      → Asks (record { office = before; items = items; clock = clock }) (record { office = after; items = noted; clock = clock_after }) request reply
-  asks_act reading clock clock_after call told later last = record { reading = Some reading; noted = call; clock = gives_one clock clock_after reading told later last }
-
-  -- a query
-  pub asks_query : (clock : ClockState) → Noted before request None reply after items noted
-      → Asks (record { office = before; items = items; clock = clock }) (record { office = after; items = noted; clock = clock }) request reply
-  asks_query clock call = record { reading = None; noted = call; clock = gives_none clock }
-
 module _ (laws : CallLaws) (never : StepKnowsNoDisk) (before : View) (ticket : ℕ) (first last : Office) (items noted : List Item) (request : Request) (reply : Reply) (clock clock_after : ClockState)
     (founder : first.founder ≡ before.office.founder) (limit : first.limit ≡ before.office.limit) (goes_on : Extends (seen before) first.state.settled) (stamps : StampsOn before.office.stamps first.stamps) (none : items ≡ [])
     (asks : Asks (record { office = first; items = items; clock = clock }) (record { office = last; items = noted; clock = clock_after }) request reply) where

@@ -374,47 +374,6 @@ pub record IsWalked (marks befores : List ℕ) (table : List Slot) (r k : ℕ) (
   pub next : IfSome after (λ p. LeadsOn marks befores (length table) r p k)
 
 module _ (marks befores : List ℕ) (table : List Slot) (was : AreChained marks befores table) (r : ℕ) (within : r < length marks) (some : 0 < slice_index marks r) where
-  -- the last entry of the slot of r, of more than are before r
-  not_before : (n k : ℕ) → r < n → IsLast (length table) marks n (slot_of (length table) (slice_index marks r)) k → r < k
-  not_before n k more last = elim (cases_lt r k) [ inl is ↦ is | inr low ↦ absurd (last.none_later r low more some refl) ]
-
-  -- from the newest on
-  pub walk_begins : (k : ℕ) → slot_of (length table) (slice_index marks r) < length table → k ≡ (slot_at table (slot_of (length table) (slice_index marks r))).head → IsWalked marks befores table r k None
-  walk_begins k slot_within is =
-      let last = subst (λ (k : ℕ). IsLast (length table) marks (length marks) (slot_of (length table) (slice_index marks r)) k) (sym is) (was.head_is _ slot_within) in
-      let late = not_before (length marks) k within last in
-      record {
-        within = last.within;
-        late = late;
-        marked = last.marked (omega (arith, late));
-        of_slot = last.of_slot (omega (arith, late));
-        newest = sym is;
-        next = tt;
-      }
-
-  -- to the one before
-  pub walk_goes_on : (k b : ℕ) (after : Option ℕ) → IsWalked marks befores table r k after → r + 1 < k → b ≡ slice_index befores (k - 1) → IsWalked marks befores table r b (Some (k - 1))
-  walk_goes_on k b after walked more is =
-      let below : k - 1 < length marks = omega (arith, walked.within, more) in
-      let last : IsLast (length table) marks (k - 1) (slot_of (length table) (slice_index marks r)) b =
-      subst (λ (b : ℕ). IsLast (length table) marks (k - 1) (slot_of (length table) (slice_index marks r)) b) (sym is)
-      (subst (λ (s : ℕ). IsLast (length table) marks (k - 1) s (slice_index befores (k - 1))) walked.of_slot (was.before_is (k - 1) below walked.marked)) in
-      let late = not_before (k - 1) b (omega (arith, more)) last in
-      record {
-        within = omega (arith, last.within, below);
-        late = late;
-        marked = last.marked (omega (arith, late));
-        of_slot = last.of_slot (omega (arith, late));
-        newest = tt;
-        next = record {
-          within = below;
-          marked = walked.marked;
-          of_slot = walked.of_slot;
-          before = sym is;
-          earlier = last.within;
-        };
-      }
-
 -- ---- a search along a chain
 
 -- from number k on no entry has the mark and passes the test, and k is of the mark's slot

@@ -114,10 +114,6 @@ module _ {T : Type 0} {cmp : T → T → Ordering} (total : IsTotalOrder cmp) wh
 
   -- ---- a cut before one item
 
-  -- what is below x is below y
-  AtOrAbove : T → T → Type 0
-  AtOrAbove x y = (a : T) → cmp a x ≡ Less → cmp a y ≡ Less
-
   module _ (x : T) (ps qs cs ds : List T) (ps_below : AllByRecursion (λ a. cmp a x ≡ Less) ps) (cs_below : AllByRecursion (λ c. cmp c x ≡ Less) cs)
       (qs_from : AllByRecursion (λ b. (a : T) → cmp a x ≡ Less → cmp a b ≡ Less) qs) (ds_from : AllByRecursion (λ d. (a : T) → cmp a x ≡ Less → cmp a d ≡ Less) ds) where
     pub cut_at : merged cmp (ps ++ qs) (cs ++ ds) ≡ merged cmp ps cs ++ merged cmp qs ds

@@ -9,7 +9,7 @@ use Rattle.std.proofs.lemmas.Bool.{cases_eq, cases_lt, and_parts}
 use Rattle.std.proofs.lemmas.Bool.Decides.{Decides-int_eq}
 use Rattle.std.proofs.lemmas.Cmp.{int_cmp_total, int_ranked}
 use Rattle.std.proofs.lemmas.Int.{ints}
-use Rattle.std.proofs.lemmas.List.{take-append-drop, take-append-le, take_all, take-set-le, length-append, length-drop, length-set, length-take-le, length-map, map-append, get_or_append_left, get_or_push, get_or-map, get_or-drop, get_or-take, get_or-set_same, get_or-set_other, get_or_default}
+use Rattle.std.proofs.lemmas.List.{take-append-drop, take-append-le, take_all, take-set-le, length-append, length-drop, length-set, length-take-le, length-map, map-append, get_or_append_left, get_or_push, get_or-map, get_or-take, get_or-set_same, get_or-set_other, get_or_default}
 use Rattle.std.proofs.lemmas.List.Elements.{All-append}
 use Rattle.std.proofs.lemmas.List.Folds.{list_any-append, list_any_none, list_any_at}
 use Rattle.std.proofs.lemmas.List.Sorted.{searchable_from_sorted, list_any-IsPermutation, IsPermutation-reverse}
@@ -157,13 +157,6 @@ module _ (filed : List Observation) (places : KeptPlaces) (was : IsIndexed filed
       let low = was.up_to k d within in
       let high = lt_told places.latest time late in
       third_false (get_or filed k d).live _ (int_eq (time_of (get_or filed k d)) time) _ (eq_false (time_of (get_or filed k d)) time (λ same. absurd (omega (arith, ints)))))
-
-  -- those that wait ascend, where that is said
-  pub waiting_ascend : places.ascends ≡ true → AscendFrom 0 (drop n filed)
-  waiting_ascend told i j d low less below =
-      let there : n + j < length filed = omega (arith, below, length-drop n filed, was.within) in
-      subst (λ (o : Observation). time_of o <ℤ time_of (get_or (drop n filed) j d)) (sym (get_or-drop n filed i d))
-      (subst (λ (o : Observation). time_of (get_or filed (n + i) d) <ℤ time_of o) (sym (get_or-drop n filed j d)) (was.in_order told (n + i) (n + j) d (omega arith) (omega (arith, less)) there))
 
   -- the mark of one of the first
   pub mark_at : (place : ℕ) (d : Observation) → place < n → slice_index places.marks place ≡ mark_in (get_or filed place d)
