@@ -1,4 +1,4 @@
-//! Tests of texts, lines, numbers and angles against values worked out by hand.
+//! Tests of texts, lines, angles, moments, names and lists in order, against values worked out by hand.
 //!
 //! A crate with tests is proved twice, with and without them, so they stand in a crate above those that they test.
 #![tactic(auto)]
@@ -8,6 +8,12 @@ mod angles;
 #[cfg(test)]
 mod lines;
 #[cfg(test)]
+mod names;
+#[cfg(test)]
+mod orders;
+#[cfg(test)]
 mod tables;
 #[cfg(test)]
 mod texts;
+#[cfg(test)]
+mod times;

@@ -1,6 +1,6 @@
 //! A list in the order of keys.
 
-use super::tables::expect_none_wrong;
+use crate::tables::expect_none_wrong;
 use ordered_list::{NoMemory, OrderedList};
 use std::test::Fail;
 

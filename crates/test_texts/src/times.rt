@@ -1,6 +1,6 @@
 //! Moments, dates and half-months.
 
-use super::tables::expect_none_wrong;
+use crate::tables::expect_none_wrong;
 use obs_time::{
     Instant, TimeFault, civil_of, day, half_month, read_date, read_day_fraction, read_iso,
     write_day_fraction, write_iso,

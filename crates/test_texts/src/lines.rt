@@ -1,6 +1,6 @@
 //! Texts that are cut, into lines and at the end of a line.
 
-use super::tables::expect_none_wrong;
+use crate::tables::expect_none_wrong;
 use text_lines::cutting::cut;
 use text_lines::lines::{next_complete, next_line};
 use text_lines::pieces::line_end;

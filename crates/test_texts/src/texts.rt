@@ -1,6 +1,6 @@
 //! Digits, decimals and numbers that are read, and texts that are written.
 
-use super::tables::expect_none_wrong;
+use crate::tables::expect_none_wrong;
 use arrayvec::ArrayVec;
 use ascii_text::blanks::{are_blanks, trimmed};
 use ascii_text::digits::Radix;

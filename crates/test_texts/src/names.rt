@@ -1,6 +1,6 @@
 //! Names with their printed and their packed form, and texts that are no names.
 
-use super::tables::expect_none_wrong;
+use crate::tables::expect_none_wrong;
 use packed_names::{
     Designation, HalfMonth, Name, NameFault, Number, Provisional, Survey, is_name, limit, pack,
     print, read, read_half, unpack,

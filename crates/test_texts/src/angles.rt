@@ -1,6 +1,6 @@
 //! Angles that are read and written.
 
-use super::tables::expect_none_wrong;
+use crate::tables::expect_none_wrong;
 use angle_fixed::{
     AngleFault, Dec, Ra, read_dec_degrees, read_dms, read_hms, read_ra_degrees, write_dec_degrees,
     write_dms, write_hms, write_ra_degrees,
