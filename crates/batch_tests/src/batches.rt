@@ -1,6 +1,6 @@
 //! Tests of the rulings on the lines of batches.
 
-use batch_calls::{LIVE, Row, Who, rulings_on, tables};
+use testkit_lines::{LIVE, Row, Who, rulings_on, tables};
 use batch_rules::*;
 use obs_record::RuleCode;
 use obs_time::Instant;

@@ -3,7 +3,7 @@
 pub(crate) mod lines;
 pub(crate) mod plain;
 
-use file_calls::{ENTRY, HOME, begin_track, counts, name, observe, retract, seen, set_home};
+use testkit_lines::{ENTRY, HOME, begin_track, counts, name, observe, retract, seen, set_home};
 use item_list::NoMemory;
 use obs_record::Short;
 use packed_names::Designation;

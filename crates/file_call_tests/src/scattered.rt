@@ -2,7 +2,7 @@
 
 use crate::calls::lines::live_lines;
 use crate::calls::plain::Plain;
-use file_calls::{ENTRY, begin_track, observe, retract, seen};
+use testkit_lines::{ENTRY, begin_track, observe, retract, seen};
 use item_list::NoMemory;
 use std::alloc::Global;
 use tracklet_file::*;

@@ -1,6 +1,6 @@
 //! Tests of the file of observations and tracklets, against what was worked out by hand.
 
-use file_calls::{ENTRY, HOME, begin_track, counts, observe, retract, seen, set_home};
+use testkit_lines::{ENTRY, HOME, begin_track, counts, observe, retract, seen, set_home};
 use obs_record::Short;
 use packed_names::Designation;
 use std::alloc::Global;

@@ -1,6 +1,6 @@
 //! Tracklets that are given to designations and released, and what is found by designation after each call.
 
-use file_calls::{HOME, begin_track, name, set_home};
+use testkit_lines::{HOME, begin_track, name, set_home};
 use item_list::NoMemory;
 use obs_record::Short;
 use packed_names::{Designation, HalfMonth, Provisional};

@@ -1,7 +1,7 @@
 //! Lines whose places are asked for at once.
 
 use super::plain::Plain;
-use file_calls::seen;
+use testkit_lines::seen;
 use item_list::NoMemory;
 use obs_record::{Line, RuleCode};
 use std::alloc::Global;

@@ -2,9 +2,9 @@
 
 use crate::tables::expect_none_wrong;
 use col80_format::*;
-use line_calls::with;
 use obs_record::{Coded, RuleCode, Shape, Short, TrackName, track_name};
 use packed_names::{Designation, HalfMonth, Number, Provisional};
+use testkit_lines::with;
 
 /// What stands in a line from a column on.
 type Spelling = (usize, &'static [u8]);

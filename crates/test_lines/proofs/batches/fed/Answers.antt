@@ -1,6 +1,6 @@
 use Rattle.std.proofs.Common.{◌≡◌, ◌++◌, [], append_assoc, List, ℕ, length, take, drop, refl, ap, ◌∙◌, arith}
 use Rattle.std.proofs.lemmas.List.{length-append, take-append-drop}
-use Rattle.line_batch_tests.proofs.batches.fed.Goals as goal
+use Rattle.test_lines.proofs.batches.fed.Goals as goal
 
 pub pieces-init : goal.pieces-init
 pieces-init c = ([], c.in_ok-reader.ensures, refl)

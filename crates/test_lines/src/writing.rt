@@ -3,9 +3,9 @@
 use crate::tables::expect_none_wrong;
 use angle_fixed::{Dec, Ra};
 use col80_format::*;
-use line_calls::{line_of, with};
 use obs_record::{Coded, Shape, Short, Sighting};
 use obs_time::Instant;
+use testkit_lines::{line_of, with};
 
 /// An observation that came in fields: 2024-03-15T23:59:59.999Z, 150 and -5.5 degrees.
 fn sighting_in_fields(mag: Option<u32>, places: u8) -> Option<Sighting> {

@@ -1,7 +1,7 @@
 use Rattle.std.proofs.Common.{◌≡◌, ◌+◌, ◌++◌, map, take, vec_len, vec_capacity}
 use Rattle.tracklet_file.specs.Observations.{is_live_line}
 use Rattle.batch_rules.specs.Memory.{memory_office}
-use Rattle.batch_calls.proofs.calls.OfficeKnown.have_live.Given as goal
+use Rattle.testkit_lines.proofs.batch_calls.OfficeKnown.have_live.Given as goal
 
 -- the lines that were passed have their answers, after those that were there; no memory was taken
 abbrev pub invariant-loop-line : goal.invariant-loop-line
