@@ -1,10 +1,10 @@
 //! Lines whose places are asked for at once.
 
 use super::plain::Plain;
-use testkit_lines::seen;
 use item_list::NoMemory;
 use obs_record::{Line, RuleCode};
 use std::alloc::Global;
+use testkit_lines::seen;
 use tracklet_file::TrackletFile;
 
 // A line for each of so many nanoseconds from 0 on, each third of which says no observation.

@@ -1,9 +1,9 @@
 //! Tests of the file of observations and tracklets, against what was worked out by hand.
 
-use testkit_lines::{ENTRY, HOME, begin_track, counts, observe, retract, seen, set_home};
 use obs_record::Short;
 use packed_names::Designation;
 use std::alloc::Global;
+use testkit_lines::{ENTRY, HOME, begin_track, counts, observe, retract, seen, set_home};
 use tracklet_file::*;
 
 /// The numbers of tracklets, and their homes.

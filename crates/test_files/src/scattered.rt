@@ -2,9 +2,9 @@
 
 use crate::calls::lines::live_lines;
 use crate::calls::plain::Plain;
-use testkit_lines::{ENTRY, begin_track, observe, retract, seen};
 use item_list::NoMemory;
 use std::alloc::Global;
+use testkit_lines::{ENTRY, begin_track, observe, retract, seen};
 use tracklet_file::*;
 
 /// More observations than may wait outside the index of places, and more than it has room for at first.

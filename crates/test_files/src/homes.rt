@@ -1,10 +1,10 @@
 //! Tracklets that are given to designations and released, and what is found by designation after each call.
 
-use testkit_lines::{HOME, begin_track, name, set_home};
 use item_list::NoMemory;
 use obs_record::Short;
 use packed_names::{Designation, HalfMonth, Provisional};
 use std::alloc::Global;
+use testkit_lines::{HOME, begin_track, name, set_home};
 use tracklet_file::TrackletFile;
 
 /// 1998 SB.

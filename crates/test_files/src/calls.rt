@@ -3,12 +3,12 @@
 pub(crate) mod lines;
 pub(crate) mod plain;
 
-use testkit_lines::{ENTRY, HOME, begin_track, counts, name, observe, retract, seen, set_home};
 use item_list::NoMemory;
 use obs_record::Short;
 use packed_names::Designation;
 use plain::Plain;
 use std::alloc::Global;
+use testkit_lines::{ENTRY, HOME, begin_track, counts, name, observe, retract, seen, set_home};
 use tracklet_file::*;
 
 /// A call that changes the file.
