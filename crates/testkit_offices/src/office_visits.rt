@@ -1,7 +1,4 @@
-//! Offices in memory that are founded for tests and handed to them as any office.
-//!
-//! Tests over them meet the large type of an office nowhere, so that they are proved at little cost.
-#![tactic(auto)]
+//! What tests ask of an office, and the office in memory that is lent to them.
 
 ghost use Rattle.std.specs.Prelude.{◌≡◌, true};
 ghost use Rattle.act_model.specs.Requests.{is_act};

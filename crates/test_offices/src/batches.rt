@@ -1,11 +1,11 @@
 //! Tests of the rulings on the lines of batches.
 
-use testkit_lines::{LIVE, Row, Who, rulings_on, tables};
 use batch_rules::*;
 use obs_record::RuleCode;
 use obs_time::Instant;
 use station_tables::Tables;
 use std::alloc::Global;
+use testkit_lines::{LIVE, Row, Who, rulings_on, tables};
 
 const DAY: i64 = 86_400_000_000_000;
 

@@ -5,8 +5,8 @@
 use act_model::{Body, Key, Request, Text, Verb, line_feeds, reply_text};
 use item_list::Bytes;
 use obs_time::Instant;
-use office_visits::{Kind, Office, ReplayFault, Visit, visit_office};
 use std::alloc::Global;
+use testkit_offices::{Kind, Office, ReplayFault, Visit, visit_office};
 
 /// A request, its body or None for one without room, and what it is answered.
 #[derive(Clone, Copy)]
