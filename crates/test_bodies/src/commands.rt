@@ -1,6 +1,6 @@
 //! Good and bad words.
 
-use super::tables::expect_none_wrong;
+use crate::tables::expect_none_wrong;
 use command_line::{Command, Words, command_of};
 use item_list::Bytes;
 use std::alloc::Global;

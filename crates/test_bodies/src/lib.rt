@@ -1,0 +1,16 @@
+//! Tests of what people write in requests and on the command line: the bodies of acts, the tables that they fill, the
+//! words of a command, and the usage that is printed where words name none.
+//!
+//! A crate with tests is proved twice, with and without them, so they stand in a crate above those that they test.
+#![tactic(auto)]
+
+#[cfg(test)]
+mod bodies;
+#[cfg(test)]
+mod commands;
+#[cfg(test)]
+mod stations;
+#[cfg(test)]
+mod tables;
+#[cfg(test)]
+mod usage;
