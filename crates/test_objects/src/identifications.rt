@@ -5,22 +5,12 @@ ghost use Rattle.identify_core.specs.Principals.{principal_of, IsPrincipal};
 
 mod plain;
 
+use crate::orders::given;
 use identify_core::*;
 use item_list::NoMemory;
-use packed_names::{Designation, HalfMonth, Provisional};
+use packed_names::Designation;
 use plain::Plain;
 use std::test::Fail;
-
-// 2024 EA, EB, EC and ED have the orders 1 to 4.
-fn given(order: u32) -> Designation {
-    Designation::Provisional(Provisional {
-        half: HalfMonth {
-            year: 2024,
-            index: 4,
-        },
-        order,
-    })
-}
 
 fn is_same(one: Designation, other: Designation) -> bool
     ensures { IsTrue result ↔ (one ≡ other) }

@@ -5,21 +5,11 @@ ghost use Rattle.numbering_core.specs.Numbers.{next_number};
 
 mod plain;
 
+use crate::orders::given;
 use numbering_core::*;
-use packed_names::{Designation, HalfMonth, Number, Provisional};
+use packed_names::{Designation, Number};
 use plain::Plain;
 use std::test::Fail;
-
-// 2024 EA, EB and EC have the orders 1 to 3.
-fn given(order: u32) -> Designation {
-    Designation::Provisional(Provisional {
-        half: HalfMonth {
-            year: 2024,
-            index: 4,
-        },
-        order,
-    })
-}
 
 fn is_next(register: &Register, n: u32) -> bool
     ensures { IsTrue result ↔ IfSome (next_number register.now.numbered) (λ next. n ≡ next) }
