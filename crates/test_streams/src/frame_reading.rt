@@ -1,6 +1,6 @@
 //! Tests of frames that are read from a source in any pieces, and of replies that are written.
 
-use super::tables::expect_none_wrong;
+use crate::tables::expect_none_wrong;
 use desk_io::{Failed, MemSink, MemSource, NoMemory, Sink, Source};
 use frame_reader::{FrameBody, FrameReader, NextFrame, ReadFrame, write_reply_frame};
 use std::alloc::Global;
