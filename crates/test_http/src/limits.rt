@@ -3,8 +3,8 @@
 use act_model::{Body, Request};
 use desk_http::{Heard, Wire};
 use desk_io::MemSource;
-use message_calls::{Want, hears, is_heard};
 use std::alloc::Global;
+use testkit_messages::{Want, hears, is_heard};
 
 // A text: its front, so many fields of five bytes, more text, `x` up to a size, and its end; and what is heard of it.
 #[derive(Clone, Copy)]

@@ -1,7 +1,7 @@
 //! Messages in memory, heard.
 
-use message_calls::{Want, is_heard};
 use std::alloc::Global;
+use testkit_messages::{Want, is_heard};
 
 // A text, and what is heard first of it.
 type Row = (&'static str, Want);
