@@ -13,14 +13,15 @@ use tracklet_file::*;
 
 /// A call that changes the file.
 #[derive(Clone, Copy)]
-enum Call {
+pub(crate) enum Call {
     Track(Option<Designation>),
     Add(u64, i64),
     Retract(u64),
     Home(u64, Option<Designation>),
 }
 
-fn make(file: &mut TrackletFile, call: Call) -> Result<(), NoMemory> {
+/// Makes it.
+pub(crate) fn make(file: &mut TrackletFile, call: Call) -> Result<(), NoMemory> {
     match call {
         Call::Track(home) => {
             let _number = begin_track(file, home)?;

@@ -1,10 +1,11 @@
 //! Tracklets that are given to designations and released, and what is found by designation after each call.
 
+use crate::calls::{Call, make};
 use item_list::NoMemory;
 use obs_record::Short;
 use packed_names::{Designation, HalfMonth, Provisional};
 use std::alloc::Global;
-use testkit_lines::{HOME, begin_track, name, set_home};
+use testkit_lines::{HOME, name, set_home};
 use tracklet_file::TrackletFile;
 
 /// 1998 SB.
@@ -15,23 +16,6 @@ const OTHER: Designation = Designation::Provisional(Provisional {
     },
     order: 2,
 });
-
-/// A call that changes which tracklets have homes.
-#[derive(Clone, Copy)]
-enum Call {
-    Track(Option<Designation>),
-    Home(u64, Option<Designation>),
-}
-
-fn make(file: &mut TrackletFile, call: Call) -> Result<(), NoMemory> {
-    match call {
-        Call::Track(home) => {
-            let _number = begin_track(file, home)?;
-        }
-        Call::Home(t, home) => set_home(file, t, home),
-    }
-    Ok(())
-}
 
 // The first tracklet of 2024 EA, the first of 1998 SB, and the one after 1 there.
 type Found = (Option<u64>, Option<u64>, Option<u64>);
