@@ -43,5 +43,3 @@ done_fits law history moment act (Ok deed) read due kind = objects_fit (deeds hi
 done_fits law history moment act (Err refusal) read due kind = tt
 
 -- ---- what a deed asks of what is kept
-
-module _ (past : List Deed) (file : Contents) (o : ObjectsValue) (stands : StandFor past o) (held : held_in file ≡ holdings past) where

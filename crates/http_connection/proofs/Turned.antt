@@ -16,7 +16,6 @@ use Rattle.http_connection.specs.Calls.{Asks, TakesCall}
 use Rattle.http_connection.specs.Laws.{CallLaws}
 use Rattle.http_connection.proofs.Calls.{StepKnowsNoDisk, caused}
 
-module _ (before : Office) (request : Request) (reply : Reply) (after : Office) (items noted : List Item) where
 module _ (laws : CallLaws) (never : StepKnowsNoDisk) (before : View) (ticket : ℕ) (first last : Office) (items noted : List Item) (request : Request) (reply : Reply) (clock clock_after : ClockState)
     (founder : first.founder ≡ before.office.founder) (limit : first.limit ≡ before.office.limit) (goes_on : Extends (seen before) first.state.settled) (stamps : StampsOn before.office.stamps first.stamps) (none : items ≡ [])
     (asks : Asks (record { office = first; items = items; clock = clock }) (record { office = last; items = noted; clock = clock_after }) request reply) where

@@ -373,7 +373,6 @@ pub record IsWalked (marks befores : List ℕ) (table : List Slot) (r k : ℕ) (
   pub newest : IfNone after ((slot_at table (slot_of (length table) (slice_index marks r))).head ≡ k)
   pub next : IfSome after (λ p. LeadsOn marks befores (length table) r p k)
 
-module _ (marks befores : List ℕ) (table : List Slot) (was : AreChained marks befores table) (r : ℕ) (within : r < length marks) (some : 0 < slice_index marks r) where
 -- ---- a search along a chain
 
 -- from number k on no entry has the mark and passes the test, and k is of the mark's slot
