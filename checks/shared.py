@@ -7,7 +7,9 @@ machine lacks a tool that it needs, so that not all was tried.
 import argparse
 import contextlib
 import os
+import select
 import shutil
+import signal
 import socket
 import subprocess
 import sys
@@ -93,6 +95,23 @@ def replies(text):
     return found
 
 
+def asked(running, frame, seconds=60):
+    """What a run answers to a frame: the status and the text, or None and what came where it ends or says nothing."""
+    with contextlib.suppress(BrokenPipeError):
+        os.write(running.stdin.fileno(), frame)
+    found, until = b"", time.monotonic() + seconds
+    while time.monotonic() < until:
+        if select.select([running.stdout], [], [], 1)[0]:
+            piece = os.read(running.stdout.fileno(), 65536)
+            found += piece
+            whole = replies(found)
+            if whole and whole[0][0] is not None:
+                return whole[0]
+            if not piece:
+                break
+    return None, found.decode(errors="replace")
+
+
 def connect():
     """A connection to the office that is being served, once its port is open."""
     for _ in range(200):
@@ -103,14 +122,31 @@ def connect():
     raise SystemExit(f"nobody serves port {PORT}")
 
 
+def within(seconds, words, folder, **how):
+    """A call in this folder: its status, what it wrote and what it said. All that it started ends with it. After so
+    many seconds it is ended, and its status is None."""
+    pipes = {"stdout": subprocess.PIPE, "stderr": subprocess.PIPE, "start_new_session": True, **how}
+    running = subprocess.Popen(words, cwd=folder, **pipes)
+    try:
+        written, said = running.communicate(timeout=seconds)
+        return running.returncode, written, said
+    except subprocess.TimeoutExpired:
+        return None, b"", f"no end within {seconds} seconds".encode()
+    finally:
+        with contextlib.suppress(ProcessLookupError):
+            os.killpg(running.pid, signal.SIGKILL)
+        running.wait()
+
+
 @contextlib.contextmanager
 def started(words, folder, **how):
-    """A process in this folder. It is killed where it is still there at the end."""
-    process = subprocess.Popen(words, cwd=folder, **how)
+    """A process in this folder. What is still there of it at the end, and of what it started, is killed."""
+    process = subprocess.Popen(words, cwd=folder, start_new_session=True, **how)
     try:
         yield process
     finally:
-        process.kill()
+        with contextlib.suppress(ProcessLookupError):
+            os.killpg(process.pid, signal.SIGKILL)
         process.wait()
         for stream in (process.stdin, process.stdout, process.stderr):
             if stream:
