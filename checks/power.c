@@ -1,0 +1,236 @@
+/* A disk that loses what wasn't synced, in front of the C library (LD_PRELOAD), for checks/power.
+
+   It notes what the program writes to desk.journal, and keeps what is safe apart from it: the bytes, the length, and
+   whether the name is. The file itself holds what reads give. As on Linux a sync that fails leaves what was written
+   since the sync before as clean: the next one succeeds and writes nothing of it, unless it was written again, while
+   reads go on to give it, until the system forgets what it has in memory (POSIX_FADV_DONTNEED). A length that was
+   changed stays unwritten until a sync succeeds. A name that was made or removed is safe once its folder was synced; a
+   sync of the folder that fails leaves it as clean, too.
+
+   The environment says which syncs of the process fail, the first one being 1 (POWER_FAILS, as 5,6), how many bytes
+   are clean or not together (POWER_GRAIN), whether what a failed sync leaves is forgotten at once (POWER_FORGETS), and
+   the file in which all this is kept, from one process to the next (POWER_STATE). */
+#define _GNU_SOURCE
+#include <dlfcn.h>
+#include <errno.h>
+#include <fcntl.h>
+#include <stdarg.h>
+#include <stdio.h>
+#include <stdlib.h>
+#include <string.h>
+#include <sys/mman.h>
+#include <sys/stat.h>
+#include <unistd.h>
+
+#define CAPACITY (1L << 20)
+#define FILES 1024
+#define NAME "desk.journal"
+
+/* What is kept from one process to the next; checks/power reads it, in this layout. */
+struct kept {
+  long begun;        /* whether the rest is set */
+  long length;       /* of what is safe */
+  long cut;          /* the least length that the file was cut to since the last sync that succeeded, or CAPACITY */
+  long named;        /* whether the name is safe */
+  long is_unnamed;   /* whether the name was made or removed since the folder was synced */
+  long syncs;        /* so many were asked for, by all processes */
+  long writes;       /* so many writes of the file were noted */
+  long drops;        /* so often was the system to forget the file */
+  char more[4096 - 8 * sizeof(long)];
+  unsigned char safe[CAPACITY];
+  unsigned char unsafe[CAPACITY]; /* 1 where a byte was written since, and isn't clean */
+};
+
+static struct kept *kept;
+static char kinds[FILES]; /* 'j' for the journal, 'f' for its folder */
+static long asked, grain, forgets;
+static int (*real_open)(const char *, int, ...);
+static ssize_t (*real_pwrite)(int, const void *, size_t, off_t);
+static ssize_t (*real_write)(int, const void *, size_t);
+static int (*real_ftruncate)(int, off_t);
+static int (*real_close)(int);
+static int (*real_unlink)(const char *);
+static unsigned char seen[CAPACITY];
+
+static long number(const char *name, long otherwise) {
+  const char *text = getenv(name);
+  return text ? atol(text) : otherwise;
+}
+
+__attribute__((constructor)) static void begin(void) {
+  real_open = dlsym(RTLD_NEXT, "open");
+  real_pwrite = dlsym(RTLD_NEXT, "pwrite");
+  real_write = dlsym(RTLD_NEXT, "write");
+  real_ftruncate = dlsym(RTLD_NEXT, "ftruncate");
+  real_close = dlsym(RTLD_NEXT, "close");
+  real_unlink = dlsym(RTLD_NEXT, "unlink");
+  grain = number("POWER_GRAIN", 1);
+  forgets = number("POWER_FORGETS", 0);
+  int file = real_open(getenv("POWER_STATE"), O_RDWR);
+  if (file < 0 || ftruncate(file, sizeof *kept) != 0) abort();
+  kept = mmap(0, sizeof *kept, PROT_READ | PROT_WRITE, MAP_SHARED, file, 0);
+  if (kept == MAP_FAILED) abort();
+  real_close(file);
+}
+
+static int is_kind(int file, char kind) { return file >= 0 && file < FILES && kinds[file] == kind; }
+
+static long length_of(int file) {
+  struct stat it;
+  if (fstat(file, &it) != 0 || it.st_size > CAPACITY) abort();
+  return it.st_size;
+}
+
+/* What reads give of the whole file, into `seen`. */
+static long read_all(int file) {
+  long length = length_of(file);
+  if (pread(file, seen, length, 0) != length) abort();
+  return length;
+}
+
+/* What is there when the journal is opened for the first time is safe. A file that is made has nothing that is. */
+static void begin_file(int file, int was_there) {
+  if (was_there && kept->begun) return;
+  memset(kept->safe, 0, CAPACITY);
+  memset(kept->unsafe, 0, CAPACITY);
+  kept->length = was_there ? length_of(file) : 0;
+  kept->cut = CAPACITY;
+  if (!kept->begun) kept->named = was_there;
+  if (!was_there) kept->is_unnamed = 1;
+  kept->begun = 1;
+  if (pread(file, kept->safe, kept->length, 0) != kept->length) abort();
+}
+
+static int opened(const char *path, int flags, mode_t mode) {
+  const char *last = strrchr(path, '/');
+  int is_journal = strcmp(last ? last + 1 : path, NAME) == 0;
+  int was_there = is_journal && access(path, F_OK) == 0;
+  int file = real_open(path, flags, mode);
+  if (file < 0 || file >= FILES) return file;
+  kinds[file] = is_journal ? 'j' : strcmp(path, ".") == 0 ? 'f' : 0;
+  if (is_journal) {
+    begin_file(file, was_there);
+    if (flags & O_TRUNC) kept->cut = 0;
+  }
+  return file;
+}
+
+int open(const char *path, int flags, ...) {
+  va_list rest;
+  va_start(rest, flags);
+  mode_t mode = flags & O_CREAT ? va_arg(rest, mode_t) : 0;
+  va_end(rest);
+  return opened(path, flags, mode);
+}
+int open64(const char *path, int flags, ...) __attribute__((alias("open")));
+
+int close(int file) {
+  if (file >= 0 && file < FILES) kinds[file] = 0;
+  return real_close(file);
+}
+
+int unlinkat(int folder, const char *path, int flags) {
+  int (*real)(int, const char *, int) = dlsym(RTLD_NEXT, "unlinkat");
+  int answer = real(folder, path, flags);
+  if (answer == 0 && strcmp(path, NAME) == 0) kept->is_unnamed = 1;
+  return answer;
+}
+
+int unlink(const char *path) {
+  int answer = real_unlink(path);
+  if (answer == 0 && strcmp(path, NAME) == 0) kept->is_unnamed = 1;
+  return answer;
+}
+
+/* The bytes from the file's end before the write to the end of the write are not safe, in whole grains. */
+static void note(long before, long at, long count) {
+  if (count <= 0) return;
+  if (at + count > CAPACITY) abort();
+  long first = (before < at ? before : at) / grain * grain, end = (at + count + grain - 1) / grain * grain;
+  memset(kept->unsafe + first, 1, (end < CAPACITY ? end : CAPACITY) - first);
+  kept->writes++;
+}
+
+ssize_t pwrite(int file, const void *bytes, size_t count, off_t at) {
+  if (!is_kind(file, 'j')) return real_pwrite(file, bytes, count, at);
+  long before = length_of(file);
+  ssize_t done = real_pwrite(file, bytes, count, at);
+  note(before, at, done);
+  return done;
+}
+ssize_t pwrite64(int file, const void *bytes, size_t count, off_t at) { return pwrite(file, bytes, count, at); }
+
+ssize_t write(int file, const void *bytes, size_t count) {
+  if (!is_kind(file, 'j')) return real_write(file, bytes, count);
+  long before = length_of(file), at = lseek(file, 0, SEEK_CUR);
+  ssize_t done = real_write(file, bytes, count);
+  note(before, at, done);
+  return done;
+}
+
+int ftruncate(int file, off_t length) {
+  int answer = real_ftruncate(file, length);
+  if (answer == 0 && is_kind(file, 'j') && length < kept->cut) kept->cut = length;
+  return answer;
+}
+int ftruncate64(int file, off_t length) { return ftruncate(file, length); }
+
+/* Gives the file what is safe, wherever it is clean. */
+static void forget(int file) {
+  long length = read_all(file);
+  for (long at = 0; at < length; at++)
+    if (!kept->unsafe[at]) seen[at] = at < kept->cut ? kept->safe[at] : 0;
+  if (real_pwrite(file, seen, length, 0) != length) abort();
+}
+
+static int fails(void) {
+  const char *text = getenv("POWER_FAILS");
+  asked++;
+  kept->syncs++;
+  for (; text && *text; text = strchr(text, ',') ? strchr(text, ',') + 1 : "")
+    if (atol(text) == asked) return 1;
+  return 0;
+}
+
+static int sync_folder(void) {
+  int failed = fails();
+  if (!failed && kept->is_unnamed) kept->named = access(NAME, F_OK) == 0;
+  kept->is_unnamed = 0;
+  if (failed) errno = EIO;
+  return failed ? -1 : 0;
+}
+
+static int sync_journal(int file) {
+  long length = read_all(file);
+  if (fails()) {
+    memset(kept->unsafe, 0, CAPACITY);
+    if (forgets) forget(file);
+    errno = EIO;
+    return -1;
+  }
+  if (kept->cut < kept->length) memset(kept->safe + kept->cut, 0, kept->length - kept->cut);
+  kept->cut = CAPACITY;
+  kept->length = length;
+  for (long at = 0; at < length; at++)
+    if (kept->unsafe[at]) kept->safe[at] = seen[at];
+  memset(kept->unsafe, 0, CAPACITY);
+  return 0;
+}
+
+int fsync(int file) {
+  if (is_kind(file, 'f')) return sync_folder();
+  if (is_kind(file, 'j')) return sync_journal(file);
+  int (*real)(int) = dlsym(RTLD_NEXT, "fsync");
+  return real(file);
+}
+int fdatasync(int file) { return fsync(file); }
+
+int posix_fadvise(int file, off_t from, off_t length, int advice) {
+  if (!is_kind(file, 'j') || advice != POSIX_FADV_DONTNEED || from != 0 || length != 0) return 0;
+  kept->drops++;
+  forget(file);
+  return 0;
+}
+int posix_fadvise64(int file, off_t from, off_t length, int advice) {
+  return posix_fadvise(file, from, length, advice);
+}
