@@ -2,6 +2,7 @@
 
 ghost use Rattle.std.specs.Prelude.{◌≡◌, ◌↔◌, ◌+◌, ◌<◌, ◌≤◌, [], ◌∷◌, map, IsSome, IsNone, IfSome, IfOk};
 ghost use Rattle.std.specs.List.{Contains};
+ghost use Rattle.ordered_list.specs.Contents.{UsesOne};
 ghost use Rattle.packed_names.specs.Ranges.{IsHalfMonth, IsProvisional, IsDesignation, limit_of};
 ghost use Rattle.packed_names.specs.declared.name.Designation.TheVariants as designations;
 ghost use Rattle.designate_core.specs.Takes.{given_in, next_in, next_of, discovery_of, designations_given};
@@ -104,7 +105,7 @@ impl Rows {
         requires room { 1 ≤ self.old.spare }
         ensures given { result ≡ next_in half self.old.takes }
         ensures takes { self.new.takes ≡ record { half = half; discovery = discovery } ∷ self.old.takes }
-        ensures spare { self.old.spare ≤ self.new.spare + 1 }
+        ensures spare { UsesOne self.old.spare self.new.spare }
         ensures name { IsProvisional result }
     {
         packed_names::laws::orders();

@@ -1,5 +1,6 @@
 -- The designations, the principals, the verdicts and the numbers that the office keeps.
 use Rattle.std.specs.Prelude.{◌≡◌, ℕ, ◌+◌, ◌≤◌, List}
+use Rattle.ordered_list.specs.Contents.{UsesOne}
 use Rattle.designate_core.specs.Takes.{Take}
 use Rattle.identify_core.specs.declared.link.Link.{Link}
 use Rattle.identify_core.specs.Principals.{StandFor as LinksStandFor}
@@ -11,7 +12,7 @@ use Rattle.act_model.specs.declared.deed.Deed.{Deed}
 use Rattle.act_model.specs.Designations.{takes_of, links_of}
 use Rattle.act_model.specs.Verdicts.{verdicts_of}
 use Rattle.act_model.specs.Numbers.{numbers_of}
-use Rattle.object_rules.specs.Noting.{TakesDeed, LinksDeed, TouchesDeed, NumbersDeed, registered_by}
+use Rattle.object_rules.specs.Noting.{TakesDeed, LinksDeed, TouchesDeed, NumbersDeed, registered_by, returned_by}
 
 -- what is kept, and for how many more designations, links and entries of the register there is room
 pub record ObjectsValue : Type 0 where
@@ -37,13 +38,15 @@ pub record HoldsObjects (deed : Deed) (file : Contents) (o : ObjectsValue) : Typ
   pub touches : TouchesDeed file.tracklets deed
   pub numbers : NumbersDeed o.numbered deed
 
--- there is room for a deed, and what it used of it
+-- there is room for a deed
 pub record HasRoom (deed : Deed) (o : ObjectsValue) : Type 0 where
   pub takes : 1 ≤ o.take_room
   pub links : 1 ≤ o.link_room
   pub register : registered_by deed ≤ o.register_room
 
+-- what it used of it, and gave back: no memory was taken
 pub record UsesObjects (deed : Deed) (old new : ObjectsValue) : Type 0 where
-  pub takes : old.take_room ≤ new.take_room + 1
-  pub links : old.link_room ≤ new.link_room + 1
+  pub takes : UsesOne old.take_room new.take_room
+  pub links : UsesOne old.link_room new.link_room
   pub register : old.register_room ≤ new.register_room + registered_by deed
+  pub no_more_register : new.register_room ≤ old.register_room + returned_by deed

@@ -25,7 +25,7 @@ use Rattle.act_model.specs.Holdings.{Holdings, holdings}
 use Rattle.act_model.specs.Places.{added_by}
 use Rattle.act_model.specs.Fitting.{FitsObjects}
 use Rattle.act_model.specs.Replies.{entry_answer}
-use Rattle.object_rules.specs.Noting.{registered_by}
+use Rattle.object_rules.specs.Noting.{registered_by, returned_by, homed_by}
 use Rattle.station_tables.specs.Rows.{TableRows}
 
 -- ---- the office
@@ -112,7 +112,8 @@ pub record IsRoomFor (deed : Deed) (room : Room) : Type 0 where
   pub links : 1 ≤ room.links
   pub register : registered_by deed ≤ room.register
 
--- what such an entry used of the room: no more than it may need, and of entries and callers none was taken
+-- what such an entry used of the room: no more than it may need. No memory was taken: there is more room than before
+-- only where a deed gave some back, an index entry of a tracklet or one of the register
 pub record UsesRoom (deed : Deed) (old new : Room) : Type 0 where
   pub entries : old.entries ≤ new.entries + 1
   pub callers : old.callers ≤ new.callers + 1
@@ -123,3 +124,8 @@ pub record UsesRoom (deed : Deed) (old new : Room) : Type 0 where
   pub register : old.register ≤ new.register + registered_by deed
   pub no_more_entries : new.entries ≤ old.entries
   pub no_more_callers : new.callers ≤ old.callers
+  pub no_more_observations : new.observations ≤ old.observations
+  pub no_more_tracklets : new.tracklets ≤ old.tracklets + homed_by deed
+  pub no_more_takes : new.takes ≤ old.takes
+  pub no_more_links : new.links ≤ old.links
+  pub no_more_register : new.register ≤ old.register + returned_by deed

@@ -105,7 +105,7 @@ impl Core {
             Act::Code { kind, letter, word } => self.enters_code(kind, letter, word),
             Act::Submit80(lines) | Act::SubmitPsv(lines) => self.submits(alloc, moment, lines),
             Act::Designate(tracklets) => designates(self, alloc, tracklets),
-            Act::Attribute { tracklet, to } => attributes(self, alloc, tracklet, to),
+            Act::Attribute { tracklet, to } => attributes(self, tracklet, to),
             Act::Release(t) => releases(self, t),
             Act::Identify {
                 principal,

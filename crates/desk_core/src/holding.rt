@@ -1,10 +1,13 @@
 //! What a deed leaves in the file of observations and tracklets.
 
 ghost use Rattle.std.specs.Prelude.{◌≡◌, ◌+◌, ◌≤◌, length, Ok};
+ghost use Rattle.ordered_list.specs.Contents.{UsesOne};
+ghost use Rattle.tracklet_file.specs.Contents.{TakesNoMemory};
 ghost use Rattle.tracklet_file.specs.Tracklets.{IsTracklet};
 ghost use Rattle.act_model.specs.Holdings.{with_begun, with_found, with_batch, with_deed};
 ghost use Rattle.act_model.specs.Places.{added_by};
 ghost use Rattle.act_model.specs.Taken.{tracks_with, accepted_in};
+ghost use Rattle.object_rules.specs.Noting.{homed_by};
 ghost use Rattle.desk_core.specs.Office.{held_in, IsTracked, AreTracked};
 ghost use Rattle.desk_core.specs.Holding.{is_added, HoldsDeed};
 
@@ -21,7 +24,7 @@ fn begin(file: &mut TrackletFile, placed: &PlacedLine)
     ensures tracks { length file.new.tracklets ≡ tracks_with (length file.old.tracklets) (Ok placed.now) }
     ensures observations { file.new.observations ≡ file.old.observations }
     ensures observation_room { file.new.observation_room ≡ file.old.observation_room }
-    ensures tracklet_room { file.old.tracklet_room ≤ file.new.tracklet_room + 1 }
+    ensures tracklet_room { UsesOne file.old.tracklet_room file.new.tracklet_room }
 {
     if placed.track() > file.tracks() {
         let sighting = placed.sighting();
@@ -36,8 +39,8 @@ fn hold_placed(file: &mut TrackletFile, receipt: u64, placed: &PlacedLine)
     requires tracklets { 1 ≤ file.old.tracklet_room }
     ensures held { held_in file.new ≡ with_found receipt (Ok placed.now) (held_in file.old) }
     ensures tracks { length file.new.tracklets ≡ tracks_with (length file.old.tracklets) (Ok placed.now) }
-    ensures observations { file.old.observation_room ≤ file.new.observation_room + 1 }
-    ensures tracklets { file.old.tracklet_room ≤ file.new.tracklet_room + 1 }
+    ensures observations { UsesOne file.old.observation_room file.new.observation_room }
+    ensures tracklets { UsesOne file.old.tracklet_room file.new.tracklet_room }
 {
     begin(file, placed);
     file.add(placed.track(), *placed.sighting(), receipt);
@@ -52,6 +55,7 @@ fn hold_line(file: &mut TrackletFile, receipt: u64, taken: &TakenLine)
     ensures tracks { length file.new.tracklets ≡ tracks_with (length file.old.tracklets) taken.now.found }
     ensures observations { file.old.observation_room ≤ file.new.observation_room + is_added taken.now }
     ensures tracklets { file.old.tracklet_room ≤ file.new.tracklet_room + is_added taken.now }
+    ensures no_more { TakesNoMemory file.old file.new }
 {
     if let Ok(placed) = &taken.found {
         hold_placed(file, receipt, placed);
@@ -66,6 +70,7 @@ fn hold_batch(file: &mut TrackletFile, receipt: u64, lines: &TakenLines)
     ensures held { held_in file.new ≡ with_batch receipt lines.now (held_in file.old) }
     ensures observations { file.old.observation_room ≤ file.new.observation_room + accepted_in lines.now }
     ensures tracklets { file.old.tracklet_room ≤ file.new.tracklet_room + accepted_in lines.now }
+    ensures no_more { TakesNoMemory file.old file.new }
 {
     for place in 0..lines.len() {
         hold_line(file, receipt, &lines.at(place));
@@ -90,6 +95,8 @@ pub fn hold(file: &mut TrackletFile, receipt: u64, deed: &Deed)
     ensures held { held_in file.new ≡ with_deed receipt deed.now (held_in file.old) }
     ensures observations { file.old.observation_room ≤ file.new.observation_room + added_by deed.now }
     ensures tracklets { file.old.tracklet_room ≤ file.new.tracklet_room + added_by deed.now }
+    ensures no_more_observations { file.new.observation_room ≤ file.old.observation_room }
+    ensures no_more_tracklets { file.new.tracklet_room ≤ file.old.tracklet_room + homed_by deed.now }
 {
     match deed {
         Deed::Submitted(lines) => hold_batch(file, receipt, lines),

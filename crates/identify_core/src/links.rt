@@ -2,6 +2,7 @@
 
 ghost use Rattle.std.specs.Prelude.{◌≡◌, ◌≢◌, ◌↔◌, ◌+◌, ◌≤◌, List, [], ◌∷◌, map, All, Some, None, IfSome, IfOk};
 ghost use Rattle.std.specs.List.{Contains};
+ghost use Rattle.ordered_list.specs.Contents.{UsesOne};
 ghost use Rattle.packed_names.specs.declared.name.Designation.{Designation};
 ghost use Rattle.identify_core.specs.Acts.{LinkAct, members, principals};
 ghost use Rattle.identify_core.specs.Acts.LinkAct.{Given, Joined, Parted};
@@ -79,7 +80,7 @@ impl Links {
         ensures principals { ChangedBy (Given d) self.old.links self.new.links }
         ensures acts { (acts : List LinkAct)
             → StandFor self.old.links acts → StandFor self.new.links (Given d ∷ acts) }
-        ensures spare { self.old.spare ≤ self.new.spare + 1 }
+        ensures spare { UsesOne self.old.spare self.new.spare }
     {
         changes::put(
             &mut self.links,
@@ -137,7 +138,7 @@ impl Links {
         ensures principals { ChangedBy (Joined p s) self.old.links self.new.links }
         ensures acts { (acts : List LinkAct)
             → StandFor self.old.links acts → StandFor self.new.links (Joined p s ∷ acts) }
-        ensures spare { self.old.spare ≤ self.new.spare }
+        ensures spare { self.new.spare ≡ self.old.spare }
     {
         changes::give_all(&mut self.links, &mut self.entries, p, s);
     }
@@ -148,7 +149,7 @@ impl Links {
         ensures principals { ChangedBy (Parted s) self.old.links self.new.links }
         ensures acts { (acts : List LinkAct)
             → StandFor self.old.links acts → StandFor self.new.links (Parted s ∷ acts) }
-        ensures spare { self.old.spare ≤ self.new.spare }
+        ensures spare { self.new.spare ≡ self.old.spare }
     {
         if let Some(principal) = searches::principal_of(&self.entries, s) {
             let link = Link {

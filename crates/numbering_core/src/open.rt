@@ -31,6 +31,7 @@ pub fn keep(open: &mut OrderedList<Designation>, d: Designation, is_open: bool)
     requires { 0 < open.old.room }
     ensures finds { FindsBeside ⟦<Designation as Ord>⟧.cmp d is_open open.old.items open.new.items }
     ensures room { open.old.room ≤ open.new.room + 1 }
+    ensures no_more { open.new.room ≤ open.old.room + 1 }
 {
     if is_open {
         open.insert(d);
@@ -43,6 +44,7 @@ pub fn keep(open: &mut OrderedList<Designation>, d: Designation, is_open: bool)
 pub fn close(open: &mut OrderedList<Designation>, d: Designation)
     ensures finds { FindsBeside ⟦<Designation as Ord>⟧.cmp d false open.old.items open.new.items }
     ensures room { open.old.room ≤ open.new.room }
+    ensures no_more { open.new.room ≤ open.old.room + 1 }
 {
     let _ = open.remove(&d);
 }

@@ -100,6 +100,7 @@ impl Register {
             → StandFor self.old.verdicts acts → StandFor self.new.verdicts (Set p u oppositions ∷ acts) }
         ensures numbered { self.new.numbered ≡ self.old.numbered }
         ensures spare { self.old.spare ≤ self.new.spare + 1 }
+        ensures no_more { self.new.spare ≤ self.old.spare + 1 }
     {
         packed_names::laws::orders();
         let verdict = Verdict {
@@ -123,6 +124,7 @@ impl Register {
             → StandFor self.old.verdicts acts → StandFor self.new.verdicts (Voided p ∷ acts) }
         ensures numbered { self.new.numbered ≡ self.old.numbered }
         ensures spare { self.old.spare ≤ self.new.spare }
+        ensures no_more { self.new.spare ≤ self.old.spare + 1 }
     {
         packed_names::laws::orders();
         open::close(&mut self.open, p);
@@ -174,6 +176,7 @@ impl Register {
         ensures numbered { self.new.numbered ≡ record { designation = d; number = n } ∷ self.old.numbered }
         ensures verdicts { self.new.verdicts ≡ self.old.verdicts }
         ensures spare { self.old.spare ≤ self.new.spare + 1 }
+        ensures no_more { self.new.spare ≤ self.old.spare + 1 }
     {
         packed_names::laws::orders();
         open::close(&mut self.open, d);

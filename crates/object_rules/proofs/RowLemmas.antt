@@ -28,6 +28,11 @@ rows_some (row ∷ rows) other found is = by (rows_some rows other found) row.0 
     by rest true is = is
     by rest false is = rest is
 
+-- what is exactly the answer is due
+pub due_is : {A : Type 0} (due result : Result A Refusal) → result ≡ due → IsDue due result
+due_is due (Ok found) is = sym is
+due_is due (Err refusal) is = inl (sym is)
+
 -- ---- what is due to tracklets that are to become an object
 
 nothing_refused : {A : Type 0} (o : Option Refusal) (a b : A) → unless o (Ok a) ≡ Ok b → (o ≡ None) × (a ≡ b)

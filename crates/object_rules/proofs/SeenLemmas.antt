@@ -1,10 +1,14 @@
 -- Observations that were seen.
-use Rattle.std.proofs.Common.{◌≡◌, ℕ, List, [], ◌∷◌, ◌++◌, Option, Some, None, refl, sym, ap, ◌∙◌}
-use Rattle.std.specs.Prelude.{IsTrue, IfSome, slice_get}
-use Rattle.std.specs.Option.{option_and_then}
+use Rattle.std.proofs.Common.{◌≡◌, ℕ, Bool, true, false, cond, List, [], ◌∷◌, ◌++◌, length, Option, Some, None, refl, sym, ap, ◌∙◌}
+use Rattle.std.specs.Prelude.{IsTrue, IfSome, slice_get, filter_map, not, ◌||◌, ◌==◌}
+use Rattle.std.specs.List.{cons_option}
+use Rattle.std.specs.Option.{option_and_then, option_map_or}
 use Rattle.tracklet_file.specs.declared.observation.Observation.{Observation}
+use Rattle.tracklet_file.specs.Numbering.{numbered}
 use Rattle.tracklet_file.specs.Observations.{track_of, later_of_track, observations_of, first_of, next_of, IsFollowedBy}
 use Rattle.act_model.specs.declared.seen.Seen.{Seen}
+use Rattle.act_model.specs.Discoveries.{seen_if_live, seen_at}
+use Rattle.object_rules.specs.Numbering.{is_any_live}
 use Rattle.object_rules.specs.Seeing.{is_of_years, AreOfYears, chain_from}
 
 pub of_years_more : (seen : List Seen) (one : Seen) → AreOfYears seen → IsTrue (is_of_years one.time) → AreOfYears (seen ++ one ∷ [])
@@ -34,3 +38,19 @@ pub own_next : (observations : List Observation) (t k : ℕ) (next : Option ℕ)
     → IfSome next (λ n. track_of observations n ≡ track_of observations k) → IfSome next (λ n. track_of observations n ≡ Some t)
 own_next observations t k None own is = tt
 own_next observations t k (Some n) own is = is ∙ own
+
+-- ---- a tracklet has live observations
+
+seen_one : (k : ℕ) (found : Option Observation) (seen : List Seen) (any : Bool) → (length seen == 0) ≡ not any
+    → (length (cons_option (seen_if_live k found) seen) == 0) ≡ not (option_map_or (λ (o : Observation). o.live) found false || any)
+seen_one k None seen any is = is
+seen_one k (Some o) seen any is = by o.live
+  where
+    by : (b : Bool) → (length (cons_option (cond b (Some (record { number = k; time = o.sighting.time })) None) seen) == 0) ≡ not (b || any)
+    by true = refl
+    by false = is
+
+-- none of them is seen exactly where none is live
+pub nothing_seen : (observations : List Observation) (ks : List ℕ) → (length (filter_map (seen_at observations) ks) == 0) ≡ not (is_any_live observations ks)
+nothing_seen observations [] = refl
+nothing_seen observations (k ∷ ks) = seen_one k (numbered observations k) (filter_map (seen_at observations) ks) (is_any_live observations ks) (nothing_seen observations ks)

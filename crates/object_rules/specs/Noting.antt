@@ -15,7 +15,7 @@ use Rattle.tracklet_file.specs.Contents.{Contents}
 use Rattle.tracklet_file.specs.Tracklets.{IsTracklet, home_of, with_home}
 use Rattle.act_model.specs.declared.deed.Deed.{Deed}
 use Rattle.act_model.specs.declared.deed.Deed.TheVariants.{Designated, Attributed, Released, Identified, Separated}
-use Rattle.act_model.specs.declared.deed.Deed.TheVariants.{Judged, Numbered}
+use Rattle.act_model.specs.declared.deed.Deed.TheVariants.{Judged, Numbered, Retracted}
 use Rattle.act_model.specs.Holdings.{Holdings, with_homes}
 use Rattle.act_model.specs.Fitting.{AreTracklets}
 
@@ -54,6 +54,24 @@ abbrev pub registered_by : Deed → ℕ
 registered_by (Judged p u oppositions) = 1
 registered_by (Numbered pairs) = length pairs
 registered_by _ = 0
+
+-- how many entries of the register a deed may give back: of the verdicts that it sets or voids, and of what it numbers
+abbrev pub returned_by : Deed → ℕ
+returned_by (Judged p u oppositions) = 1
+returned_by (Numbered pairs) = length pairs
+returned_by (Identified p s) = 2
+returned_by (Attributed t to) = 1
+returned_by (Separated s) = 1
+returned_by (Released t) = 1
+returned_by (Retracted k) = 1
+returned_by _ = 0
+
+-- how many tracklets get another home by a deed
+abbrev pub homed_by : Deed → ℕ
+homed_by (Designated ts given discovery) = length ts
+homed_by (Attributed t to) = 1
+homed_by (Released t) = 1
+homed_by _ = 0
 
 -- what a file of observations and tracklets holds
 abbrev pub held_in : Contents → Holdings

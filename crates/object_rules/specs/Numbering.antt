@@ -1,5 +1,5 @@
 -- Which objects are numbered, part by part.
-use Rattle.std.specs.Prelude.{ℕ, Bool, nat_lt, ◌&&◌, ◌==◌, List, [], ◌∷◌, filter, length, Result, Ok}
+use Rattle.std.specs.Prelude.{ℕ, Bool, nat_lt, ◌&&◌, ◌==◌, ◌×◌, List, [], ◌∷◌, filter, length, Result, Ok}
 use Rattle.std.specs.List.{list_any}
 use Rattle.packed_names.specs.declared.name.Designation.{Designation}
 use Rattle.tracklet_file.specs.declared.observation.Observation.{Observation}
@@ -28,18 +28,12 @@ abbrev pub eligible_among : List Deed → List Designation → List Designation
 eligible_among past designations =
     filter (λ d. is_principal (links_of past) d && is_eligible_after past d) designations
 
--- numbers from the first on for all of these objects
-abbrev pub numbers_all : ℕ → List Designation → Result Deed Refusal
-numbers_all first chosen =
-    unless (first_row ((nat_lt greatest_number (last_number first chosen), NumbersFull) ∷ []))
-    (Ok (Numbered (numbered_from first chosen)))
+-- there are some objects to number, and their numbers are some that a minor planet can have
+abbrev pub chosen_rows : ℕ → List Designation → List (Bool × Refusal)
+chosen_rows first chosen =
+    (length chosen == 0, NoneEligible) ∷ (nat_lt greatest_number (last_number first chosen), NumbersFull) ∷ []
 
--- numbers from the first on for these objects, where there are some
+-- numbers from the first on for these objects
 abbrev pub numbers_for : ℕ → List Designation → Result Deed Refusal
 numbers_for first chosen =
-    unless
-    (first_row ((length chosen == 0, NoneEligible) ∷ (
-      nat_lt greatest_number (last_number first chosen),
-      NumbersFull,
-    ) ∷ []))
-    (Ok (Numbered (numbered_from first chosen)))
+    unless (first_row (chosen_rows first chosen)) (Ok (Numbered (numbered_from first chosen)))

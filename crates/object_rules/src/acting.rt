@@ -1,6 +1,6 @@
 //! What the acts on tracklets and objects do, or the first refusals that they meet.
 
-ghost use Rattle.std.specs.Prelude.{◌≡◌, ◌≤ℤ◌, ◌-ℤ◌, pos, int_lt, if◌then◌else◌, map, true, Some, None, Ok, IfOk};
+ghost use Rattle.std.specs.Prelude.{◌≡◌, ◌≤ℤ◌, ◌-ℤ◌, pos, int_lt, if◌then◌else◌, map, true, Some, None, Ok, Err, IfOk, IfSome};
 ghost use Rattle.act_model.specs.Rows.{first_row, unless, IsDue};
 ghost use Rattle.act_model.specs.Holdings.{holdings};
 ghost use Rattle.act_model.specs.Designations.{takes_of, links_of};
@@ -13,9 +13,9 @@ ghost use Rattle.object_rules.specs.Seeing.{AreOfYears};
 use crate::asking::{home, is_given, is_numbered, is_principal, is_same, is_there};
 use crate::discovering::{earliest, half_of, latest};
 use crate::ledger::Ledger;
-use crate::seeing::{free_seen, free_track};
+use crate::observed::is_track_live;
+use crate::seeing::free_seen;
 use act_model::{Deed, Ids, Part, Refusal, Seen, Thing};
-use item_list::ItemList;
 use obs_time::Instant;
 use packed_names::{Designation, limit};
 use std::alloc::Global;
@@ -50,7 +50,7 @@ fn night_between(from: Instant, to: Instant) -> Option<i64>
 /// The object that these tracklets become, where these are their live observations.
 fn designates_seen<L: Ledger>(office: &L, tracklets: Ids, seen: &[Seen]) -> Result<Deed, Refusal>
     requires years { AreOfYears seen.now }
-    ensures due { IsDue (designates_seen (takes_of (L.deeds office.now)) tracklets seen.now) result }
+    ensures due { result ≡ designates_seen (takes_of (L.deeds office.now)) tracklets seen.now }
     ensures kind { IfOk result (λ deed. is_of_objects deed ≡ true) }
 {
     let Some((first, more)) = seen.split_first() else {
@@ -86,6 +86,8 @@ fn designates_seen<L: Ledger>(office: &L, tracklets: Ids, seen: &[Seen]) -> Resu
 pub fn designates<L: Ledger>(office: &L, alloc: Global, tracklets: Ids) -> Result<Deed, Refusal>
     ensures due { IsDue
         (designates (holdings (L.deeds office.now)) (takes_of (L.deeds office.now)) tracklets) result }
+    ensures unknown { IfSome (first_row (map (tracklet_row (holdings (L.deeds office.now)).tracklets) tracklets))
+        (λ refusal. result ≡ Err refusal) }
     ensures kind { IfOk result (λ deed. is_of_objects deed ≡ true) }
 {
     if let Some(refusal) = unknown_tracklet(office, tracklets.as_slice()) {
@@ -102,15 +104,10 @@ pub fn designates<L: Ledger>(office: &L, alloc: Global, tracklets: Ids) -> Resul
 /// # Errors
 ///
 /// The first refusal that holds: the tracklet, or the designation, isn't there; the tracklet is in an object, or has no
-/// live observation. `NoMemory` where memory was refused.
-pub fn attributes<L: Ledger>(
-    office: &L,
-    alloc: Global,
-    t: u64,
-    to: Designation,
-) -> Result<Deed, Refusal>
-    ensures due { IsDue
-        (attributes (holdings (L.deeds office.now)) (links_of (L.deeds office.now)) t to) result }
+/// live observation.
+#[tactic(auto, using(crate::proofs::SeenLemmas::nothing_seen))]
+pub fn attributes<L: Ledger>(office: &L, t: u64, to: Designation) -> Result<Deed, Refusal>
+    ensures due { result ≡ attributes (holdings (L.deeds office.now)) (links_of (L.deeds office.now)) t to }
     ensures kind { IfOk result (λ deed. is_of_objects deed ≡ true) }
 {
     if !is_there(office, t) {
@@ -119,11 +116,13 @@ pub fn attributes<L: Ledger>(
     if !is_given(office, to) {
         return Err(Refusal::UnknownThing(Thing::Designation(to)));
     }
-    let mut seen = ItemList::new(alloc);
-    match free_track(office, &mut seen, t) {
-        Ok(()) => Ok(Deed::Attributed { tracklet: t, to }),
-        Err(refusal) => Err(refusal),
+    if home(office, t).is_some() {
+        return Err(Refusal::NotIsolated(t));
     }
+    if !is_track_live(office.file(), t) {
+        return Err(Refusal::Empty(t));
+    }
+    Ok(Deed::Attributed { tracklet: t, to })
 }
 
 /// A tracklet comes out of its object.
@@ -132,7 +131,7 @@ pub fn attributes<L: Ledger>(
 ///
 /// The first refusal that holds: the tracklet isn't there; it is in no object.
 pub fn releases<L: Ledger>(office: &L, t: u64) -> Result<Deed, Refusal>
-    ensures due { IsDue (releases (holdings (L.deeds office.now)) t) result }
+    ensures due { result ≡ releases (holdings (L.deeds office.now)) t }
     ensures kind { IfOk result (λ deed. is_of_objects deed ≡ true) }
 {
     if !is_there(office, t) {
@@ -180,7 +179,7 @@ fn identify_refusal<L: Ledger>(office: &L, p: Designation, s: Designation) -> Op
 /// The first refusal that holds: a designation isn't there; one isn't its own principal; both are the same; both have
 /// numbers; the secondary alone has one.
 pub fn identifies<L: Ledger>(office: &L, p: Designation, s: Designation) -> Result<Deed, Refusal>
-    ensures due { IsDue (identifies (links_of (L.deeds office.now)) (numbers_of (L.deeds office.now)) p s) result }
+    ensures due { result ≡ identifies (links_of (L.deeds office.now)) (numbers_of (L.deeds office.now)) p s }
     ensures kind { IfOk result (λ deed. is_of_objects deed ≡ true) }
 {
     match identify_refusal(office, p, s) {
@@ -198,7 +197,7 @@ pub fn identifies<L: Ledger>(office: &L, p: Designation, s: Designation) -> Resu
 ///
 /// The first refusal that holds: the designation isn't there; it is its own principal.
 pub fn separates<L: Ledger>(office: &L, s: Designation) -> Result<Deed, Refusal>
-    ensures due { IsDue (separates (links_of (L.deeds office.now)) s) result }
+    ensures due { result ≡ separates (links_of (L.deeds office.now)) s }
     ensures kind { IfOk result (λ deed. is_of_objects deed ≡ true) }
 {
     if !is_given(office, s) {
@@ -221,7 +220,7 @@ pub fn judges<L: Ledger>(
     u: u8,
     oppositions: u8,
 ) -> Result<Deed, Refusal>
-    ensures due { IsDue (judges (links_of (L.deeds office.now)) d u oppositions) result }
+    ensures due { result ≡ judges (links_of (L.deeds office.now)) d u oppositions }
     ensures kind { IfOk result (λ deed. is_of_objects deed ≡ true) }
 {
     if !is_given(office, d) {

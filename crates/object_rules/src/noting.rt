@@ -1,6 +1,7 @@
 //! What a deed changes in the file, the rows, the links and the register.
 
 ghost use Rattle.std.specs.Prelude.{◌≡◌, ◌+◌, ◌≤◌, ◌++◌, List, length, reverse};
+ghost use Rattle.ordered_list.specs.Contents.{UsesOne};
 ghost use Rattle.identify_core.specs.Acts.{LinkAct, principal};
 ghost use Rattle.identify_core.specs.Principals.{StandFor as LinksStandFor, principal_of};
 ghost use Rattle.numbering_core.specs.Numbers.{IsUnbroken};
@@ -11,7 +12,8 @@ ghost use Rattle.act_model.specs.Holdings.{with_homes};
 ghost use Rattle.act_model.specs.Numbers.{with_numbers};
 ghost use Rattle.act_model.specs.Fitting.{AreTracklets};
 ghost use Rattle.act_model.specs.Verdicts.{voided, judged_by};
-ghost use Rattle.object_rules.specs.Noting.{TakesDeed, LinksDeed, TouchesDeed, NumbersDeed, HomesDeed, registered_by};
+ghost use Rattle.object_rules.specs.Noting.{TakesDeed, LinksDeed, TouchesDeed, NumbersDeed, HomesDeed};
+ghost use Rattle.object_rules.specs.Noting.{registered_by, returned_by, homed_by};
 ghost use Rattle.object_rules.specs.Noting.{held_in, object_in, object_of_seen_in, with_deed_homes};
 
 use act_model::Deed;
@@ -26,7 +28,7 @@ pub fn take(rows: &mut Rows, deed: &Deed)
     requires fits { TakesDeed rows.old.takes deed.now }
     requires room { 1 ≤ rows.old.spare }
     ensures takes { rows.new.takes ≡ with_take deed.now rows.old.takes }
-    ensures spare { rows.old.spare ≤ rows.new.spare + 1 }
+    ensures spare { UsesOne rows.old.spare rows.new.spare }
 {
     if let Deed::Designated {
         given,
@@ -44,7 +46,7 @@ pub fn link(links: &mut Links, deed: &Deed)
     requires room { 1 ≤ links.old.spare }
     ensures links { (acts : List LinkAct) →
         LinksStandFor links.old.links acts → LinksStandFor links.new.links (with_link deed.now acts) }
-    ensures spare { links.old.spare ≤ links.new.spare + 1 }
+    ensures spare { UsesOne links.old.spare links.new.spare }
 {
     match deed {
         Deed::Designated { given, .. } => links.add(Designation::Provisional(*given)),
@@ -75,6 +77,7 @@ fn give(register: &mut Register, pairs: &[Numbering])
     ensures numbered { register.new.numbered ≡ reverse pairs.now ++ register.old.numbered }
     ensures verdicts { register.new.verdicts ≡ register.old.verdicts }
     ensures spare { register.old.spare ≤ register.new.spare + length pairs.now }
+    ensures no_more { register.new.spare ≤ register.old.spare + length pairs.now }
 {
     for pair in pairs {
         register.take(pair.designation, pair.number);
@@ -87,6 +90,7 @@ fn void(register: &mut Register, object: Option<Designation>)
         VerdictsStandFor register.old.verdicts acts → VerdictsStandFor register.new.verdicts (voided object ++ acts) }
     ensures numbered { register.new.numbered ≡ register.old.numbered }
     ensures spare { register.old.spare ≤ register.new.spare }
+    ensures no_more { register.new.spare ≤ register.old.spare + 1 }
 {
     if let Some(p) = object {
         register.void(p);
@@ -99,8 +103,9 @@ fn home_all(file: &mut TrackletFile, tracklets: &[u64], home: Option<Designation
     requires there { AreTracklets file.old.tracklets tracklets.now }
     ensures homes { file.new.tracklets ≡ with_homes file.old.tracklets tracklets.now home }
     ensures observations { file.new.observations ≡ file.old.observations }
-    ensures observation_room { file.old.observation_room ≤ file.new.observation_room }
+    ensures observation_room { file.new.observation_room ≡ file.old.observation_room }
     ensures tracklet_room { file.old.tracklet_room ≤ file.new.tracklet_room }
+    ensures no_more { file.new.tracklet_room ≤ file.old.tracklet_room + length tracklets.now }
 {
     for t in tracklets {
         file.set_home(*t, home);
@@ -112,8 +117,9 @@ pub fn home_tracklets(file: &mut TrackletFile, deed: &Deed)
     requires there { HomesDeed file.old.tracklets deed.now }
     ensures homes { file.new.tracklets ≡ with_deed_homes file.old.tracklets deed.now }
     ensures observations { file.new.observations ≡ file.old.observations }
-    ensures observation_room { file.old.observation_room ≤ file.new.observation_room }
+    ensures observation_room { file.new.observation_room ≡ file.old.observation_room }
     ensures tracklet_room { file.old.tracklet_room ≤ file.new.tracklet_room }
+    ensures no_more { file.new.tracklet_room ≤ file.old.tracklet_room + homed_by deed.now }
 {
     match deed {
         Deed::Designated {
@@ -162,6 +168,7 @@ pub fn note_verdicts(register: &mut Register, file: &TrackletFile, links: &Links
         VerdictsStandFor register.new.verdicts (judged_by (held_in file.now) linked deed.now ++ acts) }
     ensures numbered { register.new.numbered ≡ with_numbers deed.now register.old.numbered }
     ensures spare { register.old.spare ≤ register.new.spare + registered_by deed.now }
+    ensures no_more { register.new.spare ≤ register.old.spare + returned_by deed.now }
 {
     match deed {
         Deed::Judged {

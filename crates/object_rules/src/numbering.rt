@@ -1,6 +1,6 @@
 //! Numbers for the objects that can be numbered.
 
-ghost use Rattle.std.specs.Prelude.{◌≡◌, ◌≤◌, ◌+◌, ◌++◌, ◌∷◌, [], IfOk, OnOk, length, take, true};
+ghost use Rattle.std.specs.Prelude.{◌≡◌, ◌≤◌, ◌+◌, ◌++◌, ◌∷◌, [], IfOk, OnOk, IfSome, Err, length, take, true};
 ghost use Rattle.packed_names.specs.Ranges.{IsNumber};
 ghost use Rattle.numbering_core.specs.Numbers.{next_number};
 ghost use Rattle.act_model.specs.Rows.{first_row, IsDue};
@@ -10,7 +10,7 @@ ghost use Rattle.act_model.specs.Verdicts.{verdicts_of};
 ghost use Rattle.act_model.specs.Numbers.{numbers_of, is_eligible, numbered_from, last_number};
 ghost use Rattle.act_model.specs.Doing.{numbers, eligible_after, next_rows};
 ghost use Rattle.object_rules.specs.Noting.{is_of_objects};
-ghost use Rattle.object_rules.specs.Numbering.{eligible_among, numbers_all, numbers_for};
+ghost use Rattle.object_rules.specs.Numbering.{eligible_among, chosen_rows, numbers_for};
 
 use crate::asking::{is_numbered, is_principal};
 use crate::ledger::Ledger;
@@ -130,31 +130,34 @@ fn numbered_from(
     Ok(pairs)
 }
 
-/// Numbers for all of these objects, from the first on.
-fn numbers_all(alloc: Global, first: u32, chosen: &[Designation]) -> Result<Deed, Refusal>
+/// The refusal of numbers for these objects, from the first on.
+fn numbers_refusal(first: u32, chosen: &[Designation]) -> Option<Refusal>
     requires { IsNumber first }
-    ensures due { IsDue (numbers_all first chosen.now) result }
+    ensures { result ≡ first_row (chosen_rows first chosen.now) }
+{
+    if chosen.is_empty() {
+        return Some(Refusal::NoneEligible);
+    }
+    if last_number(first, chosen) > GREATEST_NUMBER {
+        return Some(Refusal::NumbersFull);
+    }
+    None
+}
+
+/// Numbers for these objects, from the first on, where nothing refuses them.
+fn numbers_for(alloc: Global, first: u32, chosen: &[Designation]) -> Result<Deed, Refusal>
+    requires { IsNumber first }
+    ensures due { IsDue (numbers_for first chosen.now) result }
+    ensures refused { IfSome (first_row (chosen_rows first chosen.now)) (λ refusal. result ≡ Err refusal) }
     ensures kind { IfOk result (λ deed. is_of_objects deed ≡ true) }
 {
-    if last_number(first, chosen) > GREATEST_NUMBER {
-        return Err(Refusal::NumbersFull);
+    if let Some(refusal) = numbers_refusal(first, chosen) {
+        return Err(refusal);
     }
     match numbered_from(alloc, first, chosen) {
         Ok(pairs) => Ok(Deed::Numbered(pairs)),
         Err(_) => Err(Refusal::NoMemory),
     }
-}
-
-/// Numbers for these objects, where there are some.
-fn numbers_for(alloc: Global, first: u32, chosen: &[Designation]) -> Result<Deed, Refusal>
-    requires { IsNumber first }
-    ensures due { IsDue (numbers_for first chosen.now) result }
-    ensures kind { IfOk result (λ deed. is_of_objects deed ≡ true) }
-{
-    if chosen.is_empty() {
-        return Err(Refusal::NoneEligible);
-    }
-    numbers_all(alloc, first, chosen)
 }
 
 /// Objects that can be numbered get numbers, from the first number upwards, in the order of their principal
@@ -170,6 +173,8 @@ pub fn numbers<L: Ledger>(office: &L, alloc: Global, first: u32, most: u32) -> R
     requires most { 1 ≤ most }
     ensures due { IsDue
         (numbers (numbers_of (L.deeds office.now)) first most (eligible_after (L.deeds office.now))) result }
+    ensures not_next { IfSome (first_row (next_rows (next_number (numbers_of (L.deeds office.now))) first))
+        (λ refusal. result ≡ Err refusal) }
     ensures kind { IfOk result (λ deed. is_of_objects deed ≡ true) }
 {
     if let Some(refusal) = not_next(office, first) {

@@ -17,7 +17,7 @@ use packed_names::laws::orders;
 use tracklet_file::TrackletFile;
 
 /// Whether the tracklet has a live observation.
-fn is_track_live(file: &TrackletFile, t: u64) -> bool
+pub(crate) fn is_track_live(file: &TrackletFile, t: u64) -> bool
     ensures { result ≡ is_any_live file.now.observations (observations_of file.now.observations t) }
 {
     let mut next = first_in(file, t);

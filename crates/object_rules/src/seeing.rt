@@ -50,11 +50,7 @@ fn push_one(seen: &mut ItemList<Seen>, one: Option<Seen>) -> Result<(), NoMemory
 }
 
 /// Adds the live observations of a tracklet, in the order of their numbers.
-pub(crate) fn push_seen(
-    file: &TrackletFile,
-    seen: &mut ItemList<Seen>,
-    t: u64,
-) -> Result<(), NoMemory>
+fn push_seen(file: &TrackletFile, seen: &mut ItemList<Seen>, t: u64) -> Result<(), NoMemory>
     requires years { FileIsOfYears file.now.observations }
     requires before { AreOfYears seen.old }
     ensures seen { OnOk result (seen.new ≡ seen.old ++ seen_of file.now.observations t) }
@@ -69,11 +65,7 @@ pub(crate) fn push_seen(
 }
 
 /// Tests a tracklet that is to come into an object, and adds its live observations.
-pub(crate) fn free_track<L: Ledger>(
-    office: &L,
-    seen: &mut ItemList<Seen>,
-    t: u64,
-) -> Result<(), Refusal>
+fn free_track<L: Ledger>(office: &L, seen: &mut ItemList<Seen>, t: u64) -> Result<(), Refusal>
     requires before { AreOfYears seen.old }
     ensures free { IsFree (first_row (free_rows (holdings (L.deeds office.now)) t)) result }
     ensures seen { OnOk result (seen.new ≡ seen.old ++ seen_of (holdings (L.deeds office.now)).observations t) }

@@ -1,6 +1,6 @@
 //! Changes of vectors that are in order; none of them takes memory.
 
-ghost use Rattle.std.specs.Prelude.{◌≡◌, ◌+◌, ◌<◌, ◌≤◌, None, IsSome, OnOk, IfErr, OnErr, vec_len, vec_capacity};
+ghost use Rattle.std.specs.Prelude.{◌≡◌, ◌+◌, ◌<◌, ◌≤◌, None, IsSome, IsNone, OnOk, IfErr, OnErr, vec_len, vec_capacity};
 ghost use Rattle.std.specs.Bool.{OnTrue, OnFalse};
 ghost use Rattle.ordered_list.specs.Orders.{IsStrictlySorted, BelongsAt, found, inserted, removed, merged};
 ghost use Rattle.ordered_list.specs.Contents.{IsPair};
@@ -72,6 +72,7 @@ pub(crate) fn take_out<T: Ord + Copy>(items: &mut Vec<T>, key: &T) -> Option<T>
     ensures removed { items.new.items ≡ removed T.cmp key.now items.old.items }
     ensures len { vec_len items.new ≤ vec_len items.old }
     ensures fewer { IsSome result → vec_len items.new + 1 ≡ vec_len items.old }
+    ensures as_many { IsNone result → vec_len items.new ≡ vec_len items.old }
     ensures capacity { vec_capacity items.new ≡ vec_capacity items.old }
 {
     match place_of(items.as_slice(), key) {
@@ -94,6 +95,8 @@ pub(crate) fn take_out_older<T: Ord + Copy>(
     ensures len { vec_len settled.new + vec_len recent.new ≤ vec_len settled.old + vec_len recent.old }
     ensures fewer { IsSome result
         → vec_len settled.new + vec_len recent.new + 1 ≡ vec_len settled.old + vec_len recent.old }
+    ensures as_many { IsNone result
+        → vec_len settled.new + vec_len recent.new ≡ vec_len settled.old + vec_len recent.old }
     ensures capacity { vec_capacity settled.new ≡ vec_capacity settled.old }
 {
     if let Some(item) = take_out(recent, key) {

@@ -11,14 +11,20 @@ pub record Contents : Type 0 where
   pub observation_room : ℕ
   pub tracklet_room : ℕ
 
--- room for one was used: there is less by one at most, and no more, since no memory was taken
-abbrev pub UsesOne : ℕ → ℕ → Type 0
-UsesOne old new = (old ≤ new + 1) × (new ≤ old)
-
 -- there is no less room than before
 pub record KeepsRoom (old new : Contents) : Type 0 where
   pub observations : old.observation_room ≤ new.observation_room
   pub tracklets : old.tracklet_room ≤ new.tracklet_room
+
+-- no memory was taken: there is no more room than before
+pub record TakesNoMemory (old new : Contents) : Type 0 where
+  pub observations : new.observation_room ≤ old.observation_room
+  pub tracklets : new.tracklet_room ≤ old.tracklet_room
+
+-- no memory was taken: there is room for one more tracklet at most, where one left the index of homes
+pub record GivesBackOne (old new : Contents) : Type 0 where
+  pub observations : new.observation_room ≤ old.observation_room
+  pub tracklets : new.tracklet_room ≤ old.tracklet_room + 1
 
 -- the tracklet of each observation is there
 abbrev pub AreInTracklets : List Tracklet → List Observation → Type 0

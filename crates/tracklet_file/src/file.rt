@@ -8,7 +8,8 @@ ghost use Rattle.tracklet_file.specs.Observations.{later_of_track, observations_
 ghost use Rattle.tracklet_file.specs.Observations.{with_observation, with_retraction, is_live_line};
 ghost use Rattle.tracklet_file.specs.Tracklets.{IsTracklet, name_of_track, station_of, home_of, retracted_in};
 ghost use Rattle.tracklet_file.specs.Tracklets.{isolated_in, homed_in, with_tracklet, with_home, later_at, next_at};
-ghost use Rattle.tracklet_file.specs.Contents.{UsesOne, KeepsRoom};
+ghost use Rattle.ordered_list.specs.Contents.{UsesOne};
+ghost use Rattle.tracklet_file.specs.Contents.{KeepsRoom, TakesNoMemory, GivesBackOne};
 
 use crate::chain::{Chain, extend, link, some_number};
 use crate::counting::{isolated_after, with_one, without_one};
@@ -180,6 +181,7 @@ impl TrackletFile {
         ensures retracted { self.new.observations ≡ with_retraction self.old.observations k }
         ensures tracklets { self.new.tracklets ≡ self.old.tracklets }
         ensures room_stays { KeepsRoom self.old self.new }
+        ensures no_more { TakesNoMemory self.old self.new }
     {
         let place = (k - 1) as usize;
         let o = self.observations[place];
@@ -197,6 +199,7 @@ impl TrackletFile {
         ensures home { self.new.tracklets ≡ with_home self.old.tracklets t home }
         ensures observations { self.new.observations ≡ self.old.observations }
         ensures room_stays { KeepsRoom self.old self.new }
+        ensures no_more { GivesBackOne self.old self.new }
     {
         orders();
         let was = self.home(t);

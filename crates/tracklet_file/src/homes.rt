@@ -78,6 +78,7 @@ pub(crate) fn rehome(
         || (not (is_entry ⟦<HomeEntry as Ord>⟧.cmp key was track)
         && is_some (found ⟦<HomeEntry as Ord>⟧.cmp key homes.old.items))) }
     ensures room { homes.old.room + (if is_none home then 1 else 0) ≤ homes.new.room + (if is_none was then 1 else 0) }
+    ensures no_more { homes.new.room + (if is_none was then 1 else 0) ≤ homes.old.room + 1 }
 {
     leave(homes, track, was);
     enter(homes, track, home);

@@ -36,4 +36,9 @@ loop-place-preserved c =
       tracklets = let room = so_far.tracklets in let used = line.tracklets in omega arith;
       used_observations = let room = so_far.used_observations in let used = line.observations in omega arith;
       used_tracklets = let room = so_far.used_tracklets in let used = line.tracklets in omega arith;
+      no_more =
+          record {
+            observations = omega (arith, so_far.no_more.observations, line.no_more.observations);
+            tracklets = omega (arith, so_far.no_more.tracklets, line.no_more.tracklets);
+          };
     }

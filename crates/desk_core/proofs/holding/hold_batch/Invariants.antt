@@ -1,4 +1,5 @@
 use Rattle.std.proofs.Common.{◌≡◌, ◌+◌, ◌≤◌, drop, length}
+use Rattle.tracklet_file.specs.Contents.{TakesNoMemory}
 use Rattle.act_model.specs.Holdings.{with_batch}
 use Rattle.act_model.specs.Taken.{accepted_in}
 use Rattle.desk_core.specs.Office.{held_in, AreTracked}
@@ -15,4 +16,5 @@ invariant-loop-place l =
       tracklets : accepted_in left ≤ l.file.tracklet_room;
       used_observations : l.fn.file.observation_room + accepted_in left ≤ l.file.observation_room + accepted_in l.lines;
       used_tracklets : l.fn.file.tracklet_room + accepted_in left ≤ l.file.tracklet_room + accepted_in l.lines;
+      no_more : TakesNoMemory l.fn.file l.file;
     }

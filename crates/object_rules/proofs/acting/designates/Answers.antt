@@ -6,7 +6,7 @@ use Rattle.act_model.specs.Discoveries.{seen_in}
 use Rattle.act_model.specs.Doing.{tracklet_row, free_rows, designates_seen}
 use Rattle.act_model.specs.Holdings.{holdings}
 use Rattle.act_model.specs.Rows.{first_row, unless, IsDue}
-use Rattle.object_rules.proofs.RowLemmas.{unknown_due, seen_due, refused_either}
+use Rattle.object_rules.proofs.RowLemmas.{due_is, unknown_due, seen_due, refused_either}
 use Rattle.object_rules.proofs.acting.designates.Goals as goal
 
 pub returns-in-Some : goal.returns-in-Some
@@ -27,7 +27,7 @@ returns-in-Ok g c =
       due = seen_due held (takes_of past) ts c.in-Ok.seen c.designates_seen.result
           (sym (c.unknown_tracklet.ensures ∙ ap (λ (x : List _). first_row (map (tracklet_row held.tracklets) x)) c.as_slice.ensures) ∙ c.in_default.is)
           (subst (λ (x : List _). unless (first_row (flat_map (free_rows held) x)) (Ok (seen_in held.observations x)) ≡ Ok c.in-Ok.seen) c.as_slice-2.ensures c.in-Ok.ensures.due)
-          (subst (λ (x : List _). IsDue (designates_seen (takes_of past) ts x) c.designates_seen.result) c.as_slice-in-Ok.ensures c.designates_seen.ensures.due);
+          (subst (λ (x : List _). IsDue (designates_seen (takes_of past) ts x) c.designates_seen.result) c.as_slice-in-Ok.ensures (due_is _ _ c.designates_seen.ensures.due));
       kind = c.designates_seen.ensures.kind;
     }
 

@@ -11,4 +11,5 @@ invariant-loop-pair l =
       verdicts : l.register.verdicts ≡ l.fn.register.verdicts;
       room : length (drop l.pair-index l.pairs) ≤ l.register.spare;
       used : l.fn.register.spare + length (drop l.pair-index l.pairs) ≤ l.register.spare + length l.pairs;
+      no_more : l.register.spare + length (drop l.pair-index l.pairs) ≤ l.fn.register.spare + length l.pairs;
     }

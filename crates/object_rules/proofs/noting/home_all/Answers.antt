@@ -1,4 +1,4 @@
-use Rattle.std.proofs.Common.{◌+◌, List, drop, get_or, ap, sym, subst, ◌∙◌, arith}
+use Rattle.std.proofs.Common.{◌+◌, List, length, drop, get_or, ap, sym, subst, ◌∙◌, arith}
 use Rattle.std.proofs.lemmas.List.{drop_more}
 use Rattle.act_model.specs.Holdings.{with_homes}
 use Rattle.act_model.specs.Fitting.{AreTracklets}
@@ -15,8 +15,12 @@ loop-t-preserved c =
     let set = c.set_home.ensures.home in
     let observations_before = c.loop-t.invariant.observation_room in
     let observations_now = c.set_home.ensures.room_stays.observations in
+    let observations_no_more = c.set_home.ensures.no_more.observations in
     let tracklets_before = c.loop-t.invariant.tracklet_room in
     let tracklets_now = c.set_home.ensures.room_stays.tracklets in
+    let tracklets_most = c.set_home.ensures.no_more.tracklets in
+    let most_before = c.loop-t.invariant.no_more in
+    let one_less = ap length first in
     record {
       homes =
           ap (λ (x : List _). with_homes x (drop (i + 1) ts) home) set
@@ -27,4 +31,5 @@ loop-t-preserved c =
       observations = c.set_home.ensures.observations ∙ c.loop-t.invariant.observations;
       observation_room = omega arith;
       tracklet_room = omega arith;
+      no_more = omega arith;
     }

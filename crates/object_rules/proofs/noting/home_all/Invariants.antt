@@ -1,4 +1,4 @@
-use Rattle.std.proofs.Common.{◌≡◌, ◌≤◌, drop}
+use Rattle.std.proofs.Common.{◌≡◌, ◌+◌, ◌≤◌, drop, length}
 use Rattle.act_model.specs.Holdings.{with_homes}
 use Rattle.act_model.specs.Fitting.{AreTracklets}
 use Rattle.object_rules.proofs.noting.home_all.Given as goal
@@ -10,6 +10,7 @@ invariant-loop-t l =
       homes : with_homes l.file.tracklets (drop l.t-index l.tracklets) l.home ≡ with_homes l.fn.file.tracklets l.tracklets l.home;
       there : AreTracklets l.file.tracklets (drop l.t-index l.tracklets);
       observations : l.file.observations ≡ l.fn.file.observations;
-      observation_room : l.fn.file.observation_room ≤ l.file.observation_room;
+      observation_room : l.file.observation_room ≡ l.fn.file.observation_room;
       tracklet_room : l.fn.file.tracklet_room ≤ l.file.tracklet_room;
+      no_more : l.file.tracklet_room + length (drop l.t-index l.tracklets) ≤ l.fn.file.tracklet_room + length l.tracklets;
     }

@@ -9,6 +9,7 @@ use Rattle.act_model.specs.Refusals.{entry_size}
 use Rattle.act_model.specs.Holdings.{with_deed}
 use Rattle.act_model.specs.Roster.{with_enrolled}
 use Rattle.act_model.specs.Deeds.{deeds}
+use Rattle.object_rules.specs.Noting.{homed_by}
 use Rattle.desk_core.specs.Filed.{history_of}
 use Rattle.desk_core.specs.Objects.{StandFor, UsesObjects}
 use Rattle.desk_core.specs.Office.{Office, Room, IsReadyAt, held_in, UsesRoom}
@@ -61,4 +62,6 @@ returns-clause-used c =
     file.observation_room held.observation_room file.tracklet_room held.tracklet_room
     c.self.inside.objects c.note.new.self (subst (λ (d : Deed). UsesObjects d c.self.inside.objects c.note.new.self) deed c.note.ensures.used)
     (subst (λ (d : Deed). file.observation_room ≤ held.observation_room + added_by d) deed c.hold.ensures.observations)
-    (subst (λ (d : Deed). file.tracklet_room ≤ held.tracklet_room + added_by d) deed c.hold.ensures.tracklets))
+    (subst (λ (d : Deed). file.tracklet_room ≤ held.tracklet_room + added_by d) deed c.hold.ensures.tracklets)
+    c.hold.ensures.no_more_observations
+    (subst (λ (d : Deed). held.tracklet_room ≤ file.tracklet_room + homed_by d) deed c.hold.ensures.no_more_tracklets))
