@@ -1,10 +1,10 @@
 //! A journal at its limit.
 
 use act_model::{Body, Keeper, Key, Reply, Request, Verb, reply_text};
-use desk_visits::{Visit, visit_desk};
 use item_list::Bytes;
 use obs_time::Instant;
 use std::alloc::Global;
+use testkit_desks::{Visit, visit_desk};
 
 /// Whose request it is, under which number, which verb it has, and its body.
 #[derive(Clone, Copy)]

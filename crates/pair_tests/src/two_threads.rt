@@ -6,7 +6,7 @@ use act_model::{Keeper, Verb};
 use intake_lock::{Clerk, Pass, TurnLock};
 use std::alloc::Global;
 use std::sync::Wait;
-use turn_visits::{
+use testkit_desks::{
     Turns, enrolment, new_clock, number_asked, number_of_reply, take_turn, told_of_office,
 };
 

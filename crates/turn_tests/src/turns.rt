@@ -8,7 +8,7 @@ use act_model::{Keeper, Reply, Request, Verb};
 use intake_lock::{Clerk, Pass, TurnLock};
 use std::alloc::Global;
 use std::sync::Wait;
-use turn_visits::{
+use testkit_desks::{
     THREADS, Turns, asked, enrolment, new_clock, number_asked, request, take_turn, told_of_desk,
 };
 

@@ -1,5 +1,5 @@
 use Rattle.std.proofs.Common.{◌-◌, ◌*◌}
-use Rattle.turn_visits.proofs.running.+fn-run_threads-join+arg3+run_threads.Given as goal
+use Rattle.testkit_desks.proofs.running.+fn-run_threads-join+arg3+run_threads.Given as goal
 
 -- twice the threads that are still to be run; between two calls stands one of the closure
 abbrev pub decreases-run_threads : goal.decreases-run_threads

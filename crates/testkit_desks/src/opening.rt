@@ -16,7 +16,7 @@ use std::sync::Wait;
 use std::thread::Threads;
 
 /// The founding officer of each office.
-fn founder() -> Key
+pub(crate) fn founder() -> Key
     ensures { IsFounder result }
 {
     Key::new(b"+founder-1")

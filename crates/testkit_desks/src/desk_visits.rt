@@ -1,11 +1,7 @@
 //! Desks over disks in memory that are opened for tests and handed to them as any keeper of the office.
-//!
-//! Tests over them meet the large type of a desk nowhere, so that they are proved at little cost.
-#![tactic(auto)]
 
-ghost use Rattle.act_model.specs.Roster.{IsFounder};
-
-use act_model::{Keeper, Key};
+use crate::opening::founder;
+use act_model::Keeper;
 use disk_model::{Disk, MemDisk};
 use mpc_desk::Desk;
 use std::alloc::Global;
@@ -17,13 +13,6 @@ pub trait Visit {
 
     /// Does it.
     fn visit<K: Keeper>(&self, alloc: Global, keeper: K) -> Self::Told;
-}
-
-/// The founding officer of each office.
-fn founder() -> Key
-    ensures { IsFounder result }
-{
-    Key::new(b"+founder-1")
 }
 
 /// What a visit tells of a desk over this disk.

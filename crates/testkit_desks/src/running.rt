@@ -3,7 +3,7 @@
 ghost use Rattle.std.specs.Prelude.{◌≡◌, ◌-◌, ◌<◌, None, IfOk, IfErr};
 ghost use denote.Param.Send.{IsSend, IsSync};
 ghost use Rattle.intake_lock.specs.Views.{stem, branch};
-ghost use Rattle.turn_visits.specs.Roots.{IsRootFor};
+ghost use Rattle.testkit_desks.specs.Roots.{IsRootFor};
 
 use crate::clerks::Unstamped;
 use crate::turns::Turns;
