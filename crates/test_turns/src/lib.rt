@@ -1,7 +1,11 @@
-//! Tests of turns that eight threads take at the lock of one desk, over a disk whose calls fail now and then.
+//! Tests of turns that threads take at the lock of an office, and of passes through it.
 //!
 //! A crate with tests is proved twice, with and without them, so they stand in a crate above those that they test.
 #![tactic(auto)]
 
 #[cfg(test)]
+mod passes;
+#[cfg(test)]
 mod turns;
+#[cfg(test)]
+mod two_threads;
