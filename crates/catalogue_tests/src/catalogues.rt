@@ -1,10 +1,10 @@
 //! The catalogue: after sessions that show each of its rules, as the answer to a query and as what `export` writes.
 
-use session_calls::{
+use std::alloc::Global;
+use testkit_sessions::{
     FOUNDER, MIDNIGHT, MIDNIGHT_TEXT, NIGHT, NIGHT_TEXT, OBSERVER, Row, STATION, Wrong,
     catalogue_alone, catalogue_of,
 };
-use std::alloc::Global;
 
 /// A declination of zero with a minus, and one of a tenth of an arcsecond below it.
 const ZERO_80: &str = concat!(

@@ -4,12 +4,12 @@ ghost use Rattle.std.specs.Prelude.{length, None};
 
 use desk_io::{Door, Failed, MemSink, MemSource, Next, NoMemory, Sink, Source};
 use program_calls::{End, Took, call_top, wrong_end};
-use session_calls::{Call, Wrong};
 use std::alloc::Global;
 use std::collections::VecDeque;
 use std::sync::atomic::{AtomicU64, Ordering};
 use std::sync::{Arc, Wait};
 use std::thread::{Threads, yield_now};
+use testkit_sessions::{Call, Wrong};
 
 /// How often a source or a sink that is held looks whether enough was answered, before it fails.
 const LOOKS: u64 = 1_000_000;

@@ -1,9 +1,9 @@
 //! Large bodies, long batches and long refusals.
 
-use session_calls::{
+use std::alloc::Global;
+use testkit_sessions::{
     BATCH, Call, FIRST, NoMemory, Wrong, begun, call_alone, put, put_lines, put_reply, put_taken,
 };
-use std::alloc::Global;
 
 /// Without rows no station is known.
 const STRANGERS: &str = concat!(

@@ -1,13 +1,13 @@
 //! A peer on this machine, and the call that serves it.
 
 use program_calls::call_over_port;
-use session_calls::{Call, Wrong};
 use std::alloc::Global;
 use std::io;
 use std::io::{ErrorKind, Read, Write};
 use std::net::{Ipv4Addr, Net, TcpListener, TcpStream};
 use std::sync::Wait;
 use std::thread::{Threads, join, yield_now};
+use testkit_sessions::{Call, Wrong};
 
 /// The port of the program's door.
 const PORT: u16 = 8017;

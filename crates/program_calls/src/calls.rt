@@ -7,11 +7,11 @@ use obs_time::Instant;
 use program_top::top::{single, top};
 use program_top::{Ended, Words};
 use serve_command::LinkEnds;
-use session_calls::{Call, Found, Wrong, words_of};
 use std::alloc::Global;
 use std::net::{Net, TcpListener, TcpStream};
 use std::sync::Wait;
 use std::thread::Threads;
+use testkit_sessions::{Call, Found, Wrong, words_of};
 
 /// How many bytes the sink has room for at first.
 const SINK_BYTES: usize = 65_536;

@@ -1,7 +1,7 @@
 //! Good and bad words of the command line.
 
 use program_calls::call_single;
-use session_calls::{Call, FIRST, FIRST_ANSWER};
+use testkit_sessions::{Call, FIRST, FIRST_ANSWER};
 
 /// The words of `run` with the founder's key.
 const RUN: [&str; 3] = ["run", "--key", "+founder-1"];

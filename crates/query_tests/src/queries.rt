@@ -1,6 +1,6 @@
 //! What the office tells of its tracklets, objects, half-months and names, in whole sessions.
 
-use session_calls::{
+use testkit_sessions::{
     BATCH, EA_EB, EA_EC, FIVE, FIVE_TEXT, FOUNDER, MIDNIGHT, MIDNIGHT_TEXT, OBSERVER, Row, TWO,
     session,
 };

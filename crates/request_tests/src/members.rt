@@ -1,6 +1,6 @@
 //! Places of observations, members of objects, and numbers that go on, in one session.
 
-use session_calls::{EA_EB, EA_EC, FIVE, FIVE_TEXT, FOUNDER, OBSERVER, Row, TWO, session};
+use testkit_sessions::{EA_EB, EA_EC, FIVE, FIVE_TEXT, FOUNDER, OBSERVER, Row, TWO, session};
 
 const TWO_TEXT: &str = concat!(
     "receipt 13\n",

@@ -1,6 +1,8 @@
 //! Designations, objects, verdicts and numbers in one session.
 
-use session_calls::{FOUNDER, MIDNIGHT, MIDNIGHT_TEXT, NIGHT, NIGHT_TEXT, OBSERVER, Row, session};
+use testkit_sessions::{
+    FOUNDER, MIDNIGHT, MIDNIGHT_TEXT, NIGHT, NIGHT_TEXT, OBSERVER, Row, session,
+};
 
 /// Lines under a number and the designation of another object, under the number, and under the designation.
 const NAMED: &str = concat!(

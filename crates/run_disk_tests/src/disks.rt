@@ -1,10 +1,9 @@
 //! Runs over a disk: an empty one, one that an earlier run left, one whose calls fail, and files that are no journal.
 
-use session_calls::{
-    Call, Drive, Exchange, FIRST, FIRST_ANSWER, Frames, SETUP, Wrong, call_in_turn,
-};
-use session_frames::BATCHES;
 use std::alloc::Global;
+use testkit_sessions::{
+    BATCHES, Call, Drive, Exchange, FIRST, FIRST_ANSWER, Frames, SETUP, Wrong, call_in_turn,
+};
 
 // An empty disk gets its first gate, a byte.
 fn first_gate(alloc: Global) -> Result<(), Wrong> {

@@ -1,8 +1,9 @@
 //! The ends of a run, in pieces of every size, and with each read and each write failing in turn.
 
-use session_calls::{Call, FIRST, FIRST_ANSWER, Frames, Wrong, call_alone};
-use session_frames::{FRAMES, session_tables};
 use std::alloc::Global;
+use testkit_sessions::{
+    Call, FIRST, FIRST_ANSWER, FRAMES, Frames, Wrong, call_alone, session_tables,
+};
 
 /// The founder's first request, and after it a length with a leading zero.
 const SECOND_IS_BAD: &str = concat!(

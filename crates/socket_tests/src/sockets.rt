@@ -1,7 +1,7 @@
 //! One connection over a real socket of this machine.
 
 use port_calls::{is_free, serve_peer};
-use session_calls::Call;
+use testkit_sessions::Call;
 
 const SERVE: [&str; 5] = ["serve", "--connections", "1", "--key", "+founder-1"];
 

@@ -2,7 +2,7 @@
 
 use held_links::{Held, call_held};
 use program_calls::{End, Left};
-use session_calls::Call;
+use testkit_sessions::Call;
 
 const SERVE: [&str; 5] = ["serve", "--connections", "4", "--key", "+founder-1"];
 

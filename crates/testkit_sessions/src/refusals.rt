@@ -1,6 +1,7 @@
 //! Refusals in the order of the office's table.
 
-use session_calls::{ENROLMENT, Exchange, MODE, STATION};
+use crate::exchange::Exchange;
+use crate::setup::{ENROLMENT, MODE, STATION};
 
 pub(super) const ROLE: &str = "403 15\nrefused 4 Role\n";
 

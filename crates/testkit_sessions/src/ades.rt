@@ -1,6 +1,6 @@
 //! Batches of ADES, and names of observers.
 
-use session_calls::Exchange;
+use crate::exchange::Exchange;
 
 /// A batch of ADES: lines of an unknown catalogue, of a known one, of an unknown band, and of an unknown
 /// mode; then lines that break two of the rules, and one more of the accepted line's tracklet.

@@ -1,6 +1,7 @@
 //! Batches of the observer in 80 columns.
 
-use session_calls::{BATCH, Exchange};
+use crate::exchange::Exchange;
+use crate::setup::BATCH;
 
 /// The answer to the batch of four lines.
 pub(super) const BATCH_ANSWER: &str = concat!(

@@ -1,18 +1,24 @@
 //! Calls of `run` and of `export` over a source, a sink, a disk and a clock in memory, for the crates that test whole
-//! sessions; and what such sessions are made of.
+//! sessions; what such sessions are made of; and the frames of a whole one with their answers.
 //!
 //! A function says what is wrong with a call, and asserts nothing: no library may stop the program. None has a clause,
 //! since what the calls promise would then stand in the proof of every test.
 #![tactic(auto)]
 
+mod ades;
+mod batches;
 mod calls;
 mod exchange;
 mod pieces;
+mod places;
+mod refusals;
 mod rows;
 mod setup;
 mod tracklets;
+mod whole_session;
 mod wrong;
 
+pub use batches::BATCHES;
 pub use calls::{Call, Drive, call_alone, call_in_turn, words_of};
 pub use exchange::{Exchange, Frames};
 pub use pieces::{NoMemory, put, put_lines, put_reply, put_taken};
@@ -21,4 +27,5 @@ pub use setup::{BATCH, ENROLMENT, FIRST, FIRST_ANSWER, MODE, SETUP, STATION, beg
 pub use tracklets::{
     EA_EB, EA_EC, FIVE, FIVE_TEXT, MIDNIGHT, MIDNIGHT_TEXT, NIGHT, NIGHT_TEXT, TWO,
 };
+pub use whole_session::{FRAMES, session_tables};
 pub use wrong::{Found, Wrong};

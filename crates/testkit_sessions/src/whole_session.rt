@@ -2,9 +2,10 @@
 
 use crate::ades::ADES;
 use crate::batches::{BATCHES, FURTHER_BATCHES};
+use crate::exchange::Exchange;
 use crate::places::PLACES;
 use crate::refusals::REFUSALS;
-use session_calls::{Exchange, SETUP};
+use crate::setup::SETUP;
 
 /// How many frames the session has: the office is set up, batches come, refusals, retractions and queries.
 pub const FRAMES: usize = 52;

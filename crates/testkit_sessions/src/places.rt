@@ -1,8 +1,9 @@
 //! Rules beside the observations that are there, retractions, and queries.
 
 use crate::batches::BATCH_ANSWER;
+use crate::exchange::Exchange;
 use crate::refusals::ROLE;
-use session_calls::{BATCH, Exchange};
+use crate::setup::BATCH;
 
 /// The observer's first batch under a further number: its observations are there already.
 const AGAIN_ANSWER: &str = concat!(
