@@ -1,5 +1,5 @@
-//! Tests of whole sessions of frames over disks in memory: in pieces, with failing streams and disks, with large bodies,
-//! and of acts on tracklets, objects and numbers.
+//! Tests of whole sessions of frames over disks in memory: in pieces, with failing streams and disks, with large
+//! bodies, and with acts on tracklets, objects and numbers.
 //!
 //! A crate with tests is proved twice, with and without them, so they stand in a crate above those that they test.
 #![tactic(auto)]

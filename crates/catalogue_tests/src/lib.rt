@@ -1,7 +1,0 @@
-//! Tests of the catalogues that are written out after acts, in whole sessions of frames over disks in memory.
-//!
-//! A crate with tests is proved twice, with and without them, so they stand in a crate above those that they test.
-#![tactic(auto)]
-
-#[cfg(test)]
-mod catalogues;
