@@ -1,6 +1,6 @@
 //! Good and bad words of the command line.
 
-use program_calls::call_single;
+use testkit_program::call_single;
 use testkit_sessions::{Call, FIRST, FIRST_ANSWER};
 
 /// The words of `run` with the founder's key.

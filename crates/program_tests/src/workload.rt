@@ -1,8 +1,8 @@
 //! The made-up workload: its summary, a sink that fails, and words that are no workload.
 
-use program_calls::call_single;
 use std::alloc::Global;
 use std::process::Abort;
+use testkit_program::call_single;
 use testkit_sessions::Call;
 
 /// Three objects of four observations each. The catalogue has 56 bytes of a head and a tally, three lines of 42 bytes

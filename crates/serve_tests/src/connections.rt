@@ -1,6 +1,6 @@
 //! Connections that come through a door in memory.
 
-use program_calls::{End, Left, Sent, call_over_links};
+use testkit_program::{End, Left, Sent, call_over_links};
 use testkit_sessions::Call;
 
 const SERVE: [&str; 5] = ["serve", "--connections", "3", "--key", "+founder-1"];

@@ -1,6 +1,6 @@
 //! One connection over a real socket of this machine.
 
-use port_calls::{is_free, serve_peer};
+use testkit_program::{is_free, serve_peer};
 use testkit_sessions::Call;
 
 const SERVE: [&str; 5] = ["serve", "--connections", "1", "--key", "+founder-1"];

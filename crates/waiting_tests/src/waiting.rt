@@ -1,7 +1,6 @@
 //! Connections that wait for one another, so that only a server that attends them side by side answers them all.
 
-use held_links::{Held, call_held};
-use program_calls::{End, Left};
+use testkit_program::{End, Held, Left, call_held};
 use testkit_sessions::Call;
 
 const SERVE: [&str; 5] = ["serve", "--connections", "4", "--key", "+founder-1"];

@@ -1,6 +1,6 @@
 //! A peer on this machine, and the call that serves it.
 
-use program_calls::call_over_port;
+use crate::calls::call_over_port;
 use std::alloc::Global;
 use std::io;
 use std::io::{ErrorKind, Read, Write};

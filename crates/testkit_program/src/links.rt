@@ -6,7 +6,7 @@ use serve_command::LinkEnds;
 use std::alloc::Global;
 
 /// A sink of a link that tells what it took.
-pub trait Took {
+pub(crate) trait Took {
     /// The bytes that it took.
     fn bytes(&self) -> &[u8];
 }
@@ -21,7 +21,7 @@ impl Took for MemSink {
 pub type End = (Left, &'static str);
 
 /// The place of the first link that ended otherwise than it is wanted, or how many are wanted where there are others.
-pub fn wrong_end<I, O: Took>(ends: &LinkEnds<I, O>, wanted: &[End]) -> Option<usize> {
+pub(crate) fn wrong_end<I, O: Took>(ends: &LinkEnds<I, O>, wanted: &[End]) -> Option<usize> {
     if ends.len() != wanted.len() as u64 {
         return Some(wanted.len());
     }

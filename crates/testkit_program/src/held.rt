@@ -2,8 +2,9 @@
 
 ghost use Rattle.std.specs.Prelude.{length, None};
 
+use crate::calls::call_top;
+use crate::links::{End, Took, wrong_end};
 use desk_io::{Door, Failed, MemSink, MemSource, Next, NoMemory, Sink, Source};
-use program_calls::{End, Took, call_top, wrong_end};
 use std::alloc::Global;
 use std::collections::VecDeque;
 use std::sync::atomic::{AtomicU64, Ordering};

@@ -110,7 +110,7 @@ pub fn call_single(alloc: Global, call: &Call) -> Result<(), Wrong> {
 /// # Errors
 ///
 /// What is wrong with the call.
-pub fn call_top<G: Door, R: Threads + Wait + Sync>(
+pub(crate) fn call_top<G: Door, R: Threads + Wait + Sync>(
     rt: &R,
     alloc: Global,
     call: &Call,
@@ -156,7 +156,7 @@ pub fn call_over_links<R: Threads + Wait + Sync>(
 /// # Errors
 ///
 /// What is wrong with the call.
-pub fn call_over_port<
+pub(crate) fn call_over_port<
     R: Threads + Wait + Sync,
     N: Net<Listener = TcpListener, Stream = TcpStream> + Copy,
 >(rt: &R, net: N, alloc: Global, call: &Call) -> Result<u64, Wrong> {
