@@ -1,13 +1,17 @@
-//! Tests of disks in memory and on a real file, of the journal on them, and of the desk over a journal.
+//! Tests of disks in memory and on a real file, and of the journal on them.
 //!
 //! A crate with tests is proved twice, with and without them, so they stand in a crate above those that they test.
 #![tactic(auto)]
 
 #[cfg(test)]
-mod desks;
+mod calls;
 #[cfg(test)]
 mod disks;
 #[cfg(test)]
 mod journals;
+#[cfg(test)]
+mod names;
+#[cfg(test)]
+mod recorder;
 #[cfg(test)]
 mod tables;

@@ -8,7 +8,7 @@ use desk_io::{
 use obs_time::Instant;
 use std::alloc::Global;
 use std::io;
-use std::io::{ErrorKind, Read};
+use std::io::{ErrorKind, Read, Write};
 use std::test::Fail;
 
 // Whether these are the bytes that were to be read, at the front of a piece.
@@ -258,6 +258,67 @@ fn sink_over_a_full_writer(rt: HostRuntime) {
     let mut room = [0u8; 3];
     let mut full = StreamSink::new(room.as_mut_slice());
     let wrong = wrong_write(&mut full, FULL_WRITES);
+    expect_none_wrong(&rt, wrong);
+}
+
+// A stream that is interrupted at its first, second and fourth call, and fails at its fifth. It gives and takes a byte
+// a call.
+#[derive(Drop)]
+struct Disturbed {
+    calls: u8,
+}
+
+impl Disturbed {
+    fn call(&mut self) -> io::Result<()> {
+        self.calls = self.calls.saturating_add(1);
+        match self.calls {
+            1 | 2 | 4 => Err(io::Error::from(ErrorKind::Interrupted)),
+            5 => Err(io::Error::from(ErrorKind::TimedOut)),
+            _ => Ok(()),
+        }
+    }
+}
+
+impl Read for Disturbed {
+    fn read(&mut self, piece: &mut [u8]) -> io::Result<usize> {
+        self.call()?;
+        match piece.first_mut() {
+            Some(byte) => {
+                *byte = b'x';
+                Ok(1)
+            }
+            None => Ok(0),
+        }
+    }
+}
+
+impl Write for Disturbed {
+    fn write(&mut self, piece: &[u8]) -> io::Result<usize> {
+        self.call()?;
+        Ok(usize::from(!piece.is_empty()))
+    }
+
+    fn flush(&mut self) -> io::Result<()> {
+        Ok(())
+    }
+}
+
+const DISTURBED_READS: Reads = &[(9, Some("x")), (9, None), (9, Some("x"))];
+
+// An interrupt isn't told, and any other error is a fault, also after one.
+#[test]
+fn source_over_a_disturbed_reader(rt: HostRuntime) {
+    let mut source = StreamSource::new(Disturbed { calls: 0 });
+    let wrong = wrong_read(&mut source, DISTURBED_READS);
+    expect_none_wrong(&rt, wrong);
+}
+
+const DISTURBED_WRITES: Writes = &[("ab", Some(1)), ("bc", None), ("bc", Some(1))];
+
+#[test]
+fn sink_over_a_disturbed_writer(rt: HostRuntime) {
+    let mut sink = StreamSink::new(Disturbed { calls: 0 });
+    let wrong = wrong_write(&mut sink, DISTURBED_WRITES);
     expect_none_wrong(&rt, wrong);
 }
 
