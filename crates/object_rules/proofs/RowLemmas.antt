@@ -1,6 +1,6 @@
 -- Tables of conditions, one after the other.
 use Rattle.std.proofs.Common.{◌≡◌, ℕ, Bool, true, false, cond, List, [], ◌∷◌, ◌++◌, map, Option, Some, None, Result, Ok, Err, ◌⊎◌, inl, inr, refl, sym, ap, subst, ◌∙◌}
-use Rattle.std.specs.Prelude.{flat_map}
+use Rattle.std.specs.Prelude.{flat_map, IfSome}
 use Rattle.designate_core.specs.Takes.{Take}
 use Rattle.act_model.specs.declared.deed.Deed.{Deed}
 use Rattle.act_model.specs.declared.reply.Refusal.{Refusal}
@@ -32,6 +32,15 @@ rows_some (row ∷ rows) other found is = by (rows_some rows other found) row.0 
 pub due_is : {A : Type 0} (due result : Result A Refusal) → result ≡ due → IsDue due result
 due_is due (Ok found) is = sym is
 due_is due (Err refusal) is = inl (sym is)
+
+-- a refusal of a table is the answer, and where the table has none nothing is asked of the answer
+pub refused_so : (A : Type 0) (row : Option Refusal) (refusal : Refusal) → row ≡ Some refusal → IfSome row (λ (r : Refusal). ◌≡◌ {A = Result A Refusal} (Err refusal) (Err r))
+refused_so A None refusal is = tt
+refused_so A (Some r) refusal is = let e : r ≡ refusal = cc in ap Err (sym e)
+
+pub none_so : {A : Type 0} (row : Option Refusal) (result : Result A Refusal) → row ≡ None → IfSome row (λ (r : Refusal). result ≡ Err r)
+none_so None result is = tt
+none_so (Some r) result is = absurd cc
 
 -- ---- what is due to tracklets that are to become an object
 

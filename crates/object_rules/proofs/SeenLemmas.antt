@@ -1,5 +1,6 @@
 -- Observations that were seen.
-use Rattle.std.proofs.Common.{◌≡◌, ℕ, Bool, true, false, cond, List, [], ◌∷◌, ◌++◌, length, Option, Some, None, refl, sym, ap, ◌∙◌}
+use Rattle.std.proofs.Common.{◌≡◌, ℕ, Bool, true, false, cond, List, [], ◌∷◌, ◌++◌, length, Option, Some, None, refl, sym, ap, ◌∙◌, arith}
+use Rattle.std.proofs.lemmas.Bool.Decides.{nat_tests}
 use Rattle.std.specs.Prelude.{IsTrue, IfSome, slice_get, filter_map, not, ◌||◌, ◌==◌}
 use Rattle.std.specs.List.{cons_option}
 use Rattle.std.specs.Option.{option_and_then, option_map_or}
@@ -47,7 +48,7 @@ seen_one k None seen any is = is
 seen_one k (Some o) seen any is = by o.live
   where
     by : (b : Bool) → (length (cons_option (cond b (Some (record { number = k; time = o.sighting.time })) None) seen) == 0) ≡ not (b || any)
-    by true = refl
+    by true = grind (arith, nat_tests)
     by false = is
 
 -- none of them is seen exactly where none is live

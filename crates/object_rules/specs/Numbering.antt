@@ -1,5 +1,5 @@
 -- Which objects are numbered, part by part.
-use Rattle.std.specs.Prelude.{ℕ, Bool, nat_lt, ◌&&◌, ◌==◌, ◌×◌, List, [], ◌∷◌, filter, length, Result, Ok}
+use Rattle.std.specs.Prelude.{ℕ, Bool, nat_lt, ◌&&◌, ◌==◌, List, [], ◌∷◌, filter, length, Result, Ok}
 use Rattle.std.specs.List.{list_any}
 use Rattle.packed_names.specs.declared.name.Designation.{Designation}
 use Rattle.tracklet_file.specs.declared.observation.Observation.{Observation}

@@ -6,15 +6,16 @@ use Rattle.act_model.specs.Discoveries.{seen_in}
 use Rattle.act_model.specs.Doing.{tracklet_row, free_rows, designates_seen}
 use Rattle.act_model.specs.Holdings.{holdings}
 use Rattle.act_model.specs.Rows.{first_row, unless, IsDue}
-use Rattle.object_rules.proofs.RowLemmas.{due_is, unknown_due, seen_due, refused_either}
+use Rattle.object_rules.proofs.RowLemmas.{due_is, refused_so, none_so, unknown_due, seen_due, refused_either}
 use Rattle.object_rules.proofs.acting.designates.Goals as goal
 
 pub returns-in-Some : goal.returns-in-Some
 returns-in-Some g c =
     let held = holdings (g.L.Ledger.deeds c.args.office.now) in
+    let there = sym (c.unknown_tracklet.ensures ∙ ap (λ (x : List _). first_row (map (tracklet_row held.tracklets) x)) c.as_slice.ensures) ∙ c.in-Some.is in
     record {
-      due = inl (unknown_due held (takes_of (g.L.Ledger.deeds c.args.office.now)) c.args.tracklets c.in-Some.refusal
-          (sym (c.unknown_tracklet.ensures ∙ ap (λ (x : List _). first_row (map (tracklet_row held.tracklets) x)) c.as_slice.ensures) ∙ c.in-Some.is));
+      due = inl (unknown_due held (takes_of (g.L.Ledger.deeds c.args.office.now)) c.args.tracklets c.in-Some.refusal there);
+      unknown = refused_so _ _ c.in-Some.refusal there;
       kind = tt;
     }
 
@@ -23,11 +24,12 @@ returns-in-Ok g c =
     let past = g.L.Ledger.deeds c.args.office.now in
     let held = holdings past in
     let ts = c.args.tracklets in
+    let there = sym (c.unknown_tracklet.ensures ∙ ap (λ (x : List _). first_row (map (tracklet_row held.tracklets) x)) c.as_slice.ensures) ∙ c.in_default.is in
     record {
-      due = seen_due held (takes_of past) ts c.in-Ok.seen c.designates_seen.result
-          (sym (c.unknown_tracklet.ensures ∙ ap (λ (x : List _). first_row (map (tracklet_row held.tracklets) x)) c.as_slice.ensures) ∙ c.in_default.is)
+      due = seen_due held (takes_of past) ts c.in-Ok.seen c.designates_seen.result there
           (subst (λ (x : List _). unless (first_row (flat_map (free_rows held) x)) (Ok (seen_in held.observations x)) ≡ Ok c.in-Ok.seen) c.as_slice-2.ensures c.in-Ok.ensures.due)
           (subst (λ (x : List _). IsDue (designates_seen (takes_of past) ts x) c.designates_seen.result) c.as_slice-in-Ok.ensures (due_is _ _ c.designates_seen.ensures.due));
+      unknown = none_so _ c.designates_seen.result there;
       kind = c.designates_seen.ensures.kind;
     }
 
@@ -35,9 +37,10 @@ pub returns-in-Err : goal.returns-in-Err
 returns-in-Err g c =
     let past = g.L.Ledger.deeds c.args.office.now in
     let held = holdings past in
+    let there = sym (c.unknown_tracklet.ensures ∙ ap (λ (x : List _). first_row (map (tracklet_row held.tracklets) x)) c.as_slice.ensures) ∙ c.in_default.is in
     record {
-      due = refused_either held (takes_of past) c.args.tracklets c.in-Err.refusal
-          (sym (c.unknown_tracklet.ensures ∙ ap (λ (x : List _). first_row (map (tracklet_row held.tracklets) x)) c.as_slice.ensures) ∙ c.in_default.is)
+      due = refused_either held (takes_of past) c.args.tracklets c.in-Err.refusal there
           (subst (λ (x : List _). (unless (first_row (flat_map (free_rows held) x)) (Ok (seen_in held.observations x)) ≡ Err c.in-Err.refusal) ⊎ (c.in-Err.refusal ≡ NoMemory)) c.as_slice-2.ensures c.in-Err.ensures.due);
+      unknown = none_so _ (Err c.in-Err.refusal) there;
       kind = tt;
     }
