@@ -1,5 +1,5 @@
 -- What a deed on objects fits, and what it asks of what is kept.
-use Rattle.std.proofs.Common.{◌≡◌, ℤ, ◌<◌, List, ◌++◌, true, Result, Ok, Err, ◌∙◌}
+use Rattle.std.proofs.Common.{◌≡◌, ℤ, ◌<◌, List, ◌++◌, true, Result, Ok, Err, sym, ◌∙◌}
 use Rattle.std.specs.Prelude.{IfOk}
 use Rattle.tracklet_file.specs.Contents.{Contents}
 use Rattle.act_model.specs.declared.act.Act.{Act}
@@ -41,5 +41,11 @@ pub done_fits : ActsFit → (history : List Entry) (moment : ℤ) (act : Act) (r
     → IsDue (does (deeds history) moment act) result → IfOk result (λ deed. is_of_objects deed ≡ true) → IfOk result (Fits (deeds history))
 done_fits law history moment act (Ok deed) read due kind = objects_fit (deeds history) deed kind (law history moment act deed read due)
 done_fits law history moment act (Err refusal) read due kind = tt
+
+-- the same where the answer is exactly what is due
+pub done_exactly : ActsFit → (history : List Entry) (moment : ℤ) (act : Act) (result : Result Deed Refusal) → IsRead act
+    → result ≡ does (deeds history) moment act → IfOk result (λ deed. is_of_objects deed ≡ true) → IfOk result (Fits (deeds history))
+done_exactly law history moment act (Ok deed) read is kind = objects_fit (deeds history) deed kind (law history moment act deed read (sym is))
+done_exactly law history moment act (Err refusal) read is kind = tt
 
 -- ---- what a deed asks of what is kept

@@ -2,7 +2,7 @@ use Rattle.std.proofs.Common.{subst}
 use Rattle.act_model.specs.declared.act.Act.TheVariants as act
 use Rattle.act_model.specs.Acts.{IsRead}
 use Rattle.act_model.specs.Doing.{does}
-use Rattle.desk_core.proofs.ObjectLemmas.{done_fits}
+use Rattle.desk_core.proofs.ObjectLemmas.{done_fits, done_exactly}
 use Rattle.desk_core.proofs.office.Core.does.Goals as goal
 
 pub returns-in-Designate-clause-fits : goal.returns-in-Designate-clause-fits
@@ -14,13 +14,13 @@ returns-in-Designate-clause-fits c =
 pub returns-in-Identify-clause-fits : goal.returns-in-Identify-clause-fits
 unfolding does
 returns-in-Identify-clause-fits c =
-    done_fits c.acts_fit.ensures c.args.self.now.history c.args.moment (act.Identify c.in-Identify.principal c.in-Identify.secondary) c.identifies.result
+    done_exactly c.acts_fit.ensures c.args.self.now.history c.args.moment (act.Identify c.in-Identify.principal c.in-Identify.secondary) c.identifies.result
     (subst IsRead c.in-Identify.is c.requires.read) c.identifies.ensures.due c.identifies.ensures.kind
 
 pub returns-in-Verdict-clause-fits : goal.returns-in-Verdict-clause-fits
 unfolding does
 returns-in-Verdict-clause-fits c =
-    done_fits c.acts_fit.ensures c.args.self.now.history c.args.moment (act.Verdict c.in-Verdict.object c.in-Verdict.u c.in-Verdict.oppositions) c.judges.result
+    done_exactly c.acts_fit.ensures c.args.self.now.history c.args.moment (act.Verdict c.in-Verdict.object c.in-Verdict.u c.in-Verdict.oppositions) c.judges.result
     (subst IsRead c.in-Verdict.is c.requires.read) c.judges.ensures.due c.judges.ensures.kind
 
 pub returns-in-Number-clause-fits : goal.returns-in-Number-clause-fits
