@@ -12,7 +12,7 @@ fn temporary(text: &[u8]) -> TrackName {
 }
 
 /// The fields permID, provID and trkSub, and the name that they give.
-fn names() -> [(&'static [u8], Result<TrackName, RuleCode>); 16] {
+fn names() -> [(&'static [u8], Result<TrackName, RuleCode>); 17] {
     let half = HalfMonth {
         year: 2024,
         index: 4,
@@ -33,6 +33,7 @@ fn names() -> [(&'static [u8], Result<TrackName, RuleCode>); 16] {
         (b"|433|", Err(RuleCode::S3)),
         (b"|K24E00A|", Err(RuleCode::S3)),
         (b"|2024 EA0|", Err(RuleCode::S3)),
+        (b"|C/1995 O1|AAA1", Err(RuleCode::S3)),
         (b"433|2024 EA|AAA1", Ok(TrackName::Number(Number(433)))),
         (b"||AAA1", Ok(temporary(b"AAA1"))),
         (b"|2024 EA|ABCDEFGHI", Err(RuleCode::S12)),

@@ -1,0 +1,7 @@
+pub mod Chains
+pub mod PartLaws
+pub mod JudgingLaws
+pub mod Lengths
+pub mod PackedLaws
+pub mod PrintedLaws
+pub mod Examples

@@ -1,0 +1,11 @@
+//! Tests of the names of comets against values worked out by hand.
+//!
+//! A crate with tests is proved twice, with and without them, so they stand in a crate above the one that they test.
+#![tactic(auto)]
+
+#[cfg(test)]
+mod faults;
+#[cfg(test)]
+mod forms;
+#[cfg(test)]
+mod tables;
