@@ -7,9 +7,10 @@
    changed stays unwritten until a sync succeeds. A name that was made or removed is safe once its folder was synced; a
    sync of the folder that fails leaves it as clean, too.
 
-   The environment says which syncs of the process fail, the first one being 1 (POWER_FAILS, as 5,6), how many bytes
-   are clean or not together (POWER_GRAIN), whether what a failed sync leaves is forgotten at once (POWER_FORGETS), and
-   the file in which all this is kept, from one process to the next (POWER_STATE). */
+   The environment says which syncs of the process fail, the first one being 1 (POWER_FAILS, as 5,6), which write fails
+   once half of it is written (POWER_SPOILS), before which write or sync the process ends (POWER_ENDS), how many bytes are
+   clean or not together (POWER_GRAIN), whether what a failed sync leaves is forgotten at once (POWER_FORGETS), and the
+   file in which all this is kept, from one process to the next (POWER_STATE). */
 #define _GNU_SOURCE
 #include <dlfcn.h>
 #include <errno.h>
@@ -22,7 +23,7 @@
 #include <sys/stat.h>
 #include <unistd.h>
 
-#define CAPACITY (1L << 20)
+#define CAPACITY (1L << 17)
 #define FILES 1024
 #define NAME "desk.journal"
 
@@ -43,7 +44,7 @@ struct kept {
 
 static struct kept *kept;
 static char kinds[FILES]; /* 'j' for the journal, 'f' for its folder */
-static long asked, grain, forgets;
+static long synced, wrote, called, grain, forgets;
 static int (*real_open)(const char *, int, ...);
 static ssize_t (*real_pwrite)(int, const void *, size_t, off_t);
 static ssize_t (*real_write)(int, const void *, size_t);
@@ -142,6 +143,18 @@ int unlink(const char *path) {
   return answer;
 }
 
+/* Before each write and each sync. */
+static void may_end(void) {
+  if (++called == number("POWER_ENDS", 0)) _exit(9);
+}
+
+/* How much of a write is written, and whether it fails then. */
+static size_t written(size_t count, int *failed) {
+  may_end();
+  *failed = ++wrote == number("POWER_SPOILS", 0);
+  return *failed ? count / 2 : count;
+}
+
 /* The bytes from the file's end before the write to the end of the write are not safe, in whole grains. */
 static void note(long before, long at, long count) {
   if (count <= 0) return;
@@ -154,18 +167,22 @@ static void note(long before, long at, long count) {
 ssize_t pwrite(int file, const void *bytes, size_t count, off_t at) {
   if (!is_kind(file, 'j')) return real_pwrite(file, bytes, count, at);
   long before = length_of(file);
-  ssize_t done = real_pwrite(file, bytes, count, at);
+  int failed;
+  ssize_t done = real_pwrite(file, bytes, written(count, &failed), at);
   note(before, at, done);
-  return done;
+  if (failed) errno = EIO;
+  return failed ? -1 : done;
 }
 ssize_t pwrite64(int file, const void *bytes, size_t count, off_t at) { return pwrite(file, bytes, count, at); }
 
 ssize_t write(int file, const void *bytes, size_t count) {
   if (!is_kind(file, 'j')) return real_write(file, bytes, count);
   long before = length_of(file), at = lseek(file, 0, SEEK_CUR);
-  ssize_t done = real_write(file, bytes, count);
+  int failed;
+  ssize_t done = real_write(file, bytes, written(count, &failed));
   note(before, at, done);
-  return done;
+  if (failed) errno = EIO;
+  return failed ? -1 : done;
 }
 
 int ftruncate(int file, off_t length) {
@@ -185,10 +202,11 @@ static void forget(int file) {
 
 static int fails(void) {
   const char *text = getenv("POWER_FAILS");
-  asked++;
+  may_end();
+  synced++;
   kept->syncs++;
   for (; text && *text; text = strchr(text, ',') ? strchr(text, ',') + 1 : "")
-    if (atol(text) == asked) return 1;
+    if (atol(text) == synced) return 1;
   return 0;
 }
 
