@@ -6,7 +6,11 @@
 #[cfg(test)]
 mod calls;
 #[cfg(test)]
+mod cases;
+#[cfg(test)]
 mod disks;
+#[cfg(test)]
+mod failures;
 #[cfg(test)]
 mod journals;
 #[cfg(test)]
