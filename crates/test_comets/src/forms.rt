@@ -76,29 +76,21 @@ fn texts_are_these_comets(rt: HostRuntime) {
     expect_none_wrong(&rt, wrong_comet());
 }
 
-/// The labels of two comets: what stands after a text is 0.
+/// Whether the label of a comet has this length and these bytes.
+fn has_label(parts: Parts, len: u8, bytes: [u8; 10]) -> bool {
+    let comet = comet_of(parts);
+    if !is_comet(comet) {
+        return false;
+    }
+    let label = print_comet(comet);
+    label.len == len && label.bytes == bytes
+}
+
 #[test]
 fn labels_end_in_zeros(rt: HostRuntime) {
-    let [short, long] = labels();
-    assert_eq!(rt; short, Some((9, *b"C/1995 O1\0")));
-    assert_eq!(rt; long, Some((10, *b"P/2099 Y99")));
-}
-
-fn labels() -> [Option<(u8, [u8; 10])>; 2] {
-    [
-        label_of(Parts(CometKind::C, 1995, 13, 1)),
-        label_of(Parts(CometKind::P, 2099, 23, 99)),
-    ]
-}
-
-fn label_of(parts: Parts) -> Option<(u8, [u8; 10])> {
-    let comet = comet_of(parts);
-    if is_comet(comet) {
-        let label = print_comet(comet);
-        Some((label.len, label.bytes))
-    } else {
-        None
-    }
+    let short = has_label(Parts(CometKind::C, 1995, 13, 1), 9, *b"C/1995 O1\0");
+    let long = has_label(Parts(CometKind::P, 2099, 23, 99), 10, *b"P/2099 Y99");
+    assert_eq!(rt; [short, long], [true; 2]);
 }
 
 /// Parts of no comet.
