@@ -326,7 +326,7 @@ const ACTS: &[Case] = &[
         ],
         holds: Some(b"Abcdefgh"),
     },
-    // Seven bytes are enough for a file that was cut to four, and too few for one of ten.
+    // Seven bytes are enough for a file that was cut to four, nine too few for one that was written up to ten.
     Case {
         plan: Plan {
             under: &[(12, SHORTER)],
@@ -344,7 +344,7 @@ const ACTS: &[Case] = &[
     },
     Case {
         plan: Plan {
-            under: &[(12, SHORTER)],
+            under: &[(12, LONGER)],
             ..PLAIN
         },
         acts: &[(Act::Write(8, b"ij"), true), (Act::Sync, false)],

@@ -217,6 +217,35 @@ const FAILED_SYNCS: &[Case] = &[
         ],
         holds: Some(b"AbXYefgZ"),
     },
+    Case {
+        plan: Plan {
+            fails: &[17],
+            ..PLAIN
+        },
+        acts: &[
+            (Act::Write(2, b"XY"), true),
+            (Act::Sync, true),
+            (Act::Write(7, b"Z"), true),
+            (Act::Sync, false),
+            (Act::Sync, true),
+        ],
+        from: 9,
+        calls: &[
+            Call::LookAtName,
+            Call::Write(2, 2),
+            Call::LookAtName,
+            Call::SyncFile,
+            Call::LookAtName,
+            Call::Write(7, 1),
+            Call::LookAtName,
+            Call::SyncFile,
+            Call::Read(7, 1),
+            Call::Write(7, 1),
+            Call::LookAtName,
+            Call::SyncFile,
+        ],
+        holds: Some(b"abXYefgZ"),
+    },
     // What lies between the old end and a write past it became zeros.
     Case {
         plan: Plan {
