@@ -1,9 +1,11 @@
 //! The outside of the desk: where bytes come from, where they go, what time it is, and where links come from.
 #![tactic(auto)]
 
+mod accepting;
 mod calls;
 mod clocks;
 mod doors;
+mod links;
 mod memory;
 mod outside;
 mod streams;
@@ -12,7 +14,8 @@ mod tcp;
 pub use calls::NoMemory;
 pub use clocks::{SystemClock, TickClock};
 pub use doors::{Door, MemDoor, Next};
+pub use links::{HalfStream, LinkLimits};
 pub use memory::{MemSink, MemSource};
 pub use outside::{Clock, Failed, Sink, Source, write_all};
 pub use streams::{StreamSink, StreamSource};
-pub use tcp::{HalfStream, TcpDoor};
+pub use tcp::TcpDoor;

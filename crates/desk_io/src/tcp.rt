@@ -2,91 +2,22 @@
 //! their peers is trusted.
 
 ghost use Rattle.std.specs.Prelude.{◌≡◌, ◌≤◌, true, false, IfOk, OnOk, OnErr, None};
+ghost use Rattle.desk_io.specs.Outside.{one_more};
+ghost use Rattle.desk_io.specs.declared.doors.Next.TheVariants as answers;
 ghost use Rattle.desk_io.specs.Doors.{LinksAfter, FaultsAfter, AcceptsOnce, IsPlaceOf};
 
-use crate::{Door, Next, NoMemory, StreamSink, StreamSource};
+use crate::accepting::next_peer;
+use crate::links::{NoLink, halves};
+use crate::{Door, HalfStream, LinkLimits, Next, StreamSink, StreamSource};
 use std::alloc::Global;
 use std::io;
-use std::io::{ErrorKind, Read, Write};
+use std::io::ErrorKind;
 use std::marker::Model;
-use std::net::{IpAddr, Ipv4Addr, Net, Shutdown, SocketAddr, TcpListener, TcpStream};
-use std::sync::Arc;
-use std::time::Duration;
+use std::net::{IpAddr, Ipv4Addr, Net, SocketAddr, TcpListener, TcpStream};
+use std::rt::Clock;
 
 /// The port at which the desk is called.
 const PORT: u16 = 8017;
-
-/// How long a stream that is being closed waits for a byte, in seconds.
-const SILENCE: u64 = 1;
-
-/// How often a stream that is being closed is read, 4,096 bytes or fewer at a time: 16 MiB at most.
-const READS: u64 = 4_096;
-
-// Reads and throws away what still comes.
-fn discard(mut stream: &TcpStream) {
-    let mut piece = [0u8; 4_096];
-    for _ in 0..READS {
-        let Ok(1..) = stream.read(&mut piece) else {
-            return;
-        };
-    }
-}
-
-// Ends what is written, and waits for the peer's end before the stream is closed. A system that closes a stream of
-// which bytes weren't read resets it, and throws away what the peer hasn't got yet, the last answers among it. Where
-// the system refuses a limit to the waiting, nothing is waited for.
-fn close(stream: TcpStream) {
-    let _ = stream.shutdown(Shutdown::Write);
-    if stream
-        .set_read_timeout(Some(Duration::from_secs(SILENCE)))
-        .is_ok()
-    {
-        discard(&stream);
-    }
-}
-
-/// One of two halves that share a stream. The stream is closed once both are dropped.
-///
-/// It is closed in two steps, so that the peer gets all that was written: the peer sees the end, and what it still
-/// sends is thrown away until it ends too, sends nothing for a second, or was read 4,096 times.
-#[derive(Debug)]
-pub struct HalfStream {
-    stream: Arc<TcpStream, Global>,
-}
-
-impl Drop for HalfStream {
-    fn drop(self) {
-        let HalfStream { stream } = self;
-        if let Some(stream) = Arc::into_inner(stream) {
-            close(stream);
-        }
-    }
-}
-
-impl Read for HalfStream {
-    fn read(&mut self, piece: &mut [u8]) -> io::Result<usize> {
-        let mut stream: &TcpStream = &self.stream;
-        stream.read(piece)
-    }
-}
-
-impl Write for HalfStream {
-    fn write(&mut self, piece: &[u8]) -> io::Result<usize> {
-        let mut stream: &TcpStream = &self.stream;
-        stream.write(piece)
-    }
-
-    fn flush(&mut self) -> io::Result<()> {
-        Ok(())
-    }
-}
-
-// The two halves of a stream.
-fn halves(alloc: Global, stream: TcpStream) -> Result<(HalfStream, HalfStream), NoMemory> {
-    let stream = Arc::new(alloc, stream)?;
-    let other = Arc::try_clone(&stream)?;
-    Ok((HalfStream { stream }, HalfStream { stream: other }))
-}
 
 // Where the listener is called: at 127.0.0.1, and at this port where it isn't 0. No contract says where the system
 // binds a listener, so that it is asked, and another place is refused.
@@ -103,28 +34,52 @@ fn place_of(listener: &TcpListener, port: u16) -> io::Result<SocketAddr>
     Ok(place)
 }
 
+// A listener beside the place that the system told of it.
+#[derive(Debug, Drop)]
+struct Listening {
+    listener: TcpListener,
+    place: SocketAddr,
+}
+
+// A listener at this port, or at one of the system's choice where it is 0.
+fn listen<R: Net<Listener = TcpListener, Stream = TcpStream>>(
+    system: &R,
+    port: u16,
+) -> io::Result<Listening>
+    ensures { IfOk result (λ made. IsPlaceOf port made.place) }
+{
+    let listener = TcpListener::bind(system, (Ipv4Addr::LOCALHOST, port))?;
+    let place = place_of(&listener, port)?;
+    Ok(Listening { listener, place })
+}
+
 /// The door on a port of 127.0.0.1. It is bound to its port at the first call, and never shut.
 ///
 /// It tells nothing of its links, and counts each error as a fault. After a failure to bind, the next call tries again.
+/// A peer that is gone before it is taken is no failure; where descriptors or memory of the system are short it tries
+/// again for 10 seconds before it fails. Each link has limits to the time that its peer may take.
 #[derive(Debug, Drop)]
-pub struct TcpDoor<R: Net<Listener = TcpListener, Stream = TcpStream> + Copy> {
+pub struct TcpDoor<R: Net<Listener = TcpListener, Stream = TcpStream> + Clock + Copy> {
     system: R,
     alloc: Global,
     port: u16,
-    listener: Option<TcpListener>,
+    limits: LinkLimits,
+    listening: Option<Listening>,
     faults: u64,
 }
 
-impl<R: Net<Listener = TcpListener, Stream = TcpStream> + Copy> Model for TcpDoor<R> {
-    ghost use Rattle.std.specs.Prelude.{is_some};
-    ghost use Rattle.desk_io.specs.Doors.{TcpDoorState};
+impl<R: Net<Listener = TcpListener, Stream = TcpStream> + Clock + Copy> Model for TcpDoor<R> {
+    ghost use Rattle.std.specs.Prelude.{is_some, IfSome};
+    ghost use Rattle.desk_io.specs.Doors.{TcpDoorState, IsPlaceOf};
 
     ghost Value = { TcpDoorState };
 
-    ghost view = { λ door. record { port = door.port; is_bound = is_some door.listener; faults = door.faults } };
+    ghost view = { λ door. record { port = door.port; is_bound = is_some door.listening; faults = door.faults } };
+
+    ghost invariant = { λ door. IfSome door.listening (λ it. IsPlaceOf door.port it.place) };
 }
 
-impl<R: Net<Listener = TcpListener, Stream = TcpStream> + Copy> TcpDoor<R> {
+impl<R: Net<Listener = TcpListener, Stream = TcpStream> + Clock + Copy> TcpDoor<R> {
     /// The door at port 8017, which isn't bound yet.
     pub fn new(system: R, alloc: Global) -> TcpDoor<R>
         ensures { result ≡ record { port = 8017; is_bound = false; faults = 0 } }
@@ -136,11 +91,20 @@ impl<R: Net<Listener = TcpListener, Stream = TcpStream> + Copy> TcpDoor<R> {
     pub fn on_port(system: R, alloc: Global, port: u16) -> TcpDoor<R>
         ensures { result ≡ record { port = port; is_bound = false; faults = 0 } }
     {
+        TcpDoor::with_limits(system, alloc, port, LinkLimits::usual())
+    }
+
+    /// A door that isn't bound yet, at a port and with limits to its links' time that the caller chooses. A limit that
+    /// the system refuses, as one of no time at all, is a failure of each link that comes.
+    pub fn with_limits(system: R, alloc: Global, port: u16, limits: LinkLimits) -> TcpDoor<R>
+        ensures { result ≡ record { port = port; is_bound = false; faults = 0 } }
+    {
         TcpDoor {
             system,
             alloc,
             port,
-            listener: None,
+            limits,
+            listening: None,
             faults: 0,
         }
     }
@@ -156,12 +120,12 @@ impl<R: Net<Listener = TcpListener, Stream = TcpStream> + Copy> TcpDoor<R> {
         ensures place { IfOk result (λ place. IsPlaceOf self.old.port place) }
         ensures unbound { OnErr result (self.new ≡ self.old) }
     {
-        if let Some(listener) = &self.listener {
-            return place_of(listener, self.port);
+        if let Some(listening) = &self.listening {
+            return Ok(listening.place);
         }
-        let listener = TcpListener::bind(&self.system, (Ipv4Addr::LOCALHOST, self.port))?;
-        let place = place_of(&listener, self.port)?;
-        self.listener = Some(listener);
+        let listening = listen(&self.system, self.port)?;
+        let place = listening.place;
+        self.listening = Some(listening);
         Ok(place)
     }
 
@@ -173,27 +137,34 @@ impl<R: Net<Listener = TcpListener, Stream = TcpStream> + Copy> TcpDoor<R> {
         ensures stays { self.old.is_bound ≡ true → self.new.is_bound ≡ true }
     {
         self.bind()?;
-        let Some(listener) = &self.listener else {
+        let Some(listening) = &self.listening else {
             unreachable!();
         };
-        let (stream, _) = listener.accept()?;
-        // An answer is written in two pieces. The second doesn't wait until the peer has acknowledged the first, which
-        // takes 40 milliseconds; where the system refuses that, answers come later, and nothing else.
-        let _ = stream.set_nodelay(true);
-        Ok(stream)
+        next_peer(&self.system, &listening.listener)
+    }
+
+    // The answer of a call in which the door failed, which is counted.
+    fn fail<I, O>(&mut self) -> Next<I, O>
+        ensures failed { result ≡ answers.Failed }
+        ensures counted { self.new ≡ record self.old { faults = one_more self.old.faults } }
+        ensures counts { self.old.faults ≤ self.new.faults }
+    {
+        self.faults = self.faults.saturating_add(1);
+        Next::Failed
     }
 }
 
-impl<R: Net<Listener = TcpListener, Stream = TcpStream> + Copy> Door for TcpDoor<R> {
-    type In = StreamSource<HalfStream>;
+impl<R: Net<Listener = TcpListener, Stream = TcpStream> + Clock + Copy + Send + Sync> Door
+    for TcpDoor<R> {
+    type In = StreamSource<HalfStream<R>>;
 
-    type Out = StreamSink<HalfStream>;
+    type Out = StreamSink<HalfStream<R>>;
 
     ghost links = { λ _. None };
 
     ghost faults = { λ door. door.faults };
 
-    fn next(&mut self) -> Next<StreamSource<HalfStream>, StreamSink<HalfStream>>
+    fn next(&mut self) -> Next<StreamSource<HalfStream<R>>, StreamSink<HalfStream<R>>>
         ensures accepts { AcceptsOnce self.old self.new result }
         ensures stays { self.old.is_bound ≡ true → self.new.is_bound ≡ true }
 
@@ -202,12 +173,12 @@ impl<R: Net<Listener = TcpListener, Stream = TcpStream> + Copy> Door for TcpDoor
         ensures cause { FaultsAfter self.old.faults self.new.faults result }
     {
         let Ok(stream) = self.accept() else {
-            self.faults = self.faults.saturating_add(1);
-            return Next::Failed;
+            return self.fail();
         };
-        match halves(self.alloc, stream) {
+        match halves(self.system, self.alloc, stream, self.limits) {
             Ok((source, sink)) => Next::Link(StreamSource::new(source), StreamSink::new(sink)),
-            Err(_) => Next::NoMemory,
+            Err(NoLink::NoMemory) => Next::NoMemory,
+            Err(NoLink::Refused) => self.fail(),
         }
     }
 }

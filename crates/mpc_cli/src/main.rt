@@ -6,21 +6,27 @@
 //! theorem. `main` hands it the real ones.
 #![tactic(auto)]
 
-ghost use Rattle.std.specs.Prelude.{◌≡◌, List, map, IfOk, string_bytes};
+ghost use Rattle.std.specs.Prelude.{◌≡◌, ℕ, List, map, IfOk, string_bytes, Some};
+ghost use Rattle.act_bodies.specs.declared.key.Key.{Key};
 ghost use Rattle.std.specs.Iterator.{IsFinite, Drains};
 ghost use Rattle.std.specs.Process.{exit_status};
 ghost use Rattle.command_ends.specs.Statuses.{number_of};
+ghost use Rattle.command_line.specs.Commands.{command_of};
 
+use command_line::{Command, command_of};
 use desk_io::{NoMemory, StreamSink, StreamSource, SystemClock, TcpDoor};
 use disk_model::FileDisk;
 use item_list::Bytes;
+use program_door::ServingDoor;
 pub use program_top::top::{single, top};
 pub use program_top::{Ended, Left, Status, Words, answer_one, attend, model};
+use serve_command::LinkEnds;
 use std::alloc::Global;
 use std::env;
 use std::io::ErrorKind;
 use std::net::{Net, TcpListener, TcpStream};
 use std::process::ExitCode;
+use std::rt::Clock;
 use std::sync::Wait;
 use std::thread::Threads;
 use usage_text::usage_text;
@@ -66,21 +72,60 @@ fn exit_code(status: &Status) -> ExitCode
     ExitCode::from(status.number())
 }
 
+/// How many links are wanted: as many as the words say of `serve`, and none for another command.
+fn wanted_links(words: &Words) -> u64
+    ensures { (key : Key) (connections : ℕ) → command_of words.now ≡ Some (Command.Serve key connections) →
+        result ≡ connections }
+{
+    match command_of(words) {
+        Some(Command::Serve { connections, .. }) => u64::from(connections),
+        _ => 0,
+    }
+}
+
+/// How many links ended so.
+fn count_of<I, O>(ends: &LinkEnds<I, O>, left: Left) -> u64 {
+    let mut count = 0u64;
+    for place in 0..ends.len() {
+        if let Some(end) = ends.get(place) {
+            if end.left == left {
+                count = count.saturating_add(1);
+            }
+        }
+    }
+    count
+}
+
+/// Tells on standard error how many links ended how, where one came.
+fn tell_left<I, O>(rt: HostRuntime, ends: &LinkEnds<I, O>) {
+    if ends.len() == 0 {
+        return;
+    }
+    let _ = eprintln!(rt;
+        "mpc_cli: left: ended {}, unread {}, enough {}, read fault {}, write fault {}, out of memory {}",
+        count_of(ends, Left::Ended),
+        count_of(ends, Left::Unread),
+        count_of(ends, Left::Enough),
+        count_of(ends, Left::ReadFault),
+        count_of(ends, Left::WriteFault),
+        count_of(ends, Left::NoMemory)
+    );
+}
+
 /// Runs the program over standard input, standard output, the file `desk.journal` of the current folder, the system's
-/// clock and the port for connections, which are attended in threads.
-fn run<N: Net<Listener = TcpListener, Stream = TcpStream> + Copy, R: Threads + Wait + Sync>(
-    host: HostRuntime,
-    net: N,
-    rt: &R,
-    words: &Words,
-) -> Status {
+/// clock and the port for connections, which are attended in threads. Standard error says when the port is bound, and
+/// how the links ended.
+fn run<
+    N: Net<Listener = TcpListener, Stream = TcpStream> + Clock + Copy + Send + Sync,
+    R: Threads + Wait + Sync,
+>(host: HostRuntime, net: N, rt: &R, words: &Words) -> Status {
     let alloc = host.alloc();
     let mut source = StreamSource::new(host.stdin());
     let mut sink = StreamSink::new(host.stdout());
     let mut clock = SystemClock::new(host);
     let disk = FileDisk::new(host, "desk.journal");
-    let mut door = TcpDoor::new(net, alloc);
-    let (ended, _) = top(
+    let mut door = ServingDoor::new(TcpDoor::new(net, alloc), wanted_links(words), host.stderr());
+    let (ended, ends) = top(
         rt,
         alloc,
         words,
@@ -90,6 +135,7 @@ fn run<N: Net<Listener = TcpListener, Stream = TcpStream> + Copy, R: Threads + W
         &mut clock,
         &mut door,
     );
+    tell_left(host, &ends);
     ended.status
 }
 

@@ -8,6 +8,8 @@ mod frame_reading;
 #[cfg(test)]
 mod frames;
 #[cfg(test)]
+mod link_limits;
+#[cfg(test)]
 mod ports;
 #[cfg(test)]
 mod streams;

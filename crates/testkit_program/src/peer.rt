@@ -5,6 +5,7 @@ use std::alloc::Global;
 use std::io;
 use std::io::{ErrorKind, Read, Write};
 use std::net::{Ipv4Addr, Net, TcpListener, TcpStream};
+use std::rt::Clock;
 use std::sync::Wait;
 use std::thread::{Threads, join, yield_now};
 use testkit_sessions::{Call, Wrong};
@@ -69,7 +70,7 @@ pub fn is_free<N: Net<Listener = TcpListener, Stream = TcpStream>>(net: &N) -> b
 /// What is wrong with the call.
 pub fn serve_peer<
     R: Threads + Wait + Sync,
-    N: Net<Listener = TcpListener, Stream = TcpStream> + Copy + Send + Sync,
+    N: Net<Listener = TcpListener, Stream = TcpStream> + Clock + Copy + Send + Sync,
 >(rt: &R, net: N, alloc: Global, call: &Call, text: &str) -> Result<Served, Wrong> {
     let (answer, links) = join(
         rt,
