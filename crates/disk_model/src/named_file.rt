@@ -2,7 +2,7 @@
 
 ghost use Rattle.std.specs.Prelude.{◌≤◌, length, IfOk};
 
-use std::fs::File;
+use std::fs::{File, TryLockError};
 use std::io::ErrorKind;
 use std::os::fd::AsRawFd;
 use std::os::unix::fs::{FileExt, MetadataExt, OpenOptionsExt};
@@ -155,8 +155,14 @@ impl<R: Files<File = File> + Copy> NamedFile for SystemFile<R> {
     }
 
     fn lock(&mut self) -> io::Result<()> {
-        self.opened()?.try_lock()?;
-        Ok(())
+        match self.opened()?.try_lock() {
+            Ok(()) => Ok(()),
+            Err(TryLockError::WouldBlock) => Err(io::Error::new(
+                ErrorKind::WouldBlock,
+                "another program uses it",
+            )),
+            Err(TryLockError::Error(error)) => Err(error),
+        }
     }
 
     fn look_at_file(&mut self) -> io::Result<Seen> {

@@ -85,7 +85,7 @@ fn open_or_make<F: NamedFile>(file: &mut F) -> io::Result<bool> {
             file.open()?;
             Ok(false)
         }
-        Some(_) => Err(io::Error::from(ErrorKind::InvalidInput)),
+        Some(_) => Err(io::Error::new(ErrorKind::InvalidInput, "it is no regular file")),
     }
 }
 
@@ -97,7 +97,10 @@ fn is_same_file(seen: &Seen, device: u64, inode: u64) -> bool {
 fn look<F: NamedFile>(file: &mut F, device: u64, inode: u64) -> io::Result<Seen> {
     match file.look_at_name()? {
         Some(seen) if is_same_file(&seen, device, inode) => Ok(seen),
-        _ => Err(io::Error::from(ErrorKind::NotFound)),
+        _ => Err(io::Error::new(
+            ErrorKind::NotFound,
+            "it doesn't stand under its name any more",
+        )),
     }
 }
 
@@ -140,7 +143,10 @@ impl Opened {
     // The length that was seen. A file that is shorter than it was written is an error.
     fn whole(&self, seen: &Seen) -> io::Result<u64> {
         if seen.length < self.reaches {
-            return Err(io::Error::from(ErrorKind::UnexpectedEof));
+            return Err(io::Error::new(
+                ErrorKind::UnexpectedEof,
+                "it is shorter than what was written to it",
+            ));
         }
         Ok(seen.length)
     }

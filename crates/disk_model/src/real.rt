@@ -21,13 +21,15 @@ use std::rt::Files;
 /// beside the disk, at the next write and the next sync. After a write, a cut or a sync that failed, the next sync
 /// writes again what was written since the last one that succeeded.
 ///
-/// It tells nothing of its content, and counts each error as a fault. An offset past 2^63 - 1 is an error of the
+/// It tells nothing of its content, and counts each error as a fault. It keeps the last one, for people to read: that it
+/// is the last is no clause, since nothing is known of what a system says. An offset past 2^63 - 1 is an error of the
 /// system.
 #[derive(Debug, Drop)]
 pub struct FileDisk<F: NamedFile> {
     file: F,
     opened: Option<Opened>,
     faults: u64,
+    last_error: Option<io::Error>,
 }
 
 impl<F: NamedFile> Model for FileDisk<F> {
@@ -57,7 +59,20 @@ impl<F: NamedFile> FileDisk<F> {
             file,
             opened: None,
             faults: 0,
+            last_error: None,
         }
+    }
+
+    /// How often it failed.
+    pub fn faults(&self) -> u64
+        ensures { result ≡ self.now.faults }
+    {
+        self.faults
+    }
+
+    /// Why it failed the last time, in the system's words or its own; None where it never failed.
+    pub fn last_error(&self) -> Option<io::Error> {
+        self.last_error
     }
 
     // Opens the file, if it isn't open. Where that fails nothing stays open, and the next call begins anew.
@@ -139,8 +154,12 @@ impl<F: NamedFile> FileDisk<F> {
     }
 }
 
-// The answer, with each error counted.
-fn counted<T: Drop>(answer: io::Result<T>, faults: &mut u64) -> Result<T, Failed>
+// The answer, with each error counted, and the last one kept.
+fn counted<T: Drop>(
+    answer: io::Result<T>,
+    faults: &mut u64,
+    last: &mut Option<io::Error>,
+) -> Result<T, Failed>
     ensures passed { IfOk answer (λ value. result ≡ Ok value) }
     ensures same { OnOk answer (faults.new ≡ faults.old) }
     ensures failed { OnErr answer (IsErr result) }
@@ -149,8 +168,9 @@ fn counted<T: Drop>(answer: io::Result<T>, faults: &mut u64) -> Result<T, Failed
 {
     match answer {
         Ok(value) => Ok(value),
-        Err(_) => {
+        Err(error) => {
             *faults = faults.saturating_add(1);
+            *last = Some(error);
             Err(Failed)
         }
     }
@@ -180,7 +200,7 @@ impl<F: NamedFile> Disk for FileDisk<F> {
         ensures cause { OnErr result (Rises self.old.faults self.new.faults) }
     {
         let answer = self.try_len();
-        counted(answer, &mut self.faults)
+        counted(answer, &mut self.faults, &mut self.last_error)
     }
 
     fn read_at(&mut self, at: u64, piece: &mut [u8]) -> Result<usize, Failed>
@@ -197,7 +217,7 @@ impl<F: NamedFile> Disk for FileDisk<F> {
         ensures cause { OnErr result (Rises self.old.faults self.new.faults) }
     {
         let answer = self.try_read(at, piece);
-        counted(answer, &mut self.faults)
+        counted(answer, &mut self.faults, &mut self.last_error)
     }
 
     fn write_at(&mut self, at: u64, bytes: &[u8]) -> Result<(), Failed>
@@ -214,7 +234,7 @@ impl<F: NamedFile> Disk for FileDisk<F> {
         ensures cause { OnErr result (Rises self.old.faults self.new.faults) }
     {
         let answer = self.try_write(at, bytes);
-        counted(answer, &mut self.faults)
+        counted(answer, &mut self.faults, &mut self.last_error)
     }
 
     fn cut(&mut self, len: u64) -> Result<(), Failed>
@@ -229,7 +249,7 @@ impl<F: NamedFile> Disk for FileDisk<F> {
         ensures cause { OnErr result (Rises self.old.faults self.new.faults) }
     {
         let answer = self.try_cut(len);
-        counted(answer, &mut self.faults)
+        counted(answer, &mut self.faults, &mut self.last_error)
     }
 
     fn sync(&mut self) -> Result<(), Failed>
@@ -245,7 +265,7 @@ impl<F: NamedFile> Disk for FileDisk<F> {
         ensures cause { OnErr result (Rises self.old.faults self.new.faults) }
     {
         let answer = self.try_sync();
-        counted(answer, &mut self.faults)
+        counted(answer, &mut self.faults, &mut self.last_error)
     }
 
     ghost as_read = { λ disk file is. untold file is };
