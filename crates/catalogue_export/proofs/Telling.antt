@@ -1,12 +1,13 @@
 -- What a query is told.
-use Rattle.std.proofs.Common.{◌≡◌, ℕ, List, Option, Some, None, Result, Ok, Err, refl, sym, ap, ◌∙◌}
-use Rattle.std.specs.Prelude.{IfOk}
+use Rattle.std.proofs.Common.{◌≡◌, ℕ, List, Option, Some, None, Result, Ok, Err, refl, sym, ap, subst, ◌∙◌}
+use Rattle.std.specs.Prelude.{IfOk, IfErr}
 use Rattle.packed_names.specs.declared.half_month.HalfMonth.{HalfMonth}
 use Rattle.packed_names.specs.declared.name.Designation.{Designation}
 use Rattle.packed_names.specs.declared.name.Name.{Name}
 use Rattle.identify_core.specs.Acts.{principal}
 use Rattle.act_model.specs.declared.entry.Entry.{Entry}
 use Rattle.act_model.specs.declared.query.Query.TheVariants as query
+use Rattle.act_model.specs.declared.reply.Refusal.{Refusal}
 use Rattle.act_model.specs.declared.reply.Refusal.TheVariants.{UnknownThing}
 use Rattle.act_model.specs.declared.reply.Reply.TheVariants.{Done}
 use Rattle.act_model.specs.declared.reply.Thing.TheVariants as thing
@@ -27,6 +28,14 @@ use Rattle.act_model.specs.Tallies.{tally, tally_text}
 pub if_made : {A E : Type 0} (r : Result A E) (P Q : A → Type 0) → ((a : A) → P a → Q a) → IfOk r P → IfOk r Q
 if_made (Ok a) P Q follows holds = follows a holds
 if_made (Err e) P Q follows holds = tt
+
+-- no refusal is due where a text is
+pub none_refused : (due : Result (List ℕ) Refusal) (text : List ℕ) (P : Refusal → Type 0) → due ≡ Ok text → IfErr due P
+none_refused due text P is = subst (λ (d : Result (List ℕ) Refusal). IfErr d P) (sym is) tt
+
+-- and the one that is due is answered
+pub refused_so : (due : Result (List ℕ) Refusal) (answer : Refusal) → due ≡ Err answer → IfErr due (λ refusal. ◌≡◌ {A = Result (List ℕ) Refusal} (Err answer) (Err refusal))
+refused_so due answer is = subst (λ (d : Result (List ℕ) Refusal). IfErr d (λ refusal. ◌≡◌ {A = Result (List ℕ) Refusal} (Err answer) (Err refusal))) (sym is) refl
 
 -- the reply that is kept is an answer
 kept_done : (number : ℕ) (o : Option Kept) (text : List ℕ) → Some (Done text) ≡ reply_kept o → told_receipt number o ≡ Ok text

@@ -1,10 +1,11 @@
 //! The catalogue, page by page.
 
-ghost use Rattle.std.specs.Prelude.{◌≡◌, ◌⊎◌, ◌≤◌, List, [], ◌++◌, length, take, drop, min, IfOk, OnOk, OnErr};
+ghost use Rattle.std.specs.Prelude.{◌≡◌, ◌⊎◌, ◌≤◌, List, [], ◌++◌, length, take, drop, min, true, is_ok};
+ghost use Rattle.std.specs.Prelude.{IfOk, OnOk, OnErr, IsTrue};
 ghost use Rattle.act_model.specs.declared.entry.Entry.{Entry};
 ghost use Rattle.act_model.specs.Catalogue.{catalogue};
 ghost use Rattle.catalogue_export.specs.declared.pages.TheConstants.{PAGE_BYTES};
-ghost use Rattle.catalogue_export.specs.PageTexts.{ready, to_come};
+ghost use Rattle.catalogue_export.specs.PageTexts.{ready, to_come, IsMade};
 ghost use Rattle.catalogue_export.specs.Walks.{to_write};
 
 use crate::walk::Walk;
@@ -46,7 +47,8 @@ impl Pages {
     ///
     /// # Errors
     ///
-    /// Memory was refused. What is to come is as it was, so that the next call goes on at the same place.
+    /// Memory was refused. What is to come is as it was, so that the next call goes on at the same place. No memory is
+    /// needed where the bytes of a whole page were made, or all that are left.
     pub fn next<V: Shelf>(
         &mut self,
         alloc: Global,
@@ -58,6 +60,7 @@ impl Pages {
         ensures rest { IfOk result (λ n.
             to_come (V.history shelf.now) self.new ≡ drop n (to_come (V.history shelf.now) self.old)) }
         ensures stays { OnErr result (to_come (V.history shelf.now) self.new ≡ to_come (V.history shelf.now) self.old) }
+        ensures made { IsMade self.old → is_ok result ≡ true }
     {
         self.fill(alloc, shelf)?;
         Ok(self.hand_out(page))
@@ -70,6 +73,15 @@ impl Pages {
         let made = self.made.as_slice();
         let used = made.len().min(self.used as usize);
         &made[used..]
+    }
+
+    // Whether the bytes of a whole page were made, or all that are left.
+    fn is_made(&self) -> bool
+        ensures made { IsMade self.now → result ≡ true }
+        ensures enough { IsTrue result → (history : List Entry) →
+            (PAGE_BYTES ≤ length (ready self.now)) ⊎ (to_write history self.now.walk ≡ []) }
+    {
+        self.ready().len() >= PAGE_BYTES || self.walk.is_ended()
     }
 
     // Lets go of the bytes that were handed out.
@@ -90,8 +102,9 @@ impl Pages {
         ensures same { to_come (V.history shelf.now) self.new ≡ to_come (V.history shelf.now) self.old }
         ensures enough { OnOk result
             ((PAGE_BYTES ≤ length (ready self.new)) ⊎ (to_write (V.history shelf.now) self.new.walk ≡ [])) }
+        ensures made { IsMade self.old → is_ok result ≡ true }
     {
-        if self.ready().len() >= PAGE_BYTES {
+        if self.is_made() {
             return Ok(());
         }
         self.tidy(alloc)?;

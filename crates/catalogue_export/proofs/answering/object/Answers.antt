@@ -1,4 +1,4 @@
-use Rattle.std.proofs.Common.{◌≡◌, Ok, inl, sym, ◌∙◌}
+use Rattle.std.proofs.Common.{◌≡◌, Ok, inl, refl, sym, ◌∙◌}
 use Rattle.act_model.specs.declared.query.Query.TheVariants as query
 use Rattle.act_model.specs.Deeds.{deeds}
 use Rattle.act_model.specs.Designations.{links_of}
@@ -6,11 +6,11 @@ use Rattle.act_model.specs.Holdings.{holdings}
 use Rattle.act_model.specs.Numbers.{numbers_of}
 use Rattle.act_model.specs.QueryTexts.{object_text}
 use Rattle.act_model.specs.Step.{told}
-use Rattle.catalogue_export.proofs.Telling.{if_made, object_told, object_unknown}
+use Rattle.catalogue_export.proofs.Telling.{if_made, object_told, object_unknown, none_refused, refused_so}
 use Rattle.catalogue_export.proofs.answering.object.Goals as goal
 
-pub returns-in-Some : goal.returns-in-Some
-returns-in-Some g c =
+pub returns-in-Some-clause-due : goal.returns-in-Some-clause-due
+returns-in-Some-clause-due g c =
     let past = g.V.Shelf.history c.args.shelf.now in
     let asked = query.Object c.args.d in
     let p = c.in-Some.p in
@@ -21,6 +21,16 @@ returns-in-Some g c =
     (λ text is. object_told past c.args.caller c.args.d p text (sym c.in-Some.is ∙ c.principal.ensures) is)
     c.object_text.ensures)
 
-pub returns-in-None : goal.returns-in-None
-returns-in-None g c =
+pub returns-in-None-clause-due : goal.returns-in-None-clause-due
+returns-in-None-clause-due g c =
     inl (object_unknown (g.V.Shelf.history c.args.shelf.now) c.args.caller c.args.d (sym c.in-None.is ∙ c.principal.ensures))
+
+pub returns-in-Some-clause-refused : goal.returns-in-Some-clause-refused
+returns-in-Some-clause-refused g c =
+    let past = g.V.Shelf.history c.args.shelf.now in
+    none_refused (told past c.args.caller (query.Object c.args.d)) _ _ (object_told past c.args.caller c.args.d c.in-Some.p _ (sym c.in-Some.is ∙ c.principal.ensures) refl)
+
+pub returns-in-None-clause-refused : goal.returns-in-None-clause-refused
+returns-in-None-clause-refused g c =
+    let past = g.V.Shelf.history c.args.shelf.now in
+    refused_so (told past c.args.caller (query.Object c.args.d)) _ (object_unknown past c.args.caller c.args.d (sym c.in-None.is ∙ c.principal.ensures))

@@ -1,14 +1,14 @@
-use Rattle.std.proofs.Common.{◌≡◌, List, Some, Ok, inl, ap, sym, ◌∙◌}
+use Rattle.std.proofs.Common.{◌≡◌, List, Some, Ok, inl, refl, ap, sym, ◌∙◌}
 use Rattle.std.specs.Prelude.{option_copied}
 use Rattle.act_model.specs.declared.reply.Reply.{Reply}
 use Rattle.act_model.specs.declared.reply.Reply.TheVariants.{Done}
 use Rattle.act_model.specs.declared.query.Query.TheVariants as query
 use Rattle.act_model.specs.Step.{told}
-use Rattle.catalogue_export.proofs.Telling.{if_made, receipt_told, receipt_unknown}
+use Rattle.catalogue_export.proofs.Telling.{if_made, receipt_told, receipt_unknown, none_refused, refused_so}
 use Rattle.catalogue_export.proofs.answering.receipt.Goals as goal
 
-pub returns-in-Some-Done : goal.returns-in-Some-Done
-returns-in-Some-Done g c =
+pub returns-in-Some-Done-clause-due : goal.returns-in-Some-Done-clause-due
+returns-in-Some-Done-clause-due g c =
     let past = g.V.Shelf.history c.args.shelf.now in
     let asked = query.Receipt c.args.number in
     c.text_or_refusal.ensures (told past c.args.caller asked)
@@ -16,5 +16,15 @@ returns-in-Some-Done g c =
     (λ text is. receipt_told past c.args.caller c.args.number text (ap (λ (t : List _). Some (Done t)) (is ∙ c.as_slice.ensures) ∙ ap (λ (r : Reply). Some r) (sym c.in-Some-Done.field-0-is) ∙ sym (ap option_copied c.in-Some-Done.is) ∙ c.kept.ensures))
     c.from_slice.ensures)
 
-pub returns-in-None : goal.returns-in-None
-returns-in-None g c = inl (receipt_unknown (g.V.Shelf.history c.args.shelf.now) c.args.caller c.args.number (sym (ap option_copied c.in-None.is) ∙ c.kept.ensures))
+pub returns-in-None-clause-due : goal.returns-in-None-clause-due
+returns-in-None-clause-due g c = inl (receipt_unknown (g.V.Shelf.history c.args.shelf.now) c.args.caller c.args.number (sym (ap option_copied c.in-None.is) ∙ c.kept.ensures))
+
+pub returns-in-Some-Done-clause-refused : goal.returns-in-Some-Done-clause-refused
+returns-in-Some-Done-clause-refused g c =
+    let past = g.V.Shelf.history c.args.shelf.now in
+    none_refused (told past c.args.caller (query.Receipt c.args.number)) c.as_slice.result.now _
+    (receipt_told past c.args.caller c.args.number c.as_slice.result.now (ap (λ (t : List _). Some (Done t)) c.as_slice.ensures ∙ ap (λ (r : Reply). Some r) (sym c.in-Some-Done.field-0-is) ∙ sym (ap option_copied c.in-Some-Done.is) ∙ c.kept.ensures))
+
+pub returns-in-None-clause-refused : goal.returns-in-None-clause-refused
+returns-in-None-clause-refused g c =
+    refused_so (told (g.V.Shelf.history c.args.shelf.now) c.args.caller (query.Receipt c.args.number)) _ (receipt_unknown (g.V.Shelf.history c.args.shelf.now) c.args.caller c.args.number (sym (ap option_copied c.in-None.is) ∙ c.kept.ensures))

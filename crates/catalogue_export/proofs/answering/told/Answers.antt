@@ -1,4 +1,4 @@
-use Rattle.std.proofs.Common.{◌≡◌, Ok, ◌∙◌, ap, sym, subst}
+use Rattle.std.proofs.Common.{◌≡◌, Result, List, Ok, Err, refl, ◌∙◌, ap, sym, subst}
 use Rattle.act_model.specs.declared.query.Query.{Query}
 use Rattle.act_model.specs.declared.query.Query.TheVariants as query
 use Rattle.act_model.specs.Catalogue.{catalogue}
@@ -10,11 +10,11 @@ use Rattle.act_model.specs.QueryTexts.{isolated_text, half_month_line, name_text
 use Rattle.act_model.specs.Rows.{IsDue}
 use Rattle.act_model.specs.Step.{told}
 use Rattle.act_model.specs.Tallies.{tally_text}
-use Rattle.catalogue_export.proofs.Telling.{if_made, tally_told, isolated_told, half_month_told, name_told, catalogue_told}
+use Rattle.catalogue_export.proofs.Telling.{if_made, tally_told, isolated_told, half_month_told, name_told, catalogue_told, none_refused}
 use Rattle.catalogue_export.proofs.answering.told.Goals as goal
 
-pub returns-in-Tally : goal.returns-in-Tally
-returns-in-Tally g c =
+pub returns-in-Tally-clause-due : goal.returns-in-Tally-clause-due
+returns-in-Tally-clause-due g c =
     let past = g.V.Shelf.history c.args.shelf.now in
     subst (λ (q : Query). IsDue (told past c.args.caller q) c.text_or_refusal.result) (sym c.in-Tally.is)
     (c.text_or_refusal.ensures (told past c.args.caller query.Tally)
@@ -22,8 +22,8 @@ returns-in-Tally g c =
     (λ text is. tally_told past c.args.caller text (is ∙ ap tally_text c.tally.ensures))
     c.tally_answer.ensures))
 
-pub returns-in-Isolated : goal.returns-in-Isolated
-returns-in-Isolated g c =
+pub returns-in-Isolated-clause-due : goal.returns-in-Isolated-clause-due
+returns-in-Isolated-clause-due g c =
     let past = g.V.Shelf.history c.args.shelf.now in
     subst (λ (q : Query). IsDue (told past c.args.caller q) c.text_or_refusal-in-Isolated.result) (sym c.in-Isolated.is)
     (c.text_or_refusal-in-Isolated.ensures (told past c.args.caller query.Isolated)
@@ -31,8 +31,8 @@ returns-in-Isolated g c =
     (λ text is. isolated_told past c.args.caller text is)
     c.isolated_text.ensures))
 
-pub returns-in-HalfMonth : goal.returns-in-HalfMonth
-returns-in-HalfMonth g c =
+pub returns-in-HalfMonth-clause-due : goal.returns-in-HalfMonth-clause-due
+returns-in-HalfMonth-clause-due g c =
     let past = g.V.Shelf.history c.args.shelf.now in
     let asked = query.HalfMonth c.in-HalfMonth.half in
     subst (λ (q : Query). IsDue (told past c.args.caller q) c.text_or_refusal-in-HalfMonth.result) (sym c.in-HalfMonth.is)
@@ -41,8 +41,8 @@ returns-in-HalfMonth g c =
     (λ text is. half_month_told past c.args.caller c.in-HalfMonth.half text is)
     c.half_month_text.ensures))
 
-pub returns-in-Name : goal.returns-in-Name
-returns-in-Name g c =
+pub returns-in-Name-clause-due : goal.returns-in-Name-clause-due
+returns-in-Name-clause-due g c =
     let past = g.V.Shelf.history c.args.shelf.now in
     let asked = query.Name c.in-Name.name in
     subst (λ (q : Query). IsDue (told past c.args.caller q) c.text_or_refusal-in-Name.result) (sym c.in-Name.is)
@@ -51,11 +51,36 @@ returns-in-Name g c =
     (λ text is. name_told past c.args.caller c.in-Name.name text is)
     c.name_text.ensures))
 
-pub returns-in-Catalogue : goal.returns-in-Catalogue
-returns-in-Catalogue g c =
+pub returns-in-Catalogue-clause-due : goal.returns-in-Catalogue-clause-due
+returns-in-Catalogue-clause-due g c =
     let past = g.V.Shelf.history c.args.shelf.now in
     subst (λ (q : Query). IsDue (told past c.args.caller q) c.text_or_refusal-in-Catalogue.result) (sym c.in-Catalogue.is)
     (c.text_or_refusal-in-Catalogue.ensures (told past c.args.caller query.Catalogue)
     (if_made c.catalogue_text.result (λ text. text ≡ catalogue past) (λ text. told past c.args.caller query.Catalogue ≡ Ok text)
     (λ text is. catalogue_told past c.args.caller text is)
     c.catalogue_text.ensures))
+
+pub returns-in-Tally-clause-refused : goal.returns-in-Tally-clause-refused
+returns-in-Tally-clause-refused g c =
+    let past = g.V.Shelf.history c.args.shelf.now in
+    none_refused (told past c.args.caller c.args.query.now) _ _ (ap (told past c.args.caller) c.in-Tally.is ∙ tally_told past c.args.caller _ refl)
+
+pub returns-in-Isolated-clause-refused : goal.returns-in-Isolated-clause-refused
+returns-in-Isolated-clause-refused g c =
+    let past = g.V.Shelf.history c.args.shelf.now in
+    none_refused (told past c.args.caller c.args.query.now) _ _ (ap (told past c.args.caller) c.in-Isolated.is ∙ isolated_told past c.args.caller _ refl)
+
+pub returns-in-HalfMonth-clause-refused : goal.returns-in-HalfMonth-clause-refused
+returns-in-HalfMonth-clause-refused g c =
+    let past = g.V.Shelf.history c.args.shelf.now in
+    none_refused (told past c.args.caller c.args.query.now) _ _ (ap (told past c.args.caller) c.in-HalfMonth.is ∙ half_month_told past c.args.caller c.in-HalfMonth.half _ refl)
+
+pub returns-in-Name-clause-refused : goal.returns-in-Name-clause-refused
+returns-in-Name-clause-refused g c =
+    let past = g.V.Shelf.history c.args.shelf.now in
+    none_refused (told past c.args.caller c.args.query.now) _ _ (ap (told past c.args.caller) c.in-Name.is ∙ name_told past c.args.caller c.in-Name.name _ refl)
+
+pub returns-in-Catalogue-clause-refused : goal.returns-in-Catalogue-clause-refused
+returns-in-Catalogue-clause-refused g c =
+    let past = g.V.Shelf.history c.args.shelf.now in
+    none_refused (told past c.args.caller c.args.query.now) _ _ (ap (told past c.args.caller) c.in-Catalogue.is ∙ catalogue_told past c.args.caller _ refl)

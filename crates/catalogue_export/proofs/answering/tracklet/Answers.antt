@@ -1,15 +1,15 @@
-use Rattle.std.proofs.Common.{◌≡◌, Ok, inl, sym, ◌∙◌}
+use Rattle.std.proofs.Common.{◌≡◌, Ok, inl, refl, sym, ◌∙◌}
 use Rattle.act_model.specs.declared.query.Query.TheVariants as query
 use Rattle.act_model.specs.Deeds.{deeds}
 use Rattle.act_model.specs.Designations.{links_of}
 use Rattle.act_model.specs.Holdings.{holdings}
 use Rattle.act_model.specs.QueryTexts.{tracklet_text}
 use Rattle.act_model.specs.Step.{told}
-use Rattle.catalogue_export.proofs.Telling.{if_made, tracklet_told, tracklet_unknown}
+use Rattle.catalogue_export.proofs.Telling.{if_made, tracklet_told, tracklet_unknown, none_refused, refused_so}
 use Rattle.catalogue_export.proofs.answering.tracklet.Goals as goal
 
-pub returns-in-Some : goal.returns-in-Some
-returns-in-Some g c =
+pub returns-in-Some-clause-due : goal.returns-in-Some-clause-due
+returns-in-Some-clause-due g c =
     let past = g.V.Shelf.history c.args.shelf.now in
     let asked = query.Tracklet c.args.t in
     let head = c.in-Some.head in
@@ -20,6 +20,16 @@ returns-in-Some g c =
     (λ text is. tracklet_told past c.args.caller c.args.t head text (sym c.in-Some.is ∙ c.track.ensures) is)
     c.tracklet_text.ensures)
 
-pub returns-in-None : goal.returns-in-None
-returns-in-None g c =
+pub returns-in-None-clause-due : goal.returns-in-None-clause-due
+returns-in-None-clause-due g c =
     inl (tracklet_unknown (g.V.Shelf.history c.args.shelf.now) c.args.caller c.args.t (sym c.in-None.is ∙ c.track.ensures))
+
+pub returns-in-Some-clause-refused : goal.returns-in-Some-clause-refused
+returns-in-Some-clause-refused g c =
+    let past = g.V.Shelf.history c.args.shelf.now in
+    none_refused (told past c.args.caller (query.Tracklet c.args.t)) _ _ (tracklet_told past c.args.caller c.args.t c.in-Some.head _ (sym c.in-Some.is ∙ c.track.ensures) refl)
+
+pub returns-in-None-clause-refused : goal.returns-in-None-clause-refused
+returns-in-None-clause-refused g c =
+    let past = g.V.Shelf.history c.args.shelf.now in
+    refused_so (told past c.args.caller (query.Tracklet c.args.t)) _ (tracklet_unknown past c.args.caller c.args.t (sym c.in-None.is ∙ c.track.ensures))
