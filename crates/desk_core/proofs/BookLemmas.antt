@@ -61,7 +61,7 @@ placed_newest (f ∷ older) caller number k some =
           record { within = simp length-append (omega arith); at = stays_at (reverse older) f (length k.before) k less rest.at }
     ])
 
-placed : (filed : List Filed) (caller number : ℕ) (k : Kept) → kept (history_of filed) caller number ≡ Some k → IsPlaced filed k
+pub placed : (filed : List Filed) (caller number : ℕ) (k : Kept) → kept (history_of filed) caller number ≡ Some k → IsPlaced filed k
 placed filed caller number k some = subst (λ (xs : List Filed). IsPlaced xs k) (reverse-reverse filed) (placed_newest (reverse filed) caller number k some)
 
 some_place : (o : Option Kept) (place : ℕ) → Some place ≡ option_map (λ k. length k.before) o → (k : Kept) × (o ≡ Some k) × (place ≡ length k.before)

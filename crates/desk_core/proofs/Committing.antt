@@ -17,7 +17,7 @@ use Rattle.act_model.specs.Refusals.{entry_size, used as used_bytes}
 use Rattle.act_model.specs.Replies.{entry_answer}
 use Rattle.act_model.specs.Roster.{members, with_enrolled}
 use Rattle.desk_core.specs.declared.filed.Filed.{Filed}
-use Rattle.desk_core.specs.Filed.{history_of, AreAnswered}
+use Rattle.desk_core.specs.Filed.{history_of, AreAnswered, WasRead, WereRead}
 use Rattle.act_model.specs.Places.{added_by}
 use Rattle.object_rules.specs.Noting.{homed_by}
 use Rattle.desk_core.specs.Objects.{ObjectsValue, StandFor, UsesObjects}
@@ -41,6 +41,9 @@ module _ (items : List Filed) (f : Filed) (ready : Ready) (at : IsReadyAt (histo
   pub answered : AreAnswered (reverse items) → AreAnswered (reverse now)
   answered before =
       subst AreAnswered (sym (reverse-append items (f ∷ []))) (answer ∙ ap (λ (t : List ℕ). Done t) (at.answer ∙ ap (entry_answer past) (sym entry)), before)
+
+  pub were_read : WasRead ready.entry → WereRead (reverse items) → WereRead (reverse now)
+  were_read read before = subst WereRead (sym (reverse-append items (f ∷ []))) (subst WasRead (sym entry) read, before)
 
   deeds_are : deeds (history_of now) ≡ ready.deed ∷ deeds past
   deeds_are = ap deeds history_is ∙ ap (λ (d : Deed). d ∷ deeds past) (sym at.deed)

@@ -16,7 +16,7 @@ use Rattle.desk_core.specs.declared.filed.Filed.{Filed}
 use Rattle.desk_core.specs.Filed.{entries_of, history_of, done_reply, AreAnswered, IsDone, IsFiledAt}
 
 -- what was filed, cut at one place
-split_at : (filed : List Filed) (place : ℕ) (f : Filed) → slice_get filed place ≡ Some f → filed ≡ take place filed ++ (f ∷ drop (place + 1) filed)
+pub split_at : (filed : List Filed) (place : ℕ) (f : Filed) → slice_get filed place ≡ Some f → filed ≡ take place filed ++ (f ∷ drop (place + 1) filed)
 split_at filed place f there =
     let within = slice_get_within filed place f there in
     let is : get_or filed place f ≡ f = get_or_from_slice_get filed place f f there in
@@ -47,12 +47,3 @@ pub reply_done : (filed : List Filed) (place : ℕ) (f : Filed) → AreAnswered 
 reply_done filed place f answered within here =
     let there : slice_get filed place ≡ Some f = slice_get_read filed (length filed) place f refl within here in
     subst IsDone (sym (answered_at filed place f there answered)) tt
-
-pub kept_again : (filed : List Filed) (place : ℕ) (f : Filed) (verb : Verb) (bytes : List ℕ) (text : List ℕ) → f ≡ get_or filed place f → is_resend verb bytes f.entry ≡ true
-    → ((k : Kept) → IsFiledAt filed place k → text ≡ entry_answer k.before k.entry)
-    → (k : Kept) → IsFiledAt filed place k → Done text ≡ kept_reply verb bytes k
-kept_again filed place f verb bytes text here resend given k at =
-    let same : at.at ≡ f = sym (get_or_from_slice_get filed place at.at f at.there) ∙ sym here in
-    let entry : k.entry ≡ f.entry = at.entry ∙ ap (λ (g : Filed). g.entry) same in
-    let resent : is_resend verb bytes k.entry ≡ true = ap (is_resend verb bytes) entry ∙ resend in
-    ap (λ (t : List ℕ). Done t) (given k at) ∙ sym (ap (λ (b : Bool). cond b (Done (entry_answer k.before k.entry)) (Refused (OtherRequest (next_receipt k.before)))) resent)

@@ -1,5 +1,6 @@
 -- What becomes of a request, question by question.
 use Rattle.std.proofs.Common.{◌≡◌, ℕ, ℤ, Bool, true, false, cond, List, length, ◌<◌, Option, Some, Result, Ok, Err, refl, sym, ap, subst, ◌∙◌, inl, inr, arith}
+use Rattle.std.specs.Prelude.{IfErr}
 use Rattle.act_bodies.specs.declared.key.Key.{Key}
 use Rattle.act_model.specs.declared.deed.Deed.{Deed}
 use Rattle.act_model.specs.declared.deed.Deed.TheVariants.{Enrolled, Stationed, Coded, Submitted, Designated, Attributed, Released, Identified, Separated, Judged, Numbered, Retracted, Nothing}
@@ -22,56 +23,15 @@ use Rattle.act_model.specs.Refusals.{work_within}
 use Rattle.act_model.specs.Turns.{Answers}
 use Rattle.act_model.specs.Step.{Outcome, Refuses, Tells, outcome, unless_unheard, heard_step, act_step, query_step, query_in, told, tells, unless_kept, unless_refused, new_entry, step, after}
 use Rattle.desk_core.specs.Office.{Room, Fits}
+use Rattle.desk_core.proofs.ClaimLemmas.{outcome_bytes}
 use Rattle.desk_core.specs.Preparing.{IsRefused, Prepares, IsPrepared, IsTold}
 use Rattle.desk_core.specs.declared.prepared.Prep.{Prep}
 use Rattle.desk_core.specs.declared.prepared.Prep.TheVariants as prep
 
 module _ (founder : Key) (limit : Option ℕ) (past : List Entry) (q : Request) (t : ℤ) where
-  -- the step of a request that was heard, and what is heard before it
-  abbrev heard_outcome : List ℕ → Heard → Result Outcome Refusal
-  heard_outcome bytes heard = Ok (heard_step limit past heard bytes (next_moment past t))
-
-  abbrev hearing : List ℕ → Result Outcome Refusal
-  hearing bytes = hear founder (members (deeds past)) q bytes >>= heard_outcome bytes
-
-  outcome_is : outcome founder limit past q t ≡ unless_unheard (bytes_in q.body >>= hearing)
-  unfolding outcome
-  outcome_is = refl
-
-  -- a body that isn't taken
-  pub outcome_bytes : (r : Refusal) → bytes_in q.body ≡ Err r → outcome founder limit past q t ≡ Refuses r
-  outcome_bytes r is = outcome_is ∙ ap (λ (x : Result (List ℕ) Refusal). unless_unheard (x >>= hearing)) is
-
-  after_bytes : (bytes : List ℕ) → bytes_in q.body ≡ Ok bytes → outcome founder limit past q t ≡ unless_unheard (hearing bytes)
-  after_bytes bytes is = outcome_is ∙ ap (λ (x : Result (List ℕ) Refusal). unless_unheard (x >>= hearing)) is
-
-  -- a request that isn't heard
-  outcome_unheard : (bytes : List ℕ) (r : Refusal) → bytes_in q.body ≡ Ok bytes → hear founder (members (deeds past)) q bytes ≡ Err r → outcome founder limit past q t ≡ Refuses r
-  outcome_unheard bytes r body is = after_bytes bytes body ∙ ap (λ (x : Result Heard Refusal). unless_unheard (x >>= heard_outcome bytes)) is
-
-  pub refused_hearing : (bytes : List ℕ) (r : Refusal) → bytes_in q.body ≡ Ok bytes → IsDue (hear founder (members (deeds past)) q bytes) (Err r) → IsRefused (outcome founder limit past q t) r
-  refused_hearing bytes r body (inl due) = inl (outcome_unheard bytes r body due)
-  refused_hearing bytes r body (inr wants) = inr wants
-
-  -- an act that is heard
-  pub outcome_heard : (bytes : List ℕ) (heard : Heard) → bytes_in q.body ≡ Ok bytes → hear founder (members (deeds past)) q bytes ≡ Ok heard → heard.verb ≡ q.verb → is_act q.verb ≡ true
-      → outcome founder limit past q t ≡ act_step limit past heard bytes (next_moment past t)
-  outcome_heard bytes heard body is verb act =
-      after_bytes bytes body
-      ∙ ap (λ (x : Result Heard Refusal). unless_unheard (x >>= heard_outcome bytes)) is
-      ∙ ap (λ (b : Bool). cond b (act_step limit past heard bytes (next_moment past t)) (query_step past heard)) (ap is_act verb ∙ act)
-
   -- a body for which there was no room
   pub outcome_no_room : q.body ≡ NoRoom → outcome founder limit past q t ≡ Refuses NoMemory
-  outcome_no_room none = outcome_is ∙ ap (λ (b : Body). unless_unheard (bytes_in b >>= hearing)) none
-
-  -- a query that is heard
-  pub outcome_query : (bytes : List ℕ) (heard : Heard) → bytes_in q.body ≡ Ok bytes → hear founder (members (deeds past)) q bytes ≡ Ok heard → heard.verb ≡ q.verb → is_act q.verb ≡ false
-      → outcome founder limit past q t ≡ tells (query_in heard.asked >>= told past heard.caller.number)
-  outcome_query bytes heard body is verb query =
-      after_bytes bytes body
-      ∙ ap (λ (x : Result Heard Refusal). unless_unheard (x >>= heard_outcome bytes)) is
-      ∙ ap (λ (b : Bool). cond b (act_step limit past heard bytes (next_moment past t)) (query_step past heard)) (ap is_act verb ∙ query)
+  outcome_no_room none = outcome_bytes founder limit past q t NoMemory (ap bytes_in none)
 
   pub answers_told : (text : List ℕ) → outcome founder limit past q t ≡ Tells text → Answers founder limit past q t (Done text) past
   unfolding step
@@ -88,7 +48,25 @@ told_as o due (Ok text) is told = is ∙ ap tells told
 told_as o due (Err r) is (inl told) = inl (is ∙ ap tells told)
 told_as o due (Err r) is (inr wants) = inr wants
 
+-- one refusal is due, and no other
+pub one_refusal : (A : Type 0) (o : Outcome) (r refusal : Refusal) → o ≡ Refuses r → o ≡ Refuses refusal → ◌≡◌ {A = Result A Refusal} (Err r) (Err refusal)
+one_refusal A o r refusal is other = let both = sym is ∙ other in cc
+
+-- a query that is refused is answered so
+pub query_refused : {A : Type 0} (o : Outcome) (due : Result (List ℕ) Refusal) (result : Result A Refusal) (refusal : Refusal) → o ≡ tells due → IfErr due (λ r. result ≡ Err r) → o ≡ Refuses refusal → result ≡ Err refusal
+query_refused o (Ok text) result refusal is refused other = let both = sym is ∙ other in absurd cc
+query_refused o (Err r) result refusal is refused other = let both = sym is ∙ other in cc
+
 -- ---- the parts of an act's step
+
+-- what is refused before memory is asked for
+pub taken_prep : {A : Type 0} (due : Result A Refusal) (p : Prep) → IfErr due (λ r. ◌≡◌ {A = Result Prep Refusal} (Ok p) (Err r)) → IfErr due (λ r. p ≡ prep.Refused r)
+taken_prep (Ok a) p is = tt
+taken_prep (Err r) p is = absurd cc
+
+pub refused_prep : {A : Type 0} (due : Result A Refusal) (r : Refusal) → IfErr due (λ refusal. ◌≡◌ {A = Result Prep Refusal} (Err r) (Err refusal)) → IfErr due (λ refusal. prep.Refused r ≡ prep.Refused refusal)
+refused_prep (Ok a) r is = tt
+refused_prep (Err refusal) r is = cc
 
 -- the same outcome
 pub prepared_as : (limit : Option ℕ) (past : List Entry) (o o' : Outcome) (spare : Room) (result : Result Prep Refusal) → o' ≡ o → IsPrepared limit past o spare result → IsPrepared limit past o' spare result
@@ -100,12 +78,6 @@ no_room_prep limit past due spare (prep.Kept reply) none is = absurd cc
 no_room_prep limit past due spare (prep.Refused r) none (inl is) = let same = sym none ∙ is in cc
 no_room_prep limit past due spare (prep.Refused r) none (inr wants) = ap (λ (x : Refusal). prep.Refused x) wants
 no_room_prep limit past due spare (prep.Ready ready) none is = let added = is.0 in absurd cc
-
--- a number that was used
-pub kept_step : (limit : Option ℕ) (past : List Entry) (heard : Heard) (bytes : List ℕ) (moment : ℤ) (k : Kept) → kept past heard.caller.number heard.number ≡ Some k
-    → act_step limit past heard bytes moment ≡ unless_kept (Some k) heard bytes (Refuses NoMemory)
-kept_step limit past heard bytes moment k used =
-    ap (λ (o : Option Kept). unless_kept o heard bytes (unless_refused (work_within limit past bytes moment heard) (new_entry heard bytes moment))) used
 
 -- ---- the roster with a deed
 
@@ -124,7 +96,3 @@ callers_with past (Judged p u oppositions) within fits = within
 callers_with past (Numbered pairs) within fits = within
 callers_with past (Retracted k) within fits = within
 callers_with past Nothing within fits = within
-
--- the same number of the same caller in the same history
-pub kept_by : (h h' : List Entry) (caller number : ℕ) (o : Option Kept) → h ≡ h' → kept h' caller number ≡ o → kept h caller number ≡ o
-kept_by h h' caller number o history given = ap (λ (x : List Entry). kept x caller number) history ∙ given

@@ -1,10 +1,13 @@
 -- What the office keeps of each entry: the entry, and the reply to its act as it was given.
-use Rattle.std.specs.Prelude.{◌≡◌, ℕ, List, [], ◌∷◌, map, reverse, take, slice_get, Some}
+use Rattle.std.specs.Prelude.{◌≡◌, ℕ, true, List, [], ◌∷◌, map, reverse, take, slice_get, Some, Ok}
 use Rattle.act_model.specs.declared.entry.Entry.{Entry}
+use Rattle.act_model.specs.declared.heard.Asked.{Asked}
 use Rattle.act_model.specs.declared.reply.Reply.{Reply}
 use Rattle.act_model.specs.declared.reply.Reply.TheVariants.{Done, Refused}
+use Rattle.act_model.specs.Hearing.{asked_of}
 use Rattle.act_model.specs.History.{Kept}
 use Rattle.act_model.specs.Replies.{entry_answer}
+use Rattle.act_model.specs.Requests.{is_act}
 use Rattle.desk_core.specs.declared.filed.Filed.{Filed}
 
 abbrev pub entries_of : List Filed → List Entry
@@ -18,6 +21,15 @@ history_of filed = entries_of (reverse filed)
 abbrev pub AreAnswered : List Filed → Type 0
 AreAnswered [] = Unit {0}
 AreAnswered (newest ∷ older) = (newest.reply ≡ Done (entry_answer (entries_of older) newest.entry)) × AreAnswered older
+
+-- the entry is of an act, and its body was read
+abbrev pub WasRead : Entry → Type 0
+WasRead entry = (is_act entry.verb ≡ true) × (asked : Asked) × (asked_of entry.verb entry.body ≡ Ok asked)
+
+-- each body was read before its entry was filed
+abbrev pub WereRead : List Filed → Type 0
+WereRead [] = Unit {0}
+WereRead (newest ∷ older) = WasRead newest.entry × WereRead older
 
 -- the reply to the act that became an entry
 abbrev pub done_reply : Kept → Reply

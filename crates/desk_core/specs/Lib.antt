@@ -4,5 +4,7 @@ pub mod Roster
 pub mod Objects
 pub mod Office
 pub mod Holding
+pub mod Doing
+pub mod Claims
 pub mod Preparing
 pub mod Replaying

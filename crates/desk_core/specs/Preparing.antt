@@ -3,10 +3,9 @@ use Rattle.std.specs.Prelude.{◌≡◌, ◌⊎◌, ℕ, ◌+◌, ◌≤◌, Lis
 use Rattle.act_model.specs.declared.entry.Entry.{Entry}
 use Rattle.act_model.specs.declared.reply.Refusal.{Refusal}
 use Rattle.act_model.specs.declared.reply.Refusal.TheVariants.{NoMemory}
-use Rattle.act_model.specs.declared.heard.Heard.{Heard}
-use Rattle.act_model.specs.Rows.{◌>>=◌}
+use Rattle.act_model.specs.declared.reply.Reply.{Reply}
 use Rattle.act_model.specs.Refusals.{entry_size, used}
-use Rattle.act_model.specs.Step.{Outcome, Refuses, Keeps, Tells, Adds, query_in, told}
+use Rattle.act_model.specs.Step.{Outcome, Refuses, Keeps, Tells, Adds}
 use Rattle.desk_core.specs.declared.prepared.Prep.{Prep}
 use Rattle.desk_core.specs.declared.prepared.Prep.TheVariants as prep
 use Rattle.desk_core.specs.Office.{Room, IsReadyAt, IsRoomFor}
@@ -32,9 +31,10 @@ abbrev pub IsPrepared : Option ℕ → List Entry → Outcome → Room → Resul
 IsPrepared limit past due spare (Ok prep) = Prepares limit past due spare prep
 IsPrepared limit past due spare (Err refusal) = IsRefused due refusal
 
--- what is due to a query that was heard at this history
-abbrev pub due_to : List Entry → Heard → Result (List ℕ) Refusal
-due_to past heard = query_in heard.asked >>= told past heard.caller.number
+-- the reply that is kept for a number that was used, or the refusal that the request meets
+abbrev pub IsReplied : Outcome → Result Reply Refusal → Type 0
+IsReplied due (Ok reply) = due ≡ Keeps reply
+IsReplied due (Err refusal) = IsRefused due refusal
 
 -- what a query is told, or the refusal that it meets
 abbrev pub IsTold : Outcome → Result (List ℕ) Refusal → Type 0

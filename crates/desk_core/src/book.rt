@@ -6,7 +6,7 @@ ghost use Rattle.ordered_list.specs.Orders.{found};
 ghost use Rattle.ordered_list.specs.Contents.{UsesOne};
 ghost use Rattle.act_model.specs.History.{Kept, kept};
 ghost use Rattle.desk_core.specs.Filed.{history_of, done_reply, AreAnswered, IsFiledAt};
-ghost use Rattle.desk_core.specs.Book.{number_key, place_in};
+ghost use Rattle.desk_core.specs.Book.{number_key, place_in, place_of};
 
 use crate::filed::{Filed, reply_at};
 use act_model::Reply;
@@ -80,6 +80,7 @@ impl Book {
         ensures found { IfSome result (λ place. (k : Kept)
             × (kept (history_of self.now.items) caller number ≡ Some k) × IsFiledAt self.now.items place k) }
         ensures none { IfNone result (kept (history_of self.now.items) caller number ≡ None) }
+        ensures place { result ≡ place_of self.now.items caller number }
     {
         look_up(&self.numbers, caller, number)
     }

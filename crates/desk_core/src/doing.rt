@@ -1,6 +1,6 @@
 //! What an act does at the office's history, or the first refusal that it meets.
 
-ghost use Rattle.std.specs.Prelude.{◌≡◌, ◌≤ℤ◌, length, Some, None, cond, IfOk};
+ghost use Rattle.std.specs.Prelude.{◌≡◌, ◌↔◌, ◌<◌, ◌≤ℤ◌, ◌^◌, length, Some, None, cond, IfOk, IsTrue};
 ghost use Rattle.act_model.specs.declared.reply.Refusal.TheVariants as refusals;
 ghost use Rattle.act_model.specs.Rows.{first_row, IsDue};
 ghost use Rattle.act_model.specs.Acts.{IsRead, IsReadAsked};
@@ -10,6 +10,7 @@ ghost use Rattle.act_model.specs.OfficeTables.{tables_of};
 ghost use Rattle.act_model.specs.Holdings.{holdings};
 ghost use Rattle.act_model.specs.Doing.{enrols, enters_station, enters_code, submits, retracts, taken_after, does};
 ghost use Rattle.act_model.specs.Refusals.{sender, is_another, retracts_anothers, role_rows, work_out};
+ghost use Rattle.desk_core.specs.Doing.{IsActAtOnce, IsAtOnce};
 ghost use Rattle.desk_core.specs.Office.{AreTracked, Fits};
 
 use crate::filed::caller_at;
@@ -39,6 +40,13 @@ fn is_another(caller: u32, sent: Option<u32>) -> bool
         Some(sent) => sent != caller,
         None => false,
     }
+}
+
+/// Whether so many tracklets and so many lines of a batch can be counted on together. No office comes near it.
+fn are_countable(tracks: u64, lines: u64) -> bool
+    ensures { IsTrue result ↔ ((tracks < 2 ^ 62) × (lines < 2 ^ 62)) }
+{
+    tracks < 1 << 62 && lines < 1 << 62
 }
 
 impl Core {
@@ -79,6 +87,7 @@ impl Core {
     ) -> Result<Deed, Refusal>
         requires read { IsReadAsked heard.asked }
         ensures due { IsDue (work_out self.now.history moment heard) result }
+        ensures exact { IsAtOnce self.now.history heard → result ≡ work_out self.now.history moment heard }
         ensures fits { IfOk result (Fits (deeds self.now.history)) }
     {
         if self.is_barred(&heard) {
@@ -96,6 +105,7 @@ impl Core {
     fn does(&self, alloc: Global, moment: Instant, act: Act) -> Result<Deed, Refusal>
         requires read { IsRead act }
         ensures due { IsDue (does (deeds self.now.history) moment act) result }
+        ensures exact { IsActAtOnce (deeds self.now.history) act → result ≡ does (deeds self.now.history) moment act }
         ensures fits { IfOk result (Fits (deeds self.now.history)) }
     {
         act_model::laws::acts_fit();
@@ -124,7 +134,7 @@ impl Core {
 
     /// An enrolment.
     fn enrols(&self, key: Key, rank: Rank) -> Result<Deed, Refusal>
-        ensures due { IsDue (enrols (members (deeds self.now.history)) key rank) result }
+        ensures due { result ≡ enrols (members (deeds self.now.history)) key rank }
         ensures fits { IfOk result (Fits (deeds self.now.history)) }
     {
         let refusal = enrol_refusal(self.roster(), &key);
@@ -134,7 +144,7 @@ impl Core {
     /// A station row.
     fn enters_station(&self, code: [u8; 3], from: i32, to: i32) -> Result<Deed, Refusal>
         requires forward { from ≤ℤ to }
-        ensures due { IsDue (enters_station (tables_of (deeds self.now.history)) code from to) result }
+        ensures due { result ≡ enters_station (tables_of (deeds self.now.history)) code from to }
         ensures fits { IfOk result (Fits (deeds self.now.history)) }
     {
         let refusal = row_refusal(self.tables().overlaps(code, from, to));
@@ -143,7 +153,7 @@ impl Core {
 
     /// A code row.
     fn enters_code(&self, kind: Kind, letter: u8, word: Short) -> Result<Deed, Refusal>
-        ensures due { IsDue (enters_code (tables_of (deeds self.now.history)) kind letter word) result }
+        ensures due { result ≡ enters_code (tables_of (deeds self.now.history)) kind letter word }
         ensures fits { IfOk result (Fits (deeds self.now.history)) }
     {
         let refusal = row_refusal(self.tables().has_code(kind, letter, word));
@@ -161,7 +171,7 @@ impl Core {
         ensures tracked { IfOk result (AreTracked (length (holdings (deeds self.now.history)).tracklets)) }
     {
         let tracks = self.held().tracks();
-        if tracks >= 1 << 62 || lines.len() >= 1 << 62 {
+        if !are_countable(tracks, lines.len()) {
             return Err(AllocError);
         }
         let rulings = judge(alloc, self.tables(), self, moment, &lines)?;
@@ -184,7 +194,7 @@ impl Core {
 
     /// A retraction.
     fn retracts(&self, k: u64) -> Result<Deed, Refusal>
-        ensures due { IsDue (retracts (holdings (deeds self.now.history)).observations k) result }
+        ensures due { result ≡ retracts (holdings (deeds self.now.history)).observations k }
         ensures fits { IfOk result (Fits (deeds self.now.history)) }
     {
         let refusal = retract_refusal(self.held(), k);

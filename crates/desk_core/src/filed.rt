@@ -3,12 +3,12 @@
 ghost use Rattle.std.specs.Prelude.{◌≡◌, ◌<◌, length, option_map, IfOk, reverse, int_lt};
 ghost use Rattle.std.specs.Prelude.{if◌then◌else◌};
 ghost use Rattle.tracklet_file.specs.Numbering.{numbered};
-ghost use Rattle.act_model.specs.History.{Kept, next_moment};
+ghost use Rattle.act_model.specs.History.{Kept, next_moment, next_receipt};
 ghost use Rattle.act_model.specs.Replies.{entry_answer};
-ghost use Rattle.act_model.specs.Step.{kept_reply};
+ghost use Rattle.act_model.specs.Step.{is_resend};
 ghost use Rattle.desk_core.specs.Filed.{history_of, done_reply, AreAnswered, IsDone, IsFiledAt};
 
-use act_model::{Entry, Refusal, Reply, Verb, is_resend};
+use act_model::{Entry, Reply, Verb, is_resend};
 use item_list::{Bytes, NoMemory};
 use obs_time::Instant;
 use std::alloc::Global;
@@ -59,30 +59,20 @@ pub fn kept_answer(alloc: Global, filed: &[Filed], place: usize) -> Result<Bytes
     }
 }
 
-/// The answer to a request under a number that stands for the entry at this place: the entry's own
-/// answer to the same verb and body, and else a refusal.
-///
-/// # Errors
-///
-/// Memory was refused.
-pub fn kept_reply(
-    alloc: Global,
-    filed: &[Filed],
-    place: usize,
-    verb: Verb,
-    bytes: &[u8],
-) -> Result<Reply, NoMemory>
-    requires within { place < length filed.now }
-    requires answered { AreAnswered (reverse filed.now) }
-    ensures { IfOk result (λ reply. (k : Kept) → IsFiledAt filed.now place k → reply ≡ kept_reply verb bytes.now k) }
+/// Whether the request of this verb and these bytes is the one that became the entry at this place.
+pub fn is_resent(filed: &[Filed], place: usize, verb: Verb, bytes: &[u8]) -> bool
+    requires { place < length filed.now }
+    ensures { (k : Kept) → IsFiledAt filed.now place k → result ≡ is_resend verb bytes.now k.entry }
 {
-    let f = &filed[place];
-    if !is_resend(verb, bytes, &f.entry) {
-        return Ok(Reply::Refused(Refusal::OtherRequest {
-            receipt: place as u64 + 1,
-        }));
-    }
-    Ok(Reply::Done(kept_answer(alloc, filed, place)?))
+    is_resend(verb, bytes, &filed[place].entry)
+}
+
+/// The receipt of the entry at this place.
+pub fn receipt_at(filed: &[Filed], place: usize) -> u64
+    requires { place < length filed.now }
+    ensures { (k : Kept) → IsFiledAt filed.now place k → result ≡ next_receipt k.before }
+{
+    place as u64 + 1
 }
 
 /// The moment of the entry that is filed next: the reading, but never before the last entry's moment.

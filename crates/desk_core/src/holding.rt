@@ -1,6 +1,6 @@
 //! What a deed leaves in the file of observations and tracklets.
 
-ghost use Rattle.std.specs.Prelude.{◌≡◌, ◌+◌, ◌≤◌, length, Ok};
+ghost use Rattle.std.specs.Prelude.{◌≡◌, ◌+◌, ◌≤◌, ◌^◌, length, Ok, IfSome, IfNone};
 ghost use Rattle.ordered_list.specs.Contents.{UsesOne};
 ghost use Rattle.tracklet_file.specs.Contents.{TakesNoMemory};
 ghost use Rattle.tracklet_file.specs.Tracklets.{IsTracklet};
@@ -85,6 +85,14 @@ pub fn added_by(deed: &Deed) -> u64
         Deed::Submitted(lines) => lines.accepted(),
         _ => 0,
     }
+}
+
+/// How many observations a deed adds, where these are fewer than 2^32. No batch comes near it.
+pub fn few_added(deed: &Deed) -> Option<u32>
+    ensures added { IfSome result (λ more. more ≡ added_by deed.now) }
+    ensures many { IfNone result (2 ^ 32 ≤ added_by deed.now) }
+{
+    u32::try_from(added_by(deed)).ok()
 }
 
 /// Does a deed of the entry with this receipt. It takes no memory: there is room.

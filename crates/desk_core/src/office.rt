@@ -1,7 +1,8 @@
 //! The office in memory.
 
-ghost use Rattle.std.specs.Prelude.{◌≡◌, ◌<◌, ◌^◌, ◌∷◌, [], ℕ, Option, IfOk, IfSome, OnOk, ℤ, length, reverse, true};
-ghost use Rattle.std.specs.Prelude.{false, unwrap_or};
+ghost use Rattle.std.specs.Prelude.{◌≡◌, ◌<◌, ◌^◌, ◌∷◌, [], ℕ, ℤ, Option, IfOk, IfErr, IfSome, OnOk, length, reverse};
+ghost use Rattle.std.specs.Prelude.{true, false, unwrap_or};
+ghost use Rattle.act_model.specs.declared.reply.Refusal.{Refusal};
 ghost use Rattle.act_model.specs.declared.roster.TheConstants.{CALLERS};
 ghost use Rattle.act_model.specs.Requests.{is_act};
 ghost use Rattle.act_model.specs.Roster.{members, IsFounder};
@@ -10,16 +11,17 @@ ghost use Rattle.act_model.specs.OfficeTables.{tables_of};
 ghost use Rattle.act_model.specs.Holdings.{holdings};
 ghost use Rattle.act_model.specs.History.{next_receipt};
 ghost use Rattle.act_model.specs.Refusals.{used};
-ghost use Rattle.act_model.specs.Step.{outcome};
+ghost use Rattle.act_model.specs.Step.{outcome, Refuses};
 ghost use Rattle.act_model.specs.Turns.{Answers};
-ghost use Rattle.desk_core.specs.Filed.{history_of, AreAnswered};
+ghost use Rattle.desk_core.specs.Claims.{announced};
+ghost use Rattle.desk_core.specs.Filed.{history_of, AreAnswered, WereRead};
 ghost use Rattle.desk_core.specs.Office.{IsReadyAt, IsRoomFor, UsesRoom, held_in};
 ghost use Rattle.desk_core.specs.Objects.{StandFor};
 ghost use Rattle.desk_core.specs.Preparing.{Prepares};
 
 use crate::book::Book;
 use crate::filed::Filed;
-use crate::holding::{added_by, hold};
+use crate::holding::{few_added, hold};
 use crate::limiting::entry_size;
 use crate::objects::Objects;
 use crate::prepared::{Prep, Prepared};
@@ -59,7 +61,7 @@ impl Model for Core {
     ghost use Rattle.act_model.specs.Refusals.{used as used_bytes};
     ghost use Rattle.desk_core.specs.Office.{Office, held_in};
     ghost use Rattle.desk_core.specs.Objects.{StandFor};
-    ghost use Rattle.desk_core.specs.Filed.{history_of, AreAnswered};
+    ghost use Rattle.desk_core.specs.Filed.{history_of, AreAnswered, WereRead};
 
     ghost Value = { Office };
 
@@ -84,7 +86,8 @@ impl Model for Core {
         × (c.tables ≡ tables_of (deeds (history_of c.filed.items)))
         × (held_in c.file ≡ holdings (deeds (history_of c.filed.items)))
         × StandFor (deeds (history_of c.filed.items)) c.objects
-        × (c.used ≡ min (used_bytes (history_of c.filed.items)) (2 ^ 64 - 1)) };
+        × (c.used ≡ min (used_bytes (history_of c.filed.items)) (2 ^ 64 - 1))
+        × WereRead (reverse c.filed.items) };
 }
 
 impl Core {
@@ -117,13 +120,18 @@ impl Core {
     /// take are fewer than 2 ^ 64. Answers `Kept` only where the caller has used the number, with the reply that is
     /// kept for it; `Refused` with the first refusal that the request meets in the office's table, or with `NoMemory`
     /// where memory was refused for reading, for a reply or for an entry; else `Ready` with the entry and its
-    /// answer. A request for whose body there was no room is refused with `NoMemory`, whatever else it says.
+    /// answer. A request for whose body there was no room is refused with `NoMemory`, whatever else it says. What is
+    /// refused by the body's size, the verb or the number is refused without memory; and the body of a request that is
+    /// sent again isn't read again, so that memory is needed for a copy of its answer alone.
     pub fn prepare(&mut self, request: &Request, reading: Instant, limit: Option<u64>) -> Prep
         requires act { is_act request.now.verb ≡ true }
         requires space { IfSome limit (λ _. used self.old.history < 2 ^ 64) }
         ensures answer { Prepares limit self.old.history
             (outcome self.old.founder limit self.old.history request.now reading) self.new.spare result }
         ensures no_room { request.now.body ≡ Body.NoRoom → result ≡ Prep.Refused Refusal.NoMemory }
+        ensures announced { IfErr
+            (announced self.old.founder (members (deeds self.old.history)) request.now)
+            (λ refusal. result ≡ Prep.Refused refusal) }
         ensures history { self.new.history ≡ self.old.history }
         ensures founder { self.new.founder ≡ self.old.founder }
     {
@@ -134,13 +142,16 @@ impl Core {
     }
 
     /// The answer to a query, a request whose verb is that of no act: the text that tells what is asked, or the first
-    /// refusal that the query meets; `NoMemory` also where memory was refused for the text, and always where there was
-    /// no room for the body. The history stays.
+    /// refusal that the query meets; `NoMemory` also where memory was refused for the text, but never in the place of
+    /// another refusal, and always where there was no room for the body. The history stays.
     pub fn answer(&self, request: &Request) -> Reply
         requires query { is_act request.now.verb ≡ false }
         ensures answer { (limit : Option ℕ) (reading : ℤ) →
             Answers self.now.founder limit self.now.history request.now reading result self.now.history }
         ensures no_room { request.now.body ≡ Body.NoRoom → result ≡ Reply.Refused Refusal.NoMemory }
+        ensures refused { (limit : Option ℕ) (reading : ℤ) (refusal : Refusal) →
+            outcome self.now.founder limit self.now.history request.now reading ≡ Refuses refusal
+            → result ≡ Reply.Refused refusal }
     {
         act_model::laws::no_room_no_step();
         match self.try_answer(request) {
@@ -206,6 +217,7 @@ impl Core {
     pub(crate) fn filed(&self) -> &[Filed]
         ensures history { history_of result.now ≡ self.now.history }
         ensures answered { AreAnswered (reverse result.now) }
+        ensures read { WereRead (reverse result.now) }
     {
         self.filed.as_slice()
     }
@@ -270,7 +282,7 @@ impl Core {
     {
         self.filed.reserve()?;
         self.roster.reserve()?;
-        let Ok(more) = u32::try_from(added_by(deed)) else {
+        let Some(more) = few_added(deed) else {
             return Err(AllocError);
         };
         self.file.reserve(more, more)?;

@@ -3,6 +3,7 @@
 ghost use Rattle.std.specs.Prelude.{◌≡◌, ◌≤◌, true, length};
 ghost use Rattle.act_model.specs.declared.request.TheConstants.{BODY_BYTES};
 ghost use Rattle.act_model.specs.Requests.{is_act};
+ghost use Rattle.desk_core.specs.Filed.{WasRead};
 ghost use Rattle.desk_core.specs.Office.{IsOfAct};
 
 use crate::filed::Filed;
@@ -25,13 +26,15 @@ pub struct Prepared {
 impl Model for Prepared {
     ghost use Rattle.std.specs.Prelude.{◌≡◌};
     ghost use Rattle.act_model.specs.declared.reply.Reply.TheVariants.{Done};
+    ghost use Rattle.desk_core.specs.Filed.{WasRead};
     ghost use Rattle.desk_core.specs.Office.{Ready, IsOfAct};
 
     ghost Value = { Ready };
 
     ghost view = { λ p. record { entry = p.filed.entry; answer = p.answer; deed = p.deed; tables = p.tables } };
 
-    ghost invariant = { λ p. (p.filed.reply ≡ Done p.answer) × IsOfAct p.filed.entry };
+    ghost invariant = { λ p.
+        (p.filed.reply ≡ Done p.answer) × IsOfAct p.filed.entry × WasRead p.filed.entry };
 }
 
 impl Prepared {
@@ -39,6 +42,7 @@ impl Prepared {
     pub(crate) fn new(filed: Filed, answer: Bytes, deed: Deed, tables: Option<Tables>) -> Prepared
         requires kept { filed.reply ≡ Reply.Done answer }
         requires act { IsOfAct filed.entry }
+        requires read { WasRead filed.entry }
         ensures entry { result.entry ≡ filed.entry }
         ensures answer { result.answer ≡ answer }
         ensures deed { result.deed ≡ deed }
@@ -64,6 +68,7 @@ impl Prepared {
     /// The entry with its answer, the answer, the deed, and the tables with it.
     pub(crate) fn into_parts(self) -> (Filed, Bytes, Deed, Option<Tables>)
         ensures entry { result.0.entry ≡ self.entry }
+        ensures read { WasRead self.entry }
         ensures kept { result.0.reply ≡ Reply.Done self.answer }
         ensures answer { result.1 ≡ self.answer }
         ensures deed { result.2 ≡ self.deed }

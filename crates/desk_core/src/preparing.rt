@@ -1,6 +1,7 @@
 //! What becomes of an act, worked out question by question, with the memory for it.
 
-ghost use Rattle.std.specs.Prelude.{◌≡◌, ◌≤◌, ◌<◌, ◌^◌, length, unwrap_or, true, Ok, IfOk, IfSome};
+ghost use Rattle.std.specs.Prelude.{◌≡◌, ◌≤◌, ◌<◌, ◌^◌, length, unwrap_or, true, Some, Ok, Err, IfOk, IfErr};
+ghost use Rattle.std.specs.Prelude.{ℕ, ℤ, ◌+◌, ◌↔◌, Option, option_map, IfSome, IsTrue};
 ghost use Rattle.act_model.specs.declared.request.TheConstants.{BODY_BYTES};
 ghost use Rattle.act_model.specs.Rows.{IsDue};
 ghost use Rattle.act_model.specs.Requests.{is_act};
@@ -9,20 +10,23 @@ ghost use Rattle.act_model.specs.Roster.{members};
 ghost use Rattle.act_model.specs.OfficeTables.{tables_of, with_row};
 ghost use Rattle.act_model.specs.Deeds.{deed_of, deeds};
 ghost use Rattle.act_model.specs.History.{next_receipt, next_moment};
-ghost use Rattle.act_model.specs.Hearing.{asked_of, hear};
+ghost use Rattle.act_model.specs.Hearing.{asked_of};
 ghost use Rattle.act_model.specs.Refusals.{used, work_within};
+ghost use Rattle.desk_core.specs.Doing.{IsAtOnce};
 ghost use Rattle.act_model.specs.Replies.{deed_answer};
-ghost use Rattle.act_model.specs.Step.{outcome, act_step, unless_refused, new_entry};
+ghost use Rattle.act_model.specs.Step.{outcome, unless_refused, new_entry};
+ghost use Rattle.desk_core.specs.Claims.{claim_of, announced, kept_for, act_by};
+ghost use Rattle.desk_core.specs.Filed.{WasRead};
 ghost use Rattle.desk_core.specs.Office.{IsOfAct, IsReadyAt, IsRoomFor, Fits};
-ghost use Rattle.desk_core.specs.Preparing.{IsPrepared};
+ghost use Rattle.desk_core.specs.Preparing.{IsPrepared, IsReplied};
 
-use crate::filed::{Filed, kept_reply, next_moment};
-use crate::hearing::{bytes_in, hear};
+use crate::filed::{Filed, is_resent, kept_answer, next_moment, receipt_at};
+use crate::hearing::{Claim, bytes_in, claim_of, hear};
 use crate::office::Core;
 use crate::prepared::{Prep, Prepared};
 use act_model::{
-    Deed, Entry, Heard, Refusal, Reply, Request, batch_answer, enrol_answer, numbers_answer,
-    object_answer, receipt_answer,
+    Deed, Entry, Heard, Key, Refusal, Reply, Request, Verb, batch_answer, enrol_answer,
+    numbers_answer, object_answer, receipt_answer,
 };
 use item_list::{Bytes, NoMemory};
 use obs_time::Instant;
@@ -30,7 +34,27 @@ use packed_names::Designation;
 use station_tables::Tables;
 use std::alloc::{AllocError, Global};
 
+/// Whether the numbers of so many observations and of so many more fit 64 bits. No memory holds as many.
+fn are_numbered(before: u64, more: u64) -> bool
+    ensures { IsTrue result ↔ (before + more < 2 ^ 64) }
+{
+    more <= u64::MAX - before
+}
+
 impl Core {
+    /// What a request says of itself before its body is read. No memory is taken for it.
+    pub(crate) fn claim_of(
+        &self,
+        verb: Verb,
+        number: Option<u64>,
+        key: &Key,
+    ) -> Result<Claim, Refusal>
+        ensures { result ≡
+            claim_of self.now.founder (members (deeds self.now.history)) verb number key.now }
+    {
+        claim_of(self.founder(), self.roster(), verb, number, key)
+    }
+
     /// What becomes of an act, where a refusal is an error.
     pub(crate) fn try_prepare(
         &mut self,
@@ -42,67 +66,96 @@ impl Core {
         requires space { IfSome limit (λ _. used self.old.history < 2 ^ 64) }
         ensures answer { IsPrepared limit self.old.history
             (outcome self.old.founder limit self.old.history request.now reading) self.new.spare result }
+        ensures announced { IfErr
+            (announced self.old.founder (members (deeds self.old.history)) request.now)
+            (λ refusal. result ≡ Err refusal) }
         ensures history { self.new.history ≡ self.old.history }
         ensures founder { self.new.founder ≡ self.old.founder }
     {
-        let alloc = self.allocator();
         let bytes = match bytes_in(&request.body) {
             Ok(bytes) => bytes,
             Err(refusal) => return Err(refusal),
         };
-        let heard = match self.hear(alloc, request, bytes) {
-            Ok(heard) => heard,
+        let claim = match self.claim_of(request.verb, request.number, &request.key) {
+            Ok(claim) => claim,
             Err(refusal) => return Err(refusal),
         };
-        self.prepare_heard(alloc, heard, bytes, reading, limit)
+        self.prepare_claimed(claim, request.verb, bytes, reading, limit)
     }
 
-    /// What is heard of a request with these bytes.
-    pub(crate) fn hear(
-        &self,
-        alloc: Global,
-        request: &Request,
-        bytes: &[u8],
-    ) -> Result<Heard, Refusal>
-        requires short { length bytes.now ≤ BODY_BYTES }
-        ensures due { IsDue (hear self.now.founder (members (deeds self.now.history)) request.now bytes.now) result }
-        ensures verb { IfOk result (λ heard. heard.verb ≡ request.now.verb) }
-        ensures asked { IfOk result (λ heard. asked_of heard.verb bytes.now ≡ Ok heard.asked) }
-        ensures read { IfOk result (λ heard. IsReadAsked heard.asked) }
+    /// The place of the entry that the number of such a request stands for, where its caller has used the number. No
+    /// memory is taken for it.
+    pub(crate) fn place_for(&self, claim: Claim) -> Option<usize>
+        ensures { result ≡ option_map (λ k. length k.before) (kept_for self.now.history claim) }
     {
-        hear(alloc, self.founder(), self.roster(), request, bytes)
+        match claim.caller {
+            Some(caller) => self.book().find(caller.number, claim.number),
+            None => None,
+        }
     }
 
-    /// What becomes of an act that was heard: the reply that is kept for its number, where it was used.
-    fn prepare_heard(
+    /// What becomes of an act that said so much of itself: the reply that is kept for its number, where it was used.
+    fn prepare_claimed(
         &mut self,
-        alloc: Global,
-        heard: Heard,
+        claim: Claim,
+        verb: Verb,
         bytes: &[u8],
         reading: Instant,
         limit: Option<u64>,
     ) -> Result<Prep, Refusal>
-        requires act { is_act heard.verb ≡ true }
+        requires act { is_act verb ≡ true }
         requires short { length bytes.now ≤ BODY_BYTES }
         requires space { IfSome limit (λ _. used self.old.history < 2 ^ 64) }
-        requires asked { asked_of heard.verb bytes.now ≡ Ok heard.asked }
-        requires read { IsReadAsked heard.asked }
         ensures answer { IsPrepared limit self.old.history
-            (act_step limit self.old.history heard bytes.now
+            (act_by limit self.old.history claim verb bytes.now
             (next_moment self.old.history reading)) self.new.spare result }
         ensures history { self.new.history ≡ self.old.history }
         ensures founder { self.new.founder ≡ self.old.founder }
     {
-        let book = self.book();
-        let filed = book.as_slice();
-        if let Some(place) = book.find(heard.caller.number, heard.number) {
-            let Ok(reply) = kept_reply(alloc, filed, place, heard.verb, bytes) else {
-                return Err(Refusal::NoMemory);
+        let alloc = self.allocator();
+        if let Some(place) = self.place_for(claim) {
+            return match self.reply_again(alloc, place, claim, verb, bytes) {
+                Ok(reply) => Ok(Prep::Kept(reply)),
+                Err(refusal) => Err(refusal),
             };
-            return Ok(Prep::Kept(reply));
         }
-        let moment = next_moment(filed, reading);
+        let heard = match hear(alloc, claim, verb, bytes) {
+            Ok(heard) => heard,
+            Err(refusal) => return Err(refusal),
+        };
+        let moment = next_moment(self.filed(), reading);
         self.prepare_new(alloc, heard, bytes, moment, limit)
+    }
+
+    /// The reply to an act under a number that stands for the entry at this place: to the request that became the entry
+    /// the entry's own answer, without reading its body again, and to another one a refusal.
+    fn reply_again(
+        &self,
+        alloc: Global,
+        place: usize,
+        claim: Claim,
+        verb: Verb,
+        bytes: &[u8],
+    ) -> Result<Reply, Refusal>
+        requires act { is_act verb ≡ true }
+        requires short { length bytes.now ≤ BODY_BYTES }
+        requires used { Some place ≡ option_map (λ k. length k.before) (kept_for self.now.history claim) }
+        ensures { (limit : Option ℕ) (moment : ℤ) →
+            IsReplied (act_by limit self.now.history claim verb bytes.now moment) result }
+    {
+        let filed = self.filed();
+        if is_resent(filed, place, verb, bytes) {
+            return match kept_answer(alloc, filed, place) {
+                Ok(text) => Ok(Reply::Done(text)),
+                Err(_) => Err(Refusal::NoMemory),
+            };
+        }
+        match hear(alloc, claim, verb, bytes) {
+            Ok(_) => Ok(Reply::Refused(Refusal::OtherRequest {
+                receipt: receipt_at(filed, place),
+            })),
+            Err(refusal) => Err(refusal),
+        }
     }
 
     /// What becomes of an act whose number was not used, at this moment.
@@ -123,6 +176,8 @@ impl Core {
             (unless_refused (work_within limit self.old.history bytes.now moment heard)
             (new_entry heard bytes.now moment))
             self.new.spare result }
+        ensures refused { IsAtOnce self.old.history heard →
+            IfErr (work_within limit self.old.history bytes.now moment heard) (λ refusal. result ≡ Err refusal) }
         ensures history { self.new.history ≡ self.old.history }
         ensures founder { self.new.founder ≡ self.old.founder }
     {
@@ -156,6 +211,7 @@ impl Core {
     /// An entry that does this deed, with its answer, the tables with it, and room for it.
     fn ready(&mut self, alloc: Global, entry: Entry, deed: Deed) -> Result<Prepared, NoMemory>
         requires act { IsOfAct entry }
+        requires read { WasRead entry }
         requires deed { deed_of (deeds self.old.history) entry ≡ deed }
         requires fits { Fits (deeds self.old.history) deed }
         ensures entry { IfOk result (λ ready. ready.entry ≡ entry) }
@@ -185,7 +241,7 @@ impl Core {
             Deed::Enrolled(_) => enrol_answer(alloc, receipt, self.members().len() as u64 + 1),
             Deed::Submitted(lines) => {
                 let before = self.held().observations();
-                if lines.len() as u64 > u64::MAX - before {
+                if !are_numbered(before, lines.len() as u64) {
                     return Err(AllocError);
                 }
                 batch_answer(alloc, receipt, before, lines)

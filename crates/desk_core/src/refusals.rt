@@ -1,6 +1,7 @@
 //! The refusals of an act, in the groups of the office's table.
 
-ghost use Rattle.std.specs.Prelude.{◌≡◌, ◌<◌, length, reverse, Ok, IfOk};
+ghost use Rattle.std.specs.Prelude.{◌≡◌, ◌<◌, length, reverse, Ok, None, IfOk};
+ghost use Rattle.act_model.specs.Taken.{accepted_in};
 ghost use Rattle.act_model.specs.declared.roster.TheConstants.{CALLERS};
 ghost use Rattle.act_model.specs.Rows.{first_row, unless};
 ghost use Rattle.act_model.specs.Doing.{enrol_rows, row_rows, batch_rows, retract_rows};
@@ -57,7 +58,8 @@ pub fn row_refusal(is_there: bool) -> Option<Refusal>
 ///
 /// Memory was refused for the faults.
 pub fn batch_refusal(alloc: Global, lines: &TakenLines) -> Result<Option<Refusal>, NoMemory>
-    ensures { IfOk result (λ refusal. refusal ≡ first_row (batch_rows lines.now)) }
+    ensures row { IfOk result (λ refusal. refusal ≡ first_row (batch_rows lines.now)) }
+    ensures accepted { 0 < accepted_in lines.now → result ≡ Ok None }
 {
     if lines.accepted() > 0 {
         return Ok(None);

@@ -1,7 +1,7 @@
 //! Entries that come again, as a journal kept them.
 
-ghost use Rattle.std.specs.Prelude.{◌≡◌, ◌∷◌, reverse, true, None, IfOk, IfSome, IsErrOf, IsSomeAnd, IsTrue, ◌↔◌, OnOk};
-ghost use Rattle.std.specs.Prelude.{OnErr};
+ghost use Rattle.std.specs.Prelude.{◌≡◌, ◌∷◌, ◌↔◌, reverse, true, Some, None, IfOk, IfSome, IsErrOf, IsSomeAnd, IsTrue};
+ghost use Rattle.std.specs.Prelude.{OnOk, OnErr};
 ghost use Rattle.act_model.specs.declared.entry.Entry.{Entry};
 ghost use Rattle.act_model.specs.declared.reply.Refusal.{Refusal};
 ghost use Rattle.act_model.specs.Deeds.{deeds};
@@ -10,11 +10,14 @@ ghost use Rattle.act_model.specs.Requests.{is_act};
 ghost use Rattle.act_model.specs.Roster.{key_at, members};
 ghost use Rattle.act_model.specs.Step.{outcome, Adds};
 ghost use Rattle.desk_core.specs.Office.{IsReadyAt, IsRoomFor};
-ghost use Rattle.desk_core.specs.Replaying.{act_with, entry_of};
+ghost use Rattle.desk_core.specs.Replaying.{act_with, entry_of, caller_named, MayFollow};
+ghost use Rattle.obs_time.specs.Instants.{IsInstantNs};
 
+use crate::filed::next_moment;
+use crate::hearing::{is_number_of, size_refusal};
 use crate::office::Core;
 use crate::prepared::{Prep, Prepared};
-use act_model::{Body, Entry, Key, Member, Refusal, Request, Verb};
+use act_model::{Body, Key, Member, Refusal, Request, Verb};
 use item_list::{Bytes, NoMemory};
 use obs_time::Instant;
 use std::error::Error;
@@ -75,29 +78,9 @@ fn key_at(founder: &Key, members: &[Member], caller: u32) -> Key
     }
 }
 
-/// Whether an entry is the one of these fields.
-fn is_entry(
-    entry: &Entry,
-    caller: u32,
-    number: u64,
-    moment: Instant,
-    verb: Verb,
-    body: &[u8],
-) -> bool
-    requires act { is_act verb ≡ true }
-    ensures { IsTrue result ↔ (entry.now ≡
-        record { caller = caller; number = number; moment = moment; verb = verb; body = body.now }) }
-{
-    entry.caller == caller
-        && entry.number == number
-        && entry.moment.ns() == moment.ns()
-        && entry.verb.code() == verb.code()
-        && entry.body.as_slice() == body
-}
-
 /// Why an act that was refused, or whose number was used, is no entry of a legal history.
 fn fault_of(refusal: &Refusal) -> ReplayFault
-    ensures { result ≡ ReplayFault.NotLegal → refusal.now ≡ Refusal.NoMemory → ⊥ }
+    ensures { result ≡ ReplayFault.NoMemory ↔ refusal.now ≡ Refusal.NoMemory }
 {
     match refusal {
         Refusal::NoMemory => ReplayFault::NoMemory,
@@ -106,6 +89,36 @@ fn fault_of(refusal: &Refusal) -> ReplayFault
 }
 
 impl Core {
+    /// Whether the key of the caller with this number is known as that caller's.
+    fn has_own_key(&self, caller: u32) -> bool
+        ensures { IsTrue result ↔
+            (caller_named self.now.founder (members (deeds self.now.history)) caller ≡ Some caller) }
+    {
+        let key = key_at(self.founder(), self.members(), caller);
+        match self.roster().caller_of(self.founder(), &key) {
+            Some(known) => known.number == caller,
+            None => false,
+        }
+    }
+
+    /// Whether an entry of these fields may come next, as far as is seen without the meaning of its body. No memory is
+    /// taken for it.
+    fn may_follow(&self, caller: u32, number: u64, moment: Instant, verb: Verb, body: &[u8]) -> bool
+        ensures { IsTrue result ↔ MayFollow self.now.founder self.now.history (record {
+          caller = caller;
+          number = number;
+          moment = moment;
+          verb = verb;
+          body = body.now;
+        }) }
+    {
+        size_refusal(body).is_none()
+            && is_number_of(verb, number)
+            && self.has_own_key(caller)
+            && self.book().find(caller, number).is_none()
+            && next_moment(self.filed(), moment).ns() == moment.ns()
+    }
+
     /// The act of this request, ready to become the next entry.
     fn come_again(&mut self, request: &Request, moment: Instant) -> Result<Prepared, ReplayFault>
         requires act { is_act request.now.verb ≡ true }
@@ -154,8 +167,9 @@ impl Core {
     ///
     /// # Errors
     ///
-    /// `NotLegal` exactly where the office would not have made this entry, and `NoMemory` where memory was refused. The
-    /// history is then as it was.
+    /// `NotLegal` exactly where the office would not have made this entry, and `NoMemory` where memory was refused:
+    /// never for an entry that can't come next by its moment, its caller, its number or its body's size. The history is
+    /// then as it was.
     pub fn replay(
         &mut self,
         caller: u32,
@@ -169,6 +183,9 @@ impl Core {
         ensures not_legal { IsErrOf result ReplayFault.NotLegal →
             IfSome (entry_of caller number moment verb body.now) (λ entry.
             IsAdded self.old.founder self.old.history entry → ⊥) }
+        ensures no_memory { IsErrOf result ReplayFault.NoMemory →
+            IsSomeAnd (entry_of caller number moment verb body.now) (λ entry.
+            IsInstantNs entry.moment × MayFollow self.old.founder self.old.history entry) }
         ensures as_before { OnErr result (self.new.history ≡ self.old.history) }
         ensures founder { self.new.founder ≡ self.old.founder }
     {
@@ -178,17 +195,18 @@ impl Core {
         let Some(moment) = Instant::new(moment) else {
             return Err(ReplayFault::NotLegal);
         };
+        if !self.may_follow(caller, number, moment, verb, body) {
+            return Err(ReplayFault::NotLegal);
+        }
         let Ok(request) = self.request_again(caller, number, verb, body) else {
             return Err(ReplayFault::NoMemory);
         };
-        let prepared = match self.come_again(&request, moment) {
-            Ok(prepared) => prepared,
-            Err(fault) => return Err(fault),
-        };
-        if !is_entry(prepared.entry(), caller, number, moment, verb, body) {
-            return Err(ReplayFault::NotLegal);
+        match self.come_again(&request, moment) {
+            Ok(prepared) => {
+                self.commit(prepared);
+                Ok(())
+            }
+            Err(fault) => Err(fault),
         }
-        self.commit(prepared);
-        Ok(())
     }
 }

@@ -13,7 +13,7 @@ use Rattle.object_rules.specs.Noting.{homed_by}
 use Rattle.desk_core.specs.Filed.{history_of}
 use Rattle.desk_core.specs.Objects.{StandFor, UsesObjects}
 use Rattle.desk_core.specs.Office.{Office, Room, IsReadyAt, held_in, UsesRoom}
-use Rattle.desk_core.proofs.Committing.{answered, members_are, members_within, tables_are, held_are, objects_are, bytes_are, used}
+use Rattle.desk_core.proofs.Committing.{answered, members_are, members_within, tables_are, held_are, objects_are, bytes_are, were_read, used}
 use Rattle.desk_core.proofs.office.Core.commit.Goals as goal
 
 pub invariant_of-self : goal.invariant_of-self
@@ -42,6 +42,7 @@ invariant_of-self c =
           c.self.invariant.4,
       objects_are items f ready at e a c.note.new.self stands,
       bytes_are items f ready at e a c.self.inside.used c.saturating_add-self-inside.result c.entry_size-size.result c.saturating_add-self-inside.ensures c.self.invariant.6 (c.entry_size-size.ensures ∙ ap (λ (b : List ℕ). entry_size b) c.as_slice.ensures),
+      were_read items f ready at e a c.into_parts-filed.ensures.read c.self.invariant.7,
     )
 
 pub returns-clause-used : goal.returns-clause-used

@@ -1,8 +1,10 @@
-use Rattle.std.proofs.Common.{subst}
+use Rattle.std.proofs.Common.{subst, sym, ap, ◌∙◌}
 use Rattle.act_model.specs.declared.act.Act.TheVariants as act
 use Rattle.act_model.specs.Acts.{IsRead}
+use Rattle.act_model.specs.Deeds.{deeds}
 use Rattle.act_model.specs.Doing.{does}
-use Rattle.desk_core.proofs.ObjectLemmas.{done_fits, done_exactly}
+use Rattle.desk_core.specs.Doing.{IsActAtOnce}
+use Rattle.desk_core.proofs.ObjectLemmas.{done_fits, done_exactly, designates_at_once, numbers_at_once}
 use Rattle.desk_core.proofs.office.Core.does.Goals as goal
 
 pub returns-in-Designate-clause-fits : goal.returns-in-Designate-clause-fits
@@ -28,3 +30,15 @@ unfolding does
 returns-in-Number-clause-fits c =
     done_fits c.acts_fit.ensures c.args.self.now.history c.args.moment (act.Number c.in-Number.first c.in-Number.most) c.numbers.result
     (subst IsRead c.in-Number.is c.requires.read) c.numbers.ensures.due c.numbers.ensures.kind
+
+pub returns-in-Designate-clause-exact : goal.returns-in-Designate-clause-exact
+returns-in-Designate-clause-exact c = λ once.
+    let past = deeds c.args.self.now.history in
+    designates_at_once past c.args.moment c.designates.result c.in-Designate.tracklets c.designates.ensures.unknown (subst (IsActAtOnce past) c.in-Designate.is once)
+    ∙ ap (does past c.args.moment) (sym c.in-Designate.is)
+
+pub returns-in-Number-clause-exact : goal.returns-in-Number-clause-exact
+returns-in-Number-clause-exact c = λ once.
+    let past = deeds c.args.self.now.history in
+    numbers_at_once past c.args.moment c.numbers.result c.in-Number.first c.in-Number.most c.numbers.ensures.not_next (subst (IsActAtOnce past) c.in-Number.is once)
+    ∙ ap (does past c.args.moment) (sym c.in-Number.is)

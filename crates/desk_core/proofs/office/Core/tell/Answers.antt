@@ -1,5 +1,12 @@
-use Rattle.desk_core.proofs.Telling.{due_query}
+use Rattle.std.proofs.Common.{◌≡◌, Result, List, ℕ, Err, inl, sym, subst}
+use Rattle.std.specs.Prelude.{IfErr}
+use Rattle.act_model.specs.declared.reply.Refusal.{Refusal}
+use Rattle.act_model.specs.Rows.{IsDue}
+use Rattle.desk_core.proofs.ClaimLemmas.{told_heard, told_unheard, if_refused}
 use Rattle.desk_core.proofs.office.Core.tell.Goals as goal
 
-pub returns-in-Query : goal.returns-in-Query
-returns-in-Query c = due_query c.args.self.now.history c.args.heard c.in-Query.query c.told.result c.in-Query.is c.told.ensures
+pub returns-in-Err-clause-due : goal.returns-in-Err-clause-due
+returns-in-Err-clause-due c = inl (told_unheard c.args.claim c.args.verb c.args.bytes.now c.args.self.now.history c.in-Err.refusal c.in-Err.ensures.refused)
+
+pub returns-in-Err-clause-refused : goal.returns-in-Err-clause-refused
+returns-in-Err-clause-refused c = if_refused _ _ c.in-Err.refusal (told_unheard c.args.claim c.args.verb c.args.bytes.now c.args.self.now.history c.in-Err.refusal c.in-Err.ensures.refused)
