@@ -1,5 +1,5 @@
 -- The fields of a name, one field after the other.
-use Rattle.std.proofs.Common.{◌≡◌, ℕ, List, [], ◌∷◌, ◌++◌, ap, ◌∙◌, subst}
+use Rattle.std.proofs.Common.{◌≡◌, ℕ, List, [], ◌∷◌, ◌++◌, ap, subst}
 use Rattle.std.specs.Borrow.{Bor}
 use Rattle.desk_http.specs.declared.head.Named.{Named}
 use Rattle.desk_http.specs.declared.head.Named.TheVariants as named

@@ -3,6 +3,7 @@ pub mod Fields
 pub mod Messages
 pub mod Scans
 pub mod Fronts
+pub mod Looks
 pub mod Pieces
 pub mod Wholes
 pub mod Written

@@ -76,14 +76,14 @@ nothing_stands m rest a =
     absurd (omega (arith, simp length-append at (ap length a.head.reads.1)))
 
 -- the request `GET / HTTP/1.1`
-plain_head : RequestHead
+pub plain_head : RequestHead
 plain_head = record { blank = []; method = codes "GET"; target = codes "/"; minor = 1; line_end = crlf; fields = []; last = crlf }
 
 slash_ascii : (i : ℕ) → slice_index (codes "/") i < 128
 slash_ascii zero = lit< tt
 slash_ascii (suc i) = lit< tt
 
-plain_is : IsRequestHead plain_head
+pub plain_is : IsRequestHead plain_head
 unfolding plain_head is_token_byte
 plain_is =
     let token : ℕ → Type 0 = λ b. IsTrue (is_token_byte b) in

@@ -1,6 +1,6 @@
 -- The answer of a reply, whose head is written before its text.
 use Rattle.std.proofs.Common.{◌≡◌, ℕ, ◌+◌, ◌≤◌, List, [], ◌++◌, length, take, drop, Option, refl, sym, ap, ◌∙◌, subst, append_assoc, arith}
-use Rattle.std.proofs.lemmas.List.{length-append, take-append-le, take_at, drop_at}
+use Rattle.std.proofs.lemmas.List.{length-append, take-append-drop, take-append-le, take_at, drop_at}
 use Rattle.std.proofs.KnownBytes.{Appends-trans}
 use Rattle.std.specs.Io.KnownBytes.{Appends}
 use lib.Seq.{take-add}
@@ -24,6 +24,12 @@ module _ (old new : Option (List ℕ)) (head text answer : List ℕ) (joined : a
       ∙ ap (λ (t : List ℕ). t ++ take n (drop (length head) (head ++ text))) (take_at head text (length head) refl)
       ∙ ap (λ (t : List ℕ). head ++ take n t) (drop_at head text (length head) refl) in
       (length head + n, omega (arith, part.1, ap length joined, length-append head text), subst (Appends old new) (sym same) (Appends-trans old mid new head (take n text) before part.2))
+
+-- the head and a front of the text, and then the rest of the text, are the answer
+pub first_and_rest : (head front rest text first : List ℕ) (n : ℕ) → first ≡ head ++ front → front ≡ take n text → rest ≡ drop n text → head ++ text ≡ first ++ rest
+first_and_rest head front rest text first n filled before after =
+    let whole : front ++ rest ≡ text = ap (λ (t : List ℕ). t ++ rest) before ∙ ap (λ (t : List ℕ). take n text ++ t) after ∙ take-append-drop n text in
+    sym (ap (λ (t : List ℕ). t ++ rest) filled ∙ append_assoc head front rest ∙ ap (λ (t : List ℕ). head ++ t) whole)
 
 -- what follows a text that was put after another
 put_behind : (new old text rest : List ℕ) → new ≡ old ++ text → new ++ rest ≡ old ++ (text ++ rest)

@@ -1,15 +1,16 @@
 //! What the head of a request says.
 
-ghost use Rattle.std.specs.Prelude.{◌≡◌, ◌≤◌, ℕ, List, [], ◌∷◌, ◌++◌, length, map, All, codes, is_some};
+ghost use Rattle.std.specs.Prelude.{◌≡◌, ◌≤◌, ℕ, List, [], ◌∷◌, ◌++◌, length, map, All, codes, is_some, take};
 ghost use Rattle.httparse.specs.Spans.{IsWithin, IsHeaderWithin, IsRequestWithin, IsRequestOf, header_bytes};
 ghost use Rattle.httparse.specs.Spans.{span_bytes};
 ghost use Rattle.http1.specs.Fields.{values_named};
 ghost use Rattle.desk_http.specs.Heads.{key_in, length_in, body_length, uncoded, names_close, said_of};
-ghost use Rattle.desk_http.specs.Scans.{scanned};
+ghost use Rattle.httparse.specs.Grammar.{MayBecomeRequest};
 ghost use Rattle.desk_http.specs.Fronts.{IsNamed, ReadsFront};
+ghost use Rattle.desk_http.specs.Reading.{IsLooked};
 
 use crate::route::{Asked, asked_of};
-use crate::scan::Scan;
+use crate::scan::{Looked, is_due, scan_more};
 use crate::{HEAD_BYTES, HEAD_FIELDS, LENGTH_DIGITS};
 use act_bodies::Key;
 use ascii_text::digits::Radix;
@@ -186,7 +187,9 @@ fn front_of(bytes: &[u8], spans: &RequestSpans, headers: &[HeaderSpan]) -> Front
 
 /// Looks for a head at the front of the bytes that have come so far. It parses them once.
 pub fn read_head(bytes: &[u8]) -> Front
-    ensures { ReadsFront bytes.now result }
+    ensures front { ReadsFront bytes.now result }
+    // After bytes that settle that no head comes, none is awaited.
+    ensures unsettled { result ≡ Front.Part → MayBecomeRequest bytes.now }
 {
     let mut headers = [EMPTY_HEADER_SPAN; HEAD_FIELDS];
     match parse_request(bytes, &mut headers) {
@@ -197,14 +200,25 @@ pub fn read_head(bytes: &[u8]) -> Front
     }
 }
 
-/// What the front of the bytes is that have come so far, where a scan has gone over them: they are parsed
-/// where a head has ended, or the longest one would have.
-pub fn next_front(bytes: &[u8], scan: Scan) -> Front
-    requires { scan ≡ scanned bytes.now }
-    ensures { ReadsFront bytes.now result }
+/// What the front of the bytes is that have come so far, where those that had come before were looked at. They are
+/// parsed where that can say more than the last parse did.
+pub fn next_front(bytes: &[u8], before: &Looked) -> (Front, Looked)
+    requires { (before.now.seen ≤ length bytes.now) × IsLooked (take before.now.seen bytes.now) before.now }
+    ensures front { ReadsFront bytes.now result.0 }
+    ensures looked { result.0 ≡ Front.Part → IsLooked bytes.now result.1 }
 {
-    if !scan.is_ended() && bytes.len() < HEAD_BYTES {
-        return Front::Part;
+    let (_, fresh) = bytes.split_at(before.seen);
+    let now = Looked {
+        scan: scan_more(before.scan, fresh),
+        seen: bytes.len(),
+        parsed: before.parsed,
+    };
+    if !is_due(before.scan, &now, fresh) {
+        return (Front::Part, now);
     }
-    read_head(bytes)
+    let looked = Looked {
+        parsed: now.seen,
+        ..now
+    };
+    (read_head(bytes), looked)
 }

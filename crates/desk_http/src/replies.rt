@@ -21,6 +21,9 @@ use std::fmt::{Display, Formatter};
 /// The most bytes that the head of an answer has.
 const ANSWER_HEAD_BYTES: usize = 160;
 
+/// How many bytes of an answer are written at first: an answer that isn't longer leaves in one write.
+const FIRST_BYTES: usize = 4_096;
+
 /// Why an answer wasn't sent whole.
 #[derive(Clone, Copy, Debug, PartialEq, Eq)]
 pub enum SendFault {
@@ -106,7 +109,20 @@ fn answer_head(status: u16, size: u64, last: bool) -> ArrayVec<u8, ANSWER_HEAD_B
     head
 }
 
-// Writes an answer with this status and this text. It takes no memory.
+// The head of an answer, and as much of the text as has room behind it.
+fn first_bytes(head: &[u8], text: &[u8]) -> ArrayVec<u8, FIRST_BYTES>
+    requires short { length head.now ≤ ANSWER_HEAD_BYTES }
+    requires fits { length head.now + length text.now ≤ FIRST_BYTES }
+    ensures { result.items ≡ head.now ++ text.now }
+{
+    let mut first = ArrayVec::new();
+    first.try_extend_from_slice(head).unwrap();
+    first.try_extend_from_slice(text).unwrap();
+    first
+}
+
+// Writes an answer with this status and this text. It takes no memory. Head and text leave together where they fit a
+// buffer; else the buffer is filled, and the rest of the text follows.
 #[tactic(auto, unfolding(crate::specs::ReplyTexts::answer_text))]
 fn write_answer<K: Sink>(sink: &mut K, status: u16, text: &[u8], last: bool) -> Result<(), Failed>
     ensures whole { OnOk result (Appends (K.taken sink.old) (K.taken sink.new) (answer_text status text.now last)) }
@@ -118,8 +134,10 @@ fn write_answer<K: Sink>(sink: &mut K, status: u16, text: &[u8], last: bool) -> 
 {
     let written = answer_head(status, text.len() as u64, last);
     let head = written.as_slice();
-    write_all(sink, head)?;
-    write_all(sink, text)
+    let (front, rest) = text.split_at(text.len().min(FIRST_BYTES - head.len()));
+    let first = first_bytes(head, front);
+    write_all(sink, first.as_slice())?;
+    write_all(sink, rest)
 }
 
 // The same, with the fault that a caller is told.

@@ -1,7 +1,11 @@
-//! How far a head has come, so that it is parsed once, when it is whole.
+//! How far a head has come, so that it is parsed where its parse can say more than the one before it did.
 
-ghost use Rattle.std.specs.Prelude.{◌≡◌, ◌++◌, List, ℕ};
+ghost use Rattle.std.specs.Prelude.{◌≡◌, ◌≢◌, ◌+◌, ◌<◌, ◌≤◌, ◌⊎◌, ◌++◌, List, ℕ, length, false, Contains};
 ghost use Rattle.desk_http.specs.Scans.{is_ended, scan_byte, scanned};
+ghost use Rattle.desk_http.specs.declared.TheConstants.{HEAD_BYTES};
+ghost use Rattle.desk_http.specs.declared.scan.Scan.TheVariants.{Blank};
+
+use crate::HEAD_BYTES;
 
 /// How far a head has come.
 #[derive(Clone, Copy, Debug, PartialEq, Eq)]
@@ -56,4 +60,55 @@ pub fn scan_more(scan: Scan, bytes: &[u8]) -> Scan
         now = scan_byte(now, *byte);
     }
     now
+}
+
+/// How far the bytes that have come were looked at.
+#[derive(Clone, Copy, Debug)]
+pub struct Looked {
+    /// How far a head has come with them.
+    pub scan: Scan,
+    /// How many they were.
+    pub seen: usize,
+    /// How many of them were parsed last.
+    pub parsed: usize,
+}
+
+impl Looked {
+    /// No byte has come.
+    pub fn nothing() -> Looked
+        ensures { result ≡ record { scan = Blank; seen = 0; parsed = 0 } }
+    {
+        Looked {
+            scan: Scan::Blank,
+            seen: 0,
+            parsed: 0,
+        }
+    }
+}
+
+// Whether a line feed came with these bytes but those of empty lines in front of the head.
+fn is_line_over(before: Scan, now: Scan, fresh: &[u8]) -> bool
+    ensures { result ≡ false → (now ≡ Blank) ⊎ ((before ≢ Blank) × ¬ (Contains fresh.now 10)) }
+{
+    match (before, now) {
+        (_, Scan::Blank) => false,
+        (Scan::Blank, _) => true,
+        _ => fresh.contains(&b'\n'),
+    }
+}
+
+/// Whether the bytes are parsed now that these ones have come: where a head has ended, or the longest one would have,
+/// where a line has, and where more bytes have come since the last parse than it was of.
+///
+/// A head has few lines, so that it is parsed in time linear in its bytes, however they come.
+pub fn is_due(before: Scan, now: &Looked, fresh: &[u8]) -> bool
+    ensures lines { result ≡ false → (now.now.scan ≡ Blank) ⊎ ((before ≢ Blank) × ¬ (Contains fresh.now 10)) }
+    ensures half { result ≡ false → now.now.seen ≤ now.now.parsed + now.now.parsed }
+    ensures unended { result ≡ false → is_ended now.now.scan ≡ false }
+    ensures short { result ≡ false → now.now.seen < HEAD_BYTES }
+{
+    is_line_over(before, now.scan, fresh)
+        || now.scan.is_ended()
+        || now.seen >= HEAD_BYTES
+        || now.seen.saturating_sub(now.parsed) > now.parsed
 }

@@ -10,7 +10,7 @@ ghost use Rattle.desk_http.specs.Answers.{ReadsBody, ReadsWhole};
 
 use crate::head::{Front, HeadParts, next_front};
 use crate::heard::{Ending, Heard, Whole};
-use crate::scan::{Scan, scan_more};
+use crate::scan::Looked;
 use act_model::{BODY_BYTES, Body, Request};
 use desk_io::{Failed, NoMemory, Source};
 use read_ahead::ReadAhead;
@@ -98,14 +98,12 @@ fn read_head<S: Source>(ahead: &mut ReadAhead, source: &mut S) -> Result<HeadPar
     ensures work { work (S.reads source.new) ahead.new ≤ work (S.reads source.old) ahead.old }
     ensures progress { OnOk result (work (S.reads source.new) ahead.new < work (S.reads source.old) ahead.old) }
 {
-    let mut scan = Scan::Blank;
-    let mut seen = 0;
+    let mut looked = Looked::nothing();
     'pieces: loop {
         let pending = ahead.bytes();
-        let (_, fresh) = pending.split_at(seen);
-        scan = scan_more(scan, fresh);
-        seen = pending.len();
-        match next_front(pending, scan) {
+        let (front, now) = next_front(pending, &looked);
+        looked = now;
+        match front {
             Front::Whole { parts, size } => {
                 ahead.skip(size);
                 return Ok(parts);

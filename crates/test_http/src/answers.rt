@@ -100,3 +100,47 @@ fn is_cut_off(alloc: Global) -> bool {
 fn answer_into_a_narrow_sink(rt: HostRuntime) {
     assert!(rt; is_cut_off(rt.alloc()));
 }
+
+// Answers 200 with so many bytes of text, into a sink of which the write with this number fails, and whether they are
+// sent. The head has 67 bytes beside a text of four digits, so that the second answer has 4,096 bytes and leaves in one
+// write, and the third one has a byte more and takes two; the last one takes no third.
+const WRITES: &[(u64, u64, bool)] = &[
+    (10, 1, false),
+    (10, 2, true),
+    (4_029, 2, true),
+    (4_030, 2, false),
+    (4_030, 3, true),
+    (1_000_000, 2, false),
+    (1_000_000, 3, true),
+];
+
+// Whether such an answer is sent, or isn't, as it is wanted.
+fn is_written(alloc: Global, size: u64, fails: u64, is_wanted: bool) -> bool {
+    let mut text = Bytes::new(alloc);
+    for _ in 0..size {
+        if text.push(b'x').is_err() {
+            return false;
+        }
+    }
+    match MemSink::new(alloc, 2_000_000, &[fails]) {
+        Ok(mut sink) => {
+            write_reply(alloc, &mut sink, &Reply::Done(text), false).is_ok() == is_wanted
+        }
+        Err(_) => false,
+    }
+}
+
+// The first row that is written otherwise, counted from 0; None where there is none.
+fn wrong_write(alloc: Global, rows: &[(u64, u64, bool)]) -> Option<usize> {
+    for (place, &(size, fails, is_wanted)) in rows.iter().enumerate() {
+        if !is_written(alloc, size, fails, is_wanted) {
+            return Some(place);
+        }
+    }
+    None
+}
+
+#[test]
+fn writes_of_an_answer(rt: HostRuntime) {
+    assert_eq!(rt; wrong_write(rt.alloc(), WRITES), None);
+}

@@ -201,3 +201,47 @@ fn wrong_body(alloc: Global, rows: &[(Long, u64)]) -> Option<usize> {
 fn long_bodies(rt: HostRuntime) {
     assert_eq!(rt; wrong_body(rt.alloc(), LONG_BODIES), None);
 }
+
+// Fronts of no head, in pieces of so many bytes, and the read that fails: what settles that no head comes has come
+// before. That is a line feed, or not half of the bytes.
+const SETTLED: &[(&[u8], usize, u64)] = &[
+    // the first byte of a TLS hello: no method has it
+    (b"\x16\x03\x01\x02\x00\x01\x00", 1, 2),
+    // a word, and the end of its line
+    (b"hello\nyou", 1, 7),
+    (b"GET\r\nyou", 1, 6),
+    // the 24th byte is a version that there isn't, and no line ends
+    (
+        b"GET /v1/ask/tally HTTP/2.0 and so on without an end of the line",
+        1,
+        48,
+    ),
+    // a field without a colon, at its line's end
+    (b"GET / HTTP/1.1\r\nbad field\r\nyou", 1, 28),
+    // the same, and its line ends inside the second piece
+    (b"GET / HTTP/1.1\r\nHost: localhost\r\nx y\r\nmore", 33, 3),
+    // the fifth byte, after two empty lines: no method has it
+    (b"\r\n\r\n\x80 and so on", 1, 10),
+    // the 33rd field, of five bytes as the 32 before it
+    (
+        b"GET / HTTP/1.1\r\na:b\r\na:b\r\na:b\r\na:b\r\na:b\r\na:b\r\na:b\r\na:b\r\na:b\r\na:b\r\na:b\r\na:b\r\na:b\r\na:b\r\na:b\r\na:b\r\n\
+a:b\r\na:b\r\na:b\r\na:b\r\na:b\r\na:b\r\na:b\r\na:b\r\na:b\r\na:b\r\na:b\r\na:b\r\na:b\r\na:b\r\na:b\r\na:b\r\na:b\r\nyou",
+        1,
+        182,
+    ),
+];
+
+// The first of them that isn't answered before that read, counted from 0; None where each is.
+fn late_answer(alloc: Global, rows: &[(&[u8], usize, u64)]) -> Option<usize> {
+    for (place, &(text, greatest, fails)) in rows.iter().enumerate() {
+        if !is_heard(alloc, text, greatest, fails, &[Want::Unread]) {
+            return Some(place);
+        }
+    }
+    None
+}
+
+#[test]
+fn settled_before_the_end(rt: HostRuntime) {
+    assert_eq!(rt; late_answer(rt.alloc(), SETTLED), None);
+}
