@@ -1,14 +1,15 @@
 #!/usr/bin/env python3
 """Eight connections at once, beside one connection after another: tallies and submissions over loopback against the built
-program's `serve`. Prints requests a second and the median and 99th percentile of the latency, and ends with 1 where an answer
-was another one than was wanted.
+program's `serve`, and then against a plain server: a few lines of C that read a request, sync its body and a byte more to a
+file where it has one, and write an answer of the same length. Prints requests a second and the median and 99th percentile of
+the latency, and the office's speed beside the plain server's; ends with 1 where an answer was another one than was wanted.
 
 A connection sends each request when it has the answer to the one before. Tallies change nothing; each submission is a batch of
 two lines, so that it goes through the journal's two syncs. Each connection has a caller of its own. The clients are processes,
 so that they don't hold one another up; a machine with few processors measures them too.
 
 Build the program first (examples/office | (cd crates/mpc_cli && rt run -- run --key +founder-1)); port 8017 of this machine
-must be free. Then: python3 bench/load.py [TALLIES [SUBMISSIONS]], for each connection; at most 1,000.
+must be free, and cc be there. Then: python3 bench/load.py [TALLIES [SUBMISSIONS]], for each connection; at most 1,000.
 """
 import multiprocessing
 import os
@@ -24,6 +25,64 @@ COUNTS = [int(word) for word in sys.argv[1:]]
 TALLIES = COUNTS[0] if COUNTS else 1_000
 SUBMISSIONS = COUNTS[1] if len(COUNTS) > 1 else 300
 CONNECTIONS = 8
+
+PLAIN = r"""
+#define _GNU_SOURCE
+#include <arpa/inet.h>
+#include <fcntl.h>
+#include <netinet/tcp.h>
+#include <pthread.h>
+#include <stdio.h>
+#include <stdlib.h>
+#include <string.h>
+#include <unistd.h>
+
+static pthread_mutex_t turn = PTHREAD_MUTEX_INITIALIZER;
+static int file;
+static const char tally[] = "HTTP/1.1 200 OK\r\nContent-Length: 54\r\nContent-Type: text/plain\r\n\r\n"
+                            "entries 0\nisolated 0\nobjects 0\nretracted 0\naccepted 0\n";
+
+static void keep(const char *body, size_t size) {
+  pthread_mutex_lock(&turn);
+  if (write(file, body, size) < 0 || fsync(file) || write(file, "", 1) < 0 || fsync(file)) exit(1);
+  pthread_mutex_unlock(&turn);
+}
+
+static void *attend(void *given) {
+  int peer = (int)(long)given;
+  char bytes[65537];
+  size_t come = 0;
+  for (;;) {
+    char *end, *length;
+    ssize_t more = recv(peer, bytes + come, 65536 - come, 0);
+    if (more <= 0) break;
+    bytes[come += more] = 0;
+    while ((end = strstr(bytes, "\r\n\r\n"))) {
+      size_t head = end + 4 - bytes, size = (length = strstr(bytes, "Content-Length: ")) ? atol(length + 16) : 0;
+      if (come < head + size) break;
+      if (size) keep(bytes + head, size);
+      if (send(peer, tally, sizeof tally - 1, 0) < 0) break;
+      memmove(bytes, bytes + head + size, (come -= head + size) + 1);
+    }
+  }
+  close(peer);
+  return 0;
+}
+
+int main(void) {
+  int listener = socket(AF_INET, SOCK_STREAM, 0), one = 1;
+  struct sockaddr_in place = {.sin_family = AF_INET, .sin_port = htons(8017), .sin_addr = {htonl(INADDR_LOOPBACK)}};
+  file = open("plain.journal", O_CREAT | O_WRONLY | O_APPEND, 0600);
+  setsockopt(listener, SOL_SOCKET, SO_REUSEADDR, &one, sizeof one);
+  if (file < 0 || bind(listener, (void *)&place, sizeof place) || listen(listener, 128)) return 1;
+  for (;;) {
+    pthread_t thread;
+    int peer = accept(listener, 0, 0);
+    setsockopt(peer, IPPROTO_TCP, TCP_NODELAY, &one, sizeof one);
+    if (peer >= 0 && pthread_create(&thread, 0, attend, (void *)(long)peer) == 0) pthread_detach(thread);
+  }
+}
+"""
 
 
 def connect():
@@ -96,7 +155,21 @@ def measure(name, make, callers, first, count):
     took = sorted(second for part, _ in found for second in part)
     print(f"{name:12} {len(callers)} connection(s): {len(took):6} requests, {len(took) / seconds:8.0f} requests/s, "
           f"median {1e3 * took[len(took) // 2]:7.3f} ms, 99th percentile {1e3 * took[len(took) * 99 // 100]:7.3f} ms")
-    return all(good for _, good in found)
+    return all(good for _, good in found), len(took) / seconds
+
+
+def plain_server(folder):
+    """The plain server, built in this folder and started."""
+    with open(os.path.join(folder, "plain.c"), "w") as file:
+        file.write(PLAIN)
+    subprocess.run(["cc", "-O2", "-pthread", "-o", "plain", "plain.c"], cwd=folder, check=True)
+    return subprocess.Popen([os.path.join(folder, "plain")], cwd=folder)
+
+
+def measure_all(rows):
+    """Each row in turn. Says whether each answer was 200, and the requests a second of each row."""
+    found = [measure(*row) for row in rows]
+    return all(good for good, _ in found), [speed for _, speed in found]
 
 
 def set_up():
@@ -117,18 +190,27 @@ def main():
     if not os.access(PROGRAM, os.X_OK):
         sys.exit("build the program first")
     everyone = range(1, CONNECTIONS + 1)
+    rows = [("tallies", tally, [1], 0, TALLIES), ("tallies", tally, everyone, 0, TALLIES),
+            ("submissions", submission, [1], 0, SUBMISSIONS),
+            ("submissions", submission, everyone, SUBMISSIONS, SUBMISSIONS)]
     with tempfile.TemporaryDirectory() as folder:
         office = subprocess.Popen([PROGRAM, "serve", "--connections", str(3 + 2 * CONNECTIONS), "--key", "+founder-1"],
                                   cwd=folder, stdout=subprocess.PIPE, text=True)
         good, acts = set_up()
-        good = measure("tallies", tally, [1], 0, TALLIES) and good
-        good = measure("tallies", tally, everyone, 0, TALLIES) and good
-        good = measure("submissions", submission, [1], 0, SUBMISSIONS) and good
-        good = measure("submissions", submission, everyone, SUBMISSIONS, SUBMISSIONS) and good
+        all_good, speeds = measure_all(rows)
         written, _ = office.communicate(timeout=60)
+        print("the plain server:")
+        plain = plain_server(folder)
+        try:
+            plain_good, plain_speeds = measure_all(rows)
+        finally:
+            plain.kill()
+            plain.wait()
+    for (name, _, callers, _, _), ours, theirs in zip(rows, speeds, plain_speeds):
+        print(f"{name:12} {len(callers)} connection(s): {ours / theirs:.2f} of the plain server's speed")
     entries = acts + SUBMISSIONS * (1 + CONNECTIONS)
     wanted = f"connections {3 + 2 * CONNECTIONS}\nentries {entries}\n"
-    if not good or written != wanted:
+    if not (good and all_good and plain_good) or written != wanted:
         print(f"NOT ok: an answer was another than 200, or the office ended with {written!r} in place of {wanted!r}")
         return 1
     return 0
