@@ -1,5 +1,5 @@
 -- The calls for the messages of a connection, one after another, and the answers to them.
-use Rattle.std.proofs.Common.{◌≡◌, ℕ, ◌+◌, ℤ, Bool, List, [], ◌∷◌, ◌++◌, length, Option, Some, None, refl, sym, ap, subst, ◌∙◌, arith, append_assoc, add-zero}
+use Rattle.std.proofs.Common.{◌≡◌, ℕ, ◌+◌, ℤ, Bool, List, [], ◌∷◌, ◌++◌, length, Option, Some, None, refl, sym, ap, subst, ◌∙◌, arith, append_assoc, add-zero, le_refl}
 use Rattle.std.specs.Prelude.{map, reverse, option_to_list}
 use Rattle.std.specs.List.{AllByRecursion, cons_option}
 use Rattle.std.proofs.lemmas.List.{append-nil, map-append, reverse-append}
@@ -9,7 +9,7 @@ use Rattle.act_model.specs.declared.request.Body.{Body}
 use Rattle.act_model.specs.declared.request.Request.{Request}
 use Rattle.intake_lock.specs.declared.view.Item.{Item}
 use Rattle.intake_lock.specs.declared.view.View.{View}
-use Rattle.intake_lock.specs.declared.clerk.Stamp.{Stamp}
+use Rattle.intake_lock.specs.declared.clerk.Stamps.{Stamps}
 use Rattle.intake_lock.specs.Clerks.{StampsOn}
 use Rattle.intake_lock.specs.Items.{IsTrue, AreTrue, AreStamped}
 use Rattle.intake_lock.specs.Views.{seen}
@@ -64,9 +64,9 @@ all_more P (y ∷ ys) x all here = (all.0, all_more P ys x all.1 here)
 
 -- ---- calls for messages
 
-stamps_refl : (stamps : Option (List Stamp)) → StampsOn stamps stamps
+stamps_refl : (stamps : Option Stamps) → StampsOn stamps stamps
 stamps_refl None = refl
-stamps_refl (Some stamps) = ([], ap (λ (l : List Stamp). Some l) (sym (append-nil stamps)))
+stamps_refl (Some stamps) = record { later = le_refl stamps.moment; newer = []; grown = sym (append-nil stamps.given) }
 
 -- no message was asked yet
 pub attends_none : (view : View) (clock : ClockState) → Attends view view clock clock []

@@ -44,7 +44,7 @@ module _ (laws : CallLaws) (founder : Key) (limit : Option ℕ) where
         next_is next (inl stepped) = step_adds founder limit is.past item.request (reading_of item) a.entry item.reply next adds stepped
         next_is next (inr (wants, stays)) = let done = a.done in absurd cc
 
-        by : ((next : List Entry) × Answers founder limit is.past item.request (reading_of item) item.reply next × Extends next history × StampTells is.past item.reading item.stamp next) ⊎ Failed item → item.position < length history
+        by : ((next : List Entry) × Answers founder limit is.past item.request (reading_of item) item.reply next × Extends next history × StampTells is.past item.reading item.stamp next) ⊎ Failed founder limit is.past item → item.position < length history
         by (inl (next, answers, goes_on, tells)) =
             let l = laws.longer next history goes_on in
             let n = ap length (next_is next answers) in
@@ -84,7 +84,7 @@ module _ (laws : CallLaws) (founder : Key) (limit : Option ℕ) where
         stands next next_is goes_on =
             subst (λ (h : List Entry). Extends (a.entry ∷ h) history) same (subst (λ (h : List Entry). Extends h history) next_is goes_on)
 
-        by : ((next : List Entry) × Answers founder limit is.past item.request (reading_of item) item.reply next × Extends next history × StampTells is.past item.reading item.stamp next) ⊎ Failed item
+        by : ((next : List Entry) × Answers founder limit is.past item.request (reading_of item) item.reply next × Extends next history × StampTells is.past item.reading item.stamp next) ⊎ Failed founder limit is.past item
             → IsSome item.reading × Extends (a.entry ∷ a.past) history × IfSome item.stamp (λ stamp. stamp.entries ≡ item.position + 1)
         by (inl (next, answers, goes_on, tells)) =
             let has = told item.reading next (next_is next answers) tells in (has.0, stands next (next_is next answers) goes_on, has.1)
@@ -165,7 +165,7 @@ StepKnowsNoDisk = (founder : Key) (limit : Option ℕ) (past after : List Entry)
 pub caused : StepKnowsNoDisk → (founder : Key) (limit : Option ℕ) (history : List Entry) (item : Item) → IsTrue founder limit history item → HasCause item
 caused never founder limit history item is doubt reply = by is.answered
   where
-    by : ((next : List Entry) × Answers founder limit is.past item.request (reading_of item) item.reply next × Extends next history × StampTells is.past item.reading item.stamp next) ⊎ Failed item → 0 < item.rise
+    by : ((next : List Entry) × Answers founder limit is.past item.request (reading_of item) item.reply next × Extends next history × StampTells is.past item.reading item.stamp next) ⊎ Failed founder limit is.past item → 0 < item.rise
     by (inl (next, inl stepped, goes_on, tells)) =
         absurd (never founder limit is.past next item.request (reading_of item) doubt (stepped ∙ ap (λ (r : Reply). (r, next)) reply))
     by (inl (next, inr (wants, stays), goes_on, tells)) = absurd cc
@@ -176,7 +176,7 @@ caused never founder limit history item is doubt reply = by is.answered
 stepped : (founder : Key) (limit : Option ℕ) (history : List Entry) (item : Item) → item.rise ≡ 0 → IsTrue founder limit history item → IsStepped founder limit history item
 stepped founder limit history item none is = by is.answered
   where
-    by : ((next : List Entry) × Answers founder limit is.past item.request (reading_of item) item.reply next × Extends next history × StampTells is.past item.reading item.stamp next) ⊎ Failed item → IsStepped founder limit history item
+    by : ((next : List Entry) × Answers founder limit is.past item.request (reading_of item) item.reply next × Extends next history × StampTells is.past item.reading item.stamp next) ⊎ Failed founder limit is.past item → IsStepped founder limit history item
     by (inl (next, answers, goes_on, tells)) = record { past = is.past; place = is.place; first = is.first; after = next; answers = answers; rest = goes_on }
     by (inr failed) = let rose = failed.rose in absurd (omega arith)
 

@@ -6,7 +6,7 @@ use Rattle.intake_lock.specs.declared.clerk.Office.{Office}
 use Rattle.act_model.specs.Clocks.{ClockState, Gives}
 use Rattle.act_model.specs.Conducts.{Extends}
 use Rattle.intake_lock.specs.declared.view.Item.{Item}
-use Rattle.intake_lock.specs.declared.clerk.Stamp.{Stamp}
+use Rattle.intake_lock.specs.declared.clerk.Stamps.{Stamps}
 use Rattle.intake_lock.specs.Clerks.{StampsOn}
 use Rattle.intake_lock.specs.Items.{IsTrue, Calls, HasStamp, AreStamped}
 use Rattle.desk_http.specs.Heads.{Message, IsMessage, NoMessage, NeverMessage}
@@ -29,8 +29,8 @@ pub record CallLaws : Type 0 where
   pub has_stamp : (before after : Office) (item : Item) → Calls before item after
       → HasStamp after.stamps item.reading item.stamp
   pub stamps : (before after : Office) (item : Item) → Calls before item after → StampsOn before.stamps after.stamps
-  pub stamps_follow : (a b c : Option (List Stamp)) → StampsOn a b → StampsOn b c → StampsOn a c
-  pub stamped_later : (a b : Option (List Stamp)) (items : List Item) → StampsOn a b → AreStamped a items
+  pub stamps_follow : (a b c : Option Stamps) → StampsOn a b → StampsOn b c → StampsOn a c
+  pub stamped_later : (a b : Option Stamps) (items : List Item) → StampsOn a b → AreStamped a items
       → AreStamped b items
 
 -- messages in bytes of which more may come

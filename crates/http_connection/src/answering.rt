@@ -10,7 +10,50 @@ use act_model::{Reply, Request, laws as office_laws};
 use desk_io::Clock;
 use intake_lock::{Clerk, Pass, Turn, TurnLock};
 use std::alloc::Global;
+use std::marker::Model;
 use std::sync::Wait;
+
+/// A lock for whoever answers one request after another. It offers that and nothing else, so that no turn can be held
+/// while a connection is read or written to.
+#[derive(Drop)]
+pub(crate) struct OneByOne<'a, V: Clerk> {
+    lock: &'a TurnLock<V>,
+}
+
+impl<'a, V: Clerk> Model for OneByOne<'a, V> {
+    ghost use Rattle.intake_lock.specs.Passes.{LockState};
+
+    ghost Value = { LockState };
+
+    ghost view = { λ o. o.lock.now };
+}
+
+impl<'a, V: Clerk> OneByOne<'a, V> {
+    /// The lock, of which no more than this can be used.
+    pub(crate) fn new(lock: &'a TurnLock<V>) -> OneByOne<'a, V>
+        ensures { result ≡ lock.now }
+    {
+        OneByOne { lock }
+    }
+
+    /// Answers one request, as `answer_one`.
+    pub(crate) fn answer<C: Clock, R: Wait>(
+        &self,
+        rt: &R,
+        alloc: Global,
+        pass: Pass,
+        request: &Request,
+        clock: &mut C,
+    ) -> (Pass, Reply)
+        requires { pass.lock ≡ self.now.id }
+        ensures pass { (result.0.lock ≡ pass.lock) × (result.0.id ≡ pass.id) × (result.0.view.role ≡ pass.view.role) }
+        ensures call { (item : Item) × (item.request ≡ request.now) × (item.reply ≡ result.1)
+            × TakesCall pass.view result.0.view (clock_of C.reading C.last clock.old)
+            (clock_of C.reading C.last clock.new) item }
+    {
+        answer_one(rt, alloc, self.lock, pass, request, clock)
+    }
+}
 
 // Asks the keeper of the turn. A request whose verb is an act takes one reading of the clock, whatever its answer, and
 // any other takes none.

@@ -8,7 +8,7 @@ ghost use Rattle.http_connection.specs.Attending.{is_last, IsAttended, ReadCount
 ghost use Rattle.http_connection.specs.Steps.{IsRefused, Becomes, GoesOn};
 
 use crate::ANSWERS;
-use crate::answering::answer_one;
+use crate::answering::OneByOne;
 use crate::laws::{call_laws, stream_laws};
 use crate::left::Left;
 use desk_http::{Heard, SendFault, Wire, laws as http_laws, write_reply, write_unread};
@@ -41,7 +41,7 @@ fn refuse_head<K: Sink>(sink: &mut K) -> Left
 fn answer_heard<V: Clerk, K: Sink, C: Clock, R: Wait>(
     rt: &R,
     alloc: Global,
-    lock: &TurnLock<V>,
+    lock: &OneByOne<V>,
     pass: Pass,
     heard: Heard,
     sink: &mut K,
@@ -60,7 +60,7 @@ fn answer_heard<V: Clerk, K: Sink, C: Clock, R: Wait>(
 {
     match heard {
         Heard::Request { request, last } => {
-            let (pass, reply) = answer_one(rt, alloc, lock, pass, &request, clock);
+            let (pass, reply) = lock.answer(rt, alloc, pass, &request, clock);
             let ended = match write_reply(alloc, sink, &reply, is_last(answered, last)) {
                 Ok(()) if last => Some(Left::Ended),
                 Ok(()) => None,
@@ -130,10 +130,12 @@ pub fn attend<V: Clerk, S: Source, K: Sink, C: Clock, R: Wait>(
     let Ok(mut wire) = Wire::new(alloc) else {
         return (pass, Left::NoMemory);
     };
+    // From here on a turn can be taken for one request alone: none is held while a message is read or answered.
+    let lock = OneByOne::new(lock);
     let mut mine = pass;
     'messages: for answered in 0..ANSWERS {
         let heard = wire.read_request(source);
-        let (next, ended) = answer_heard(rt, alloc, lock, mine, heard, sink, clock, answered);
+        let (next, ended) = answer_heard(rt, alloc, &lock, mine, heard, sink, clock, answered);
         mine = next;
         if let Some(left) = ended {
             return (mine, left);

@@ -9,6 +9,9 @@ use Rattle.act_model.specs.declared.entry.Entry.{Entry}
 use Rattle.intake_lock.specs.declared.clerk.Office.{Office}
 use Rattle.act_model.specs.declared.keeper.OfficeState.{OfficeState}
 use Rattle.act_model.specs.declared.reply.Reply.{Reply}
+use Rattle.act_model.specs.declared.reply.Reply.TheVariants.{Done, Refused}
+use Rattle.act_model.specs.declared.reply.Refusal.TheVariants.{DiskFault}
+use Rattle.act_model.specs.Replies.{entry_answer}
 use Rattle.act_model.specs.declared.request.Request.{Request}
 use Rattle.act_model.specs.Requests.{is_act}
 use Rattle.act_model.specs.Conducts.{Extends, EitherWay, Makes}
@@ -19,7 +22,7 @@ use Rattle.act_model.specs.Turns.{Turn, TakesReading, Answers, unless_untouched,
 use Rattle.intake_lock.specs.declared.view.Item.{Item}
 use Rattle.intake_lock.specs.declared.view.View.{View}
 use Rattle.intake_lock.specs.Rule.{IsCall, IsOrigin, Origins, Comes}
-use Rattle.intake_lock.proofs.Stamps.{one_counts}
+use Rattle.intake_lock.proofs.StampLemmas.{one_counts, called_came, come_kept}
 use Rattle.intake_lock.specs.Items.{reading_of, StampTells, IsTrue, AreTrue, rises, turn_of, TakesAt, Called, RisesBy}
 
 -- ---- beginnings
@@ -77,28 +80,25 @@ abbrev pub StepLaw : Type 0
 StepLaw = (founder : Key) (limit : Option ℕ) (past after : List Entry) (request : Request) (reading : ℤ) (reply : Reply) → step founder limit past request reading ≡ (reply, after)
     → Makes past (outcome founder limit past request reading) reply after
 
--- the history is as it was, or it has one entry more, which becomes of the request
-abbrev pub OneMore : Key → Option ℕ → List Entry → Request → ℤ → List Entry → Type 0
-OneMore founder limit past request reading after = (after ≡ past) ⊎ ((entry : Entry) × (outcome founder limit past request reading ≡ Adds entry) × (after ≡ entry ∷ past))
+-- the history is as it was, or it has one entry more, which becomes of the request, and the reply is its answer
+abbrev pub OneMore : Key → Option ℕ → List Entry → Request → ℤ → Reply → List Entry → Type 0
+OneMore founder limit past request reading reply after = Makes past (outcome founder limit past request reading) reply after
 
 -- the reading of an item
 reading_is : (item : Item) (reading : Option ℤ) → item.reading ≡ reading → unwrap_or reading (pos 0) ≡ reading_of item
 reading_is item reading is = sym (ap (λ (o : Option ℤ). unwrap_or o (pos 0)) is)
 
 module _ (steps : StepLaw) (founder : Key) (limit : Option ℕ) where
-  one_more : (past : List Entry) (q : Request) (t : ℤ) (reply : Reply) (after : List Entry) → Answers founder limit past q t reply after → OneMore founder limit past q t after
-  one_more past q t reply after (inl is) = elim (steps founder limit past after q t reply is) [
-    | inl same ↦ inl same
-    | inr added ↦ inr (added.0, added.1, added.3)
-  ]
+  one_more : (past : List Entry) (q : Request) (t : ℤ) (reply : Reply) (after : List Entry) → Answers founder limit past q t reply after → OneMore founder limit past q t reply after
+  one_more past q t reply after (inl is) = steps founder limit past after q t reply is
   one_more past q t reply after (inr (wants, same)) = inl same
 
-  more_extends : (past : List Entry) (q : Request) (t : ℤ) (after : List Entry) → OneMore founder limit past q t after → Extends past after
-  more_extends past q t after (inl same) = ([], same)
-  more_extends past q t after (inr (e, adds, is)) = (e ∷ [], is)
+  more_extends : (past : List Entry) (q : Request) (t : ℤ) (reply : Reply) (after : List Entry) → OneMore founder limit past q t reply after → Extends past after
+  more_extends past q t reply after (inl same) = ([], same)
+  more_extends past q t reply after (inr (e, adds, done, is)) = (e ∷ [], is)
 
   answer_extends : (past : List Entry) (q : Request) (t : ℤ) (reply : Reply) (after : List Entry) → Answers founder limit past q t reply after → Extends past after
-  answer_extends past q t reply after is = more_extends past q t after (one_more past q t reply after is)
+  answer_extends past q t reply after is = more_extends past q t reply after (one_more past q t reply after is)
 
   mends_extends : (past : List Entry) (doubt : Option Entry) (mended : List Entry) → Mends past doubt mended → Extends past mended
   mends_extends past None mended same = ([], same)
@@ -122,20 +122,22 @@ module _ (steps : StepLaw) (founder : Key) (limit : Option ℕ) where
         extends_on before.settled a.mended after.settled (mends_extends before.settled before.doubt a.mended a.mends) (acts_extend a.mended reading a.acts)
     takes_extend None (a, place) = extends_same before.settled after.settled (settled_is a.stays)
 
-    acts_true : (mended : List Entry) (reading : ℤ) → reading ≡ reading_of item → is_act item.request.verb ≡ true → item.position ≡ length mended → StampTells mended item.reading item.stamp after.settled → Acts mended reading → IsTrue founder limit after.settled item
-    acts_true mended reading is act place left (inl s) =
+    acts_true : (mended : List Entry) (reading : ℤ) → reading ≡ reading_of item → TakesReading item.request.verb item.reading → is_act item.request.verb ≡ true → item.position ≡ length mended → StampTells mended item.reading item.stamp after.settled → Acts mended reading → IsTrue founder limit after.settled item
+    acts_true mended reading is reads act place left (inl s) =
         record {
+          reads = reads;
           past = mended;
           place = place;
           first = answer_extends mended item.request reading item.reply after.settled s.answers;
           answered = inl (after.settled, subst (λ (t : ℤ). Answers founder limit mended item.request t item.reply after.settled) is s.answers, extends_refl after.settled, left);
         }
-    acts_true mended reading is act place left (inr f) =
+    acts_true mended reading is reads act place left (inr f) =
         record {
+          reads = reads;
           past = mended;
           place = place;
           first = extends_same mended after.settled (settled_is f.leaves);
-          answered = inr (record { doubt = f.doubt; act = act; reply = f.reply; rose = f.rose });
+          answered = inr (record { doubt = f.doubt; act = act; reply = f.reply; rose = f.rose; adds = λ doubted. (f.entry, subst (λ (t : ℤ). outcome founder limit mended item.request t ≡ Adds f.entry) is f.adds) });
         }
 
     -- a call comes no earlier than at the end of the history before it
@@ -144,18 +146,23 @@ module _ (steps : StepLaw) (founder : Key) (limit : Option ℕ) where
     takes_place (Some reading) (inr (a, place)) = let l = extends_length before.settled a.mended (mends_extends before.settled before.doubt a.mended a.mends) in omega arith
     takes_place None (a, place) = omega arith
 
+    reads_as : (reading : Option ℤ) → item.reading ≡ reading → TakesReading item.request.verb reading → TakesReading item.request.verb item.reading
+    reads_as reading is reads = subst (λ (r : Option ℤ). TakesReading item.request.verb r) (sym is) reads
+
     pub takes_true : (reading : Option ℤ) → item.reading ≡ reading → TakesReading item.request.verb reading → IfSome item.stamp (λ given. given.entries ≡ length after.settled) → TakesAt founder limit before item reading after → IsTrue founder limit after.settled item
     takes_true (Some reading) is reads counts (inl (f, place)) =
         record {
+          reads = reads_as (Some reading) is reads;
           past = before.settled;
           place = place;
           first = extends_same before.settled after.settled (settled_is f.stays);
-          answered = inr (record { doubt = false; act = reads.0; reply = f.reply; rose = f.rose });
+          answered = inr (record { doubt = false; act = reads.0; reply = f.reply; rose = f.rose; adds = λ doubted. absurd cc });
         }
-    takes_true (Some reading) is reads counts (inr (a, place)) = acts_true a.mended reading (reading_is item (Some reading) is) reads.0 place
+    takes_true (Some reading) is reads counts (inr (a, place)) = acts_true a.mended reading (reading_is item (Some reading) is) (reads_as (Some reading) is reads) reads.0 place
         (subst (λ (r : Option ℤ). StampTells a.mended r item.stamp after.settled) (sym is) counts) a.acts
     takes_true None is reads counts (a, place) =
         record {
+          reads = reads_as None is reads;
           past = before.settled;
           place = place;
           first = extends_same before.settled after.settled (settled_is a.stays);
@@ -171,6 +178,7 @@ module _ (steps : StepLaw) (founder : Key) (limit : Option ℕ) where
   pub true_later : (history later : List Entry) (item : Item) → Extends history later → IsTrue founder limit history item → IsTrue founder limit later item
   true_later history later item goes_on is =
       record {
+        reads = is.reads;
         past = is.past;
         place = is.place;
         first = extends_on is.past history later is.first goes_on;
@@ -207,7 +215,7 @@ module _ (steps : StepLaw) where
   called_true before after (item ∷ items) (between, others, last) =
       let same = called_same before between items others in
       let here = takes_true steps between.founder between.limit between.state item after.state item.reading refl last.reads
-      (one_counts item.stamp (length after.state.settled) after.stamps between.stamps item.reading last.stamps) last.takes in (
+      (one_counts item (length after.state.settled) after.stamps between.stamps item.reading last.stamps) last.takes in (
         subst (λ (l : Option ℕ). IsTrue before.founder l after.state.settled item) same.1 (subst (λ (f : Key). IsTrue f between.limit after.state.settled item) same.0 here),
         are_true_later steps before.founder before.limit between.state.settled after.state.settled items
             (takes_extend steps between.founder between.limit between.state item after.state item.reading last.takes)
@@ -251,15 +259,17 @@ module _ (steps : StepLaw) (opening : Office) (views : List View) where
   Doubted state = IfSome state.doubt (λ e. IsOrigin opening views state.settled e)
 
   module _ (item : Item) (call : IsCall views item) where
-    origin_of : (past : List Entry) (reading : ℤ) (e : Entry) → reading ≡ reading_of item → item.position ≡ length past → outcome opening.founder opening.limit past item.request reading ≡ Adds e → IsOrigin opening views past e
-    origin_of past reading e is place adds = (item, call, place, subst (λ (t : ℤ). outcome opening.founder opening.limit past item.request t ≡ Adds e) is adds)
+    origin_of : (past : List Entry) (reading : ℤ) (e : Entry) → reading ≡ reading_of item → item.position ≡ length past → outcome opening.founder opening.limit past item.request reading ≡ Adds e
+        → (item.reply ≡ Done (entry_answer past e)) ⊎ (item.reply ≡ Refused (DiskFault true)) → IsOrigin opening views past e
+    origin_of past reading e is place adds answered =
+        (item, call, record { place = place; adds = subst (λ (t : ℤ). outcome opening.founder opening.limit past item.request t ≡ Adds e) is adds; answered = answered })
 
-    reaches_answer : (past : List Entry) (reading : ℤ) (after : List Entry) → reading ≡ reading_of item → item.position ≡ length past → Reaches past → OneMore opening.founder opening.limit past item.request reading after → Reaches after
+    reaches_answer : (past : List Entry) (reading : ℤ) (after : List Entry) → reading ≡ reading_of item → item.position ≡ length past → Reaches past → OneMore opening.founder opening.limit past item.request reading item.reply after → Reaches after
     reaches_answer past reading after is place r (inl same) = reaches_same past after same r
-    reaches_answer past reading after is place r (inr (e, adds, more)) = reaches_more past after e more (origin_of past reading e is place adds) r
+    reaches_answer past reading after is place r (inr (e, adds, done, more)) = reaches_more past after e more (origin_of past reading e is place adds (inl done)) r
 
-    doubted : (doubt : Bool) (past : List Entry) (e : Entry) → IsOrigin opening views past e → Doubted (unless_untouched doubt past e)
-    doubted true past e origin = origin
+    doubted : (doubt : Bool) (past : List Entry) (e : Entry) → (doubt ≡ true → IsOrigin opening views past e) → Doubted (unless_untouched doubt past e)
+    doubted true past e origin = origin refl
     doubted false past e origin = tt
 
     comes_acts : (mended : List Entry) (after : OfficeState) (reading : ℤ) → reading ≡ reading_of item → item.position ≡ length mended → Reaches mended
@@ -270,7 +280,7 @@ module _ (steps : StepLaw) (opening : Office) (views : List View) where
     )
     comes_acts mended after reading is place r (inr f) = (
       reaches_same mended after.settled (ap (λ (s : OfficeState). s.settled) f.leaves) r,
-      subst Doubted (sym f.leaves) (doubted f.doubt mended f.entry (origin_of mended reading f.entry is place f.adds)),
+      subst Doubted (sym f.leaves) (doubted f.doubt mended f.entry (λ told. origin_of mended reading f.entry is place f.adds (inr (f.reply ∙ ap (λ (d : Bool). Refused (DiskFault d)) told)))),
     )
 
     comes_takes : (before after : OfficeState) (reading : Option ℤ) → item.reading ≡ reading → Reaches before.settled → Doubted before → TakesAt opening.founder opening.limit before item reading after → Reaches after.settled × Doubted after
@@ -292,7 +302,7 @@ module _ (steps : StepLaw) (opening : Office) (views : List View) where
 
 -- the origins of calls that are still there
 origin_kept : (opening : Office) (views views' : List View) (past : List Entry) (e : Entry) → ((i : Item) → IsCall views i → IsCall views' i) → IsOrigin opening views past e → IsOrigin opening views' past e
-origin_kept opening views views' past e kept (item, call, place, adds) = (item, kept item call, place, adds)
+origin_kept opening views views' past e kept (item, call, adds) = (item, kept item call, adds)
 
 origins_kept : (opening : Office) (views views' : List View) (newer : List Entry) → ((i : Item) → IsCall views i → IsCall views' i) → Origins opening views newer → Origins opening views' newer
 origins_kept opening views views' [] kept origins = tt
@@ -310,6 +320,7 @@ comes_kept opening office views views' kept c =
       grown = c.grown;
       origins = origins_kept opening views views' c.newer kept c.origins;
       doubt = doubt_kept opening views views' office.state.settled office.state.doubt kept c.doubt;
+      stamps = come_kept opening office views views' kept c.stamps;
     }
 
 -- the history after more calls
@@ -318,7 +329,7 @@ pub comes_more : (steps : StepLaw) (opening before after : Office) (items : List
 comes_more steps opening before after items views views' founder limit kept calls called c =
     let k = comes_kept opening before views views' kept c in
     let r = comes_called steps opening views' before after items founder limit calls (record { newer = k.newer; grown = k.grown; origins = k.origins }) k.doubt called in
-    record { newer = r.0.newer; grown = r.0.grown; origins = r.0.origins; doubt = r.1 }
+    record { newer = r.0.newer; grown = r.0.grown; origins = r.0.origins; doubt = r.1; stamps = called_came opening before after views' items calls k.stamps called }
 
 -- ---- legal histories
 

@@ -1,4 +1,4 @@
-pub mod Stamps
+pub mod StampLemmas
 pub mod Sums
 pub mod Histories
 pub mod Views

@@ -24,7 +24,7 @@ use Rattle.intake_lock.specs.Items.{AreTrue, RisesBy, rises}
 use Rattle.intake_lock.specs.Views.{seen, live, one_if_live, ticketed, one_if_ticketed, made_by, rises_by, HasTicketAt, HasTicket, HasTurnAt, HasTurn, stem, branch, joined, spent, one_in, first_view}
 use Rattle.intake_lock.specs.Rule.{MOST, word, FitsStage, IsKnown, Fits, At, Apart, Latest, IsCall, IsHome, IsOut, Standing, Closes}
 use Rattle.intake_lock.proofs.Histories.{same_length, extends_length, StepLaw, extends_refl, comes_kept, are_true_later, are_true_both, rises_none}
-use Rattle.intake_lock.proofs.Stamps.{stamps_refl, stamped_both}
+use Rattle.intake_lock.proofs.StampLemmas.{stamps_refl, stamped_both, come_first}
 use Rattle.intake_lock.proofs.Sums.{sum_set, sum_push, sum_two, sum_none, at_below}
 use Rattle.intake_lock.proofs.Views.{latest_set, here, fits_live, live_known, one_there, each, apart_set, sum_same, calls_set, kept_set}
 
@@ -343,7 +343,7 @@ module _ {V : Type 0} (office_of : V → Office) where
         });
         made = none_more (length o.state.settled);
         legal = λ was. (was, subst (λ (d : Option Entry). IfSome d (λ e. IsLegal o.founder (e ∷ o.state.settled))) (sym settled) tt);
-        comes = record { newer = []; grown = refl; origins = tt; doubt = subst (λ (d : Option Entry). IfSome d (λ e. Rattle.intake_lock.specs.Rule.IsOrigin o (v ∷ []) o.state.settled e)) (sym settled) tt };
+        comes = record { newer = []; grown = refl; origins = tt; doubt = subst (λ (d : Option Entry). IfSome d (λ e. Rattle.intake_lock.specs.Rule.IsOrigin o (v ∷ []) o.state.settled e)) (sym settled) tt; stamps = come_first o (v ∷ []) };
         counts = rises_none o.faults;
       }
     where

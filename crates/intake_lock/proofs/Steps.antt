@@ -23,7 +23,7 @@ use Rattle.intake_lock.specs.Views.{seen, live, ticketed, one_if_ticketed, made_
 use Rattle.intake_lock.specs.Rule.{word, FitsStage, IsKnown, Fits, At, IsHome, IsOut, Standing}
 use Rattle.intake_lock.specs.Plays.{Mine, Draws, Gets, Looks, Publishes, Leaves, Tells}
 use Rattle.intake_lock.proofs.Histories.{StepLaw, extends_refl, extends_on, extends_length, shorter_begins, comes_kept, comes_more, called_same, called_extends, called_true, called_counts, LegalLaw, called_legal, are_true_later, are_true_both}
-use Rattle.intake_lock.proofs.Stamps.{stamps_refl, stamped_later, stamped_both, called_grows, called_stamped}
+use Rattle.intake_lock.proofs.StampLemmas.{stamps_refl, stamped_later, stamped_both, called_grows, called_stamped}
 use Rattle.intake_lock.proofs.Sums.{sum_set, sum_le}
 use Rattle.intake_lock.proofs.Views.{fits_live, live_known, ticket_range, turn_ticket, ticket_weighs, fits_later, one_there, here, each, apart_set, sum_same, rooted_set, latest_set, calls_set, calls_same, kept_set}
 

@@ -18,7 +18,7 @@ use Rattle.intake_lock.specs.Views.{seen, live, one_if_live, ticketed, one_if_ti
 use Rattle.intake_lock.specs.Clerks.{StampsOn}
 use Rattle.intake_lock.specs.Rule.{FitsStage, IsKnown, FitsRole, Fits, At, Apart, Rooted, Latest, IsCall, IsHome, IsOut}
 use Rattle.intake_lock.proofs.Histories.{extends_on}
-use Rattle.intake_lock.proofs.Stamps.{stamps_on, stamped_later}
+use Rattle.intake_lock.proofs.StampLemmas.{stamps_on, stamped_later}
 use Rattle.intake_lock.proofs.Sums.{sum_set, at_below}
 
 -- ---- one view

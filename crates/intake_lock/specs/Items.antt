@@ -8,15 +8,18 @@ use Rattle.intake_lock.specs.declared.clerk.Office.{Office}
 use Rattle.act_model.specs.declared.keeper.OfficeState.{OfficeState}
 use Rattle.act_model.specs.declared.reply.Refusal.TheVariants.{DiskFault}
 use Rattle.act_model.specs.declared.reply.Reply.{Reply}
-use Rattle.act_model.specs.declared.reply.Reply.TheVariants.{Refused}
+use Rattle.act_model.specs.declared.reply.Reply.TheVariants.{Done, Refused}
 use Rattle.act_model.specs.declared.request.Request.{Request}
 use Rattle.act_model.specs.Requests.{is_act}
 use Rattle.act_model.specs.Conducts.{Extends}
 use Rattle.act_model.specs.Keepers.{RoseBy}
+use Rattle.act_model.specs.Replies.{entry_answer}
 use Rattle.act_model.specs.Step.{Adds, outcome}
 use Rattle.act_model.specs.Turns.{Turn, TakesReading, Answers, FailsToMend, ActsMended, Asks}
 use Rattle.intake_lock.specs.declared.clerk.Stamp.{Stamp}
+use Rattle.intake_lock.specs.declared.clerk.Stamps.{Stamps}
 use Rattle.intake_lock.specs.declared.view.Item.{Item}
+use Rattle.intake_lock.specs.Clerks.{Gave}
 
 -- the reading of a call, or 0 where it took none
 abbrev pub reading_of : Item → ℤ
@@ -26,12 +29,22 @@ reading_of item = unwrap_or item.reading (pos 0)
 abbrev pub AddsAt : Key → Option ℕ → List Entry → Item → Entry → Type 0
 AddsAt founder limit past item entry = outcome founder limit past item.request (reading_of item) ≡ Adds entry
 
--- An act could not be mended or kept, and the reply is that the disk failed, which counted it.
-pub record Failed (item : Item) : Type 0 where
+-- The call added this entry at this history, or left it in doubt there: the step adds it, and the call was answered by
+-- the entry's answer, or that the disk failed with its own act in doubt. No call that was answered otherwise adds any.
+pub record AddsEntry (founder : Key) (limit : Option ℕ) (past : List Entry) (item : Item) (entry : Entry)
+    : Type 0 where
+  pub place : item.position ≡ length past
+  pub adds : AddsAt founder limit past item entry
+  pub answered : (item.reply ≡ Done (entry_answer past entry)) ⊎ (item.reply ≡ Refused (DiskFault true))
+
+-- An act could not be mended or kept at this history, and the reply is that the disk failed, which counted it. The act
+-- is in doubt only where the step adds an entry for it.
+pub record Failed (founder : Key) (limit : Option ℕ) (past : List Entry) (item : Item) : Type 0 where
   pub doubt : Bool
   pub act : is_act item.request.verb ≡ true
   pub reply : item.reply ≡ Refused (DiskFault doubt)
   pub rose : 0 < item.rise
+  pub adds : doubt ≡ true → (entry : Entry) × AddsAt founder limit past item entry
 
 -- a query leaves the history, and the stamp of an act, where it got one, has as many entries as the act left
 abbrev pub StampTells : List Entry → Option ℤ → Option Stamp → List Entry → Type 0
@@ -39,24 +52,26 @@ StampTells past None stamp after = after ≡ past
 StampTells past (Some reading) stamp after = IfSome stamp (λ given. given.entries ≡ length after)
 
 -- The call is true of this history. It was answered at some first entries of it, by the step, or as out of memory, or
--- because the disk failed; and where the step adds an entry and it was done, that entry is the next one.
+-- because the disk failed; and where the step adds an entry and it was done, that entry is the next one. An act took a
+-- reading of the clock, and any other request none.
 pub record IsTrue (founder : Key) (limit : Option ℕ) (history : List Entry) (item : Item) : Type 0 where
+  pub reads : TakesReading item.request.verb item.reading
   pub past : List Entry
   pub place : item.position ≡ length past
   pub first : Extends past history
   pub answered : ((after : List Entry) × Answers founder limit past item.request (reading_of item) item.reply after
-      × Extends after history × StampTells past item.reading item.stamp after) ⊎ Failed item
+      × Extends after history × StampTells past item.reading item.stamp after) ⊎ Failed founder limit past item
 
 abbrev pub AreTrue : Key → Option ℕ → List Entry → List Item → Type 0
 AreTrue founder limit history items = AllByRecursion (IsTrue founder limit history) items
 
 -- the stamp of a call with this reading, an act, is among these stamps, where acts are stamped
-abbrev pub HasStamp : Option (List Stamp) → Option ℤ → Option Stamp → Type 0
+abbrev pub HasStamp : Option Stamps → Option ℤ → Option Stamp → Type 0
 HasStamp None reading stamp = Unit {0}
 HasStamp (Some stamps) None stamp = Unit {0}
-HasStamp (Some stamps) (Some reading) stamp = IsSomeAnd stamp (λ given. Contains stamps given)
+HasStamp (Some stamps) (Some reading) stamp = IsSomeAnd stamp (Gave (Some stamps))
 
-abbrev pub AreStamped : Option (List Stamp) → List Item → Type 0
+abbrev pub AreStamped : Option Stamps → List Item → Type 0
 AreStamped stamps items = AllByRecursion (λ item. HasStamp stamps item.reading item.stamp) items
 
 -- by how much the count of faults rose in the calls together
@@ -77,13 +92,27 @@ TakesAt founder limit before item (Some reading) after =
 TakesAt founder limit before item None after = Asks founder limit before (turn_of item) after
     × (item.position ≡ length before.settled)
 
--- An act with this reading got this stamp, with so many settled entries: the newest, which stands last. A query got
--- none, and nor did an act where no act is stamped.
-abbrev pub Stamped : Option (List Stamp) → Option ℤ → Option Stamp → ℕ → Option (List Stamp) → Type 0
-Stamped None reading stamp entries after = (stamp ≡ None) × (after ≡ None)
-Stamped (Some stamps) None stamp entries after = (stamp ≡ None) × (after ≡ Some stamps)
-Stamped (Some stamps) (Some reading) stamp entries after =
-    (given : Stamp) × (stamp ≡ Some given) × (given.entries ≡ entries) × (after ≡ Some (stamps ++ given ∷ []))
+-- the stamp is this call's, and says what was asked, with which reading of the clock
+pub record IsStampOf (item : Item) (given : Stamp) : Type 0 where
+  pub stamp : item.stamp ≡ Some given
+  pub request : item.request ≡ given.request
+  pub reading : item.reading ≡ Some given.reading
+
+-- An act got a stamp, with so many settled entries: the newest, which stands last. Its moment is the office's after the
+-- act, which is no earlier than the one before.
+pub record StampsAct (stamps : Stamps) (item : Item) (count : ℕ) (after : Option Stamps) : Type 0 where
+  pub given : Stamp
+  pub of_call : IsStampOf item given
+  pub entries : given.entries ≡ count
+  pub later : stamps.moment ≤ given.moment
+  pub now : after ≡ Some (record { moment = given.moment; given = stamps.given ++ given ∷ [] })
+
+-- An act with this reading got a stamp, with so many settled entries. A query got none, and nor did an act where no act
+-- is stamped.
+abbrev pub Stamped : Item → Option Stamps → Option ℤ → ℕ → Option Stamps → Type 0
+Stamped item None reading count after = (item.stamp ≡ None) × (after ≡ None)
+Stamped item (Some stamps) None count after = (item.stamp ≡ None) × (after ≡ Some stamps)
+Stamped item (Some stamps) (Some reading) count after = StampsAct stamps item count after
 
 -- The keeper took this call. Its count of faults rose by as much as the call says, and the founding officer's key and
 -- the limit are as they were. It stamped the call, where it was an act and acts are stamped.
@@ -93,7 +122,7 @@ pub record Calls (before : Office) (item : Item) (after : Office) : Type 0 where
   pub counts : RoseBy item.rise before.faults after.faults
   pub founder : after.founder ≡ before.founder
   pub limit : after.limit ≡ before.limit
-  pub stamps : Stamped before.stamps item.reading item.stamp (length after.state.settled) after.stamps
+  pub stamps : Stamped item before.stamps item.reading (length after.state.settled) after.stamps
 
 -- the keeper took these calls, the newest first
 abbrev pub Called : Office → List Item → Office → Type 0
@@ -107,6 +136,10 @@ pub record IsItemOf (before : Office) (request : Request) (reading : Option ℤ)
   pub read : item.reading ≡ reading
   pub answered : item.reply ≡ reply
   pub calls : Calls before item after
+
+-- the clerk took one turn: a call of this request, with this reading of the clock for an act, which was answered so
+abbrev pub TakesTurn : Office → Request → Option ℤ → Reply → Office → Type 0
+TakesTurn before request reading reply after = (item : Item) × IsItemOf before request reading reply after item
 
 -- one call more
 abbrev pub Noted : Office → Request → Option ℤ → Reply → Office → List Item → List Item → Type 0

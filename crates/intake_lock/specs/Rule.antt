@@ -9,6 +9,7 @@ use lib.ListN.{get_elem?}
 use Rattle.atomic_table.specs.Table.{State}
 use Rattle.act_model.specs.declared.entry.Entry.{Entry}
 use Rattle.intake_lock.specs.declared.clerk.Office.{Office}
+use Rattle.intake_lock.specs.declared.clerk.Stamp.{Stamp}
 use Rattle.act_model.specs.Conducts.{Extends, EitherWay}
 use Rattle.act_model.specs.Legal.{IsLegal}
 use Rattle.intake_lock.specs.declared.view.Item.{Item}
@@ -17,8 +18,8 @@ use Rattle.intake_lock.specs.declared.view.Role.TheVariants.{Root, Branch, Spent
 use Rattle.intake_lock.specs.declared.view.Stage.{Stage}
 use Rattle.intake_lock.specs.declared.view.Stage.TheVariants.{Idle, Waiting, Holding}
 use Rattle.intake_lock.specs.declared.view.View.{View}
-use Rattle.intake_lock.specs.Clerks.{StampsOn}
-use Rattle.intake_lock.specs.Items.{AddsAt, AreTrue, AreStamped, RisesBy}
+use Rattle.intake_lock.specs.Clerks.{Gave, StampsOn}
+use Rattle.intake_lock.specs.Items.{AddsEntry, AreTrue, AreStamped, IsStampOf, RisesBy}
 use Rattle.intake_lock.specs.Views.{seen, live, ticketed, made_by, rises_by, HasTicket, HasTurn}
 
 -- the greatest number of passes that may be live
@@ -90,11 +91,10 @@ Latest office views = (id : ℕ) × (v : View) × At views id v × (seen v ≡ o
 abbrev pub IsCall : List View → Item → Type 0
 IsCall views item = (id : ℕ) × (v : View) × At views id v × Contains v.mine item
 
--- the entry is what the step adds at this history for a call of some pass there
+-- a call of some pass added the entry at this history, or left it in doubt there
 abbrev pub IsOrigin : Office → List View → List Entry → Entry → Type 0
 IsOrigin opening views past entry =
-    (item : Item) × IsCall views item × (item.position ≡ length past)
-    × AddsAt opening.founder opening.limit past item entry
+    (item : Item) × IsCall views item × AddsEntry opening.founder opening.limit past item entry
 
 -- each of the newer entries that came to the history at the opening has such a call
 abbrev pub Origins : Office → List View → List Entry → Type 0
@@ -102,12 +102,19 @@ Origins opening views [] = Unit {0}
 Origins opening views (entry ∷ newer) = IsOrigin opening views (newer ++ opening.state.settled) entry
     × Origins opening views newer
 
--- the history is that at the opening with newer entries, each of which some call added, and so is the act in doubt
+-- each stamp that wasn't given at the opening is that of some pass's call
+abbrev pub StampsCome : Office → Office → List View → Type 0
+StampsCome opening office views = (stamp : Stamp) → Gave office.stamps stamp
+    → Gave opening.stamps stamp ⊎ ((item : Item) × IsCall views item × IsStampOf item stamp)
+
+-- the history is that at the opening with newer entries, each of which some call added, and so is the act in doubt; and
+-- no act was stamped that isn't some pass's call
 pub record Comes (opening office : Office) (views : List View) : Type 0 where
   pub newer : List Entry
   pub grown : office.state.settled ≡ newer ++ opening.state.settled
   pub origins : Origins opening views newer
   pub doubt : IfSome office.state.doubt (λ entry. IsOrigin opening views office.state.settled entry)
+  pub stamps : StampsCome opening office views
 
 -- the history is legal, also with the act in doubt, if that at the opening was
 abbrev pub StaysLegal : Office → Office → Type 0

@@ -1,21 +1,34 @@
-//! What the lock goes round: a keeper of the office that may stamp each act when it answers it.
+//! What the lock goes round: any keeper of the office, or one that stamps each act when it answers it.
 
 ghost use Rattle.std.specs.Prelude.{◌≡◌, true, false, length, Some, None};
 ghost use Rattle.act_model.specs.Requests.{is_act};
 ghost use Rattle.intake_lock.specs.declared.clerk.Office.{Office};
-ghost use Rattle.intake_lock.specs.Clerks.{TakesTurn};
+ghost use Rattle.intake_lock.specs.Items.{TakesTurn};
 
-use act_model::{Key, OfficeState, Reply, Request};
+use act_model::{Keeper, Key, OfficeState, Reply, Request};
 use item_list::ItemList;
 use obs_time::Instant;
 
 /// What an act gets when it is answered. It is for proofs alone.
 #[derive(Debug, Drop)]
 pub struct Stamp {
+    /// The moment of the clerk's disk then.
+    pub moment: u64,
+    /// How many entries the settled history has then.
+    pub entries: u64,
+    /// What was asked.
+    pub request: Request,
+    /// The clock's reading.
+    pub reading: Instant,
+}
+
+/// The stamps of a clerk. They are for proofs alone.
+#[derive(Debug, Drop)]
+pub struct Stamps {
     /// The moment of the clerk's disk.
     pub moment: u64,
-    /// How many entries the settled history has.
-    pub entries: u64,
+    /// The stamps of the acts that were answered, the oldest first.
+    pub given: ItemList<Stamp>,
 }
 
 /// What contracts see of a clerk: what they see of a keeper, and its stamps.
@@ -29,11 +42,12 @@ pub struct Office {
     pub state: OfficeState,
     /// How often the disk has failed. At the greatest number that its type has it stands still.
     pub faults: u64,
-    /// The stamps of the acts that were answered, the oldest first. None where no act is stamped.
-    pub stamps: Option<ItemList<Stamp>>,
+    /// The moment of the disk, and the stamps of the acts that were answered. None where no act is stamped.
+    pub stamps: Option<Stamps>,
 }
 
-/// Something that keeps the office, as act_model's Keeper, and may stamp each act when it answers it.
+/// Something that keeps the office, as act_model's Keeper, and may stamp each act when it answers it. Each Keeper is
+/// one, which stamps no act.
 ///
 /// No call changes the founding officer's key or the limit.
 pub trait Clerk: Drop {
@@ -54,4 +68,23 @@ pub trait Clerk: Drop {
     /// How many entries the settled history has.
     fn entries(&self) -> u64
         ensures { result ≡ length (office self.now).state.settled };
+}
+
+impl<K: Keeper> Clerk for K {
+    ghost use Rattle.std.specs.Prelude.{None};
+    ghost use Rattle.intake_lock.specs.Clerks.{with_stamps};
+
+    ghost office = { λ keeper. with_stamps None (K.office keeper) };
+
+    fn act(&mut self, request: &Request, reading: Instant) -> Reply {
+        Keeper::act(self, request, reading)
+    }
+
+    fn ask(&self, request: &Request) -> Reply {
+        Keeper::ask(self, request)
+    }
+
+    fn entries(&self) -> u64 {
+        Keeper::entries(self)
+    }
 }

@@ -6,7 +6,7 @@ ghost use Rattle.act_bodies.specs.declared.key.Key.{Key};
 ghost use Rattle.act_model.specs.declared.entry.Entry.{Entry};
 ghost use Rattle.act_model.specs.Conducts.{Extends};
 ghost use Rattle.intake_lock.specs.declared.clerk.Office.{Office};
-ghost use Rattle.intake_lock.specs.declared.clerk.Stamp.{Stamp};
+ghost use Rattle.intake_lock.specs.declared.clerk.Stamps.{Stamps};
 ghost use Rattle.intake_lock.specs.declared.view.Item.{Item};
 ghost use Rattle.intake_lock.specs.Clerks.{StampsOn};
 ghost use Rattle.intake_lock.specs.Items.{IsTrue, Calls, HasStamp, AreStamped};
@@ -41,7 +41,7 @@ pub fn stamps_grow()
         HasStamp after.stamps item.reading item.stamp }
     ensures grows { (before after : Office) (item : Item) → Calls before item after →
         StampsOn before.stamps after.stamps }
-    ensures follow { (a b c : Option (List Stamp)) → StampsOn a b → StampsOn b c → StampsOn a c }
-    ensures later { (a b : Option (List Stamp)) (items : List Item) → StampsOn a b → AreStamped a items →
+    ensures follow { (a b c : Option Stamps) → StampsOn a b → StampsOn b c → StampsOn a c }
+    ensures later { (a b : Option Stamps) (items : List Item) → StampsOn a b → AreStamped a items →
         AreStamped b items }
 {}

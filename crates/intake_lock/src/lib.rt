@@ -1,4 +1,4 @@
-//! The turn lock: callers in many threads take turns at one clerk of the office, and share one history.
+//! The turn lock: callers in many threads take turns at one keeper of the office, and share one history.
 //!
 //! A pass is a caller's leave to enter, and what the caller knows: the history that it has seen, its own calls, and how
 //! many entries they made. Entering gives the turn, with the keeper; leaving gives the pass back. The root's pass can
@@ -17,7 +17,7 @@ mod plays;
 mod turn;
 mod view;
 
-pub use clerk::{Clerk, Office, Stamp};
+pub use clerk::{Clerk, Office, Stamp, Stamps};
 pub use lock::TurnLock;
 pub use pass::Pass;
 pub use turn::Turn;

@@ -8,8 +8,7 @@ ghost use Rattle.act_model.specs.declared.request.Request.{Request};
 ghost use Rattle.act_model.specs.declared.request.Body.TheVariants.{NoRoom};
 ghost use Rattle.act_model.specs.declared.request.Verb.TheVariants.{Unknown};
 ghost use Rattle.act_model.specs.Requests.{is_act};
-ghost use Rattle.intake_lock.specs.declared.view.Item.{Item};
-ghost use Rattle.intake_lock.specs.Items.{IsItemOf, Noted};
+ghost use Rattle.intake_lock.specs.Items.{TakesTurn, Noted};
 ghost use Rattle.intake_lock.specs.Views.{spent};
 
 use crate::clerk::Clerk;
@@ -133,7 +132,7 @@ fn note_call<V: Clerk, W: Answered>(
     _reply: &Reply,
 )
     requires place { log.old.perch ≡ notes.now.name }
-    requires call { (item : Item) × IsItemOf W.before W.request W.reading W.reply W.after item }
+    requires call { TakesTurn W.before W.request W.reading W.reply W.after }
     ensures place { log.new.perch ≡ log.old.perch }
     ensures noted { Noted W.before W.request W.reading W.reply W.after log.old.view log.new.view }
 {

@@ -10,3 +10,4 @@ pub use act_model as model;
 pub use command_ends::{Ended, Status};
 pub use command_line::Words;
 pub use http_connection::{Left, answer_one, attend};
+pub use serve_command::{LinkEnd, LinkEnds};

@@ -150,7 +150,14 @@ pub fn single<S: Source, K: Sink, D: Disk, C: Clock>(
 /// at the one office: over every interleaving, each call is true of one history, which is legal, extends the one that
 /// the disk stood for, and has no newer entry but what a call for one of the links added. How each link ended is given
 /// in the door's order; for every other command there is none.
-pub fn top<S: Source, K: Sink, D: Disk + Send, C: Clock + Send, G: Door, R: Threads + Wait + Sync>(
+pub fn top<
+    S: Source,
+    K: Sink,
+    D: Disk + Send,
+    C: Clock + Send,
+    G: Door + Send,
+    R: Threads + Wait + Sync,
+>(
     rt: &R,
     alloc: Global,
     words: &Words,

@@ -1,5 +1,5 @@
 -- From the root's last view to what the closed keeper stands for.
-use Rattle.std.proofs.Common.{◌≡◌, ℕ, ◌≤◌, zero, suc, List, [], ◌∷◌, ◌++◌, length, map, reverse, Option, Some, None, IfSome, Contains, refl, sym, ap, subst, ◌∙◌, arith, append-nil, IsPermutation}
+use Rattle.std.proofs.Common.{◌≡◌, ℕ, ◌≤◌, zero, suc, List, [], ◌∷◌, ◌++◌, length, map, reverse, Option, Some, None, IfSome, Contains, refl, sym, ap, subst, ◌∙◌, inl, inr, arith, append-nil, IsPermutation}
 use Rattle.std.proofs.lemmas.List.{reverse-reverse}
 use Rattle.std.proofs.lemmas.List.Elements.{All-from_recursion, recursion_from_All}
 use Rattle.std.proofs.lemmas.List.Sorted.{IsPermutation-sym, Contains-permutation, All-permutation, sum_by-IsPermutation}
@@ -12,9 +12,9 @@ use Rattle.act_model.specs.Conducts.{Extends}
 use Rattle.act_model.specs.Legal.{IsLegal}
 use Rattle.intake_lock.specs.declared.view.Item.{Item}
 use Rattle.intake_lock.specs.declared.view.View.{View}
-use Rattle.intake_lock.specs.declared.clerk.Stamp.{Stamp}
+use Rattle.intake_lock.specs.declared.clerk.Stamps.{Stamps}
 use Rattle.intake_lock.specs.Items.{IsTrue, AreTrue, HasStamp, AreStamped, RisesBy}
-use Rattle.intake_lock.specs.Rule.{IsCall, IsOrigin, Origins, Closes}
+use Rattle.intake_lock.specs.Rule.{IsCall, IsOrigin, Origins, StampsCome, Closes}
 use Rattle.intake_lock.specs.Views.{seen, first_view}
 use Rattle.act_model.specs.Clocks.{ClockState}
 use Rattle.http_connection.specs.Calls.{HasCause, AreInOrder}
@@ -22,7 +22,7 @@ use Rattle.serve_command.specs.declared.ends.LinkEnd.{LinkEnd}
 use Rattle.serve_command.specs.declared.accepting.Stop.TheVariants.{NoMemory}
 use Rattle.serve_command.specs.Links.{LinkWords, Attendance, end_of, calls_of, calls_in}
 use Rattle.serve_command.specs.Gathering.{DoorState, IsAnother, IsBetween, GatherEnd, Gathers}
-use Rattle.serve_command.specs.Serving.{IsAddedBy, AreAddedBy, StandInOrder, ServiceStart, Serves}
+use Rattle.serve_command.specs.Serving.{IsAddedBy, AreAddedBy, AreStampsOf, StandInOrder, ServiceStart, Serves}
 use Rattle.serve_command.proofs.Gathering.{no_longer, between_on, extends_same}
 
 -- ---- calls
@@ -88,7 +88,7 @@ called_by view calls same item (suc id, v, at, mine) = absurd (let e = at in cc)
 
 module _ (opening : Office) (view : View) (calls : List Item) (same : IsPermutation view.mine calls) where
   added_by : (past : List Entry) (entry : Entry) → IsOrigin opening (view ∷ []) past entry → IsAddedBy opening calls past entry
-  added_by past entry (item, called, place, adds) = (item, called_by view calls same item called, place, adds)
+  added_by past entry (item, called, adds) = (item, called_by view calls same item called, adds)
 
   all_added_by : (newer : List Entry) → Origins opening (view ∷ []) newer → AreAddedBy opening calls newer
   all_added_by [] origins = tt
@@ -99,8 +99,15 @@ module _ (opening : Office) (view : View) (calls : List Item) (same : IsPermutat
   doubt_added_by past None origin = tt
   doubt_added_by past (Some entry) origin = added_by past entry origin
 
+  -- the stamps of the root's calls are those of all calls
+  stamps_of_calls : (office : Office) → StampsCome opening office (view ∷ []) → AreStampsOf opening office calls
+  stamps_of_calls office come stamp gave = elim (come stamp gave) [
+    | inl opened ↦ inl opened
+    | inr call ↦ inr (call.0, called_by view calls same call.0 call.1, call.2)
+  ]
+
 -- the stamps of calls in another order
-stamped_same : (stamps : Option (List Stamp)) (mine calls : List Item) → IsPermutation mine calls → AreStamped stamps mine → AreStamped stamps calls
+stamped_same : (stamps : Option Stamps) (mine calls : List Item) → IsPermutation mine calls → AreStamped stamps mine → AreStamped stamps calls
 stamped_same stamps mine calls same stamped =
     let P : Item → Type 0 = λ item. HasStamp stamps item.reading item.stamp in
     recursion_from_All P calls (All-permutation P mine calls same (All-from_recursion P mine stamped))
@@ -126,6 +133,7 @@ module _ {I O : Type 0} (on : LinkWords I O) where
           true_of = tt;
           counts = omega arith;
           stamped = tt;
+          stamps = λ stamp gave. inl gave;
           legal = λ legal. (legal, subst (λ (d : Option Entry). IfSome d (λ entry. IsLegal opening.founder (entry ∷ opening.state.settled))) (sym settled) tt);
           founder = refl;
           limit = refl;
@@ -164,6 +172,7 @@ module _ {I O : Type 0} (on : LinkWords I O) where
           counts = subst (λ (n : ℕ). RisesBy n opening.faults office.faults)
               (sym (sum_by-IsPermutation (λ item. item.rise) view.mine calls same)) closes.counts;
           stamped = stamped_same office.stamps view.mine calls same closes.stamped;
+          stamps = stamps_of_calls opening view calls same office closes.comes.stamps;
           legal = closes.legal;
           founder = closes.founder;
           limit = closes.limit;

@@ -1,54 +1,106 @@
 -- Acts that were answered at a desk that is watched, and are kept since.
-use Rattle.std.proofs.Common.{◌≡◌, ℕ, suc, zero, ◌<◌, ◌+◌, ℤ, List, [], ◌∷◌, ◌++◌, length, Option, Some, None, refl, sym, ap, subst, ◌∙◌, ⊎_elim, le_trans, le_refl, arith}
-use Rattle.std.specs.Prelude.{map, slice_index_or, Contains, IsSome, IfSome, IsSomeAnd}
+use Rattle.std.proofs.Common.{◌≡◌, ◌⊎◌, ℕ, suc, zero, ◌<◌, ◌≤◌, ◌+◌, ℤ, pos, List, [], ◌∷◌, ◌++◌, length, true, Option, Some, None, refl, sym, ap, subst, ◌∙◌, inl, inr, ⊎_elim, le_trans, le_refl, arith}
+use Rattle.std.specs.Prelude.{map, slice_index_or, unwrap_or, Contains, IfSome, IsSomeAnd}
 use Rattle.std.specs.List.{AllByRecursion}
 use Rattle.std.proofs.lemmas.List.{map-append}
+use Rattle.std.proofs.lemmas.List.Elements.{Contains-append_left, Contains-push}
 use Rattle.disk_model.specs.Crashes.{During}
 use Rattle.act_bodies.specs.declared.key.Key.{Key}
 use Rattle.act_model.specs.declared.entry.Entry.{Entry}
+use Rattle.act_model.specs.declared.keeper.OfficeState.{OfficeState}
 use Rattle.act_model.specs.declared.reply.Reply.{Reply}
+use Rattle.act_model.specs.declared.reply.Reply.TheVariants.{Done}
 use Rattle.act_model.specs.declared.request.Request.{Request}
-use Rattle.act_model.specs.Conducts.{Extends, EitherWay}
+use Rattle.act_model.specs.Conducts.{Extends, EitherWay, IsAcknowledged}
 use Rattle.act_model.specs.Keepers.{TakesTurn as KeeperTakesTurn}
 use Rattle.act_model.specs.Legal.{IsLegal}
-use Rattle.act_model.specs.Turns.{Turn, Conduct}
+use Rattle.act_model.specs.Requests.{is_act}
+use Rattle.act_model.specs.Step.{step}
+use Rattle.act_model.specs.Turns.{Turn, Conduct, TakesReading, Answers, Mends, Takes, IsTurn, at_rest}
+use Rattle.intake_lock.specs.declared.clerk.Office.{Office}
 use Rattle.intake_lock.specs.declared.clerk.Stamp.{Stamp}
 use Rattle.intake_lock.specs.declared.view.Item.{Item}
-use Rattle.intake_lock.specs.Clerks.{TakesTurn}
-use Rattle.intake_lock.specs.Items.{HasStamp, IsTrue, AreTrue, AreStamped}
+use Rattle.intake_lock.specs.Clerks.{Gave}
+use Rattle.intake_lock.specs.Items.{reading_of, HasStamp, StampTells, IsTrue, AreTrue, AreStamped, Failed, TakesAt, TakesTurn}
 use Rattle.http_connection.specs.Calls.{IsAdded}
-use Rattle.mpc_desk.specs.Desks.{DeskState, IsAtRest, ActsInTurn, office_of}
+use Rattle.mpc_desk.specs.Desks.{DeskState, IsAtRest, FailsOn, ActsOn, ActsInTurn, turn_of, office_of}
 use Rattle.act_model.specs.Clocks.{ClockState}
 use Rattle.serve_command.specs.declared.accepting.Stop.{Stop}
 use Rattle.serve_command.specs.declared.ends.LinkEnd.{LinkEnd}
+use Rattle.serve_command.specs.declared.watching.Asked.{Asked}
 use Rattle.serve_command.specs.Gathering.{DoorState}
 use Rattle.serve_command.specs.Links.{LinkWords}
-use Rattle.serve_command.specs.Serving.{Serves}
-use Rattle.serve_command.specs.Images.{WatchedState, StandsWithin, IsWatched, Answered, stamp_of, stamping, Keeps, HasPassed, WasBetween, IsKept, KeepsAdded}
+use Rattle.serve_command.specs.Serving.{AreStampsOf, Serves}
+use Rattle.serve_command.specs.Images.{AskedBy, WatchedState, StandsWithin, IsWatched, Answered, WasAsked, stamp_of, stamping, Keeps, HasPassed, WasBetween, IsKept, KeepsDone}
 use Rattle.serve_command.proofs.Gathering.{extends_on}
-use Rattle.serve_command.proofs.WatchLemmas.{GrowthLaws, within_on, rests_within, act_within, watched_during}
+use Rattle.serve_command.proofs.WatchLemmas.{Asks, GrowthLaws, within_on, rests_within, act_within, watched_more, keeps_more, moved, watched_during}
 
 -- ---- the turns of a desk that stamps its acts
 
-module _ {D : Type 0} (moment : D → ℕ) (faults : D → ℕ) (request : Request) (reply : Reply) where
-  pub stamped_act : (old new : DeskState D) (answered more : Answered D) (reading : ℤ) → more ≡ answered ++ (new, request) ∷ []
+module _ {D : Type 0} (moment : D → ℕ) (since : D → ℕ → List ℕ → Type 0) (faults : D → ℕ) (request : Request) (reply : Reply) where
+  -- time goes on in an act
+  pub act_later : (old new : DeskState D) (reading : ℤ) → ActsInTurn moment since faults (record { old = old; request = request; reading = reading; reply = reply; new = new }) → moment old.disk ≤ moment new.disk
+  act_later old new reading inside = by inside.acts
+    where
+      by : FailsOn moment since old (turn_of request reading reply inside.rise) new ⊎ ActsOn moment since old (turn_of request reading reply inside.rise) reading new → moment old.disk ≤ moment new.disk
+      by (inl fails) = fails.no_image.later
+      by (inr acts) = acts.images.later
+
+  pub stamped_act : (old new : DeskState D) (answered more : Answered D) (reading : ℤ) (noted : Asked) → noted.request.value ≡ request → noted.reading ≡ reading → more ≡ answered ++ (new, noted) ∷ []
       → KeeperTakesTurn (office_of faults old) request (Some reading) reply (office_of faults new)
+      → ActsInTurn moment since faults (record { old = old; request = request; reading = reading; reply = reply; new = new })
       → TakesTurn (stamping moment faults old answered) request (Some reading) reply (stamping moment faults new more)
-  stamped_act old new answered more reading is turn =
-      let stamp : DeskState D × Request → Stamp = λ then. stamp_of moment then.0 in
-      record {
-        rise = turn.rise;
-        turn = turn.turn;
-        counts = turn.counts;
-        founder = turn.founder;
-        limit = turn.limit;
-        stamps = (moment new.disk, ap (λ (l : Answered D). Some (map stamp l)) is ∙ ap (λ (l : List Stamp). Some l) (map-append stamp answered ((new, request) ∷ [])));
-      }
+  stamped_act old new answered more reading noted request_is reading_is is turn inside = by turn.turn.takes
+    where
+      stamp : DeskState D × Asked → Stamp
+      stamp then = stamp_of moment then.0 then.1
+
+      item : ℕ → Item
+      item position = record { position = position; request = request; reading = Some reading; reply = reply; rise = turn.rise; stamp = Some (stamp_of moment new noted) }
+
+      made : (position : ℕ) → TakesAt old.founder (Some old.limit) old.state (item position) (Some reading) new.state
+          → TakesTurn (stamping moment faults old answered) request (Some reading) reply (stamping moment faults new more)
+      made position takes = (
+        item position,
+        record {
+          asked = refl;
+          read = refl;
+          answered = refl;
+          calls = record {
+            reads = turn.turn.reads;
+            takes = takes;
+            counts = turn.counts;
+            founder = turn.founder;
+            limit = turn.limit;
+            stamps = record {
+              given = stamp_of moment new noted;
+              of_call = record { stamp = refl; request = sym request_is; reading = ap (λ (t : ℤ). Some t) (sym reading_is) };
+              entries = refl;
+              later = act_later old new reading inside;
+              now = ap (λ (l : List Stamp). Some (record { moment = moment new.disk; given = l }))
+                  (ap (λ (l : Answered D). map (λ then. stamp_of moment then.0 then.1) l) is
+                  ∙ map-append (λ (then : DeskState D × Asked). stamp_of moment then.0 then.1) answered ((new, noted) ∷ []));
+            };
+          };
+        },
+      )
+
+      by : Takes old.founder (Some old.limit) old.state (record { request = request; reading = Some reading; reply = reply; rise = turn.rise }) (Some reading) new.state
+          → TakesTurn (stamping moment faults old answered) request (Some reading) reply (stamping moment faults new more)
+      by (inl fails) = made (length old.state.settled) (inl (fails, refl))
+      by (inr acts) = made (length acts.mended) (inr (acts, refl))
 
   pub stamped_query : (desk : DeskState D) (answered : Answered D) → KeeperTakesTurn (office_of faults desk) request None reply (office_of faults desk)
       → TakesTurn (stamping moment faults desk answered) request None reply (stamping moment faults desk answered)
-  stamped_query desk answered turn =
-      record { rise = turn.rise; turn = turn.turn; counts = turn.counts; founder = turn.founder; limit = turn.limit; stamps = refl }
+  stamped_query desk answered turn = (
+    record { position = length desk.state.settled; request = request; reading = None; reply = reply; rise = turn.rise; stamp = None },
+    record {
+      asked = refl;
+      read = refl;
+      answered = refl;
+      calls = record { reads = turn.turn.reads; takes = (turn.turn.takes, refl); counts = turn.counts; founder = turn.founder; limit = turn.limit; stamps = (refl, refl) };
+    },
+  )
 
 -- ---- what is kept over an act
 
@@ -56,57 +108,84 @@ all_push : {X : Type 0} (P : X → Type 0) (xs : List X) (x : X) → AllByRecurs
 all_push P [] x all here = (here, tt)
 all_push P (y ∷ ys) x all here = (all.0, all_push P ys x all.1 here)
 
-all_weaker : {X : Type 0} (P Q : X → Type 0) → ((x : X) → P x → Q x) → (xs : List X) → AllByRecursion P xs → AllByRecursion Q xs
+pub all_weaker : {X : Type 0} (P Q : X → Type 0) → ((x : X) → P x → Q x) → (xs : List X) → AllByRecursion P xs → AllByRecursion Q xs
 all_weaker P Q weaker [] all = tt
 all_weaker P Q weaker (x ∷ xs) all = (weaker x all.0, all_weaker P Q weaker xs all.1)
 
-module _ {D : Type 0} (laws : GrowthLaws) (moment : D → ℕ) (since : D → ℕ → List ℕ → Type 0) (faults : D → ℕ) where
+-- what was asked before an act was asked when it is answered, and so was the act
+module _ {D : Type 0} (answered more : Answered D) (new : DeskState D) (noted : Asked) (is : more ≡ answered ++ (new, noted) ∷ []) where
+  pub asked_before : (request : Request) (reading : ℤ) → WasAsked answered request reading → WasAsked more request reading
+  asked_before request reading (then, among, asks, reads) =
+      (then, subst (λ (l : Answered D). Contains l then) (sym is) (Contains-append_left answered ((new, noted) ∷ []) then among), asks, reads)
+
+  pub asked_now : (request : Request) (reading : ℤ) → noted.request.value ≡ request → noted.reading ≡ reading → WasAsked more request reading
+  asked_now request reading request_is reading_is =
+      ((new, noted), subst (λ (l : Answered D). Contains l (new, noted)) (sym is) (Contains-push answered (new, noted)), request_is, reading_is)
+
+module _ {D : Type 0} (laws : GrowthLaws) (moment : D → ℕ) (since : D → ℕ → List ℕ → Type 0) (faults : D → ℕ) (asked : Asks) where
   -- what was kept before an act is kept after it
-  keeps_on : (then old new : DeskState D) (request : Request) (reading : ℤ) (reply : Reply) → EitherWay (IsLegal old.founder) old.state
+  keeps_on : (first : List Entry) (from : ℕ) (images : ℕ → List ℕ → Type 0) (then old new : DeskState D) (request : Request) (reading : ℤ) (reply : Reply) → asked request reading
+      → IsWatched moment since first from images asked old
       → KeeperTakesTurn (office_of faults old) request (Some reading) reply (office_of faults new) → ActsInTurn moment since faults (record { old = old; request = request; reading = reading; reply = reply; new = new })
-      → new.founder ≡ old.founder → Keeps moment since old.founder then old → Keeps moment since new.founder then new
-  keeps_on then old new request reading reply legal turn inside same k =
+      → new.founder ≡ old.founder → new.limit ≡ old.limit → Keeps moment since old.founder (Some old.limit) asked then old → Keeps moment since new.founder (Some new.limit) asked then new
+  keeps_on first from images then old new request reading reply asks was turn inside same limit k =
       let taken : Turn = record { request = request; reading = Some reading; reply = reply; rise = turn.rise } in
       let one : Conduct old.founder (Some old.limit) old.state (taken ∷ []) new.state = (new.state, turn.turn, refl) in
       let goes_on = laws.grow old.founder (Some old.limit) old.state new.state (taken ∷ []) one in
-      let during = act_within laws moment since faults then.state.settled old new k.grows legal request reading reply turn.turn.reads.1 inside in
+      let during = act_within laws moment since faults asked then.state.settled old new k.grows was.legal was.doubt request reading asks reply turn.turn.reads.1 inside in
       record {
         later = le_trans k.later during.later;
         grows = extends_on then.state.settled old.state.settled new.state.settled k.grows goes_on;
         each = λ image now.
-            subst (λ (key : Key). StandsWithin key then.state.settled new.state.settled image) (sym same)
+            moved old new same limit (λ key most. StandsWithin key most asked then.state.settled new.state.settled image)
             (⊎_elim
-            (λ earlier. within_on old.founder then.state.settled old.state.settled new.state.settled image goes_on (k.each image earlier))
+            (λ earlier. within_on old.founder (Some old.limit) asked then.state.settled old.state.settled new.state.settled image goes_on (k.each image earlier))
             (λ has. has)
             (during.either (moment then.disk) image k.later now));
       }
 
   -- what is there after an act is kept from then on
-  keeps_now : (leaves : D → List ℕ → Type 0) → ((disk : D) (image : List ℕ) → since disk (moment disk) image → leaves disk image) → (desk : DeskState D)
-      → EitherWay (IsLegal desk.founder) desk.state → IsAtRest leaves desk → Keeps moment since desk.founder desk desk
-  keeps_now leaves only desk legal at_rest =
+  keeps_now : (leaves : D → List ℕ → Type 0) → ((disk : D) (image : List ℕ) → since disk (moment disk) image → leaves disk image) → (first : List Entry) (from : ℕ) (images : ℕ → List ℕ → Type 0) (desk : DeskState D)
+      → IsWatched moment since first from images asked desk → IsAtRest leaves desk → Keeps moment since desk.founder (Some desk.limit) asked desk desk
+  keeps_now leaves only first from images desk is at_rest =
       record {
         later = le_refl (moment desk.disk);
         grows = ([], refl);
         each = λ image now.
-            rests_within laws moment since faults desk.state.settled desk desk ([], refl) legal desk.state.settled image ([], refl) (at_rest image (only desk.disk image now));
+            rests_within laws moment since faults asked desk.state.settled desk desk ([], refl) is.legal is.doubt desk.state.settled image ([], refl) (at_rest image (only desk.disk image now));
       }
 
-  -- all that was kept, and what the act left
-  pub passed_on : (leaves : D → List ℕ → Type 0) → ((disk : D) (image : List ℕ) → since disk (moment disk) image → leaves disk image) → (first : List Entry) (from : ℕ)
-      (images : ℕ → List ℕ → Type 0) (old new : DeskState D) (answered more : Answered D) (request : Request) (reading : ℤ) (reply : Reply)
-      → IsWatched moment since first from images old → IsWatched moment since first from images new
-      → KeeperTakesTurn (office_of faults old) request (Some reading) reply (office_of faults new) → ActsInTurn moment since faults (record { old = old; request = request; reading = reading; reply = reply; new = new })
-      → IsAtRest leaves new → new.founder ≡ old.founder → more ≡ answered ++ (new, request) ∷ []
-      → AllByRecursion (λ then. HasPassed moment since first from images old then.0) answered → AllByRecursion (λ then. HasPassed moment since first from images new then.0) more
-  passed_on leaves only first from images old new answered more request reading reply was is turn inside at_rest same more_is passed =
-      let P : DeskState D × Request → Type 0 = λ then. HasPassed moment since first from images new then.0 in
-      subst (λ (l : Answered D). AllByRecursion P l) (sym more_is)
-      (all_push P answered (new, request)
-      (all_weaker (λ then. HasPassed moment since first from images old then.0) P
-      (λ then has. (has.0 ∙ sym same, has.1, keeps_on then.0 old new request reading reply was.legal turn inside same has.2))
-      answered passed)
-      (refl, is, keeps_now leaves only new is.legal at_rest))
+-- all that was kept, and what the act left
+pub passed_on : {D : Type 0} (laws : GrowthLaws) (moment : D → ℕ) (since : D → ℕ → List ℕ → Type 0) (faults : D → ℕ) (leaves : D → List ℕ → Type 0)
+    → ((disk : D) (image : List ℕ) → since disk (moment disk) image → leaves disk image) → (first : List Entry) (from : ℕ)
+    (images : ℕ → List ℕ → Type 0) (old new : DeskState D) (answered more : Answered D) (noted : Asked) (request : Request) (reading : ℤ) (reply : Reply)
+    → noted.request.value ≡ request → noted.reading ≡ reading
+    → IsWatched moment since first from images (WasAsked more) old → IsWatched moment since first from images (WasAsked more) new
+    → KeeperTakesTurn (office_of faults old) request (Some reading) reply (office_of faults new) → ActsInTurn moment since faults (record { old = old; request = request; reading = reading; reply = reply; new = new })
+    → IsAtRest leaves new → new.founder ≡ old.founder → new.limit ≡ old.limit → more ≡ answered ++ (new, noted) ∷ []
+    → AllByRecursion (λ then. HasPassed moment since first from images (WasAsked answered) old then.0) answered
+    → AllByRecursion (λ then. HasPassed moment since first from images (WasAsked more) new then.0) more
+passed_on {D = D} laws moment since faults leaves only first from images old new answered more noted request reading reply request_is reading_is was is turn inside at_rest same limit more_is passed =
+    let P : DeskState D × Asked → Type 0 = λ then. HasPassed moment since first from images (WasAsked more) new then.0 in
+    let all = asked_before answered more new noted more_is in
+    let asks = asked_now answered more new noted more_is request reading request_is reading_is in
+    subst (λ (l : Answered D). AllByRecursion P l) (sym more_is)
+    (all_push P answered (new, noted)
+    (all_weaker (λ then. HasPassed moment since first from images (WasAsked answered) old then.0) P
+    (λ then has. record {
+      founder = has.founder ∙ sym same;
+      limit = has.limit ∙ sym limit;
+      watched = watched_more (WasAsked answered) (WasAsked more) all moment since first from images then.0 has.watched;
+      keeps = keeps_on laws moment since faults (WasAsked more) first from images then.0 old new request reading reply asks was turn inside same limit
+          (keeps_more (WasAsked answered) (WasAsked more) all moment since old.founder (Some old.limit) then.0 old has.keeps);
+    })
+    answered passed)
+    (record {
+      founder = refl;
+      limit = refl;
+      watched = is;
+      keeps = keeps_now laws moment since faults (WasAsked more) leaves only first from images new is at_rest;
+    }))
 
 -- ---- at the end of a service
 
@@ -128,23 +207,26 @@ module _ {D I O : Type 0} (on : LinkWords I O) (moment : D → ℕ) (faults : D 
       (record { office = stamping moment faults closed.desk closed.answered; door = after; ends = ends; stop = stop }))
       opened_is serves)
 
+pub same_limit : (a b : ℕ) → Some a ≡ Some b → a ≡ b
+same_limit a b is = cc
+
 -- a desk was between its opening and its end
-pub was_between : {D : Type 0} (moment : D → ℕ) (since : D → ℕ → List ℕ → Type 0) (first : List Entry) (from : ℕ) (images : ℕ → List ℕ → Type 0) (opened last : DeskState D)
-    → first ≡ opened.state.settled → from ≡ moment opened.disk → ((t : ℕ) (image : List ℕ) → images t image → since opened.disk t image) → last.founder ≡ opened.founder
-    → (answered : Answered D) → AllByRecursion (λ then. HasPassed moment since first from images last then.0) answered
-    → AllByRecursion (λ then. WasBetween moment since opened last then.0) answered
-was_between moment since first from images opened last first_is from_is are founder answered passed =
-    all_weaker (λ then. HasPassed moment since first from images last then.0) (λ then. WasBetween moment since opened last then.0)
+pub was_between : {D : Type 0} (moment : D → ℕ) (since : D → ℕ → List ℕ → Type 0) (first : List Entry) (from : ℕ) (images : ℕ → List ℕ → Type 0) (asked : Asks) (opened last : DeskState D)
+    → first ≡ opened.state.settled → from ≡ moment opened.disk → ((t : ℕ) (image : List ℕ) → images t image → since opened.disk t image) → last.founder ≡ opened.founder → last.limit ≡ opened.limit
+    → (answered : Answered D) → AllByRecursion (λ then. HasPassed moment since first from images asked last then.0) answered
+    → AllByRecursion (λ then. WasBetween moment since asked opened last then.0) answered
+was_between moment since first from images asked opened last first_is from_is are founder limit answered passed =
+    all_weaker (λ then. HasPassed moment since first from images asked last then.0) (λ then. WasBetween moment since asked opened last then.0)
     (λ then has. record {
-      before = watched_during moment since first from images opened then.0 first_is from_is are (has.0 ∙ founder) has.1.later has.1.each;
-      keeps = subst (λ (key : Key). Keeps moment since key then.0 last) founder has.2;
+      before = watched_during moment since first from images asked opened then.0 first_is from_is are (has.founder ∙ founder) (has.limit ∙ limit) has.watched.later has.watched.each;
+      keeps = moved last opened (sym founder) (sym limit) (λ key most. Keeps moment since key most asked then.0 last) has.keeps;
     })
     answered passed
 
 -- and before the last mending
-between_mended : {D : Type 0} (moment : D → ℕ) (since : D → ℕ → List ℕ → Type 0) (opened left last then : DeskState D) → During moment since left.disk last.disk (λ _. ⊥)
-    → Extends left.state.settled last.state.settled → WasBetween moment since opened left then → WasBetween moment since opened last then
-between_mended moment since opened left last then none goes_on was =
+between_mended : {D : Type 0} (moment : D → ℕ) (since : D → ℕ → List ℕ → Type 0) (asked : Asks) (opened left last then : DeskState D) → During moment since left.disk last.disk (λ _. ⊥)
+    → Extends left.state.settled last.state.settled → WasBetween moment since asked opened left then → WasBetween moment since asked opened last then
+between_mended moment since asked opened left last then none goes_on was =
     let k = was.keeps in
     record {
       before = was.before;
@@ -152,7 +234,7 @@ between_mended moment since opened left last then none goes_on was =
         later = le_trans k.later none.later;
         grows = extends_on then.state.settled left.state.settled last.state.settled k.grows goes_on;
         each = λ image now.
-            within_on opened.founder then.state.settled left.state.settled last.state.settled image goes_on
+            within_on opened.founder (Some opened.limit) asked then.state.settled left.state.settled last.state.settled image goes_on
             (⊎_elim (λ earlier. k.each image earlier) (λ never. absurd never) (none.either (moment then.disk) image k.later now));
       };
     }
@@ -163,52 +245,118 @@ found f P [] y k low is all = absurd (omega arith)
 found f P (x ∷ xs) y zero low is all = (x, all.0, is)
 found f P (x ∷ xs) y (suc k) low is all = found f P xs y k (omega arith) is all.1
 
+-- and what is in a list has its image among theirs
+has_image : {X Y : Type 0} (f : X → Y) (xs : List X) (x : X) (k : ℕ) → k < length xs → slice_index_or xs k x ≡ x → (k < length (map f xs)) × (slice_index_or (map f xs) k (f x) ≡ f x)
+has_image f [] x k low is = absurd (omega arith)
+has_image f (y ∷ ys) x zero low is = (omega arith, ap f is)
+has_image f (y ∷ ys) x (suc k) low is = let rest = has_image f ys x k (omega arith) is in let below = rest.0 in (omega arith, rest.1)
+
+-- each act that a desk answered was asked by a call whose stamp it is
+pub asked_by : {D : Type 0} (moment : D → ℕ) (faults : D → ℕ) (opened left : DeskState D) (answered : Answered D) (calls : List Item)
+    → AreStampsOf (stamping moment faults opened []) (stamping moment faults left answered) calls
+    → (request : Request) (reading : ℤ) → WasAsked answered request reading → AskedBy calls request reading
+asked_by {D = D} moment faults opened left answered calls stamps request reading (then, (k, low, at), request_is, reading_is) =
+    let f : DeskState D × Asked → Stamp = λ one. stamp_of moment one.0 one.1 in
+    let image = has_image f answered then k low at in
+    elim (stamps (f then) (k, image.0, image.1)) [
+      | inl none ↦ absurd (nothing (f then) none)
+      | inr call ↦ (call.0, call.1, call.2.request ∙ request_is, call.2.reading ∙ ap (λ (t : ℤ). Some t) reading_is)
+    ]
+  where
+    nothing : (stamp : Stamp) → Contains [] stamp → ⊥
+    nothing stamp (n, low, is) = omega arith
+
 -- the law that histories that begin one another and are as long are one
 abbrev pub OneBeginning : Type 0
 OneBeginning = (a b c : List Entry) → Extends a c → Extends b c → length a ≡ length b → a ≡ b
 
+-- what the office's laws say of an act that is answered
+abbrev pub Acknowledges : Type 0
+Acknowledges = (founder : Key) (limit : Option ℕ) (before after : OfficeState) (turn : Turn) (text : List ℕ) → IsTurn founder limit before turn after
+    → is_act turn.request.verb ≡ true → turn.reply ≡ Done text
+    → (mended : List Entry) × Mends before.settled before.doubt mended × IsAcknowledged founder mended turn.request text after.settled
+
 -- what http_connection knows of a call that added an entry
 pub record AddedLaws : Type 0 where
-  pub act : (founder : Key) (limit : Option ℕ) (history later : List Entry) (item : Item) → Extends history later → IsTrue founder limit history item → IsAdded founder limit later item
-      → IsSome item.reading
   pub stands : (founder : Key) (limit : Option ℕ) (history later : List Entry) (item : Item) → Extends history later → IsTrue founder limit history item
       → (added : IsAdded founder limit later item) → Extends (added.entry ∷ added.past) history
   pub stamp : (founder : Key) (limit : Option ℕ) (history later : List Entry) (item : Item) → Extends history later → IsTrue founder limit history item → IsAdded founder limit later item
       → IfSome item.stamp (λ stamp. stamp.entries ≡ item.position + 1)
 
-module _ {D : Type 0} (moment : D → ℕ) (since : D → ℕ → List ℕ → Type 0) (opened left last : DeskState D) (one : OneBeginning) (laws : AddedLaws)
+-- an act that was answered at a history where nothing was in doubt is there then
+acknowledged : Acknowledges → (founder : Key) (limit : Option ℕ) (past after : List Entry) (item : Item) (reading : ℤ) (text : List ℕ) → TakesReading item.request.verb (Some reading)
+    → Answers founder limit past item.request reading item.reply after → item.reply ≡ Done text → IsAcknowledged founder past item.request text after
+acknowledged law founder limit past after item reading text reads answers reply =
+    let turn : Turn = record { request = item.request; reading = Some reading; reply = item.reply; rise = item.rise } in
+    let is : IsTurn founder limit (at_rest past) turn (at_rest after) =
+    record { reads = reads; takes = inr (record { mended = past; mends = refl; acts = inl (record { answers = answers; settled = refl }) }) } in
+    let told = law founder limit (at_rest past) (at_rest after) turn text is reads.0 reply in
+    subst (λ (h : List Entry). IsAcknowledged founder h item.request text after) told.1 told.2
+
+module _ {D : Type 0} (moment : D → ℕ) (since : D → ℕ → List ℕ → Type 0) (asked : Asks) (opened left last : DeskState D) (one : OneBeginning) (acknowledges : Acknowledges) (laws : AddedLaws)
     (none : During moment since left.disk last.disk (λ _. ⊥)) (goes_on : Extends left.state.settled last.state.settled)
-    (answered : Answered D) (were : AllByRecursion (λ then. WasBetween moment since opened left then.0) answered) where
+    (answered : Answered D) (were : AllByRecursion (λ then. WasBetween moment since asked opened left then.0) answered) where
   abbrev stamps : List Stamp
-  stamps = map (λ (then : DeskState D × Request). stamp_of moment then.0) answered
+  stamps = map (λ (then : DeskState D × Asked). stamp_of moment then.0 then.1) answered
 
-  -- the stamp of a call that added an entry is that of the desk as it was then
-  kept_by : (item : Item) (entry : Entry) (past : List Entry) (stamp : Option Stamp) → item.stamp ≡ stamp → item.position ≡ length past → Extends (entry ∷ past) left.state.settled
-      → IsSomeAnd stamp (λ given. Contains stamps given) → IfSome stamp (λ given. given.entries ≡ item.position + 1) → IsKept moment since opened last item entry past
-  kept_by item entry past None stamp_is place stands among counts = absurd among
-  kept_by item entry past (Some given) stamp_is place stands (k, low, at) counts =
-      let f : DeskState D × Request → Stamp = λ then. stamp_of moment then.0 in
-      let (then, was, is) = found f (λ then. WasBetween moment since opened left then.0) answered given k low at were in
-      let entries : length then.0.state.settled ≡ given.entries = ap (λ (s : Stamp). s.entries) is in
-      record {
-        then = then.0;
-        settled = one then.0.state.settled (entry ∷ past) left.state.settled was.keeps.grows stands (omega arith);
-        stamp = stamp_is ∙ ap (λ (s : Stamp). Some s) (sym is);
-        between = between_mended moment since opened left last then.0 none goes_on was;
-      }
+  module _ (item : Item) (reading : ℤ) (reading_is : item.reading ≡ Some reading) (text : List ℕ) (reply : item.reply ≡ Done text) (is : IsTrue opened.founder (Some opened.limit) left.state.settled item) where
+    -- the stamp of a call that was done is that of the desk as it was then
+    kept_by : (after : List Entry) (stamp : Option Stamp) → item.stamp ≡ stamp → step opened.founder (Some opened.limit) is.past item.request (reading_of item) ≡ (item.reply, after)
+        → Extends after left.state.settled → IsSomeAnd stamp (λ given. Contains stamps given) → IfSome stamp (λ given. given.entries ≡ length after)
+        → ((added : IsAdded opened.founder (Some opened.limit) last.state.settled item) → IfSome stamp (λ given. given.entries ≡ item.position + 1))
+        → IsKept moment since asked opened last item text
+    kept_by after None stamp_is stepped stands among counts newest = absurd among
+    kept_by after (Some given) stamp_is stepped stands (k, low, at) counts newest =
+        let f : DeskState D × Asked → Stamp = λ then. stamp_of moment then.0 then.1 in
+        let (then, was, given_is) = found f (λ then. WasBetween moment since asked opened left then.0) answered given k low at were in
+        let entries : length then.0.state.settled ≡ given.entries = ap (λ (s : Stamp). s.entries) given_is in
+        let same : after ≡ then.0.state.settled = sym (one then.0.state.settled after left.state.settled was.keeps.grows stands (entries ∙ counts)) in
+        let whole : step opened.founder (Some opened.limit) is.past item.request (reading_of item) ≡ (Done text, then.0.state.settled) =
+        stepped ∙ ap (λ (r : Reply). (r, after)) reply ∙ ap (λ (h : List Entry). (Done text, h)) same in
+        let reads : TakesReading item.request.verb (Some reading) = subst (λ (r : Option ℤ). TakesReading item.request.verb r) reading_is is.reads in
+        let answers : Answers opened.founder (Some opened.limit) is.past item.request reading item.reply then.0.state.settled =
+        inl (subst (λ (t : ℤ). step opened.founder (Some opened.limit) is.past item.request t ≡ (item.reply, then.0.state.settled))
+        (ap (λ (r : Option ℤ). unwrap_or r (pos 0)) reading_is)
+        (stepped ∙ ap (λ (h : List Entry). (item.reply, h)) same)) in
+        record {
+          then = then.0;
+          noted = then.1;
+          stamp = stamp_is ∙ ap (λ (s : Stamp). Some s) (sym given_is);
+          past = is.past;
+          place = is.place;
+          stepped = whole;
+          acknowledged = acknowledged acknowledges opened.founder (Some opened.limit) is.past then.0.state.settled item reading text reads answers reply;
+          added = λ added.
+              let place = added.place in
+              let count = newest added in
+              one then.0.state.settled (added.entry ∷ added.past) left.state.settled was.keeps.grows
+              (laws.stands opened.founder (Some opened.limit) left.state.settled last.state.settled item goes_on is added) (omega arith);
+          between = between_mended moment since asked opened left last then.0 none goes_on was;
+        }
 
-  kept_call : (item : Item) (reading : Option ℤ) → item.reading ≡ reading → IsTrue opened.founder (Some opened.limit) left.state.settled item → HasStamp (Some stamps) reading item.stamp
-      → KeepsAdded moment since opened last item
-  kept_call item None is true_of has added =
-      let some : IsSome item.reading = laws.act opened.founder (Some opened.limit) left.state.settled last.state.settled item goes_on true_of added in
-      let never = subst (λ (r : Option ℤ). IsSome r) is some in
-      absurd cc
-  kept_call item (Some reading) is true_of has added =
-      kept_by item added.entry added.past item.stamp refl added.place
-      (laws.stands opened.founder (Some opened.limit) left.state.settled last.state.settled item goes_on true_of added) has
-      (laws.stamp opened.founder (Some opened.limit) left.state.settled last.state.settled item goes_on true_of added)
+    kept_done : HasStamp (Some (record { moment = moment left.disk; given = stamps })) (Some reading) item.stamp → IsKept moment since asked opened last item text
+    kept_done has = by is.answered
+      where
+        newest : (added : IsAdded opened.founder (Some opened.limit) last.state.settled item) → IfSome item.stamp (λ given. given.entries ≡ item.position + 1)
+        newest added = laws.stamp opened.founder (Some opened.limit) left.state.settled last.state.settled item goes_on is added
 
-  pub kept_calls : (items : List Item) → AreTrue opened.founder (Some opened.limit) left.state.settled items → AreStamped (Some stamps) items
-      → AllByRecursion (KeepsAdded moment since opened last) items
+        with_answer : (after : List Entry) → Answers opened.founder (Some opened.limit) is.past item.request (reading_of item) item.reply after → Extends after left.state.settled
+            → StampTells is.past item.reading item.stamp after → IsKept moment since asked opened last item text
+        with_answer after (inl stepped) stands tells = kept_by after item.stamp refl stepped stands has (subst (λ (r : Option ℤ). StampTells is.past r item.stamp after) reading_is tells) newest
+        with_answer after (inr (wants, same)) stands tells = absurd cc
+
+        by : ((after : List Entry) × Answers opened.founder (Some opened.limit) is.past item.request (reading_of item) item.reply after
+            × Extends after left.state.settled × StampTells is.past item.reading item.stamp after) ⊎ Failed opened.founder (Some opened.limit) is.past item → IsKept moment since asked opened last item text
+        by (inl (after, answers, stands, tells)) = with_answer after answers stands tells
+        by (inr failed) = let told = failed.reply in absurd cc
+
+  kept_call : (item : Item) (reading : Option ℤ) → item.reading ≡ reading → IsTrue opened.founder (Some opened.limit) left.state.settled item
+      → HasStamp (Some (record { moment = moment left.disk; given = stamps })) reading item.stamp
+      → IfSome reading (λ _. (text : List ℕ) → item.reply ≡ Done text → IsKept moment since asked opened last item text)
+  kept_call item None is true_of has = tt
+  kept_call item (Some reading) is true_of has = λ text reply. kept_done item reading is text reply true_of has
+
+  pub kept_calls : (items : List Item) → AreTrue opened.founder (Some opened.limit) left.state.settled items → AreStamped (Some (record { moment = moment left.disk; given = stamps })) items
+      → AllByRecursion (KeepsDone moment since asked opened last) items
   kept_calls [] true_of stamped = tt
   kept_calls (item ∷ items) true_of stamped = (kept_call item item.reading refl true_of.0 stamped.0, kept_calls items true_of.1 stamped.1)

@@ -1,5 +1,5 @@
 -- An act on a desk that is watched.
-use Rattle.std.proofs.Common.{◌≡◌, ◌⊎◌, ℕ, ◌≤◌, ℤ, List, [], ◌∷◌, Bool, Option, Some, None, refl, sym, ap, subst, ◌∙◌, inl, inr, ⊎_elim, le_trans, arith}
+use Rattle.std.proofs.Common.{◌≡◌, ◌⊎◌, ℕ, ◌≤◌, ℤ, List, [], ◌∷◌, Bool, true, false, Option, Some, None, refl, sym, ap, subst, ◌∙◌, inl, inr, ⊎_elim, le_trans, arith}
 use Rattle.std.specs.Prelude.{IfSome, IsSomeAnd}
 use Rattle.obs_time.specs.Instants.{IsInstantNs}
 use Rattle.disk_model.specs.Crashes.{During}
@@ -20,9 +20,13 @@ use Rattle.mpc_desk.specs.Desks.{DeskState, RestsAt, MayLeave, FailsOn, ActsOn, 
 use Rattle.mpc_desk.specs.Files.{Stands}
 use Rattle.mpc_desk.specs.Opening.{StandsAlike}
 use Rattle.command_ends.specs.Disks.{DiskWords}
-use Rattle.serve_command.specs.Images.{StandsWithin, IsWatched, LeavesInService}
+use Rattle.serve_command.specs.Images.{IsOfAsked, StandsWithin, IsWatched, Keeps, WasBetween, LeavesInService}
 use Rattle.serve_command.proofs.Gathering.{extends_on}
 use Rattle.serve_command.proofs.Mending.{mends_extends, mends_legal}
+
+-- which acts were asked, with which readings of the clock
+abbrev pub Asks : Type 1
+Asks = Request → ℤ → Type 0
 
 -- what the office's laws say of histories
 pub record GrowthLaws : Type 0 where
@@ -35,8 +39,8 @@ pub record GrowthLaws : Type 0 where
       → Makes past (outcome founder limit past request reading) reply after
 
 -- an image of a shorter service is one of a longer
-pub within_on : (founder : Key) (first last later : List Entry) (image : List ℕ) → Extends last later → StandsWithin founder first last image → StandsWithin founder first later image
-within_on founder first last later image goes_on s = record {
+pub within_on : (founder : Key) (limit : Option ℕ) (asked : Asks) (first last later : List Entry) (image : List ℕ) → Extends last later → StandsWithin founder limit asked first last image → StandsWithin founder limit asked first later image
+within_on founder limit asked first last later image goes_on s = record {
   past = s.past;
   begins = s.begins;
   ends = extends_on s.past last later s.ends goes_on;
@@ -45,6 +49,58 @@ within_on founder first last later image goes_on s = record {
   legal = s.legal;
   stands = s.stands;
 }
+
+-- where more was asked
+module _ (asked more : Asks) (all : (request : Request) (reading : ℤ) → asked request reading → more request reading) where
+  pub of_more : (founder : Key) (limit : Option ℕ) (past : List Entry) (entry : Entry) → IsOfAsked founder limit asked past entry → IsOfAsked founder limit more past entry
+  of_more founder limit past entry is = record { request = is.request; reading = is.reading; was_asked = all is.request is.reading is.was_asked; adds = is.adds }
+
+  pub within_more : (founder : Key) (limit : Option ℕ) (first last : List Entry) (image : List ℕ) → StandsWithin founder limit asked first last image → StandsWithin founder limit more first last image
+  within_more founder limit first last image s = record {
+    past = s.past;
+    begins = s.begins;
+    ends = s.ends;
+    history = s.history;
+    within = elim s.within [ inl same ↦ inl same | inr longer ↦ inr (longer.0, of_more founder limit s.past longer.0 longer.1, longer.2) ];
+    legal = s.legal;
+    stands = s.stands;
+  }
+
+  doubt_more : (founder : Key) (limit : Option ℕ) (past : List Entry) (doubt : Option Entry) → IfSome doubt (IsOfAsked founder limit asked past) → IfSome doubt (IsOfAsked founder limit more past)
+  doubt_more founder limit past None is = tt
+  doubt_more founder limit past (Some entry) is = of_more founder limit past entry is
+
+  pub watched_more : {D : Type 0} (moment : D → ℕ) (since : D → ℕ → List ℕ → Type 0) (first : List Entry) (from : ℕ) (images : ℕ → List ℕ → Type 0) (desk : DeskState D)
+      → IsWatched moment since first from images asked desk → IsWatched moment since first from images more desk
+  watched_more moment since first from images desk w = record {
+    later = w.later;
+    grows = w.grows;
+    legal = w.legal;
+    doubt = doubt_more desk.founder (Some desk.limit) desk.state.settled desk.state.doubt w.doubt;
+    each = λ t image le now. ⊎_elim (λ earlier. inl earlier) (λ has. inr (within_more desk.founder (Some desk.limit) first desk.state.settled image has)) (w.each t image le now);
+  }
+
+  pub keeps_more : {D : Type 0} (moment : D → ℕ) (since : D → ℕ → List ℕ → Type 0) (founder : Key) (limit : Option ℕ) (then now : DeskState D)
+      → Keeps moment since founder limit asked then now → Keeps moment since founder limit more then now
+  keeps_more moment since founder limit then now k =
+      record { later = k.later; grows = k.grows; each = λ image is. within_more founder limit then.state.settled now.state.settled image (k.each image is) }
+
+  pub during_more : {D : Type 0} (moment : D → ℕ) (since : D → ℕ → List ℕ → Type 0) (old new : D) (founder : Key) (limit : Option ℕ) (first last : List Entry)
+      → During moment since old new (StandsWithin founder limit asked first last) → During moment since old new (StandsWithin founder limit more first last)
+  during_more moment since old new founder limit first last during =
+      record { later = during.later; either = λ t image le now. ⊎_elim (λ earlier. inl earlier) (λ has. inr (within_more founder limit first last image has)) (during.either t image le now) }
+
+  pub between_more : {D : Type 0} (moment : D → ℕ) (since : D → ℕ → List ℕ → Type 0) (opened now then : DeskState D)
+      → WasBetween moment since asked opened now then → WasBetween moment since more opened now then
+  between_more moment since opened now then was =
+      record {
+        before = during_more moment since opened.disk then.disk opened.founder (Some opened.limit) opened.state.settled then.state.settled was.before;
+        keeps = keeps_more moment since opened.founder (Some opened.limit) then now was.keeps;
+      }
+
+-- what is said of the key and the limit of a desk is said of the desk after an act
+pub moved : {D : Type 0} (old new : DeskState D) → new.founder ≡ old.founder → new.limit ≡ old.limit → (P : Key → Option ℕ → Type 0) → P old.founder (Some old.limit) → P new.founder (Some new.limit)
+moved old new founder limit P has = subst (λ (k : Key). P k (Some new.limit)) (sym founder) (subst (λ (n : ℕ). P old.founder (Some n)) (sym limit) has)
 
 -- the step makes this history where it adds an entry
 step_adds : (founder : Key) (limit : Option ℕ) (past : List Entry) (q : Request) (t : ℤ) (entry : Entry) → outcome founder limit past q t ≡ Adds entry
@@ -70,117 +126,148 @@ module _ (laws : GrowthLaws) (founder : Key) (limit : Option ℕ) where
       by (inr (wants, same)) = ([], same)
   acts_extend mended turn reading new (inr fails) = ([], ap (λ (s : OfficeState). s.settled) fails.leaves ∙ untouched_settled fails.doubt mended fails.entry)
 
-module _ {D : Type 0} (laws : GrowthLaws) (moment : D → ℕ) (since : D → ℕ → List ℕ → Type 0) (faults : D → ℕ) (first : List Entry) (old new : DeskState D)
-    (begins : Extends first old.state.settled) (legal : EitherWay (IsLegal old.founder) old.state) where
+module _ {D : Type 0} (laws : GrowthLaws) (moment : D → ℕ) (since : D → ℕ → List ℕ → Type 0) (faults : D → ℕ) (asked : Asks) (first : List Entry) (old new : DeskState D)
+    (begins : Extends first old.state.settled) (legal : EitherWay (IsLegal old.founder) old.state) (doubt : IfSome old.state.doubt (IsOfAsked old.founder (Some old.limit) asked old.state.settled)) where
+  abbrev Within : List Entry → List ℕ → Type 0
+  Within last image = StandsWithin old.founder (Some old.limit) asked first last image
+
   -- an image of the office at rest
-  pub rests_within : (last : List Entry) (image : List ℕ) → Extends old.state.settled last → RestsAt old.state image → StandsWithin old.founder first last image
+  pub rests_within : (last : List Entry) (image : List ℕ) → Extends old.state.settled last → RestsAt old.state image → Within last image
   rests_within last image ends (inl stands) =
       record { past = old.state.settled; begins = begins; ends = ends; history = old.state.settled; within = inl refl; legal = legal.0; stands = stands }
-  rests_within last image ends (inr doubted) = by old.state.doubt doubted legal.1
+  rests_within last image ends (inr doubted) = by old.state.doubt doubted legal.1 doubt
     where
       by : (doubt : Option Entry) → IsSomeAnd doubt (λ entry. Stands image (entry ∷ old.state.settled)) → IfSome doubt (λ entry. IsLegal old.founder (entry ∷ old.state.settled))
-          → StandsWithin old.founder first last image
-      by None none either_way = absurd none
-      by (Some entry) stands either_way =
-          record { past = old.state.settled; begins = begins; ends = ends; history = entry ∷ old.state.settled; within = inr (entry, refl); legal = either_way; stands = stands }
+          → IfSome doubt (IsOfAsked old.founder (Some old.limit) asked old.state.settled) → Within last image
+      by None none either_way origin = absurd none
+      by (Some entry) stands either_way origin =
+          record { past = old.state.settled; begins = begins; ends = ends; history = entry ∷ old.state.settled; within = inr (entry, origin, refl); legal = either_way; stands = stands }
 
-  -- an image inside an act
-  inside_within : (mended last : List Entry) (request : Request) (reading : ℤ) (image : List ℕ) → IsInstantNs reading → Mends old.state.settled old.state.doubt mended
-      → Extends mended last → MayLeave old mended request reading image → StandsWithin old.founder first last image
-  inside_within mended last request reading image years mends ends (inl rests) =
-      rests_within last image (extends_on old.state.settled mended last (mends_extends old.state.settled old.state.doubt mended mends) ends) rests
-  inside_within mended last request reading image years mends ends (inr (entry, adds, stands)) =
-      record {
-        past = mended;
-        begins = extends_on first old.state.settled mended begins (mends_extends old.state.settled old.state.doubt mended mends);
-        ends = ends;
-        history = entry ∷ mended;
-        within = inr (entry, refl);
-        legal = laws.legal_step old.founder (Some old.limit) mended (entry ∷ mended) request reading (Done (entry_answer mended entry))
-            (mends_legal old.founder old.state.settled old.state.doubt mended mends legal.0 legal.1) years (step_adds old.founder (Some old.limit) mended request reading entry adds);
-        stands = stands;
-      }
+  module _ (request : Request) (reading : ℤ) (was : asked request reading) where
+    of_this : (mended : List Entry) (entry : Entry) → outcome old.founder (Some old.limit) mended request reading ≡ Adds entry → IsOfAsked old.founder (Some old.limit) asked mended entry
+    of_this mended entry adds = record { request = request; reading = reading; was_asked = was; adds = adds }
 
-  -- each image of an act
-  pub act_within : (request : Request) (reading : ℤ) (reply : Reply) → IsInstantNs reading → ActsInTurn moment since faults (record { old = old; request = request; reading = reading; reply = reply; new = new })
-      → During moment since old.disk new.disk (StandsWithin old.founder first new.state.settled)
-  act_within request reading reply years inside = by inside.acts
-    where
-      by : FailsOn moment since old (turn_of request reading reply inside.rise) new ⊎ ActsOn moment since old (turn_of request reading reply inside.rise) reading new
-          → During moment since old.disk new.disk (StandsWithin old.founder first new.state.settled)
-      by (inl fails) = record {
-        later = fails.no_image.later;
-        either = λ t image le was. ⊎_elim (λ earlier. inl earlier) (λ none. absurd none) (fails.no_image.either t image le was);
-      }
-      by (inr acts) = record {
-        later = acts.images.later;
-        either = λ t image le was.
-            ⊎_elim (λ earlier. inl earlier)
-            (λ has. inr (inside_within acts.mended new.state.settled request reading image years acts.mends
-            (acts_extend laws old.founder (Some old.limit) acts.mended (turn_of request reading reply inside.rise) reading new.state acts.acts) has))
-            (acts.images.either t image le was);
-      }
+    -- an image inside an act
+    inside_within : (mended last : List Entry) (image : List ℕ) → IsInstantNs reading → Mends old.state.settled old.state.doubt mended
+        → Extends mended last → MayLeave old mended request reading image → Within last image
+    inside_within mended last image years mends ends (inl rests) =
+        rests_within last image (extends_on old.state.settled mended last (mends_extends old.state.settled old.state.doubt mended mends) ends) rests
+    inside_within mended last image years mends ends (inr (entry, adds, stands)) =
+        record {
+          past = mended;
+          begins = extends_on first old.state.settled mended begins (mends_extends old.state.settled old.state.doubt mended mends);
+          ends = ends;
+          history = entry ∷ mended;
+          within = inr (entry, of_this mended entry adds, refl);
+          legal = laws.legal_step old.founder (Some old.limit) mended (entry ∷ mended) request reading (Done (entry_answer mended entry))
+              (mends_legal old.founder old.state.settled old.state.doubt mended mends legal.0 legal.1) years (step_adds old.founder (Some old.limit) mended request reading entry adds);
+          stands = stands;
+        }
+
+    -- each image of an act
+    pub act_within : (reply : Reply) → IsInstantNs reading → ActsInTurn moment since faults (record { old = old; request = request; reading = reading; reply = reply; new = new })
+        → During moment since old.disk new.disk (Within new.state.settled)
+    act_within reply years inside = by inside.acts
+      where
+        by : FailsOn moment since old (turn_of request reading reply inside.rise) new ⊎ ActsOn moment since old (turn_of request reading reply inside.rise) reading new
+            → During moment since old.disk new.disk (Within new.state.settled)
+        by (inl fails) = record {
+          later = fails.no_image.later;
+          either = λ t image le was. ⊎_elim (λ earlier. inl earlier) (λ none. absurd none) (fails.no_image.either t image le was);
+        }
+        by (inr acts) = record {
+          later = acts.images.later;
+          either = λ t image le was.
+              ⊎_elim (λ earlier. inl earlier)
+              (λ has. inr (inside_within acts.mended new.state.settled image years acts.mends
+              (acts_extend laws old.founder (Some old.limit) acts.mended (turn_of request reading reply inside.rise) reading new.state acts.acts) has))
+              (acts.images.either t image le was);
+        }
+
+    -- the act that is in doubt after an act was asked
+    abbrev Doubts : OfficeState → Type 0
+    Doubts state = IfSome state.doubt (IsOfAsked old.founder (Some old.limit) asked state.settled)
+
+    doubts_kept : (kept : Bool) (mended : List Entry) (entry : Entry) → outcome old.founder (Some old.limit) mended request reading ≡ Adds entry → Doubts (unless_untouched kept mended entry)
+    doubts_kept true mended entry adds = of_this mended entry adds
+    doubts_kept false mended entry adds = tt
+
+    pub act_doubts : (reply : Reply) → ActsInTurn moment since faults (record { old = old; request = request; reading = reading; reply = reply; new = new }) → Doubts new.state
+    act_doubts reply inside = by inside.acts
+      where
+        on_acts : (mended : List Entry) → Settles old.founder (Some old.limit) mended (turn_of request reading reply inside.rise) reading new.state
+            ⊎ FailsToKeep old.founder (Some old.limit) mended (turn_of request reading reply inside.rise) reading new.state → Doubts new.state
+        on_acts mended (inl settles) = subst (λ (d : Option Entry). IfSome d (IsOfAsked old.founder (Some old.limit) asked new.state.settled)) (sym settles.settled) tt
+        on_acts mended (inr fails) = subst Doubts (sym fails.leaves) (doubts_kept fails.doubt mended fails.entry fails.adds)
+
+        by : FailsOn moment since old (turn_of request reading reply inside.rise) new ⊎ ActsOn moment since old (turn_of request reading reply inside.rise) reading new → Doubts new.state
+        by (inl fails) = subst Doubts (sym fails.fails.stays) doubt
+        by (inr acts) = on_acts acts.mended acts.acts
 
 -- a desk is watched on over an act
-pub watched_on : {D : Type 0} (laws : GrowthLaws) (moment : D → ℕ) (since : D → ℕ → List ℕ → Type 0) (faults : D → ℕ) (first : List Entry) (from : ℕ) (images : ℕ → List ℕ → Type 0)
-    (old new : DeskState D) (request : Request) (reading : ℤ) (reply : Reply) → IsWatched moment since first from images old
+pub watched_on : {D : Type 0} (laws : GrowthLaws) (moment : D → ℕ) (since : D → ℕ → List ℕ → Type 0) (faults : D → ℕ) (asked : Asks) (first : List Entry) (from : ℕ) (images : ℕ → List ℕ → Type 0)
+    (old new : DeskState D) (request : Request) (reading : ℤ) (reply : Reply) → asked request reading → IsWatched moment since first from images asked old
     → TakesTurn (office_of faults old) request (Some reading) reply (office_of faults new) → ActsInTurn moment since faults (record { old = old; request = request; reading = reading; reply = reply; new = new })
-    → new.founder ≡ old.founder → IsWatched moment since first from images new
-watched_on laws moment since faults first from images old new request reading reply was turn inside same =
+    → new.founder ≡ old.founder → new.limit ≡ old.limit → IsWatched moment since first from images asked new
+watched_on laws moment since faults asked first from images old new request reading reply asks was turn inside same limit =
     let taken : Turn = record { request = request; reading = Some reading; reply = reply; rise = turn.rise } in
     let one : Conduct old.founder (Some old.limit) old.state (taken ∷ []) new.state = (new.state, turn.turn, refl) in
     let goes_on = laws.grow old.founder (Some old.limit) old.state new.state (taken ∷ []) one in
-    let during = act_within laws moment since faults first old new was.grows was.legal request reading reply turn.turn.reads.1 inside in
+    let during = act_within laws moment since faults asked first old new was.grows was.legal was.doubt request reading asks reply turn.turn.reads.1 inside in
     record {
       later = le_trans was.later during.later;
       grows = extends_on first old.state.settled new.state.settled was.grows goes_on;
       legal = subst (λ (k : Key). EitherWay (IsLegal k) new.state) (sym same) (laws.legal_conduct old.founder (Some old.limit) old.state new.state (taken ∷ []) was.legal one);
+      doubt = moved old new same limit (λ k l. IfSome new.state.doubt (IsOfAsked k l asked new.state.settled))
+          (act_doubts laws moment since faults asked first old new was.grows was.legal was.doubt request reading asks reply inside);
       each = λ t image le now.
-          subst (λ (k : Key). images t image ⊎ StandsWithin k first new.state.settled image) (sym same)
+          moved old new same limit (λ k l. images t image ⊎ StandsWithin k l asked first new.state.settled image)
           (⊎_elim
-          (λ earlier. ⊎_elim (λ before. inl before) (λ within. inr (within_on old.founder first old.state.settled new.state.settled image goes_on within)) (was.each t image le earlier))
+          (λ earlier. ⊎_elim (λ before. inl before) (λ within. inr (within_on old.founder (Some old.limit) asked first old.state.settled new.state.settled image goes_on within)) (was.each t image le earlier))
           (λ has. inr has)
           (during.either t image (le_trans le was.later) now));
     }
 
 -- from the desk's opening
-pub watched_first : {D : Type 0} (moment : D → ℕ) (since : D → ℕ → List ℕ → Type 0) (first : List Entry) (from : ℕ) (images : ℕ → List ℕ → Type 0) (desk : DeskState D)
+pub watched_first : {D : Type 0} (moment : D → ℕ) (since : D → ℕ → List ℕ → Type 0) (first : List Entry) (from : ℕ) (images : ℕ → List ℕ → Type 0) (asked : Asks) (desk : DeskState D)
     → desk.state.doubt ≡ None → IsLegal desk.founder desk.state.settled → first ≡ desk.state.settled → from ≡ moment desk.disk
-    → ((t : ℕ) (image : List ℕ) → since desk.disk t image → images t image) → IsWatched moment since first from images desk
-watched_first moment since first from images desk settled legal first_is from_is are = record {
+    → ((t : ℕ) (image : List ℕ) → since desk.disk t image → images t image) → IsWatched moment since first from images asked desk
+watched_first moment since first from images asked desk settled legal first_is from_is are = record {
   later = subst (λ (n : ℕ). n ≤ moment desk.disk) (sym from_is) (omega arith);
   grows = ([], sym first_is);
   legal = (legal, subst (λ (d : Option Entry). IfSome d (λ entry. IsLegal desk.founder (entry ∷ desk.state.settled))) (sym settled) tt);
+  doubt = subst (λ (d : Option Entry). IfSome d (IsOfAsked desk.founder (Some desk.limit) asked desk.state.settled)) (sym settled) tt;
   each = λ t image le now. inl (are t image now);
 }
 
 -- what was left since the desk's opening
-pub watched_during : {D : Type 0} (moment : D → ℕ) (since : D → ℕ → List ℕ → Type 0) (first : List Entry) (from : ℕ) (images : ℕ → List ℕ → Type 0) (desk last : DeskState D)
-    → first ≡ desk.state.settled → from ≡ moment desk.disk → ((t : ℕ) (image : List ℕ) → images t image → since desk.disk t image) → last.founder ≡ desk.founder
-    → from ≤ moment last.disk → ((t : ℕ) (image : List ℕ) → t ≤ from → since last.disk t image → images t image ⊎ StandsWithin last.founder first last.state.settled image)
-    → During moment since desk.disk last.disk (StandsWithin desk.founder desk.state.settled last.state.settled)
-watched_during moment since first from images desk last first_is from_is are founder later each = record {
+pub watched_during : {D : Type 0} (moment : D → ℕ) (since : D → ℕ → List ℕ → Type 0) (first : List Entry) (from : ℕ) (images : ℕ → List ℕ → Type 0) (asked : Asks) (desk last : DeskState D)
+    → first ≡ desk.state.settled → from ≡ moment desk.disk → ((t : ℕ) (image : List ℕ) → images t image → since desk.disk t image) → last.founder ≡ desk.founder → last.limit ≡ desk.limit
+    → from ≤ moment last.disk → ((t : ℕ) (image : List ℕ) → t ≤ from → since last.disk t image → images t image ⊎ StandsWithin last.founder (Some last.limit) asked first last.state.settled image)
+    → During moment since desk.disk last.disk (StandsWithin desk.founder (Some desk.limit) asked desk.state.settled last.state.settled)
+watched_during moment since first from images asked desk last first_is from_is are founder limit later each = record {
   later = subst (λ (n : ℕ). n ≤ moment last.disk) from_is later;
   either = λ t image le now.
       ⊎_elim
       (λ earlier. inl (are t image earlier))
-      (λ within. inr (subst (λ (h : List Entry). StandsWithin desk.founder h last.state.settled image) first_is (subst (λ (k : Key). StandsWithin k first last.state.settled image) founder within)))
+      (λ within. inr (subst (λ (h : List Entry). StandsWithin desk.founder (Some desk.limit) asked h last.state.settled image) first_is
+      (moved last desk (sym founder) (sym limit) (λ k l. StandsWithin k l asked first last.state.settled image) within)))
       (each t image (subst (λ (n : ℕ). t ≤ n) (sym from_is) le) now);
 }
 
 -- opening, the links and the last mending together
-pub service_images : {D : Type 0} (on : DiskWords D) (founder : Key) (disk now : D) (opened left last : DeskState D) → opened.founder ≡ founder
+pub service_images : {D : Type 0} (on : DiskWords D) (founder : Key) (asked : Asks) (disk now : D) (opened left last : DeskState D) → opened.founder ≡ founder
     → During on.moment on.since disk opened.disk (StandsAlike (on.reads disk) opened.state.settled)
-    → During on.moment on.since opened.disk left.disk (StandsWithin opened.founder opened.state.settled left.state.settled)
+    → During on.moment on.since opened.disk left.disk (StandsWithin opened.founder (Some opened.limit) asked opened.state.settled left.state.settled)
     → During on.moment on.since left.disk last.disk (λ _. ⊥) → Extends left.state.settled last.state.settled → now ≡ last.disk
-    → During on.moment on.since disk now (LeavesInService (on.reads disk) founder opened.state.settled last.state.settled)
-service_images {D = D} on founder disk now opened left last same opening service mending goes_on now_is =
-    let P : List ℕ → Type 0 = LeavesInService (on.reads disk) founder opened.state.settled last.state.settled in
+    → During on.moment on.since disk now (LeavesInService (on.reads disk) founder (Some opened.limit) asked opened.state.settled last.state.settled)
+service_images {D = D} on founder asked disk now opened left last same opening service mending goes_on now_is =
+    let P : List ℕ → Type 0 = LeavesInService (on.reads disk) founder (Some opened.limit) asked opened.state.settled last.state.settled in
     subst (λ (d : D). During on.moment on.since disk d P) (sym now_is)
     (during_joined
     (during_joined (during_weaker P (λ image has. inl has) opening)
     (during_weaker P
-    (λ image has. inr (within_on founder opened.state.settled left.state.settled last.state.settled image goes_on
-    (subst (λ (k : Key). StandsWithin k opened.state.settled left.state.settled image) same has)))
+    (λ image has. inr (within_on founder (Some opened.limit) asked opened.state.settled left.state.settled last.state.settled image goes_on
+    (subst (λ (k : Key). StandsWithin k (Some opened.limit) asked opened.state.settled left.state.settled image) same has)))
     service))
     (during_weaker P (λ image none. absurd none) mending))

@@ -1,51 +1,84 @@
 -- What a crash at any moment of a service leaves.
-use Rattle.std.specs.Prelude.{◌≡◌, ◌⊎◌, ℕ, ◌≤◌, List, ◌∷◌, length, map, Option, Some}
+use Rattle.std.specs.Prelude.{◌≡◌, ◌⊎◌, ℕ, ◌≤◌, ℤ, List, ◌∷◌, length, map, Option, Some, IfSome, Contains}
 use Rattle.disk_model.specs.Crashes.{During}
 use Rattle.act_bodies.specs.declared.key.Key.{Key}
 use Rattle.act_model.specs.declared.entry.Entry.{Entry}
+use Rattle.act_model.specs.declared.reply.Reply.TheVariants.{Done}
 use Rattle.act_model.specs.declared.request.Request.{Request}
-use Rattle.act_model.specs.Conducts.{Extends, EitherWay}
+use Rattle.act_model.specs.Conducts.{Extends, EitherWay, IsAcknowledged}
 use Rattle.act_model.specs.Legal.{IsLegal}
+use Rattle.act_model.specs.Step.{Adds, outcome, step}
 use Rattle.intake_lock.specs.declared.clerk.Office.{Office}
 use Rattle.intake_lock.specs.declared.clerk.Stamp.{Stamp}
 use Rattle.intake_lock.specs.declared.view.Item.{Item}
 use Rattle.intake_lock.specs.Clerks.{with_stamps}
+use Rattle.intake_lock.specs.Items.{reading_of}
 use Rattle.http_connection.specs.Calls.{IsAdded}
 use Rattle.mpc_desk.specs.Desks.{DeskState, office_of}
 use Rattle.mpc_desk.specs.Files.{Stands}
 use Rattle.mpc_desk.specs.Opening.{StandsAlike}
+use Rattle.serve_command.specs.declared.watching.Asked.{Asked}
+
+-- ---- entries of acts that were asked
+
+-- the entry is what the step adds at this history for an act that was asked, with that act's reading of the clock
+pub record IsOfAsked (founder : Key) (limit : Option ℕ) (asked : Request → ℤ → Type 0) (past : List Entry)
+    (entry : Entry) : Type 0 where
+  pub request : Request
+  pub reading : ℤ
+  pub was_asked : asked request reading
+  pub adds : outcome founder limit past request reading ≡ Adds entry
+
+-- one of these calls asked this act, with this reading of the clock
+abbrev pub AskedBy : List Item → Request → ℤ → Type 0
+AskedBy calls request reading =
+    (item : Item) × Contains calls item × (item.request ≡ request) × (item.reading ≡ Some reading)
 
 -- The image stands for a legal history, to which the office came between these two; or for one that has one entry more
--- than such a history.
-pub record StandsWithin (founder : Key) (first last : List Entry) (image : List ℕ) : Type 0 where
+-- than such a history: that which the step adds there for an act that was asked.
+pub record StandsWithin (founder : Key) (limit : Option ℕ) (asked : Request → ℤ → Type 0) (first last : List Entry)
+    (image : List ℕ) : Type 0 where
   pub past : List Entry
   pub begins : Extends first past
   pub ends : Extends past last
   pub history : List Entry
-  pub within : (history ≡ past) ⊎ ((entry : Entry) × (history ≡ entry ∷ past))
+  pub within : (history ≡ past)
+      ⊎ ((entry : Entry) × IsOfAsked founder limit asked past entry × (history ≡ entry ∷ past))
   pub legal : IsLegal founder history
   pub stands : Stands image history
 
 -- A desk since it had this history, at this moment of its disk and with these images: its history has grown and is
--- legal, and each image since a moment before is one of those, or stands for a history to which the office came, or for
--- one entry more.
+-- legal, the act in doubt was asked, and each image since a moment before is one of those, or stands for a history to
+-- which the office came, or for one entry more.
 pub record IsWatched {D : Type 0} (moment : D → ℕ) (since : D → ℕ → List ℕ → Type 0) (first : List Entry) (from : ℕ)
-    (images : ℕ → List ℕ → Type 0) (desk : DeskState D) : Type 0 where
+    (images : ℕ → List ℕ → Type 0) (asked : Request → ℤ → Type 0) (desk : DeskState D) : Type 0 where
   pub later : from ≤ moment desk.disk
   pub grows : Extends first desk.state.settled
   pub legal : EitherWay (IsLegal desk.founder) desk.state
+  pub doubt : IfSome desk.state.doubt (IsOfAsked desk.founder (Some desk.limit) asked desk.state.settled)
   pub each : (t : ℕ) (image : List ℕ) → t ≤ from → since desk.disk t image
-      → images t image ⊎ StandsWithin desk.founder first desk.state.settled image
+      → images t image ⊎ StandsWithin desk.founder (Some desk.limit) asked first desk.state.settled image
 
 -- ---- acts that were answered
 
--- the stamp of a desk as it stands
-abbrev pub stamp_of : {D : Type 0} (moment : D → ℕ) → DeskState D → Stamp
-stamp_of moment desk = record { moment = moment desk.disk; entries = length desk.state.settled }
+-- the stamp of an act that was asked so, of the desk as it stands then
+abbrev pub stamp_of : {D : Type 0} (moment : D → ℕ) → DeskState D → Asked → Stamp
+stamp_of moment desk asked = record {
+  moment = moment desk.disk;
+  entries = length desk.state.settled;
+  request = asked.request.value;
+  reading = asked.reading;
+}
 
--- desks as they were when they had answered acts, each with its act, the oldest first
+-- desks as they were when they had answered acts, each with what it was asked, the oldest first
 abbrev pub Answered : Type 0 → Type 0
-Answered D = List (DeskState D × Request)
+Answered D = List (DeskState D × Asked)
+
+-- one of the acts that were answered was this one, with this reading of the clock
+abbrev pub WasAsked : {D : Type 0} → Answered D → Request → ℤ → Type 0
+WasAsked {D = D} answered request reading =
+    (then : DeskState D × Asked) × Contains answered then × (then.1.request.value ≡ request)
+    × (then.1.reading ≡ reading)
 
 -- a desk, and how it was when it had answered each of its acts
 pub record WatchedState (D : Type 0) : Type 0 where
@@ -55,52 +88,65 @@ pub record WatchedState (D : Type 0) : Type 0 where
 -- the office of a desk that stamps its acts
 abbrev pub stamping : {D : Type 0} (moment : D → ℕ) (faults : D → ℕ) → DeskState D → Answered D → Office
 stamping moment faults desk answered =
-    with_stamps (Some (map (λ then. stamp_of moment then.0) answered)) (office_of faults desk)
+    with_stamps
+    (Some (record { moment = moment desk.disk; given = map (λ then. stamp_of moment then.0 then.1) answered }))
+    (office_of faults desk)
 
 -- What was settled in a desk then is in each image of its disk since: its history has gone on from there, and each
 -- image since that moment stands for a history to which the office came from there on, or for one entry more.
-pub record Keeps {D : Type 0} (moment : D → ℕ) (since : D → ℕ → List ℕ → Type 0) (founder : Key)
-    (then now : DeskState D) : Type 0 where
+pub record Keeps {D : Type 0} (moment : D → ℕ) (since : D → ℕ → List ℕ → Type 0) (founder : Key) (limit : Option ℕ)
+    (asked : Request → ℤ → Type 0) (then now : DeskState D) : Type 0 where
   pub later : moment then.disk ≤ moment now.disk
   pub grows : Extends then.state.settled now.state.settled
   pub each : (image : List ℕ) → since now.disk (moment then.disk) image
-      → StandsWithin founder then.state.settled now.state.settled image
+      → StandsWithin founder limit asked then.state.settled now.state.settled image
 
 -- a desk that is watched from a moment on was so later, and has kept what it had then
-abbrev pub HasPassed : {D : Type 0} (moment : D → ℕ) (since : D → ℕ → List ℕ → Type 0) (first : List Entry) (from : ℕ)
-    (images : ℕ → List ℕ → Type 0) → DeskState D → DeskState D → Type 0
-HasPassed moment since first from images now then =
-    (then.founder ≡ now.founder) × IsWatched moment since first from images then
-    × Keeps moment since now.founder then now
+pub record HasPassed {D : Type 0} (moment : D → ℕ) (since : D → ℕ → List ℕ → Type 0) (first : List Entry) (from : ℕ)
+    (images : ℕ → List ℕ → Type 0) (asked : Request → ℤ → Type 0) (now then : DeskState D) : Type 0 where
+  pub founder : then.founder ≡ now.founder
+  pub limit : then.limit ≡ now.limit
+  pub watched : IsWatched moment since first from images asked then
+  pub keeps : Keeps moment since now.founder (Some now.limit) asked then now
 
 -- The desk was so at some moment between: each image up to then stands for no more than the history that it had then,
 -- or for one entry more, and all that it had then is in each image since.
-pub record WasBetween {D : Type 0} (moment : D → ℕ) (since : D → ℕ → List ℕ → Type 0) (opened now then : DeskState D)
-    : Type 0 where
+pub record WasBetween {D : Type 0} (moment : D → ℕ) (since : D → ℕ → List ℕ → Type 0) (asked : Request → ℤ → Type 0)
+    (opened now then : DeskState D) : Type 0 where
   pub before : During moment since opened.disk then.disk
-      (StandsWithin opened.founder opened.state.settled then.state.settled)
-  pub keeps : Keeps moment since opened.founder then now
+      (StandsWithin opened.founder (Some opened.limit) asked opened.state.settled then.state.settled)
+  pub keeps : Keeps moment since opened.founder (Some opened.limit) asked then now
 
--- The call added this entry, and was answered. Its stamp is that of the desk as it was then: the entry was the newest,
--- and it is in each image of the disk from that moment on.
-pub record IsKept {D : Type 0} (moment : D → ℕ) (since : D → ℕ → List ℕ → Type 0) (opened now : DeskState D)
-    (item : Item) (newest : Entry) (past : List Entry) : Type 0 where
+-- The call, an act, was answered with this text, and its stamp is that of the desk as it was then. The step gave this
+-- reply at the call's place, and left the history that the desk then had: the act's entry is in that, the newest where
+-- the call added it, an earlier one where it had been sent before. So it is in each image of the disk from that moment
+-- on.
+pub record IsKept {D : Type 0} (moment : D → ℕ) (since : D → ℕ → List ℕ → Type 0) (asked : Request → ℤ → Type 0)
+    (opened now : DeskState D) (item : Item) (text : List ℕ) : Type 0 where
   pub then : DeskState D
-  pub settled : then.state.settled ≡ newest ∷ past
-  pub stamp : item.stamp ≡ Some (stamp_of moment then)
-  pub between : WasBetween moment since opened now then
+  pub noted : Asked
+  pub stamp : item.stamp ≡ Some (stamp_of moment then noted)
+  pub past : List Entry
+  pub place : item.position ≡ length past
+  pub stepped : step opened.founder (Some opened.limit) past item.request (reading_of item)
+      ≡ (Done text, then.state.settled)
+  pub acknowledged : IsAcknowledged opened.founder past item.request text then.state.settled
+  pub added : (added : IsAdded opened.founder (Some opened.limit) now.state.settled item)
+      → then.state.settled ≡ added.entry ∷ added.past
+  pub between : WasBetween moment since asked opened now then
 
--- where the call was done and added an entry to the history, that is kept
-abbrev pub KeepsAdded : {D : Type 0} (moment : D → ℕ) (since : D → ℕ → List ℕ → Type 0) → DeskState D → DeskState D
-    → Item → Type 0
-KeepsAdded moment since opened now item =
-    (added : IsAdded opened.founder (Some opened.limit) now.state.settled item)
-    → IsKept moment since opened now item added.entry added.past
+-- where the call is an act that was done, its entry is kept
+abbrev pub KeepsDone : {D : Type 0} (moment : D → ℕ) (since : D → ℕ → List ℕ → Type 0) (asked : Request → ℤ → Type 0)
+    → DeskState D → DeskState D → Item → Type 0
+KeepsDone moment since asked opened now item =
+    IfSome item.reading (λ reading. (text : List ℕ) → item.reply ≡ Done text
+    → IsKept moment since asked opened now item text)
 
 -- ---- the whole service
 
 -- an image at some moment of a service, its opening included: the file stood for the same history as it was read, or
 -- the office came there
-abbrev pub LeavesInService : Option (List ℕ) → Key → List Entry → List Entry → List ℕ → Type 0
-LeavesInService reads founder first last image =
-    StandsAlike reads first image ⊎ StandsWithin founder first last image
+abbrev pub LeavesInService : Option (List ℕ) → Key → Option ℕ → (Request → ℤ → Type 0) → List Entry → List Entry
+    → List ℕ → Type 0
+LeavesInService reads founder limit asked first last image =
+    StandsAlike reads first image ⊎ StandsWithin founder limit asked first last image

@@ -1,5 +1,5 @@
 -- What a call that serves a door leaves, by the status with which it ended.
-use Rattle.std.specs.Prelude.{◌≡◌, ◌≢◌, ◌⊎◌, ℕ, ◌+◌, List, [], length, Option}
+use Rattle.std.specs.Prelude.{◌≡◌, ◌≢◌, ◌⊎◌, ℕ, ◌+◌, List, [], length, Option, Some}
 use Rattle.std.specs.List.{AllByRecursion}
 use Rattle.std.specs.Io.KnownBytes.{Appends}
 use Rattle.desk_io.specs.Outside.{AppendsPart}
@@ -21,7 +21,7 @@ use Rattle.command_ends.specs.Left.{IsLeft}
 use Rattle.serve_command.specs.declared.accepting.Stop.{Stop}
 use Rattle.serve_command.specs.declared.accepting.Stop.TheVariants as stops
 use Rattle.serve_command.specs.declared.ends.LinkEnd.{LinkEnd}
-use Rattle.serve_command.specs.Images.{Answered, stamping, KeepsAdded, LeavesInService}
+use Rattle.serve_command.specs.Images.{Answered, stamping, AskedBy, KeepsDone, LeavesInService}
 use Rattle.serve_command.specs.Links.{LinkWords, calls_in}
 use Rattle.serve_command.specs.Gathering.{DoorState}
 use Rattle.serve_command.specs.Serving.{IsNoDiskFault, Serves}
@@ -82,11 +82,12 @@ pub record RunEnd (D I O : Type 0) : Type 0 where
 -- written where nothing had failed. `Unwritten` says that the sink is as it was.
 --
 -- Each image at some moment of the call was one at its start, or stands for a legal history to which the office came,
--- or for one entry more. At the end each stands for the settled history, or for that with the act in doubt. That
--- history is legal, extends the one at the opening, and has all that every legal history has. The entry of each call
--- that was done is in each image since the moment at which it was answered, its stamp's. The disk's count of
--- faults rose by at least what it rose in opening, in the calls for the links and in the last mending; where it didn't
--- rise no call is answered that the disk failed.
+-- or for one entry more, which the step adds there for an act that a link asked. At the end each stands for the settled
+-- history, or for that with the act in doubt. That history is legal, extends the one at the opening, and has all that
+-- every legal history has. The entry of each act that was done, also of one that was sent again, is in each image since
+-- the moment at which it was answered, its stamp's. The disk's count of faults rose by at least what it rose in
+-- opening, in the calls for the links and in the last mending; where it didn't rise no call is answered that the disk
+-- failed.
 pub record Runs {D I O : Type 0} (on : DiskWords D) (links : LinkWords I O) (start : RunStart D I O)
     (end : RunEnd D I O) (Unwritten : Type 0) : Type 0 where
   pub opened : DeskState D
@@ -114,8 +115,10 @@ pub record Runs {D I O : Type 0} (on : DiskWords D) (links : LinkWords I O) (sta
       (summary (length end.ends) (length last.state.settled)) end.status
   pub disk_is : end.disk ≡ last.disk
   pub images : During on.moment on.since start.disk end.disk
-      (LeavesInService (on.reads start.disk) start.founder opened.state.settled last.state.settled)
-  pub kept : AllByRecursion (KeepsAdded on.moment on.since opened last) (calls_in serves.attendances)
+      (LeavesInService (on.reads start.disk) start.founder (Some opened.limit) (AskedBy (calls_in serves.attendances))
+      opened.state.settled last.state.settled)
+  pub kept : AllByRecursion (KeepsDone on.moment on.since (AskedBy (calls_in serves.attendances)) opened last)
+      (calls_in serves.attendances)
   pub at_rest : IsAtRest on.leaves last
   pub legal : EitherWay (IsLegal start.founder) last.state
   pub grows : Extends opened.state.settled last.state.settled

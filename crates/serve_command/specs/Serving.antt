@@ -1,13 +1,15 @@
 -- What a keeper of the office stands for once the links of a door were attended.
-use Rattle.std.specs.Prelude.{◌≡◌, ◌≢◌, ℕ, Bool, List, [], ◌∷◌, ◌++◌, length, map, IfSome, Contains}
+use Rattle.std.specs.Prelude.{◌≡◌, ◌≢◌, ◌⊎◌, ℕ, Bool, List, [], ◌∷◌, ◌++◌, length, map, IfSome, Contains}
 use Rattle.std.specs.List.{AllByRecursion}
 use Rattle.desk_io.specs.Doors.{Gives}
 use Rattle.act_model.specs.declared.entry.Entry.{Entry}
 use Rattle.intake_lock.specs.declared.clerk.Office.{Office}
+use Rattle.intake_lock.specs.declared.clerk.Stamp.{Stamp}
 use Rattle.act_model.specs.declared.reply.Refusal.TheVariants.{DiskFault}
 use Rattle.act_model.specs.declared.reply.Reply.TheVariants.{Refused}
 use Rattle.intake_lock.specs.declared.view.Item.{Item}
-use Rattle.intake_lock.specs.Items.{AddsAt, AreTrue, AreStamped, RisesBy, rises}
+use Rattle.intake_lock.specs.Clerks.{Gave}
+use Rattle.intake_lock.specs.Items.{AddsEntry, AreTrue, AreStamped, IsStampOf, RisesBy, rises}
 use Rattle.intake_lock.specs.Rule.{StaysLegal}
 use Rattle.act_model.specs.Clocks.{ClockState}
 use Rattle.http_connection.specs.Calls.{HasCause, AreInOrder}
@@ -16,11 +18,10 @@ use Rattle.serve_command.specs.declared.accepting.Stop.{Stop}
 use Rattle.serve_command.specs.Links.{LinkWords, Attendance, link_of, end_of, calls_of, calls_in}
 use Rattle.serve_command.specs.Gathering.{DoorState, Stops, IsBetween}
 
--- the entry is what the step adds at this history for one of these calls, which was made there
+-- one of these calls added the entry at this history, or left it in doubt there
 abbrev pub IsAddedBy : Office → List Item → List Entry → Entry → Type 0
 IsAddedBy opening calls past entry =
-    (item : Item) × Contains calls item × (item.position ≡ length past)
-    × AddsAt opening.founder opening.limit past item entry
+    (item : Item) × Contains calls item × AddsEntry opening.founder opening.limit past item entry
 
 -- each of the entries that came to the history at the opening was added by one of these calls
 abbrev pub AreAddedBy : Office → List Item → List Entry → Type 0
@@ -28,9 +29,14 @@ AreAddedBy opening calls [] = Unit {0}
 AreAddedBy opening calls (entry ∷ newer) =
     IsAddedBy opening calls (newer ++ opening.state.settled) entry × AreAddedBy opening calls newer
 
+-- each stamp that wasn't given at the opening is that of one of these calls
+abbrev pub AreStampsOf : Office → Office → List Item → Type 0
+AreStampsOf opening office calls = (stamp : Stamp) → Gave office.stamps stamp
+    → Gave opening.stamps stamp ⊎ ((item : Item) × Contains calls item × IsStampOf item stamp)
+
 -- The history is that at the opening with newer entries, each of which a call for one of the links added, and so is the
 -- act in doubt. Each call is true of the history, and the count of faults rose by at least what the calls say. Where
--- acts are stamped, the stamps of the calls are the office's.
+-- acts are stamped, the stamps of the calls are the office's, and it has given no others since the opening.
 pub record Grows (opening office : Office) (calls : List Item) : Type 0 where
   pub newer : List Entry
   pub grown : office.state.settled ≡ newer ++ opening.state.settled
@@ -39,6 +45,7 @@ pub record Grows (opening office : Office) (calls : List Item) : Type 0 where
   pub true_of : AreTrue opening.founder opening.limit office.state.settled calls
   pub counts : RisesBy (rises calls) opening.faults office.faults
   pub stamped : AreStamped office.stamps calls
+  pub stamps : AreStampsOf opening office calls
   pub legal : StaysLegal opening office
   pub founder : office.founder ≡ opening.founder
   pub limit : office.limit ≡ opening.limit

@@ -97,10 +97,16 @@ fn split_root<V: Clerk>(lock: &TurnLock<V>, root: Pass, left: u64) -> Result<(Pa
     lock.split(root)
 }
 
-/// Takes up to `left` links of a door, and attends each in a thread of its own while the next one is awaited.
+/// Takes up to `left` links of a door, and attends each in this thread, while another one awaits those that come after
+/// it.
 ///
-/// Where a thread can't be started, the link is attended in this one, after the links that come after it.
-pub(crate) fn attend_links<V: Clerk + Send, T: Gate, C: Clock + Send, R: Threads + Wait + Sync>(
+/// Where a thread can't be started, the link is attended at once, and the next one is awaited after it.
+pub(crate) fn attend_links<
+    V: Clerk + Send,
+    T: Gate + Send,
+    C: Clock + Send,
+    R: Threads + Wait + Sync,
+>(
     rt: &R,
     alloc: Global,
     lock: &TurnLock<V>,
@@ -145,19 +151,11 @@ pub(crate) fn attend_links<V: Clerk + Send, T: Gate, C: Clock + Send, R: Threads
     let other = clock.another();
     match split_root(lock, root, left) {
         Ok((root, branch)) => {
-            let ((branch, end), gathered) = join(
+            let (gathered, (branch, end)) = join(
                 rt,
-                move || -> (Pass, LinkEnd<T::In, T::Out>)
-                    requires { branch.lock ≡ lock.now.id }
-                    ensures { IsSamePass branch result.0
-                        × IsLinkAttended (link_words T.In.left T.In.gives T.In.faults T.In.is_open T.Out.taken
-                        T.Out.faults T.Out.is_open)
-                        (link_start source sink branch.view (clock_of C.reading C.last other))
-                        result.1 result.0.view }
-                { attend_link(rt, alloc, lock, branch, source, sink, other) },
                 move || -> Gathered<T, T::In, T::Out>
-                    requires { IsSync R.row × IsSend V.row × IsSend C.row × (0 < left) × (root.lock ≡ lock.now.id)
-                        × IsRootFor (left - 1) root.view.role
+                    requires { IsSync R.row × IsSend V.row × IsSend T.row × IsSend C.row × (0 < left)
+                        × (root.lock ≡ lock.now.id) × IsRootFor (left - 1) root.view.role
                         × (vec_len ends + (left - 1) ≤ vec_capacity ends) }
                     ensures { IsSamePass root result.root × (T.name result.gate ≡ T.name gate)
                         × (vec_capacity result.ends ≡ vec_capacity ends)
@@ -169,6 +167,14 @@ pub(crate) fn attend_links<V: Clerk + Send, T: Gate, C: Clock + Send, R: Threads
                         (gather_end result.root.view (door_of T.links T.faults result.gate) result.ends.items
                         result.stop) }
                 { attend_links(rt, alloc, lock, root, gate, clock, ends, left - 1) },
+                move || -> (Pass, LinkEnd<T::In, T::Out>)
+                    requires { branch.lock ≡ lock.now.id }
+                    ensures { IsSamePass branch result.0
+                        × IsLinkAttended (link_words T.In.left T.In.gives T.In.faults T.In.is_open T.Out.taken
+                        T.Out.faults T.Out.is_open)
+                        (link_start source sink branch.view (clock_of C.reading C.last other))
+                        result.1 result.0.view }
+                { attend_link(rt, alloc, lock, branch, source, sink, other) },
             );
             let Gathered {
                 root,

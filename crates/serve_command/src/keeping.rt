@@ -33,7 +33,7 @@ pub struct Attended<V, I, O> {
 /// its own.
 ///
 /// Where memory is refused before the first link, the door isn't called. It returns when all links were left.
-pub fn attend_door<V: Clerk + Send, C: Clock + Send, G: Door, R: Threads + Wait + Sync>(
+pub fn attend_door<V: Clerk + Send, C: Clock + Send, G: Door + Send, R: Threads + Wait + Sync>(
     rt: &R,
     alloc: Global,
     keeper: V,

@@ -63,7 +63,7 @@ fn write_lines<K: Sink>(sink: &mut K, so_far: Status, connections: u64, entries:
 }
 
 // Opens the desk, attends the links of the door, mends an act in doubt, and writes the two lines.
-fn run<D: Disk + Send, K: Sink, C: Clock + Send, G: Door, R: Threads + Wait + Sync>(
+fn run<D: Disk + Send, K: Sink, C: Clock + Send, G: Door + Send, R: Threads + Wait + Sync>(
     rt: &R,
     alloc: Global,
     founder: Key,
@@ -107,6 +107,7 @@ fn run<D: Disk + Send, K: Sink, C: Clock + Send, G: Door, R: Threads + Wait + Sy
 {
     lock_laws::beginnings();
     link_laws::added_calls();
+    office_laws::acknowledged_acts_are_kept();
     office_laws::legal_numbers_once();
     office_laws::one_place();
     office_laws::unbroken_rows();
@@ -144,7 +145,7 @@ fn run<D: Disk + Send, K: Sink, C: Clock + Send, G: Door, R: Threads + Wait + Sy
 /// 1,000. It answers how the call ended, with the first fault that arose, the disk, by how many entries the settled
 /// history grew, and how each link ended. It ends with `Done`, `DiskFault`, `Damaged`, `WriteFault`, `NoMemory` or
 /// `DoorFault`.
-pub fn serve<D: Disk + Send, K: Sink, C: Clock + Send, G: Door, R: Threads + Wait + Sync>(
+pub fn serve<D: Disk + Send, K: Sink, C: Clock + Send, G: Door + Send, R: Threads + Wait + Sync>(
     rt: &R,
     alloc: Global,
     founder: Key,

@@ -1,6 +1,6 @@
 //! A desk that stamps its acts, with what a crash may have left since it was opened and since each act.
 
-ghost use Rattle.std.specs.Prelude.{◌≡◌, ◌⊎◌, ◌↔◌, ◌≤◌, ℕ, List, [], None};
+ghost use Rattle.std.specs.Prelude.{◌≡◌, ◌⊎◌, ◌↔◌, ◌≤◌, ℕ, List, [], Some, None};
 ghost use Rattle.std.specs.List.{AllByRecursion};
 ghost use Rattle.disk_model.specs.Crashes.{During};
 ghost use Rattle.act_model.specs.declared.entry.Entry.{Entry};
@@ -9,7 +9,7 @@ ghost use Rattle.act_model.specs.Legal.{IsLegal};
 ghost use Rattle.intake_lock.specs.Rule.{MOST};
 ghost use Rattle.mpc_desk.specs.Desks.{DeskState};
 ghost use Rattle.serve_command.specs.Gathering.{door_of};
-ghost use Rattle.serve_command.specs.Images.{StandsWithin, Answered, stamping, HasPassed, WasBetween};
+ghost use Rattle.serve_command.specs.Images.{StandsWithin, Answered, WasAsked, stamping, HasPassed, WasBetween};
 ghost use Rattle.serve_command.specs.Links.{link_words};
 ghost use Rattle.serve_command.specs.Serving.{Serves};
 
@@ -23,6 +23,7 @@ use mpc_desk::Desk;
 use obs_time::Instant;
 use std::alloc::Global;
 use std::marker::{Brand, Model, PhantomData};
+use std::snapshot::Snapshot;
 use std::sync::Wait;
 use std::thread::Threads;
 
@@ -46,25 +47,35 @@ impl Opening for Brand {
     ghost images = { λ t image. ⊥ };
 }
 
+/// What a desk was asked in one act. It is for proofs alone.
+#[derive(Drop)]
+pub struct Asked {
+    /// The request.
+    pub request: Snapshot<Request>,
+    /// The clock's reading.
+    pub reading: Instant,
+}
+
 /// A desk that was opened so. Contracts see the desk, and how it was when it had answered each of its acts: the latter
 /// is a list that only proofs read, and takes no memory.
 #[derive(Drop)]
 pub struct Watched<D: Disk, W: Opening> {
     desk: Desk<D>,
-    answered: Log<Desk<D>, Request>,
+    answered: Log<Desk<D>, Asked>,
     opening: PhantomData<W>,
 }
 
 impl<D: Disk, W: Opening> Model for Watched<D, W> {
     ghost use Rattle.std.specs.List.{AllByRecursion};
-    ghost use Rattle.serve_command.specs.Images.{IsWatched, HasPassed, WatchedState};
+    ghost use Rattle.serve_command.specs.Images.{IsWatched, HasPassed, WasAsked, WatchedState};
 
     ghost Value = { WatchedState D };
 
     ghost view = { λ w. record { desk = w.desk; answered = w.answered.items } };
 
-    ghost invariant = { λ w. IsWatched D.moment D.since W.history W.moment W.images w.desk
-        × AllByRecursion (λ then. HasPassed D.moment D.since W.history W.moment W.images w.desk then.0)
+    ghost invariant = { λ w. IsWatched D.moment D.since W.history W.moment W.images (WasAsked w.answered.items) w.desk
+        × AllByRecursion
+        (λ then. HasPassed D.moment D.since W.history W.moment W.images (WasAsked w.answered.items) w.desk then.0)
         w.answered.items };
 }
 
@@ -90,8 +101,11 @@ impl<D: Disk, W: Opening> Watched<D, W> {
         ensures desk { result ≡ self.desk }
         ensures later { W.moment ≤ D.moment result.disk }
         ensures images { (t : ℕ) (image : List ℕ) → t ≤ W.moment → D.since result.disk t image →
-            W.images t image ⊎ StandsWithin result.founder W.history result.state.settled image }
-        ensures passed { AllByRecursion (λ then. HasPassed D.moment D.since W.history W.moment W.images result then.0)
+            W.images t image
+            ⊎ StandsWithin result.founder (Some result.limit) (WasAsked self.answered) W.history result.state.settled
+            image }
+        ensures passed { AllByRecursion
+            (λ then. HasPassed D.moment D.since W.history W.moment W.images (WasAsked self.answered) result then.0)
             self.answered }
     {
         self.desk
@@ -106,7 +120,11 @@ impl<D: Disk, W: Opening> Clerk for Watched<D, W> {
         office_laws::histories_are_legal();
         office_laws::steps_add_one_entry();
         let reply = self.desk.act(request, reading);
-        let answered = self.answered.and(&self.desk, request);
+        let asked = Asked {
+            request: Snapshot::of(request),
+            reading,
+        };
+        let answered = self.answered.and(&self.desk, &asked);
         self.answered = answered;
         reply
     }
@@ -116,7 +134,7 @@ impl<D: Disk, W: Opening> Clerk for Watched<D, W> {
     }
 
     fn entries(&self) -> u64 {
-        self.desk.entries()
+        Keeper::entries(&self.desk)
     }
 }
 
@@ -126,7 +144,7 @@ pub(crate) fn attend_watched<
     W: Opening + Send,
     D: Disk + Send,
     C: Clock + Send,
-    G: Door,
+    G: Door + Send,
     R: Threads + Wait + Sync,
 >(
     rt: &R,
@@ -156,9 +174,10 @@ pub(crate) fn attend_watched<
           ends = result.ends;
           stop = result.stop;
         })
-        × AllByRecursion (λ then. WasBetween D.moment D.since desk result.keeper then.0) answered }
-    ensures images { During D.moment D.since desk.disk result.keeper.disk
-        (StandsWithin desk.founder desk.state.settled result.keeper.state.settled) }
+        × AllByRecursion (λ then. WasBetween D.moment D.since (WasAsked answered) desk result.keeper then.0) answered
+        × During D.moment D.since desk.disk result.keeper.disk
+        (StandsWithin desk.founder (Some desk.limit) (WasAsked answered) desk.state.settled
+        result.keeper.state.settled) }
 {
     let watched = Watched::<D, W>::new(desk);
     let Attended { keeper, ends, stop } = attend_door(rt, alloc, watched, connections, clock, door);

@@ -2,7 +2,7 @@
 
 ghost use Rattle.std.specs.Prelude.{◌≡◌, None};
 
-use act_model::{Key, Refusal, Reply, Request};
+use act_model::{Keeper, Key, Refusal, Reply, Request};
 use desk_io::{Clock, MemSink, MemSource, Sink, Source, TickClock};
 use http_connection::{Left, attend};
 use intake_lock::{Clerk, TurnLock};
@@ -17,7 +17,7 @@ struct Forgetful {
     founder: Key,
 }
 
-impl Clerk for Forgetful {
+impl Keeper for Forgetful {
     ghost use Rattle.std.specs.Prelude.{[], None};
 
     ghost office = { λ k. record {
@@ -25,7 +25,6 @@ impl Clerk for Forgetful {
       limit = None;
       state = record { settled = []; doubt = None };
       faults = 0;
-      stamps = None;
     } };
 
     fn act(&mut self, _request: &Request, _reading: Instant) -> Reply {

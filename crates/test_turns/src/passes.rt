@@ -5,8 +5,8 @@ ghost use Rattle.act_model.specs.Requests.{is_act};
 ghost use Rattle.intake_lock.specs.declared.view.Role.TheVariants.{Root, Branch};
 ghost use Rattle.intake_lock.specs.Passes.{LockState, PassState};
 
-use act_model::{Body, Key, Refusal, Reply, Request, Verb};
-use intake_lock::{Clerk, Pass, TurnLock};
+use act_model::{Body, Keeper, Key, Refusal, Reply, Request, Verb};
+use intake_lock::{Pass, TurnLock};
 use obs_time::Instant;
 use std::alloc::Global;
 use std::sync::Wait;
@@ -20,7 +20,7 @@ struct Forgetful {
     acts: u64,
 }
 
-impl Clerk for Forgetful {
+impl Keeper for Forgetful {
     ghost use Rattle.std.specs.Prelude.{[], None};
 
     ghost office = { λ k. record {
@@ -28,7 +28,6 @@ impl Clerk for Forgetful {
       limit = None;
       state = record { settled = []; doubt = None };
       faults = 0;
-      stamps = None;
     } };
 
     fn act(&mut self, _request: &Request, _reading: Instant) -> Reply {

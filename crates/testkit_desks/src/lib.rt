@@ -6,7 +6,6 @@
 #![tactic(auto)]
 
 mod asking;
-mod clerks;
 mod desk_visits;
 mod opening;
 mod running;

@@ -4,7 +4,6 @@
 ghost use Rattle.std.specs.Prelude.{◌≡◌, None};
 ghost use Rattle.act_model.specs.Roster.{IsFounder};
 
-use crate::clerks::Unstamped;
 use crate::running::{THREADS, run_threads, run_two};
 use crate::turns::Turns;
 use act_model::{Keeper, Key};
@@ -50,11 +49,11 @@ fn told_of<V: Mend + Send, J: Turns + Sync, R: Threads + Wait + Sync>(
 ) -> Option<J::Told>
     requires { (V.office keeper).state.doubt ≡ None }
 {
-    let Ok((lock, root)) = TurnLock::new(alloc, Unstamped { keeper }) else {
+    let Ok((lock, root)) = TurnLock::new(alloc, keeper) else {
         return None;
     };
     let (root, came) = run_threads(rt, alloc, &lock, root, THREADS, turns);
-    let keeper = mended(lock.close(root).keeper)?;
+    let keeper = mended(lock.close(root))?;
     let came = came?;
     Some(turns.tell(alloc, &keeper, &came))
 }

@@ -5,7 +5,6 @@ ghost use denote.Param.Send.{IsSend, IsSync};
 ghost use Rattle.intake_lock.specs.Views.{stem, branch};
 ghost use Rattle.testkit_desks.specs.Roots.{IsRootFor};
 
-use crate::clerks::Unstamped;
 use crate::turns::Turns;
 use act_model::Keeper;
 use intake_lock::{Clerk, Pass, TurnLock};
@@ -82,7 +81,7 @@ pub(crate) fn run_two<K: Keeper + Send, J: Turns + Sync, R: Threads + Wait + Syn
 ) -> Option<(K, u64, u64)>
     requires { (K.office keeper).state.doubt ≡ None }
 {
-    let Ok((lock, root)) = TurnLock::new(alloc, Unstamped { keeper }) else {
+    let Ok((lock, root)) = TurnLock::new(alloc, keeper) else {
         return None;
     };
     let Ok((root, branch)) = lock.split(root) else {
@@ -101,5 +100,5 @@ pub(crate) fn run_two<K: Keeper + Send, J: Turns + Sync, R: Threads + Wait + Syn
         { turns.take(rt, alloc, shared, branch, 2) },
     );
     let root = lock.join(root, branch);
-    Some((lock.close(root).keeper, one, other))
+    Some((lock.close(root), one, other))
 }

@@ -74,7 +74,14 @@ fn called<S: Source, K: Sink, D: Disk, C: Clock>(
 }
 
 /// `top`, without its clauses.
-fn served<S: Source, K: Sink, D: Disk + Send, C: Clock + Send, G: Door, R: Threads + Wait + Sync>(
+fn served<
+    S: Source,
+    K: Sink,
+    D: Disk + Send,
+    C: Clock + Send,
+    G: Door + Send,
+    R: Threads + Wait + Sync,
+>(
     rt: &R,
     alloc: Global,
     words: &Words,
@@ -111,7 +118,7 @@ pub fn call_single(alloc: Global, call: &Call) -> Result<(), Wrong> {
 /// # Errors
 ///
 /// What is wrong with the call.
-pub(crate) fn call_top<G: Door, R: Threads + Wait + Sync>(
+pub(crate) fn call_top<G: Door + Send, R: Threads + Wait + Sync>(
     rt: &R,
     alloc: Global,
     call: &Call,

@@ -1,12 +1,13 @@
-use Rattle.std.proofs.Common.{◌+◌, ◌-◌, ◌≤◌, length, refl, inl, inr, sym, subst, arith}
+use Rattle.std.proofs.Common.{◌+◌, ◌-◌, ◌≤◌, length, Some, refl, inl, inr, sym, subst, arith}
 use Rattle.command_ends.specs.Disks.{disk_words}
 use Rattle.intake_lock.specs.Items.{RisesBy, rises}
 use Rattle.serve_command.specs.Links.{calls_in}
 use Rattle.mpc_desk.specs.Desks.{count_of}
 use Rattle.serve_command.proofs.Gathering.{no_longer}
 use Rattle.serve_command.proofs.Mending.{closed_so, mending_extends, extends_to, ends_legal, rose_between, counted, no_call_rose, quiet_calls, no_write_so_far, writes_as}
-use Rattle.serve_command.proofs.KeptLemmas.{kept_calls}
-use Rattle.serve_command.proofs.WatchLemmas.{service_images}
+use Rattle.serve_command.specs.Images.{Answered, AskedBy, WasAsked, WasBetween}
+use Rattle.serve_command.proofs.KeptLemmas.{all_weaker, asked_by, kept_calls}
+use Rattle.serve_command.proofs.WatchLemmas.{between_more, during_more, service_images}
 use Rattle.serve_command.proofs.serving.run.Goals as goal
 
 pub returns-in-Err-clause-ends : goal.returns-in-Err-clause-ends
@@ -48,6 +49,13 @@ returns-clause-ends g c =
     subst (λ d. RisesBy (opening + calls + closed.rise) (count_of (faults c.args.disk)) (count_of (faults d))) (sym c.close.ensures)
     (counted (faults c.args.disk) (faults opened.disk) (faults left.disk) (faults last.disk) opening calls closed.rise rose serves.grows.counts
     closed.closed.counts) in
+    let answered = c.attend_watched-desk.ensures.serves.0 in
+    let all = calls_in serves.attendances in
+    let asks = asked_by on.moment faults opened left answered all serves.grows.stamps in
+    let were = all_weaker (λ then. WasBetween on.moment on.since (WasAsked answered) opened left then.0)
+    (λ then. WasBetween on.moment on.since (AskedBy all) opened left then.0)
+    (λ then was. between_more (WasAsked answered) (AskedBy all) asks on.moment on.since opened left then.0 was)
+    answered c.attend_watched-desk.ensures.serves.2 in
     inr (
     record {
       opened = opened;
@@ -61,12 +69,15 @@ returns-clause-ends g c =
       mends = c.mend_last-mended.ensures;
       writes = writes_as _ _ _ _ _ _ _ _ _ _ c.first_fault.ensures c.len.ensures c.entries-entries.ensures c.write_lines-status.ensures.writes;
       disk_is = c.close.ensures;
-      images = service_images on c.args.founder c.args.disk c.close.result opened left last opens.founder_is opens.images
-          c.attend_watched-desk.ensures.images closed.closed.no_image (mending_extends left.state last.state closed.rise closed.does) c.close.ensures;
-      kept = kept_calls g.D.Disk.moment g.D.Disk.since opened left last c.beginnings.ensures.one
-          (record { act = c.added_calls.ensures.act; stands = c.added_calls.ensures.stands; stamp = c.added_calls.ensures.stamp })
-          closed.closed.no_image (mending_extends left.state last.state closed.rise closed.does) c.attend_watched-desk.ensures.serves.0
-          c.attend_watched-desk.ensures.serves.2 (calls_in serves.attendances) serves.grows.true_of serves.grows.stamped;
+      images = service_images on c.args.founder (AskedBy all) c.args.disk c.close.result opened left last opens.founder_is opens.images
+          (during_more (WasAsked answered) (AskedBy all) asks on.moment on.since opened.disk left.disk opened.founder (Some opened.limit)
+          opened.state.settled left.state.settled c.attend_watched-desk.ensures.serves.3)
+          closed.closed.no_image (mending_extends left.state last.state closed.rise closed.does) c.close.ensures;
+      kept = kept_calls g.D.Disk.moment g.D.Disk.since (AskedBy all) opened left last c.beginnings.ensures.one
+          c.acknowledged_acts_are_kept.ensures
+          (record { stands = c.added_calls.ensures.stands; stamp = c.added_calls.ensures.stamp })
+          closed.closed.no_image (mending_extends left.state last.state closed.rise closed.does) answered
+          were all serves.grows.true_of serves.grows.stamped;
       at_rest = closed.closed.at_rest;
       legal = legal;
       grows = grows;

@@ -1,10 +1,10 @@
 use Rattle.std.proofs.Common.{Some, ap, ◌∙◌}
-use Rattle.intake_lock.proofs.Turns.{item_of, called_noted, noted_from}
+use Rattle.intake_lock.proofs.Turns.{called_noted, noted_from}
 use Rattle.intake_lock.proofs.turn.Turn.act.Goals as goal
 
 pub note_call-requires-clause-call : goal.note_call-requires-clause-call
 note_call-requires-clause-call g c =
-    rw c.of-before.ensures (item_of (g.V.Clerk.office c.self.inside.keeper) c.args.request.now (Some c.args.reading) c.act-reply.result (g.V.Clerk.office c.act-reply.new.self) c.act-reply.ensures.turn)
+    rw c.of-before.ensures c.act-reply.ensures.turn
 
 pub invariant_of-self : goal.invariant_of-self
 invariant_of-self g c = (

@@ -2,7 +2,7 @@ use Rattle.std.proofs.Common.{ap}
 use Rattle.intake_lock.specs.Passes.{PassState}
 use Rattle.serve_command.specs.Gathering.{door_of}
 use Rattle.serve_command.proofs.Gathering.{no_link, same_end, branch_joined, root_went_on}
-use Rattle.serve_command.proofs.accepting.+attend_links+fn-attend_links-join+arg3.Goals as goal
+use Rattle.serve_command.proofs.accepting.+attend_links+fn-attend_links-join+arg2.Goals as goal
 
 pub returns-in-Err-clause-gathers : goal.returns-in-Err-clause-gathers
 returns-in-Err-clause-gathers g t c = no_link _ _ _ c.in-Err.stop c.in-Err.ensures.none.0 c.in-Err.ensures.none.1
@@ -13,10 +13,10 @@ returns-in-Ok-split_root-clause-gathers g t c =
     (record { to_come = c.another-other.ensures.stays; last = c.another-other.ensures.kept })
     (record { to_come = c.another-other.ensures.same; last = c.another-other.ensures.last })
     _ _ _ _ _ _ c.in-Ok-split_root.ensures.stem.1 c.in-Ok-split_root.ensures.branch.1 c.join.ensures.view c.with_end-root.ensures.ends
-    c.join-branch.ensures.first.1
+    c.join-gathered.ensures.second.1
     (same_end _ _ _ _ _ _ _ _ _ (ap (λ (p : PassState). p.view) c.with_end-root.ensures.same.0)
     (ap (door_of g.T.Gate.links g.T.Gate.faults) c.with_end-root.ensures.same.1) c.with_end-root.ensures.same.2
-    c.join-branch.ensures.second.4)
+    c.join-gathered.ensures.first.4)
     c.join.ensures.seen.0 c.join.ensures.seen.1
 
 pub returns-in-Err-split_root-clause-gathers : goal.returns-in-Err-split_root-clause-gathers
