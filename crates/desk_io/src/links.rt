@@ -176,10 +176,10 @@ fn prepare(stream: &TcpStream, limits: LinkLimits) -> io::Result<()> {
 }
 
 /// Why no link is made of a stream.
-#[derive(Clone, Copy, Debug, PartialEq, Eq)]
+#[derive(Clone, Copy, Debug)]
 pub enum NoLink {
-    /// The system refused a limit.
-    Refused,
+    /// The system refused a limit, with these words.
+    Refused(io::Error),
     /// Memory was refused.
     NoMemory,
 }
@@ -191,8 +191,8 @@ impl From<NoMemory> for NoLink {
 }
 
 impl From<io::Error> for NoLink {
-    fn from(_: io::Error) -> NoLink {
-        NoLink::Refused
+    fn from(error: io::Error) -> NoLink {
+        NoLink::Refused(error)
     }
 }
 

@@ -55,7 +55,7 @@ fn listen<R: Net<Listener = TcpListener, Stream = TcpStream>>(
 
 /// The door on a port of 127.0.0.1. It is bound to its port at the first call, and never shut.
 ///
-/// It tells nothing of its links, and counts each error as a fault. After a failure to bind, the next call tries again.
+/// It tells nothing of its links, counts each error as a fault, and keeps the last one for people to read. After a failure to bind, the next call tries again.
 /// A peer that is gone before it is taken is no failure; where descriptors or memory of the system are short it tries
 /// again for 10 seconds before it fails. Each link has limits to the time that its peer may take.
 #[derive(Debug, Drop)]
@@ -66,6 +66,7 @@ pub struct TcpDoor<R: Net<Listener = TcpListener, Stream = TcpStream> + Clock + 
     limits: LinkLimits,
     listening: Option<Listening>,
     faults: u64,
+    last_error: Option<io::Error>,
 }
 
 impl<R: Net<Listener = TcpListener, Stream = TcpStream> + Clock + Copy> Model for TcpDoor<R> {
@@ -106,6 +107,7 @@ impl<R: Net<Listener = TcpListener, Stream = TcpStream> + Clock + Copy> TcpDoor<
             limits,
             listening: None,
             faults: 0,
+            last_error: None,
         }
     }
 
@@ -143,13 +145,19 @@ impl<R: Net<Listener = TcpListener, Stream = TcpStream> + Clock + Copy> TcpDoor<
         next_peer(&self.system, &listening.listener)
     }
 
-    // The answer of a call in which the door failed, which is counted.
-    fn fail<I, O>(&mut self) -> Next<I, O>
+    /// Why a call that was to give a link failed the last time, in the system's words; None where none failed.
+    pub fn last_error(&self) -> Option<io::Error> {
+        self.last_error
+    }
+
+    // The answer of a call in which the door failed, which is counted, with its reason kept.
+    fn fail<I, O>(&mut self, error: io::Error) -> Next<I, O>
         ensures failed { result ≡ answers.Failed }
         ensures counted { self.new ≡ record self.old { faults = one_more self.old.faults } }
         ensures counts { self.old.faults ≤ self.new.faults }
     {
         self.faults = self.faults.saturating_add(1);
+        self.last_error = Some(error);
         Next::Failed
     }
 }
@@ -172,13 +180,14 @@ impl<R: Net<Listener = TcpListener, Stream = TcpStream> + Clock + Copy + Send + 
         ensures counts { self.old.faults ≤ self.new.faults }
         ensures cause { FaultsAfter self.old.faults self.new.faults result }
     {
-        let Ok(stream) = self.accept() else {
-            return self.fail();
+        let stream = match self.accept() {
+            Ok(stream) => stream,
+            Err(error) => return self.fail(error),
         };
         match halves(self.system, self.alloc, stream, self.limits) {
             Ok((source, sink)) => Next::Link(StreamSource::new(source), StreamSink::new(sink)),
             Err(NoLink::NoMemory) => Next::NoMemory,
-            Err(NoLink::Refused) => self.fail(),
+            Err(NoLink::Refused(error)) => self.fail(error),
         }
     }
 }

@@ -15,7 +15,7 @@ ghost use Rattle.command_line.specs.Commands.{command_of};
 
 use command_line::{Command, command_of};
 use desk_io::{NoMemory, StreamSink, StreamSource, SystemClock, TcpDoor};
-use disk_model::FileDisk;
+use disk_model::{FileDisk, NamedFile};
 use item_list::Bytes;
 use program_door::ServingDoor;
 pub use program_top::top::{single, top};
@@ -29,7 +29,10 @@ use std::process::ExitCode;
 use std::rt::Clock;
 use std::sync::Wait;
 use std::thread::Threads;
-use usage_text::usage_text;
+use usage_text::{is_command, usage_text};
+
+/// The file of the current folder in which the office is kept.
+const JOURNAL: &str = "desk.journal";
 
 /// How much memory is taken and given back at the start, in bytes.
 const KEPT: usize = 1 << 22;
@@ -112,9 +115,24 @@ fn tell_left<I, O>(rt: HostRuntime, ends: &LinkEnds<I, O>) {
     );
 }
 
+/// Tells on standard error why the disk failed the last time, and how often it failed, where it did.
+fn tell_disk<F: NamedFile>(rt: HostRuntime, disk: &FileDisk<F>) {
+    if let Some(error) = disk.last_error() {
+        let _ = eprintln!(rt; "mpc_cli: {JOURNAL}: {error}");
+        let _ = eprintln!(rt; "mpc_cli: the disk failed {} times", disk.faults());
+    }
+}
+
+/// Tells on standard error the status with which the program ends, where it isn't `Done`.
+fn tell_status(rt: HostRuntime, status: &Status) {
+    if status.number() != 0 {
+        let _ = eprintln!(rt; "mpc_cli: {status}");
+    }
+}
+
 /// Runs the program over standard input, standard output, the file `desk.journal` of the current folder, the system's
-/// clock and the port for connections, which are attended in threads. Standard error says when the port is bound, and
-/// how the links ended.
+/// clock and the port for connections, which are attended in threads. Standard error says when the port is bound, how
+/// the links ended, with which status the program ends, and what the system said of a disk or a port that failed.
 fn run<
     N: Net<Listener = TcpListener, Stream = TcpStream> + Clock + Copy + Send + Sync,
     R: Threads + Wait + Sync,
@@ -123,7 +141,7 @@ fn run<
     let mut source = StreamSource::new(host.stdin());
     let mut sink = StreamSink::new(host.stdout());
     let mut clock = SystemClock::new(host);
-    let disk = FileDisk::new(host, "desk.journal");
+    let disk = FileDisk::new(host, JOURNAL);
     let mut door = ServingDoor::new(TcpDoor::new(net, alloc), wanted_links(words), host.stderr());
     let (ended, ends) = top(
         rt,
@@ -136,7 +154,26 @@ fn run<
         &mut door,
     );
     tell_left(host, &ends);
+    tell_status(host, &ended.status);
+    tell_disk(host, &ended.disk);
+    if let Some(error) = door.last_error() {
+        let _ = eprintln!(host; "mpc_cli: the port: {error}");
+    }
     ended.status
+}
+
+/// Tells on standard error which word is none of the program's, as far as that is known.
+fn tell_word(rt: HostRuntime, words: &Words) {
+    let name = words
+        .get(0)
+        .and_then(|word| str::from_utf8(word.as_slice()).ok());
+    let _ = match name {
+        None => eprintln!(rt; "mpc_cli: no command is given"),
+        Some(name) if is_command(name) => eprintln!(rt;
+            "mpc_cli: {name} takes other words than these"
+        ),
+        Some(name) => eprintln!(rt; "mpc_cli: no command {name:?}"),
+    };
 }
 
 /// Tells on standard error what the words may be. Where memory is refused for that, it is left out.
@@ -149,12 +186,18 @@ fn tell_usage(rt: HostRuntime) {
 fn main(rt: HostRuntime) -> ExitCode {
     keep_freed_memory(rt.alloc());
     let status = match words_of(rt) {
-        Ok(words) => run(rt, rt, &rt, &words),
-        Err(status) => status,
+        Ok(words) => {
+            let status = run(rt, rt, &rt, &words);
+            if matches!(status, Status::Usage) {
+                tell_word(rt, &words);
+            }
+            status
+        }
+        Err(status) => {
+            tell_status(rt, &status);
+            status
+        }
     };
-    if status.number() != 0 {
-        let _ = eprintln!(rt; "mpc_cli: {status}");
-    }
     if matches!(status, Status::Usage) {
         tell_usage(rt);
     }

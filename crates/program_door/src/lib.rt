@@ -27,6 +27,7 @@ pub struct ServingDoor<
     door: Option<TcpDoor<R>>,
     wanted: u64,
     faults: u64,
+    last_error: Option<io::Error>,
     is_told: bool,
     says: W,
 }
@@ -57,6 +58,7 @@ impl<
             door,
             wanted,
             faults: 0,
+            last_error: None,
             is_told: false,
             says,
         }
@@ -77,13 +79,19 @@ impl<
         Ok(())
     }
 
-    // The answer of a call in which the door failed, which is counted.
-    fn fail<I, O>(&mut self) -> Next<I, O>
+    /// Why a call failed the last time, in the system's words; None where none failed.
+    pub fn last_error(&self) -> Option<io::Error> {
+        self.last_error
+    }
+
+    // The answer of a call in which the door failed, which is counted, with its reason kept where there is one.
+    fn fail<I, O>(&mut self, error: Option<io::Error>) -> Next<I, O>
         ensures failed { result ≡ answers.Failed }
         ensures counted { self.new ≡ record self.old { faults = one_more self.old.faults } }
         ensures counts { self.old.faults ≤ self.new.faults }
     {
         self.faults = self.faults.saturating_add(1);
+        self.last_error = error;
         Next::Failed
     }
 
@@ -121,8 +129,8 @@ impl<
         if self.wanted == 0 {
             return Next::Shut;
         }
-        if self.bind().is_err() {
-            return self.fail();
+        if let Err(error) = self.bind() {
+            return self.fail(Some(error));
         }
         let Some(door) = &mut self.door else {
             unreachable!();
@@ -133,7 +141,10 @@ impl<
                 Next::Link(source, sink)
             }
             Next::Shut => unreachable!(),
-            Next::Failed => self.fail(),
+            Next::Failed => {
+                let error = door.last_error();
+                self.fail(error)
+            }
             Next::NoMemory => Next::NoMemory,
         }
     }

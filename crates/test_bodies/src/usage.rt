@@ -1,7 +1,7 @@
 //! What the usage tells.
 
 use std::test::Fail;
-use usage_text::usage_text;
+use usage_text::{is_command, usage_text};
 
 #[test]
 fn names_each_command(rt: HostRuntime) -> Result<(), Fail> {
@@ -16,8 +16,19 @@ fn names_each_command(rt: HostRuntime) -> Result<(), Fail> {
         "0 to 18446744073709551615\n",
         "1 to 20000\n",
         "  9  DoorFault: the port failed\n",
+        "\nmpc_cli 0.9\n",
     ] {
         assert!(rt; text.as_str().contains(part), "{part} in {text}");
     }
     Ok(())
+}
+
+#[test]
+fn knows_each_command(rt: HostRuntime) {
+    for name in ["run", "serve", "export", "workload"] {
+        assert!(rt; is_command(name), "{name}");
+    }
+    for name in ["", "rum", "Run", "run ", "help", "--version"] {
+        assert!(rt; !is_command(name), "{name}");
+    }
 }

@@ -7,6 +7,17 @@
 use clap::{Arg, ArgAction, Command};
 use std::alloc::{AllocError, Global};
 
+/// The version of the program.
+pub const VERSION: &str = "0.9";
+
+const RUN: &str = "run";
+
+const SERVE: &str = "serve";
+
+const EXPORT: &str = "export";
+
+const WORKLOAD: &str = "workload";
+
 const KEY: &str = "The founding officer's key: + and 8 to 32 of A to Z, a to z, 0 to 9 and -";
 
 const STATUSES: &str = concat!(
@@ -43,7 +54,7 @@ fn command<'a>(alloc: Global, name: &'a str, about: &'a str) -> Command<'a> {
 fn run<'a>(alloc: Global) -> Result<Command<'a>, AllocError> {
     command(
         alloc,
-        "run",
+        RUN,
         "Answers the request frames of standard input on standard output",
     )
     .after_help("Example: mpc_cli run --key +founder-1")
@@ -53,7 +64,7 @@ fn run<'a>(alloc: Global) -> Result<Command<'a>, AllocError> {
 fn serve<'a>(alloc: Global) -> Result<Command<'a>, AllocError> {
     command(
         alloc,
-        "serve",
+        SERVE,
         "Attends connections at port 8017 of this machine",
     )
     .after_help("Example: mpc_cli serve --key +founder-1 --connections 100")
@@ -69,7 +80,7 @@ fn serve<'a>(alloc: Global) -> Result<Command<'a>, AllocError> {
 fn export<'a>(alloc: Global) -> Command<'a> {
     command(
         alloc,
-        "export",
+        EXPORT,
         "Writes the catalogue of the journal to standard output",
     )
     .after_help("Example: mpc_cli export")
@@ -78,7 +89,7 @@ fn export<'a>(alloc: Global) -> Command<'a> {
 fn workload<'a>(alloc: Global) -> Result<Command<'a>, AllocError> {
     command(
         alloc,
-        "workload",
+        WORKLOAD,
         "Runs made-up requests on an office in memory, and writes a summary of it to standard output",
     )
     .after_help("Example: mpc_cli workload --seed 7 --count 3")
@@ -96,6 +107,11 @@ fn workload<'a>(alloc: Global) -> Result<Command<'a>, AllocError> {
     ))
 }
 
+/// Whether a command of the program has this name.
+pub fn is_command(name: &str) -> bool {
+    name == RUN || name == SERVE || name == EXPORT || name == WORKLOAD
+}
+
 /// The program, with what its commands do.
 fn program<'a>(alloc: Global) -> Result<Command<'a>, AllocError> {
     command(
@@ -103,6 +119,8 @@ fn program<'a>(alloc: Global) -> Result<Command<'a>, AllocError> {
         "mpc_cli",
         "A clearing house for minor planet astrometry, on the journal desk.journal of the current folder",
     )
+    .version(VERSION)
+    .disable_version_flag(true)
     .after_help(STATUSES)
     .subcommand(run(alloc)?)?
     .subcommand(serve(alloc)?)?
@@ -118,16 +136,19 @@ fn push_help(out: &mut String, command: Command<'_>, name: &str) -> Result<(), A
     out.push_str(help.as_str())
 }
 
-/// The usage of the program. It takes memory.
+/// The usage of the program, and its version in the last line. It takes memory.
 ///
 /// # Errors
 ///
 /// Memory was refused.
 pub fn usage_text(alloc: Global) -> Result<String, AllocError> {
-    let mut text = program(alloc)?.render_help()?;
+    let mut program = program(alloc)?;
+    let mut text = program.render_help()?;
     push_help(&mut text, run(alloc)?, "mpc_cli run")?;
     push_help(&mut text, serve(alloc)?, "mpc_cli serve")?;
     push_help(&mut text, export(alloc), "mpc_cli export")?;
     push_help(&mut text, workload(alloc)?, "mpc_cli workload")?;
+    text.push_str("\n")?;
+    text.push_str(program.render_version()?.as_str())?;
     Ok(text)
 }
