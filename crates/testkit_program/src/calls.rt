@@ -9,7 +9,7 @@ use program_top::{Ended, Words};
 use serve_command::LinkEnds;
 use std::alloc::Global;
 use std::net::{Net, TcpListener, TcpStream};
-use std::rt::Clock;
+use std::rt::Clock as HostClock;
 use std::sync::Wait;
 use std::thread::Threads;
 use testkit_sessions::{Call, Found, Wrong, words_of};
@@ -166,7 +166,7 @@ pub fn call_over_links<R: Threads + Wait + Sync>(
 /// What is wrong with the call.
 pub(crate) fn call_over_port<
     R: Threads + Wait + Sync,
-    N: Net<Listener = TcpListener, Stream = TcpStream> + Clock + Copy + Send + Sync,
+    N: Net<Listener = TcpListener, Stream = TcpStream> + HostClock + Copy + Send + Sync,
 >(rt: &R, net: N, alloc: Global, call: &Call) -> Result<u64, Wrong> {
     let mut door = TcpDoor::new(net, alloc);
     let ends = call_top(rt, alloc, call, &mut door)?;
