@@ -75,10 +75,6 @@ const UNREAD: &str =
     "HTTP/1.1 400 Bad Request\r\nContent-Length: 22\r\nContent-Type: text/plain\r\n\
     Connection: close\r\n\r\nrefused 1 Unread head\n";
 
-// The front of an answer that was cut off at its text.
-const HEAD: &str =
-    "HTTP/1.1 507 Insufficient Storage\r\nContent-Length: 20\r\nContent-Type: text/plain\r\n\r\n";
-
 const ROWS: &[Row] = &[
     Row {
         sent: "",
@@ -135,13 +131,13 @@ const ROWS: &[Row] = &[
         answered: [REFUSED, UNREAD],
     },
     Row {
-        sent: "POST /v1/act/1/enrol HTTP/1.1\r\n\r\n",
+        sent: "POST /v1/act/1/enrol HTTP/1.1\r\n\r\nPOST /v1/act/2/enrol HTTP/1.1\r\n\r\n",
         faults: Faults { read: 0, write: 2 },
         end: End {
             left: Left::WriteFault,
-            readings: 1,
+            readings: 2,
         },
-        answered: [HEAD, ""],
+        answered: [REFUSED, ""],
     },
     Row {
         sent: "x",
