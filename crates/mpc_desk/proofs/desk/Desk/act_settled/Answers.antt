@@ -76,3 +76,6 @@ returns-in-Err-Untouched-clause-at_rest g c = rests g.D.Disk.leaves c.in_doubt.e
 
 pub returns-in-Err-InDoubt-clause-at_rest : goal.returns-in-Err-InDoubt-clause-at_rest
 returns-in-Err-InDoubt-clause-at_rest g c = rests g.D.Disk.leaves c.in_doubt.ensures c.prepare.new.self c.append.new.self (Some c.in-Ready.prepared) (invariant_of-self-in-Err-InDoubt g c)
+
+pub returns-in-Ok-append-clause-at_rest : goal.returns-in-Ok-append-clause-at_rest
+returns-in-Ok-append-clause-at_rest g c = rests g.D.Disk.leaves c.in_doubt.ensures c.commit.new.self c.append.new.self c.self.inside.doubt (invariant_of-self-in-Ok-append g c)
