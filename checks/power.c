@@ -98,8 +98,9 @@ static void begin_file(int file, int was_there) {
   kept->cut = CAPACITY;
   if (!kept->begun) kept->named = was_there;
   if (!was_there) kept->is_unnamed = 1;
-  kept->begun = 1;
   if (pread(file, kept->safe, kept->length, 0) != kept->length) abort();
+  /* the last, since the process may be killed at any moment */
+  kept->begun = 1;
 }
 
 static int opened(const char *path, int flags, mode_t mode) {
