@@ -27,11 +27,10 @@ use Rattle.mpc_desk.specs.Desks.{DeskState, IsAtRest, FailsOn, ActsOn, ActsInTur
 use Rattle.act_model.specs.Clocks.{ClockState}
 use Rattle.serve_command.specs.declared.accepting.Stop.{Stop}
 use Rattle.serve_command.specs.declared.ends.LinkEnd.{LinkEnd}
-use Rattle.serve_command.specs.declared.watching.Asked.{Asked}
 use Rattle.serve_command.specs.Gathering.{DoorState}
 use Rattle.serve_command.specs.Links.{LinkWords}
 use Rattle.serve_command.specs.Serving.{AreStampsOf, Serves}
-use Rattle.serve_command.specs.Images.{AskedBy, WatchedState, StandsWithin, IsWatched, Answered, WasAsked, stamp_of, stamping, Keeps, HasPassed, WasBetween, IsKept, KeepsDone}
+use Rattle.serve_command.specs.Images.{AskedBy, WatchedState, StandsWithin, IsWatched, Answered, WasAsked, stamp_of, stamping, Keeps, HasPassed, WasBetween, IsKept, KeepsDone, Asked, request_in, reading_in}
 use Rattle.serve_command.proofs.Gathering.{extends_on}
 use Rattle.serve_command.proofs.WatchLemmas.{Asks, GrowthLaws, within_on, rests_within, act_within, watched_more, keeps_more, moved, watched_during}
 
@@ -46,7 +45,7 @@ module _ {D : Type 0} (moment : D → ℕ) (since : D → ℕ → List ℕ → T
       by (inl fails) = fails.no_image.later
       by (inr acts) = acts.images.later
 
-  pub stamped_act : (old new : DeskState D) (answered more : Answered D) (reading : ℤ) (noted : Asked) → noted.request.value ≡ request → noted.reading ≡ reading → more ≡ answered ++ (new, noted) ∷ []
+  pub stamped_act : (old new : DeskState D) (answered more : Answered D) (reading : ℤ) (noted : Asked) → request_in noted.items ≡ request → reading_in noted.items ≡ reading → more ≡ answered ++ (new, noted) ∷ []
       → KeeperTakesTurn (office_of faults old) request (Some reading) reply (office_of faults new)
       → ActsInTurn moment since faults (record { old = old; request = request; reading = reading; reply = reply; new = new })
       → TakesTurn (stamping moment faults old answered) request (Some reading) reply (stamping moment faults new more)
@@ -118,7 +117,7 @@ module _ {D : Type 0} (answered more : Answered D) (new : DeskState D) (noted : 
   asked_before request reading (then, among, asks, reads) =
       (then, subst (λ (l : Answered D). Contains l then) (sym is) (Contains-append_left answered ((new, noted) ∷ []) then among), asks, reads)
 
-  pub asked_now : (request : Request) (reading : ℤ) → noted.request.value ≡ request → noted.reading ≡ reading → WasAsked more request reading
+  pub asked_now : (request : Request) (reading : ℤ) → request_in noted.items ≡ request → reading_in noted.items ≡ reading → WasAsked more request reading
   asked_now request reading request_is reading_is =
       ((new, noted), subst (λ (l : Answered D). Contains l (new, noted)) (sym is) (Contains-push answered (new, noted)), request_is, reading_is)
 
@@ -159,7 +158,7 @@ module _ {D : Type 0} (laws : GrowthLaws) (moment : D → ℕ) (since : D → �
 pub passed_on : {D : Type 0} (laws : GrowthLaws) (moment : D → ℕ) (since : D → ℕ → List ℕ → Type 0) (faults : D → ℕ) (leaves : D → List ℕ → Type 0)
     → ((disk : D) (image : List ℕ) → since disk (moment disk) image → leaves disk image) → (first : List Entry) (from : ℕ)
     (images : ℕ → List ℕ → Type 0) (old new : DeskState D) (answered more : Answered D) (noted : Asked) (request : Request) (reading : ℤ) (reply : Reply)
-    → noted.request.value ≡ request → noted.reading ≡ reading
+    → request_in noted.items ≡ request → reading_in noted.items ≡ reading
     → IsWatched moment since first from images (WasAsked more) old → IsWatched moment since first from images (WasAsked more) new
     → KeeperTakesTurn (office_of faults old) request (Some reading) reply (office_of faults new) → ActsInTurn moment since faults (record { old = old; request = request; reading = reading; reply = reply; new = new })
     → IsAtRest leaves new → new.founder ≡ old.founder → new.limit ≡ old.limit → more ≡ answered ++ (new, noted) ∷ []

@@ -1,10 +1,12 @@
 -- What a crash at any moment of a service leaves.
-use Rattle.std.specs.Prelude.{◌≡◌, ◌⊎◌, ℕ, ◌≤◌, ℤ, List, ◌∷◌, length, map, Option, Some, IfSome, Contains}
+use Rattle.std.specs.Prelude.{◌≡◌, ◌⊎◌, ℕ, ◌≤◌, ℤ, pos, List, [], ◌∷◌, length, map, Option, Some, None, IfSome, Contains}
 use Rattle.disk_model.specs.Crashes.{During}
 use Rattle.act_bodies.specs.declared.key.Key.{Key}
 use Rattle.act_model.specs.declared.entry.Entry.{Entry}
 use Rattle.act_model.specs.declared.reply.Reply.TheVariants.{Done}
+use Rattle.act_model.specs.declared.request.Body.TheVariants.{NoRoom}
 use Rattle.act_model.specs.declared.request.Request.{Request}
+use Rattle.act_model.specs.declared.request.Verb.TheVariants.{Unknown}
 use Rattle.act_model.specs.Conducts.{Extends, EitherWay, IsAcknowledged}
 use Rattle.act_model.specs.Legal.{IsLegal}
 use Rattle.act_model.specs.Step.{Adds, outcome, step}
@@ -17,7 +19,7 @@ use Rattle.http_connection.specs.Calls.{IsAdded}
 use Rattle.mpc_desk.specs.Desks.{DeskState, office_of}
 use Rattle.mpc_desk.specs.Files.{Stands}
 use Rattle.mpc_desk.specs.Opening.{StandsAlike}
-use Rattle.serve_command.specs.declared.watching.Asked.{Asked}
+use Rattle.http_server.specs.declared.log.Log.{Log}
 
 -- ---- entries of acts that were asked
 
@@ -61,13 +63,27 @@ pub record IsWatched {D : Type 0} (moment : D → ℕ) (since : D → ℕ → Li
 
 -- ---- acts that were answered
 
+-- what a desk was asked in an act: a log of one request, with the clock's reading
+abbrev pub Asked : Type 0
+Asked = Log Request ℤ
+
+-- the request of such a log; one that asks nothing where it is empty
+abbrev pub request_in : List (Request × ℤ) → Request
+request_in [] = record { key = record { len = 0; bytes = [] }; number = None; verb = Unknown; body = NoRoom }
+request_in (asked ∷ more) = asked.0
+
+-- the clock's reading of such a log
+abbrev pub reading_in : List (Request × ℤ) → ℤ
+reading_in [] = pos 0
+reading_in (asked ∷ more) = asked.1
+
 -- the stamp of an act that was asked so, of the desk as it stands then
 abbrev pub stamp_of : {D : Type 0} (moment : D → ℕ) → DeskState D → Asked → Stamp
 stamp_of moment desk asked = record {
   moment = moment desk.disk;
   entries = length desk.state.settled;
-  request = asked.request.value;
-  reading = asked.reading;
+  request = request_in asked.items;
+  reading = reading_in asked.items;
 }
 
 -- desks as they were when they had answered acts, each with what it was asked, the oldest first
@@ -77,8 +93,8 @@ Answered D = List (DeskState D × Asked)
 -- one of the acts that were answered was this one, with this reading of the clock
 abbrev pub WasAsked : {D : Type 0} → Answered D → Request → ℤ → Type 0
 WasAsked {D = D} answered request reading =
-    (then : DeskState D × Asked) × Contains answered then × (then.1.request.value ≡ request)
-    × (then.1.reading ≡ reading)
+    (then : DeskState D × Asked) × Contains answered then × (request_in then.1.items ≡ request)
+    × (reading_in then.1.items ≡ reading)
 
 -- a desk, and how it was when it had answered each of its acts
 pub record WatchedState (D : Type 0) : Type 0 where

@@ -23,7 +23,6 @@ use mpc_desk::Desk;
 use obs_time::Instant;
 use std::alloc::Global;
 use std::marker::{Brand, Model, PhantomData};
-use std::snapshot::Snapshot;
 use std::sync::Wait;
 use std::thread::Threads;
 
@@ -47,14 +46,8 @@ impl Opening for Brand {
     ghost images = { λ t image. ⊥ };
 }
 
-/// What a desk was asked in one act. It is for proofs alone.
-#[derive(Drop)]
-pub struct Asked {
-    /// The request.
-    pub request: Snapshot<Request>,
-    /// The clock's reading.
-    pub reading: Instant,
-}
+/// What a desk was asked in one act, the request and the clock's reading, as a log of one pair. It is for proofs alone.
+pub type Asked = Log<Request, Instant>;
 
 /// A desk that was opened so. Contracts see the desk, and how it was when it had answered each of its acts: the latter
 /// is a list that only proofs read, and takes no memory.
@@ -120,10 +113,7 @@ impl<D: Disk, W: Opening> Clerk for Watched<D, W> {
         office_laws::histories_are_legal();
         office_laws::steps_add_one_entry();
         let reply = self.desk.act(request, reading);
-        let asked = Asked {
-            request: Snapshot::of(request),
-            reading,
-        };
+        let asked = Log::new().and(request, &reading);
         let answered = self.answered.and(&self.desk, &asked);
         self.answered = answered;
         reply

@@ -1,5 +1,4 @@
 use Rattle.std.proofs.Common.{ap, ◌∙◌}
-use denote.Param.Send.{sendable}
 use Rattle.serve_command.specs.Images.{WasAsked}
 use Rattle.serve_command.proofs.KeptLemmas.{same_limit, serves_watched, was_between}
 use Rattle.serve_command.proofs.WatchLemmas.{watched_during}
@@ -21,6 +20,3 @@ returns g c =
             c.requires.history c.requires.moment (λ t image. (c.requires.images t image).1) founder limit c.close.ensures.later c.close.ensures.images,
       );
     }
-
-pub attend_door-keeper-requires-send-V : goal.attend_door-keeper-requires-send-V
-attend_door-keeper-requires-send-V g c = search sendable
