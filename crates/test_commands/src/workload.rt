@@ -38,6 +38,25 @@ fn three_objects(rt: HostRuntime) {
     expect_workload(&rt, rt.alloc(), &done(&other_order, SUMMARY));
 }
 
+/// As many objects as there may be. The last is the 20,000th of 2024 A: the letter after 799 cycles of 25, and packed
+/// 4,499 after the first of the long form, 72 times 62 and 35.
+const GREATEST: &str = concat!(
+    "workload seed 7 count 20000\n",
+    "entries 40001\n",
+    "isolated 0\n",
+    "objects 80000\n",
+    "retracted 0\n",
+    "accepted 80000\n",
+    "last 2024 AZ799 _OA01AZ\n",
+    "catalogue 7377307 bytes\n",
+);
+
+#[test]
+fn twenty_thousand_objects(rt: HostRuntime) {
+    let words = ["workload", "--seed", "7", "--count", "20000"];
+    expect_workload(&rt, rt.alloc(), &done(&words, GREATEST));
+}
+
 #[test]
 fn a_sink_that_fails(rt: HostRuntime) {
     let words = ["workload", "--seed", "7", "--count", "3"];

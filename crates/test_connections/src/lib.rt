@@ -9,6 +9,12 @@ mod connections;
 #[cfg(test)]
 mod doors;
 #[cfg(test)]
+mod holding;
+#[cfg(test)]
 mod sockets;
+#[cfg(test)]
+mod submitting;
+#[cfg(test)]
+mod targets;
 #[cfg(test)]
 mod waiting;

@@ -6,4 +6,6 @@
 #[cfg(test)]
 mod batches;
 #[cfg(test)]
+mod pages;
+#[cfg(test)]
 mod requests;

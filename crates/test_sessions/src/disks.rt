@@ -8,7 +8,7 @@ use testkit_sessions::{
 // An empty disk gets its first gate, a byte.
 fn first_gate(alloc: Global) -> Result<(), Wrong> {
     let drive = Drive {
-        length: Some(1),
+        left: Some(&[0]),
         ..Drive::EMPTY
     };
     call_in_turn(alloc, &drive, &[Call::run(b"", 0, b"")])
@@ -158,10 +158,11 @@ fn failing_disks(rt: HostRuntime) {
 }
 
 // The journal of one act: the founder's enrolment of an observer on 2024-04-01.
-const FILE: [u8; 78] = *b"\x01\0\0\0\x48\0\0\0\0\0\0\0\0\0\0\0\x01\x17\xc1\xfe\xe6\xa8\x7a\0\0\x01\
+pub(super) const FILE: [u8; 78] =
+    *b"\x01\0\0\0\x48\0\0\0\0\0\0\0\0\0\0\0\x01\x17\xc1\xfe\xe6\xa8\x7a\0\0\x01\
         {\"key\":\"observer-1\",\"name\":\"Ann\",\"role\":\"observer\"}\0";
 
-const ENROLS: &str = concat!(
+pub(super) const ENROLS: &str = concat!(
     "+founder-1 1 enrol 51\n",
     "{\"key\":\"observer-1\",\"name\":\"Ann\",\"role\":\"observer\"}",
 );
@@ -181,8 +182,8 @@ fn opened(alloc: Global, length: usize, last: u8, call: Call) -> Result<(), Wron
     let (front, _) = file.split_at(length.min(78));
     let drive = Drive {
         file: front,
-        fails: &[],
-        length: Some(length as u64),
+        left: Some(front),
+        ..Drive::EMPTY
     };
     call_in_turn(alloc, &drive, &[call])
 }

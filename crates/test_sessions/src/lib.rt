@@ -5,9 +5,21 @@
 #![tactic(auto)]
 
 #[cfg(test)]
+mod crashes;
+#[cfg(test)]
 mod disks;
 #[cfg(test)]
+mod edges;
+#[cfg(test)]
+mod half_months;
+#[cfg(test)]
+mod histories;
+#[cfg(test)]
 mod large;
+#[cfg(test)]
+mod limits;
+#[cfg(test)]
+mod many_callers;
 #[cfg(test)]
 mod members;
 #[cfg(test)]

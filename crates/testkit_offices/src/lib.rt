@@ -4,5 +4,7 @@
 #![tactic(auto)]
 
 mod office_visits;
+mod paging;
 
 pub use office_visits::{Kind, Office, ReplayFault, Visit, visit_office};
+pub use paging::Paged;

@@ -4,6 +4,7 @@ ghost use Rattle.std.specs.Prelude.{◌≡◌, true};
 ghost use Rattle.act_model.specs.Requests.{is_act};
 ghost use Rattle.act_model.specs.Roster.{IsFounder};
 
+use crate::paging::{Paged, exported, pages_of};
 use act_model::{Key, Reply, Request};
 pub use desk_core::ReplayFault;
 use desk_core::{Core, Prep};
@@ -35,6 +36,13 @@ pub trait Office: Drop {
 
     /// How many entries it has.
     fn entries(&self) -> u64;
+
+    /// The pages of its catalogue up to the first one without bytes, but at most so many; None where memory was
+    /// refused, here and below.
+    fn pages(&self, alloc: Global, most: u64) -> Option<Paged>;
+
+    /// What it writes as its catalogue into a sink with room for so many bytes, and how many it says that it wrote.
+    fn exported(&self, alloc: Global, room: usize) -> Option<(u64, Vec<u8>)>;
 }
 
 impl Office for Core {
@@ -58,6 +66,14 @@ impl Office for Core {
 
     fn entries(&self) -> u64 {
         Core::entries(self)
+    }
+
+    fn pages(&self, alloc: Global, most: u64) -> Option<Paged> {
+        pages_of(alloc, self, most)
+    }
+
+    fn exported(&self, alloc: Global, room: usize) -> Option<(u64, Vec<u8>)> {
+        exported(alloc, self, room)
     }
 }
 

@@ -17,7 +17,7 @@ const PORT: u16 = 8017;
 const TRIES: u64 = 1_000_000;
 
 /// How many bytes the peer reads.
-pub const ANSWER_BYTES: usize = 138;
+pub const ANSWER_BYTES: usize = 222;
 
 /// What came of a call with one link.
 #[derive(Drop)]

@@ -34,8 +34,9 @@ pub struct Call<'a> {
     /// What its sink takes: all of these bytes, or where `least` is given the first ones, at least so many and not all.
     pub taken: &'a [u8],
     pub least: Option<usize>,
-    /// Whether a crash comes then, which takes all that isn't safe on the disk.
+    /// Whether a crash comes then, and by which pick it takes what isn't safe on the disk: 0 takes all of it.
     pub crashes: bool,
+    pub pick: u64,
 }
 
 /// The words of `run` with the founder's key.
@@ -61,6 +62,7 @@ impl<'a> Call<'a> {
             taken,
             least: None,
             crashes: false,
+            pick: 0,
         }
     }
 
@@ -121,16 +123,17 @@ fn same_bytes(left: &[u8], right: &[u8]) -> usize {
     }
 }
 
-/// A disk in memory: what its file has at first, which of its calls fail, counted from 1, and how long the file is to
-/// be at the end, if that is asked.
+/// A disk in memory: what its file has at first, which of its calls fail, counted from 1, for how many bytes it has
+/// room, and what the file is to be at the end, if that is asked.
 #[derive(Clone, Copy)]
 pub struct Drive<'a> {
     pub file: &'a [u8],
     pub fails: &'a [u64],
-    pub length: Option<u64>,
+    pub room: usize,
+    pub left: Option<&'a [u8]>,
 }
 
-/// How many bytes a disk has room for.
+/// How many bytes a disk has room for where nothing else is said.
 const DISK_BYTES: usize = 1_048_576;
 
 impl Drive<'_> {
@@ -138,11 +141,12 @@ impl Drive<'_> {
     pub const EMPTY: Drive<'static> = Drive {
         file: b"",
         fails: &[],
-        length: None,
+        room: DISK_BYTES,
+        left: None,
     };
 
     fn disk(&self, alloc: Global) -> Result<MemDisk, NoMemory> {
-        let capacity = self.file.len().max(DISK_BYTES);
+        let capacity = self.file.len().max(self.room);
         MemDisk::new(alloc, self.file, capacity, self.fails)
     }
 }
@@ -184,7 +188,8 @@ fn called<S: Source, K: Sink, D: Disk, C: Clock>(
 fn call_on<D: Disk>(alloc: Global, call: &Call, disk: D) -> Result<D, Wrong> {
     let words = words_of(alloc, call.words)?;
     let mut source = MemSource::new(alloc, call.bytes, call.greatest.max(1), &[call.read])?;
-    let mut sink = MemSink::new(alloc, 65_536, &[call.write])?;
+    let room = call.taken.len().saturating_add(65_536);
+    let mut sink = MemSink::new(alloc, room, &[call.write])?;
     let Some(first) = Instant::new(call.start) else {
         return Err(Wrong {
             mark: call.mark,
@@ -209,6 +214,15 @@ pub fn call_alone(alloc: Global, call: &Call) -> Result<(), Wrong> {
     Ok(())
 }
 
+/// Whether the file of a disk is this one.
+fn is_file<D: Disk>(alloc: Global, disk: &mut D, file: &[u8]) -> Result<bool, NoMemory> {
+    let mut piece = Vec::new(alloc);
+    piece.resize(file.len(), 0)?;
+    let length = disk.len().ok();
+    let count = disk.read_at(0, &mut piece).ok();
+    Ok(length == Some(file.len() as u64) && count == Some(file.len()) && piece.as_slice() == file)
+}
+
 /// Makes calls one after another on one disk.
 ///
 /// # Errors
@@ -218,16 +232,19 @@ pub fn call_in_turn(alloc: Global, drive: &Drive, calls: &[Call]) -> Result<(), 
     let mut disk = drive.disk(alloc)?;
     for call in calls {
         let left = call_on(alloc, call, disk)?;
-        disk = if call.crashes { left.crash(0) } else { left };
+        disk = if call.crashes {
+            left.crash(call.pick)
+        } else {
+            left
+        };
     }
-    if drive.length.is_none() {
+    let Some(file) = drive.left else {
         return Ok(());
-    }
-    let length = disk.len().ok();
-    if length != drive.length {
+    };
+    if !is_file(alloc, &mut disk, file)? {
         return Err(Wrong {
             mark: calls.len(),
-            found: Found::Length(length),
+            found: Found::File,
         });
     }
     Ok(())

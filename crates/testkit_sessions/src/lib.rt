@@ -13,6 +13,7 @@ mod pieces;
 mod places;
 mod refusals;
 mod rows;
+mod scripts;
 mod setup;
 mod tracklets;
 mod whole_session;
@@ -21,8 +22,9 @@ mod wrong;
 pub use batches::BATCHES;
 pub use calls::{Call, Drive, call_alone, call_in_turn, words_of};
 pub use exchange::{Exchange, Frames};
-pub use pieces::{NoMemory, put, put_lines, put_reply, put_taken};
+pub use pieces::{NoMemory, put, put_lines, put_number, put_reply, put_taken};
 pub use rows::{FOUNDER, OBSERVER, Row, catalogue_alone, catalogue_of, session};
+pub use scripts::{Script, call_days};
 pub use setup::{BATCH, ENROLMENT, FIRST, FIRST_ANSWER, MODE, SETUP, STATION, begun};
 pub use tracklets::{
     EA_EB, EA_EC, FIVE, FIVE_TEXT, MIDNIGHT, MIDNIGHT_TEXT, NIGHT, NIGHT_TEXT, TWO,

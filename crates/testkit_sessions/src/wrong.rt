@@ -24,8 +24,8 @@ pub enum Found {
     Entries(u64),
     /// From this place on it wrote other bytes, or more, or no more.
     BytesFrom(usize),
-    /// The disk's file has so many bytes, or the disk doesn't tell it.
-    Length(Option<u64>),
+    /// The disk's file is another one, or the disk doesn't tell it.
+    File,
 }
 
 impl From<NoMemory> for Wrong {

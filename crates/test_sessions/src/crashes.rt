@@ -1,0 +1,190 @@
+//! What a run leaves on the disk: the bytes of its journal, what a crash after each call of the disk leaves of an act,
+//! and an act in doubt that another caller's act settles.
+
+use super::disks::{ENROLS, FILE};
+use std::alloc::Global;
+use testkit_sessions::{BATCH, Call, Drive, FOUNDER, OBSERVER, Row, Script, Wrong, call_in_turn};
+
+const ENROLLED: &str = "200 19\nreceipt 1\ncaller 1\n";
+
+fn written(alloc: Global) -> Result<(), Wrong> {
+    let drive = Drive {
+        left: Some(&FILE),
+        ..Drive::EMPTY
+    };
+    let run = Call::run(ENROLS.as_bytes(), 1, ENROLLED.as_bytes());
+    call_in_turn(alloc, &drive, &[run])
+}
+
+#[test]
+fn journal_of_one_act(rt: HostRuntime) {
+    written(rt.alloc()).expect(&rt, "as wanted");
+}
+
+const DOUBT: &str = "503 27\nrefused 16 DiskFault doubt\n";
+
+const UNTOUCHED: &str = "503 31\nrefused 16 DiskFault untouched\n";
+
+const NO_ENTRY: &str = "200 54\nentries 0\nisolated 0\nobjects 0\nretracted 0\naccepted 0\n";
+
+const ONE_ENTRY: &str = "200 54\nentries 1\nisolated 0\nobjects 0\nretracted 0\naccepted 0\n";
+
+/// For how many bytes the disk has room, the status and its number, the entries, the sink's bytes, and the picks by
+/// which the crash leaves the act. The file and a record of the disk's calls share the room, a call counting 32 bytes
+/// and those that it writes: opening takes three calls and 97 bytes, the parcel with a closed gate 109 and then the
+/// file 78, a sync 32, the open gate 33, and the last sync 32. So each row has room for one call more of the act, and
+/// the crash comes after it.
+const CRASHES: &[(usize, &str, u8, u64, &str, &[u64])] = &[
+    (284, "Done", 0, 0, UNTOUCHED, &[]),
+    (316, "DiskFault", 4, 0, DOUBT, &[]),
+    // All of the gate is lost, or none of it.
+    (349, "DiskFault", 4, 0, DOUBT, &[1, 3, 4]),
+    (381, "Done", 0, 1, ENROLLED, &[0, 1, 2, 3, 4]),
+];
+
+/// A run with one act, a crash by this pick, and a run that asks for the tally.
+fn crashed(
+    alloc: Global,
+    room: usize,
+    stopped: &Call,
+    pick: u64,
+    tally: &'static str,
+) -> Result<(), Wrong> {
+    let drive = Drive {
+        room,
+        ..Drive::EMPTY
+    };
+    let stopped = Call {
+        crashes: true,
+        pick,
+        ..*stopped
+    };
+    let opened = Call {
+        mark: stopped.mark.saturating_add(10),
+        ..Call::run(b"+founder-1 0 tally 0\n", 0, tally.as_bytes())
+    };
+    call_in_turn(alloc, &drive, &[stopped, opened])
+}
+
+/// Each row with each digit of a pick.
+fn crashes(alloc: Global) -> Result<(), Wrong> {
+    for (mark, &(room, status, number, added, taken, picks)) in CRASHES.iter().enumerate() {
+        let stopped = Call {
+            mark,
+            status,
+            number,
+            ..Call::run(ENROLS.as_bytes(), added, taken.as_bytes())
+        };
+        for pick in 0..5u64 {
+            let tally = if picks.contains(&pick) {
+                ONE_ENTRY
+            } else {
+                NO_ENTRY
+            };
+            crashed(alloc, room, &stopped, pick, tally)?;
+        }
+    }
+    Ok(())
+}
+
+#[test]
+fn crash_after_each_call(rt: HostRuntime) {
+    crashes(rt.alloc()).expect(&rt, "as wanted");
+}
+
+const DOUBT_TEXT: &str = "refused 16 DiskFault doubt\n";
+
+const BOB: &str = "{\"key\":\"observer-2\",\"name\":\"Bob\",\"role\":\"observer\"}";
+
+/// The observer's act comes before the officer's, which settles it: it was kept.
+const ADDED: &[Row] = &[
+    (OBSERVER, 1, "submit80", BATCH, "503 ", DOUBT_TEXT),
+    (
+        OBSERVER,
+        0,
+        "tally",
+        "",
+        "200 ",
+        "entries 5\nisolated 0\nobjects 0\nretracted 0\naccepted 0\n",
+    ),
+    (FOUNDER, 6, "enrol", BOB, "200 ", "receipt 7\ncaller 2\n"),
+    (
+        OBSERVER,
+        0,
+        "tally",
+        "",
+        "200 ",
+        "entries 7\nisolated 4\nobjects 0\nretracted 0\naccepted 4\n",
+    ),
+    (
+        OBSERVER,
+        1,
+        "submit80",
+        BATCH,
+        "200 ",
+        concat!(
+            "receipt 6\n",
+            "accepted 4 refused 0\n",
+            "line 7 obs 1 track 1\n",
+            "line 8 obs 2 track 1\n",
+            "line 9 obs 3 track 1\n",
+            "line 10 obs 4 track 1\n",
+        ),
+    ),
+];
+
+/// It wasn't kept, so that it comes after the officer's.
+const DROPPED: &[Row] = &[
+    (OBSERVER, 1, "submit80", BATCH, "503 ", DOUBT_TEXT),
+    (FOUNDER, 6, "enrol", BOB, "200 ", "receipt 6\ncaller 2\n"),
+    (
+        OBSERVER,
+        0,
+        "tally",
+        "",
+        "200 ",
+        "entries 6\nisolated 0\nobjects 0\nretracted 0\naccepted 0\n",
+    ),
+    (
+        OBSERVER,
+        1,
+        "submit80",
+        BATCH,
+        "200 ",
+        concat!(
+            "receipt 7\n",
+            "accepted 4 refused 0\n",
+            "line 7 obs 1 track 1\n",
+            "line 8 obs 2 track 1\n",
+            "line 9 obs 3 track 1\n",
+            "line 10 obs 4 track 1\n",
+        ),
+    ),
+];
+
+/// Opening and the founder's five requests take 24 calls of the disk. The observer's act takes four, of which this one
+/// fails.
+fn settled(alloc: Global, fails: u64, rows: &[Row], mark: usize) -> Result<(), Wrong> {
+    let mut script = Script::begun(alloc)?;
+    script.add_rows(rows)?;
+    let fails = [fails];
+    let drive = Drive {
+        fails: &fails,
+        ..Drive::EMPTY
+    };
+    let run = Call {
+        mark,
+        ..script.call(7)
+    };
+    call_in_turn(alloc, &drive, &[run])
+}
+
+fn settled_both_ways(alloc: Global) -> Result<(), Wrong> {
+    settled(alloc, 28, ADDED, 28)?;
+    settled(alloc, 27, DROPPED, 27)
+}
+
+#[test]
+fn doubt_settled_by_another_caller(rt: HostRuntime) {
+    settled_both_ways(rt.alloc()).expect(&rt, "as wanted");
+}

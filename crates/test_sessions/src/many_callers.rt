@@ -1,0 +1,186 @@
+//! A thousand callers and one, each with a batch and a retraction of its own; and a hundred rows of stations, and as
+//! many letters as there are.
+
+use std::alloc::Global;
+use testkit_sessions::{FOUNDER, NoMemory, Row, Script, Wrong, call_days};
+
+/// How many observers there are, one of whom has been enrolled before.
+const CALLERS: u64 = 1_001;
+
+/// The founder enrols the observer with this number.
+fn add_enrolment(alloc: Global, script: &mut Script, caller: u64) -> Result<(), NoMemory> {
+    let entry = caller.saturating_add(4);
+    let body = format!(in alloc;
+        "{{\"key\":\"observer-{caller}\",\"name\":\"Ann\",\"role\":\"observer\"}}"
+    )?;
+    let text = format!(in alloc; "receipt {entry}\ncaller {caller}\n")?;
+    let (body, text) = (body.as_bytes(), text.as_bytes());
+    script.add(FOUNDER, entry, "enrol", body, "200 ", text)
+}
+
+/// The observer's first act is a tracklet of two lines, and its first query is for the receipt.
+fn add_caller(alloc: Global, script: &mut Script, caller: u64) -> Result<(), NoMemory> {
+    let key = format!(in alloc; "observer-{caller}")?;
+    let body = format!(in alloc;
+        concat!(
+            "     C{caller:04}    C2024 03 15.{caller:04}  06 12 34.56 +23 45 01.2          19.5 V      703\n",
+            "     C{caller:04}    C2024 03 15.{caller:04}5 06 12 34.56 +23 45 01.2          19.5 V      703\n",
+        ),
+        caller = caller
+    )?;
+    let receipt = caller.saturating_add(1_005);
+    let second = caller.saturating_mul(2);
+    let first = second.saturating_sub(1);
+    let text = format!(in alloc;
+        concat!(
+            "receipt {receipt}\n",
+            "accepted 2 refused 0\n",
+            "line 1 obs {first} track {caller}\n",
+            "line 2 obs {second} track {caller}\n",
+        ),
+        receipt = receipt,
+        first = first,
+        second = second,
+        caller = caller
+    )?;
+    let (key, body, text) = (key.as_str(), body.as_bytes(), text.as_bytes());
+    script.add(key, 1, "submit80", body, "200 ", text)?;
+    script.add(key, 0, "receipt", b"1", "200 ", text)
+}
+
+/// Its second act takes the tracklet's second line back.
+fn add_retraction(alloc: Global, script: &mut Script, caller: u64) -> Result<(), NoMemory> {
+    let key = format!(in alloc; "observer-{caller}")?;
+    let observation = caller.saturating_mul(2);
+    let body = format!(in alloc; "{{\"observation\":{observation}}}")?;
+    let receipt = caller.saturating_add(2_006);
+    let text = format!(in alloc; "receipt {receipt}\n")?;
+    let (key, body, text) = (key.as_str(), body.as_bytes(), text.as_bytes());
+    script.add(key, 2, "retract", body, "200 ", text)
+}
+
+/// An observer may take back its own observations alone, whoever's number it is.
+const LAST: &[Row] = &[
+    (
+        "observer-1001",
+        3,
+        "retract",
+        "{\"observation\":1999}",
+        "403 ",
+        "refused 4 Role\n",
+    ),
+    (
+        "observer-1001",
+        0,
+        "receipt",
+        "3",
+        "404 ",
+        "refused 5 UnknownThing receipt 3\n",
+    ),
+    (
+        "observer-1002",
+        0,
+        "tally",
+        "",
+        "401 ",
+        "refused 2 UnknownKey\n",
+    ),
+    (
+        "observer-1000",
+        0,
+        "tally",
+        "",
+        "200 ",
+        "entries 3007\nisolated 1001\nobjects 0\nretracted 1001\naccepted 2002\n",
+    ),
+];
+
+/// All of them; then the office is opened again, and each sends its act once more.
+fn callers(alloc: Global) -> Result<(), Wrong> {
+    let mut day = Script::begun(alloc)?;
+    for caller in 2..=CALLERS {
+        add_enrolment(alloc, &mut day, caller)?;
+    }
+    let mut later = Script::new(alloc);
+    for caller in 1..=CALLERS {
+        add_caller(alloc, &mut day, caller)?;
+        add_caller(alloc, &mut later, caller)?;
+    }
+    for caller in 1..=CALLERS {
+        add_retraction(alloc, &mut day, caller)?;
+        add_retraction(alloc, &mut later, caller)?;
+    }
+    day.add_rows(LAST)?;
+    later.add_rows(LAST)?;
+    call_days(alloc, 4_194_304, &day, 3_007, false, &later, b"")
+}
+
+#[test]
+fn a_thousand_callers(rt: HostRuntime) {
+    callers(rt.alloc()).expect(&rt, "as wanted");
+}
+
+/// A station of its own each day, and a letter with a word of its own.
+fn add_station(alloc: Global, script: &mut Script, row: u64) -> Result<(), NoMemory> {
+    let number = row.saturating_add(1);
+    let body = format!(in alloc;
+        "{{\"code\":\"S{row:02}\",\"name\":\"x\",\"from\":\"1998-01-01\",\"to\":\"2199-12-31\"}}"
+    )?;
+    let text = format!(in alloc; "receipt {number}\n")?;
+    let (body, text) = (body.as_bytes(), text.as_bytes());
+    script.add(FOUNDER, number, "station", body, "200 ", text)
+}
+
+const LETTERS: &str = "ABCDEFGHIJKLMNOPQRSTUVWXYZabcdefghijklmnopqrstuvwxyz0123456789";
+
+fn add_letter(alloc: Global, script: &mut Script, row: usize) -> Result<(), NoMemory> {
+    let letter = LETTERS.get(row..row.saturating_add(1)).unwrap_or("");
+    let number = (row as u64).saturating_add(101);
+    let body = format!(in alloc;
+        "{{\"kind\":\"band\",\"letter\":\"{letter}\",\"word\":\"word-{row:02}\"}}"
+    )?;
+    let text = format!(in alloc; "receipt {number}\n")?;
+    let (body, text) = (body.as_bytes(), text.as_bytes());
+    script.add(FOUNDER, number, "code", body, "200 ", text)
+}
+
+/// Lines of the first and the last station and letter, and of none.
+const OF_ROWS: &str = concat!(
+    "     S1        2024 03 15.12345 06 12 34.56 +23 45 01.2          19.5 A      S00\n",
+    "     S1        2024 03 15.13345 06 12 34.56 +23 45 01.2          19.5 9      S00\n",
+    "     S1        2024 03 15.12345 06 12 34.56 +23 45 01.2          19.5 A      S99\n",
+    "     S1        2024 03 15.13345 06 12 34.56 +23 45 01.2          19.5 9      S99\n",
+    "     S1        2024 03 15.14345 06 12 34.56 +23 45 01.2          19.5 -      S99\n",
+    "     S1        2024 03 15.14345 06 12 34.56 +23 45 01.2          19.5 9      T00\n",
+);
+
+const OF_ROWS_TEXT: &str = concat!(
+    "receipt 163\n",
+    "accepted 4 refused 2\n",
+    "line 1 obs 1 track 1\n",
+    "line 2 obs 2 track 1\n",
+    "line 3 obs 3 track 2\n",
+    "line 4 obs 4 track 2\n",
+    "line 5 refused T4\n",
+    "line 6 refused T1\n",
+);
+
+fn rows(alloc: Global) -> Result<(), Wrong> {
+    let mut day = Script::new(alloc);
+    for row in 0..100u64 {
+        add_station(alloc, &mut day, row)?;
+    }
+    for row in 0..LETTERS.len() {
+        add_letter(alloc, &mut day, row)?;
+    }
+    let batch = (FOUNDER, 163, "submit80", OF_ROWS, "200 ", OF_ROWS_TEXT);
+    day.add_rows(&[batch])?;
+    let mut later = Script::new(alloc);
+    later.add_rows(&[batch])?;
+    call_days(alloc, 1_048_576, &day, 163, true, &later, b"")
+}
+
+#[test]
+fn a_hundred_stations(rt: HostRuntime) {
+    rows(rt.alloc()).expect(&rt, "as wanted");
+}

@@ -1,0 +1,126 @@
+//! Sessions that are written request by request, with the replies to them.
+
+use crate::calls::{Call, Drive, call_in_turn};
+use crate::pieces::{NoMemory, put, put_number, put_reply};
+use crate::rows::Row;
+use crate::setup::begun;
+use crate::wrong::Wrong;
+use std::alloc::Global;
+
+/// A session: the bytes of its frames, and those of the replies to them.
+#[derive(Drop)]
+pub struct Script {
+    alloc: Global,
+    bytes: Vec<u8>,
+    taken: Vec<u8>,
+}
+
+impl Script {
+    /// A session without frames.
+    pub fn new(alloc: Global) -> Script {
+        Script {
+            alloc,
+            bytes: Vec::new(alloc),
+            taken: Vec::new(alloc),
+        }
+    }
+
+    /// A session of the founder's five requests.
+    ///
+    /// # Errors
+    ///
+    /// Memory was refused.
+    pub fn begun(alloc: Global) -> Result<Script, NoMemory> {
+        let (bytes, taken) = begun(alloc)?;
+        Ok(Script {
+            alloc,
+            bytes,
+            taken,
+        })
+    }
+
+    /// A request, by whom it is sent, its number, its verb and its body; then the status and the text of its reply.
+    ///
+    /// # Errors
+    ///
+    /// Memory was refused.
+    pub fn add(
+        &mut self,
+        who: &str,
+        number: u64,
+        verb: &str,
+        body: &[u8],
+        status: &str,
+        text: &[u8],
+    ) -> Result<(), NoMemory> {
+        put(&mut self.bytes, who)?;
+        put(&mut self.bytes, " ")?;
+        put_number(self.alloc, &mut self.bytes, number)?;
+        put(&mut self.bytes, " ")?;
+        put(&mut self.bytes, verb)?;
+        put(&mut self.bytes, " ")?;
+        put_number(self.alloc, &mut self.bytes, body.len() as u64)?;
+        put(&mut self.bytes, "\n")?;
+        self.bytes.extend_from_slice(body)?;
+        put_reply(self.alloc, &mut self.taken, status, text)
+    }
+
+    /// Such requests after others.
+    ///
+    /// # Errors
+    ///
+    /// Memory was refused.
+    pub fn add_rows(&mut self, rows: &[Row]) -> Result<(), NoMemory> {
+        for (who, number, verb, body, status, text) in rows {
+            self.add(who, *number, verb, body.as_bytes(), status, text.as_bytes())?;
+        }
+        Ok(())
+    }
+
+    /// A run of it on 2024-04-01 by which the history grows by so many entries.
+    pub fn call(&self, added: u64) -> Call<'_> {
+        Call {
+            greatest: 65_536,
+            ..Call::run(&self.bytes, added, &self.taken)
+        }
+    }
+}
+
+/// Runs a session by which the history grows by so many entries, on an empty disk that has room for so many bytes;
+/// takes what isn't safe by a crash, where one is wanted; runs a session by which the history stays, over the journal
+/// that was left; and writes the catalogue out, which is this one; for an empty one it doesn't.
+///
+/// # Errors
+///
+/// What is wrong with the first of the calls that isn't as wanted.
+pub fn call_days<'a>(
+    alloc: Global,
+    room: usize,
+    day: &'a Script,
+    added: u64,
+    crashes: bool,
+    later: &'a Script,
+    written: &'a [u8],
+) -> Result<(), Wrong> {
+    let drive = Drive {
+        room,
+        ..Drive::EMPTY
+    };
+    let first = Call {
+        crashes,
+        ..day.call(added)
+    };
+    let second = Call {
+        mark: 1,
+        ..later.call(0)
+    };
+    if written.is_empty() {
+        return call_in_turn(alloc, &drive, &[first, second]);
+    }
+    let third = Call {
+        mark: 2,
+        words: &["export"],
+        ..Call::run(b"", 0, written)
+    };
+    call_in_turn(alloc, &drive, &[first, second, third])
+}
