@@ -9,7 +9,6 @@ mod connections;
 #[cfg(test)]
 mod doors;
 #[cfg(test)]
-mod holding;
 #[cfg(test)]
 mod sockets;
 #[cfg(test)]
