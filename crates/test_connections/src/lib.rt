@@ -9,7 +9,6 @@ mod connections;
 #[cfg(test)]
 mod doors;
 #[cfg(test)]
-#[cfg(test)]
 mod sockets;
 #[cfg(test)]
 mod submitting;
