@@ -3,7 +3,6 @@ use Rattle.std.proofs.Common.{◌≡◌, ℕ, ◌||◌, true, false, Bool, List,
 use Rattle.std.specs.Prelude.{IsTrue}
 use Rattle.std.specs.List.{IsDistinct, AllByRecursion, list_any}
 use Rattle.std.proofs.lemmas.Bool.{and_parts, not-true, eq-eqb, ne_eqb, both_ways, true≢false}
-use Rattle.ascii_text.specs.Reading.{◌>>=◌}
 use Rattle.act_bodies.specs.Members.{are_different}
 
 or_parts : (x y : Bool) → (x || y) ≡ false → (x ≡ false) × (y ≡ false)

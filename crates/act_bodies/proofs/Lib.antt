@@ -5,3 +5,5 @@ pub mod WholesLaws
 pub mod DesignateLaws
 pub mod NumberLaws
 pub mod CodeLaws
+pub mod OpeningLaws
+pub mod StationLaws

@@ -12,7 +12,7 @@ use Rattle.act_bodies.specs.Members.{object_of, whole_in, bounded_in}
 use Rattle.act_bodies.specs.Bodies.{number_in, number_of_body}
 
 -- a bounded number is within its bounds
-bounded_in-within : (least greatest : ℕ) (name : List ℕ) (value : Data) (n : ℕ) → bounded_in least greatest name value ≡ Some n → (least ≤ n) × (n ≤ greatest)
+pub bounded_in-within : (least greatest : ℕ) (name : List ℕ) (value : Data) (n : ℕ) → bounded_in least greatest name value ≡ Some n → (least ≤ n) × (n ≤ greatest)
 unfolding bounded_in
 bounded_in-within least greatest name value n found =
     let whole = bind_some (whole_in name value) (λ w. cond (nat_le least w && nat_le w greatest) (Some w) None) n found in

@@ -1,13 +1,16 @@
 -- The bodies of officers' acts.
-use Rattle.std.specs.Prelude.{ℕ, List, codes, if◌then◌else◌, Option, Some, None, int_le}
+use Rattle.std.specs.Prelude.{ℕ, ◌≤◌, List, length, codes, if◌then◌else◌, Option, Some, None, int_le, nat_eq}
+use Rattle.std.specs.List.{AllByRecursion, IsDistinct}
 use Rattle.serde_json.specs.Data.{Data}
 use Rattle.ascii_text.specs.Reading.{◌>>=◌}
+use Rattle.packed_names.specs.Ranges.{IsHalfMonth, limit_of}
 use Rattle.act_bodies.specs.declared.attribute.Attribute.{Attribute}
 use Rattle.act_bodies.specs.declared.code.Code.{Code}
 use Rattle.act_bodies.specs.declared.designate.Designate.{Designate}
 use Rattle.act_bodies.specs.declared.enrol.Enrol.{Enrol}
 use Rattle.act_bodies.specs.declared.identify.Identify.{Identify}
 use Rattle.act_bodies.specs.declared.number.Number.{Number}
+use Rattle.act_bodies.specs.declared.opening.Opening.{Opening}
 use Rattle.act_bodies.specs.declared.release.Release.{Release}
 use Rattle.act_bodies.specs.declared.retract.Retract.{Retract}
 use Rattle.act_bodies.specs.declared.separate.Separate.{Separate}
@@ -15,6 +18,7 @@ use Rattle.act_bodies.specs.declared.station.Station.{Station}
 use Rattle.act_bodies.specs.declared.verdict.Verdict.{Verdict}
 use Rattle.act_bodies.specs.Members.{object_of, key_in, name_in, role_in, station_code_in, day_in, kind_in, letter_in}
 use Rattle.act_bodies.specs.Members.{word_in, whole_in, bounded_in, tracklets_in, designation_in}
+use Rattle.act_bodies.specs.Members.{half_month_in, given_in, carried_in}
 
 -- what the members `key`, `name` and `role` of an object say
 unfoldable pub enrol_in : Data → Option Enrol
@@ -137,3 +141,24 @@ retract_in value = do
 -- the body of `retract`: an object of this member and no others
 unfoldable pub retract_of : List ℕ → Option Retract
 retract_of bytes = object_of 1 bytes >>= retract_in
+
+-- what the members `half`, `given` and `carried` of an object say
+unfoldable pub opening_in : Data → Option Opening
+opening_in value = do
+  half ← half_month_in value
+  given ← given_in half value
+  carried ← carried_in given value
+  Some (record { half = half; given = given; carried = carried })
+
+-- the body of `opening`: an object of these 3 members and no others
+unfoldable pub opening_of : List ℕ → Option Opening
+opening_of bytes = object_of 3 bytes >>= opening_in
+
+-- an opening in its ranges
+pub record IsOpening (opening : Opening) : Type 0 where
+  pub half : IsHalfMonth opening.half
+  pub given_from : 1 ≤ opening.given
+  pub given_to : opening.given ≤ limit_of opening.half
+  pub few : length opening.carried ≤ 100
+  pub orders : AllByRecursion (λ order. (1 ≤ order) × (order ≤ opening.given)) opening.carried
+  pub different : IsDistinct nat_eq opening.carried

@@ -15,8 +15,10 @@ use Rattle.obs_time.specs.DateText.{date_of}
 use Rattle.packed_names.specs.declared.name.Designation.{Designation}
 use Rattle.packed_names.specs.declared.name.Name.{Name}
 use Rattle.packed_names.specs.declared.name.Name.TheVariants as names
-use Rattle.packed_names.specs.PrintedReading.{printed_in}
-use Rattle.packed_names.specs.Judging.{is_in_range, answered}
+use Rattle.packed_names.specs.declared.half_month.HalfMonth.{HalfMonth}
+use Rattle.packed_names.specs.PrintedReading.{printed_in, half_in}
+use Rattle.packed_names.specs.Ranges.{limit_of}
+use Rattle.packed_names.specs.Judging.{is_in_range, is_half_month, is_within, answered}
 use Rattle.obs_record.specs.declared.short.Short.{Short}
 use Rattle.obs_record.specs.Modes.{refused_modes}
 use Rattle.obs_record.specs.Short.{kept_short}
@@ -65,6 +67,12 @@ wholes_of (item value others) = do
   wholes ← wholes_of others
   Some (whole ∷ wholes)
 
+-- the whole numbers of a member that is a list of such
+unfoldable pub wholes_in : List ℕ → Data → Option (List ℕ)
+wholes_in name value = do
+  items ← option_and_then as_array (get name value)
+  wholes_of items
+
 -- no number stands twice
 abbrev pub are_different : List ℕ → Bool
 are_different [] = true
@@ -77,8 +85,7 @@ is_selection numbers = (nat_le 1 (length numbers) && nat_le (length numbers) 100
 -- the tracklets that a body lists
 unfoldable pub tracklets_in : Data → Option (List ℕ)
 tracklets_in value = do
-  items ← option_and_then as_array (get (codes "tracklets") value)
-  numbers ← wholes_of items
+  numbers ← wholes_in (codes "tracklets") value
   if is_selection numbers then Some numbers else None
 
 -- the designation that a name is, if it is no number
@@ -97,6 +104,30 @@ unfoldable pub designation_in : List ℕ → Data → Option Designation
 designation_in name value = do
   text ← text_in name value
   designation_of text
+
+-- the half-month whose printed form a text is
+unfoldable pub half_month_of : List ℕ → Option HalfMonth
+half_month_of text = result_ok (answered is_half_month (half_in text))
+
+-- the half-month that a body names
+unfoldable pub half_month_in : Data → Option HalfMonth
+half_month_in value = do
+  text ← text_in (codes "half") value
+  half_month_of text
+
+-- how many designations of a half-month a body says were given: 1 to the half-month's limit
+abbrev pub given_in : HalfMonth → Data → Option ℕ
+given_in half value = bounded_in 1 (limit_of half) (codes "given") value
+
+-- at most 100 different orders, each from 1 to the last one given
+abbrev pub are_carried : ℕ → List ℕ → Bool
+are_carried given orders = (nat_le (length orders) 100 && list_all (is_within 1 given) orders) && are_different orders
+
+-- the orders that a body carries
+unfoldable pub carried_in : ℕ → Data → Option (List ℕ)
+carried_in given value = do
+  orders ← wholes_in (codes "carried") value
+  if are_carried given orders then Some orders else None
 
 -- a letter A to Z or a to z, or a digit
 abbrev pub is_alphanumeric : ℕ → Bool

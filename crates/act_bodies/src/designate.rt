@@ -1,65 +1,22 @@
 //! The body of the act by which tracklets get a designation as one object.
 
-ghost use Rattle.std.specs.Prelude.{◌≡◌, ◌≤◌, ◌==◌, length, Some, None, IfOk, IsTrue, nat_eq, option_map};
-ghost use Rattle.std.specs.Prelude.{option_and_then};
+ghost use Rattle.std.specs.Prelude.{◌≡◌, ◌≤◌, length, Some, None, IfOk, IsTrue, nat_eq};
 ghost use Rattle.std.specs.List.{IsDistinct};
-ghost use Rattle.serde_json.specs.Find.{get, as_array};
-ghost use Rattle.serde_json.specs.View.{view, items_view};
-ghost use Rattle.act_bodies.specs.Members.{wholes_of, are_different, is_selection, tracklets_in};
+ghost use Rattle.serde_json.specs.View.{view};
+ghost use Rattle.act_bodies.specs.Members.{is_selection, tracklets_in};
 ghost use Rattle.act_bodies.specs.Bodies.{designate_in, designate_of};
 
 use crate::fault::BodyFault;
 use crate::members::object_of;
-use item_list::ItemList;
+use crate::wholes::{Ids, are_different, wholes_in};
 use serde_json::Value;
 use std::alloc::Global;
-
-/// Numbers of tracklets or of observations.
-pub type Ids = ItemList<u64>;
 
 /// Tracklets that are to get a designation as one object.
 #[derive(Debug, Drop)]
 pub struct Designate {
     /// The numbers of the tracklets, 1 to 100, none of them twice.
     pub tracklets: Ids,
-}
-
-/// The values of a member that is a list.
-fn items_in<'v>(name: &str, value: &'v Value) -> Option<&'v [Value]>
-    ensures { option_map (λ items. items_view items.now) result
-        ≡ option_and_then as_array (get name.now (view value.now)) }
-{
-    match value.get(name).and_then(Value::as_array) {
-        Some(items) => Some(items.as_slice()),
-        None => None,
-    }
-}
-
-/// The whole numbers of a list in which each value is one.
-fn wholes_of(alloc: Global, items: &[Value]) -> Result<Ids, BodyFault>
-    ensures read { IfOk result (λ wholes. wholes_of (items_view items.now) ≡ Some wholes) }
-    ensures unread { result ≡ Err BodyFault.Unread → wholes_of (items_view items.now) ≡ None }
-{
-    let mut wholes = Ids::new(alloc);
-    for item in items {
-        let Some(whole) = item.as_u64() else {
-            return Err(BodyFault::Unread);
-        };
-        if wholes.push(whole).is_err() {
-            return Err(BodyFault::NoMemory);
-        }
-    }
-    Ok(wholes)
-}
-
-/// Whether no number stands twice.
-fn are_different(numbers: &[u64]) -> bool
-    ensures { result ≡ are_different numbers.now }
-{
-    match numbers.split_first() {
-        Some((first, others)) => !others.contains(first) && are_different(others),
-        None => true,
-    }
 }
 
 /// Whether they are 1 to 100 different numbers.
@@ -76,10 +33,7 @@ fn tracklets_in(alloc: Global, value: &Value) -> Result<Ids, BodyFault>
     ensures unread { result ≡ Err BodyFault.Unread → tracklets_in (view value.now) ≡ None }
     ensures selection { IfOk result (λ tracklets. IsTrue (is_selection tracklets)) }
 {
-    let Some(items) = items_in("tracklets", value) else {
-        return Err(BodyFault::Unread);
-    };
-    let tracklets = wholes_of(alloc, items)?;
+    let tracklets = wholes_in(alloc, "tracklets", value)?;
     if is_selection(tracklets.as_slice()) {
         Ok(tracklets)
     } else {

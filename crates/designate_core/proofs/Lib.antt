@@ -1,2 +1,2 @@
 mod RowLemmas
-mod TakenLemmas
+mod EntryLemmas

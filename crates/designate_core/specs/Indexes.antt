@@ -7,9 +7,10 @@ use Rattle.packed_names.specs.declared.name.Designation.{Designation}
 use Rattle.ordered_list.specs.Orders.{found}
 use Rattle.designate_core.specs.declared.count.Count.{Count}
 use Rattle.designate_core.specs.declared.discovery.Discovery.{Discovery}
-use Rattle.designate_core.specs.declared.taken.Taken.{Taken}
-use Rattle.designate_core.specs.Takes.{Take, given_in, discovery_of}
-use Rattle.designate_core.specs.Taken.{take_of, AreGivenInRow}
+use Rattle.designate_core.specs.declared.row_entry.RowEntry.{RowEntry}
+use Rattle.designate_core.specs.Takes.{RowAct, given_in, discovery_of}
+use Rattle.designate_core.specs.RowEntries.{act_of, AreNamed}
+use Rattle.designate_core.specs.Unbroken.{AreFitting}
 
 -- the entry of a half-month in which so many were given
 abbrev pub count_of : HalfMonth → ℕ → Count
@@ -28,17 +29,18 @@ abbrev pub observation_by : Option Discovery → Option ℕ
 observation_by entry = option_map (λ discovery. discovery.observation) entry
 
 -- each half-month finds how many designations were given in it
-abbrev pub AreCounted : (Count → Count → Ordering) → List Count → List Take → Type 0
-AreCounted cmp counts takes = (half : HalfMonth) → given_by (found cmp (count_of half 0) counts) ≡ given_in half takes
+abbrev pub AreCounted : (Count → Count → Ordering) → List Count → List RowAct → Type 0
+AreCounted cmp counts acts = (half : HalfMonth) → given_by (found cmp (count_of half 0) counts) ≡ given_in half acts
 
 -- each designation finds the observation by which its object was discovered
-abbrev pub AreIndexed : (Discovery → Discovery → Ordering) → List Discovery → List Take → Type 0
-AreIndexed cmp discoveries takes =
-    (d : Designation) → observation_by (found cmp (entry_of d 0) discoveries) ≡ discovery_of d takes
+abbrev pub AreIndexed : (Discovery → Discovery → Ordering) → List Discovery → List RowAct → Type 0
+AreIndexed cmp discoveries acts =
+    (d : Designation) → observation_by (found cmp (entry_of d 0) discoveries) ≡ discovery_of d acts
 
--- what was taken, the newest first, was given in row, and both indexes are its
+-- what came, the newest first, fits what was before it, and both indexes are its
 pub record IsKept (count_cmp : Count → Count → Ordering) (discovery_cmp : Discovery → Discovery → Ordering)
-    (taken : List Taken) (counts : List Count) (discoveries : List Discovery) : Type 0 where
-  pub row : AreGivenInRow taken
-  pub counted : AreCounted count_cmp counts (map take_of taken)
-  pub indexed : AreIndexed discovery_cmp discoveries (map take_of taken)
+    (came : List RowEntry) (counts : List Count) (discoveries : List Discovery) : Type 0 where
+  pub fitting : AreFitting (map act_of came)
+  pub named : AreNamed came
+  pub counted : AreCounted count_cmp counts (map act_of came)
+  pub indexed : AreIndexed discovery_cmp discoveries (map act_of came)

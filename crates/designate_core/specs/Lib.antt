@@ -1,4 +1,4 @@
 pub mod Takes
 pub mod Unbroken
-pub mod Taken
+pub mod RowEntries
 pub mod Indexes

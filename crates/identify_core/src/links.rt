@@ -69,8 +69,21 @@ impl Links {
         ensures kept { self.old.spare ≤ self.new.spare }
         ensures links { self.new.links ≡ self.old.links }
     {
-        self.links.reserve(1)?;
-        self.entries.reserve(1)
+        self.reserve_many(1)
+    }
+
+    /// Takes the memory for so many more designations. The links stay, whatever the answer.
+    ///
+    /// # Errors
+    ///
+    /// Memory was refused.
+    pub fn reserve_many(&mut self, more: u32) -> Result<(), NoMemory>
+        ensures room { IfOk result (λ _. more ≤ self.new.spare) }
+        ensures kept { self.old.spare ≤ self.new.spare }
+        ensures links { self.new.links ≡ self.old.links }
+    {
+        self.links.reserve(more as usize)?;
+        self.entries.reserve(more)
     }
 
     /// Adds a designation that was given, which is its own principal. It takes no memory: `reserve` has left room.

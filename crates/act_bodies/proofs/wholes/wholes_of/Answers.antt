@@ -1,6 +1,6 @@
 use Rattle.std.proofs.Common.{rules, ◌≡◌, [], ◌∷◌, ◌++◌, sym, ◌∙◌}
 use Rattle.act_bodies.proofs.WholesLaws.{joined_nothing, joined-read, joined-met, joined-end}
-use Rattle.act_bodies.proofs.designate.wholes_of.Goals as goal
+use Rattle.act_bodies.proofs.wholes.wholes_of.Goals as goal
 
 pub loop-item-init : goal.loop-item-init
 loop-item-init c = rw c.new-wholes.ensures (joined_nothing _)

@@ -1,5 +1,5 @@
 use Rattle.std.proofs.Common.{length}
-use Rattle.act_bodies.proofs.designate.+are_different.Given as goal
+use Rattle.act_bodies.proofs.wholes.+are_different.Given as goal
 
 abbrev pub decreases-are_different : goal.decreases-are_different
 decreases-are_different l = length l.numbers.now
