@@ -200,7 +200,7 @@ module _ (founder : Key) (limit : Option ℕ) where
   extends_same : (past next : List Entry) → next ≡ past → Extends past next
   extends_same past next is = ([], is)
 
-  extends_on : (past between next : List Entry) → Extends past between → Extends between next → Extends past next
+  pub extends_on : (past between next : List Entry) → Extends past between → Extends between next → Extends past next
   extends_on past between next (newer, is) (newest, more) =
       (newest ++ newer, more ∙ ap (λ (h : List Entry). newest ++ h) is ∙ sym (append_assoc newest newer past))
 
@@ -208,7 +208,7 @@ module _ (founder : Key) (limit : Option ℕ) where
   leaves_extends past next (inl same) = ([], same)
   leaves_extends past next (inr (e, more, unused)) = (e ∷ [], more)
 
-  mends_extends : (past : List Entry) (doubt : Option Entry) (mended : List Entry) → Mends past doubt mended → Extends past mended
+  pub mends_extends : (past : List Entry) (doubt : Option Entry) (mended : List Entry) → Mends past doubt mended → Extends past mended
   mends_extends past None mended same = ([], same)
   mends_extends past (Some e) mended (inl more) = (e ∷ [], more)
   mends_extends past (Some e) mended (inr same) = ([], same)
@@ -218,7 +218,7 @@ module _ (founder : Key) (limit : Option ℕ) where
   mends_nothing past None = refl
   mends_nothing past (Some e) = inr refl
 
-  acts_extends : (past : List Entry) (turn : Turn) (reading : ℤ) (after : OfficeState) → Settles founder limit past turn reading after ⊎ FailsToKeep founder limit past turn reading after → Extends past after.settled
+  pub acts_extends : (past : List Entry) (turn : Turn) (reading : ℤ) (after : OfficeState) → Settles founder limit past turn reading after ⊎ FailsToKeep founder limit past turn reading after → Extends past after.settled
   acts_extends past turn reading after (inl s) = leaves_extends past after.settled (answer_leaves past turn.request reading turn.reply after.settled s.answers)
   acts_extends past turn reading after (inr f) = extends_same past after.settled (ap (λ (s : OfficeState). s.settled) f.leaves)
 
@@ -295,7 +295,7 @@ module _ (founder : Key) (limit : Option ℕ) where
     answer_holds past q t reply next instant here (inl is) = made_holds past q t reply next instant here (step_makes past q t reply next is)
     answer_holds past q t reply next instant here (inr (wants, same)) = subst P (sym same) here
 
-    mended_holds : (past : List Entry) (doubt : Option Entry) (mended : List Entry) → P past → IfSome doubt (λ e. P (e ∷ past)) → Mends past doubt mended → P mended
+    pub mended_holds : (past : List Entry) (doubt : Option Entry) (mended : List Entry) → P past → IfSome doubt (λ e. P (e ∷ past)) → Mends past doubt mended → P mended
     mended_holds past None mended here with_it same = subst P (sym same) here
     mended_holds past (Some e) mended here with_it (inl added) = subst P (sym added) with_it
     mended_holds past (Some e) mended here with_it (inr same) = subst P (sym same) here

@@ -2,7 +2,7 @@
 use Rattle.std.proofs.Common.{◌≡◌, ℕ, ℤ, pos, ◌<◌, Bool, true, false, cond, List, [], ◌∷◌, ◌++◌, map, flat_map, Option, Some, None, Result, Ok, Err, sym, ap, subst, ◌∙◌, inl, inr, arith}
 use Rattle.std.specs.Prelude.{◌⊎◌, IsSomeAnd}
 use Rattle.act_bodies.specs.declared.key.Key.{Key}
-use Rattle.designate_core.specs.Takes.{Take, next_in}
+use Rattle.designate_core.specs.Takes.{RowAct, next_in}
 use Rattle.numbering_core.specs.Numbers.{next_number}
 use Rattle.tracklet_file.specs.declared.tracklet.Tracklet.{Tracklet}
 use Rattle.act_model.specs.declared.act.Act.{Act}
@@ -37,13 +37,13 @@ use Rattle.act_model.specs.Acts.{act_of}
 use Rattle.act_model.specs.Queries.{query_of}
 use Rattle.act_model.specs.Roster.{members, caller_of}
 use Rattle.act_model.specs.Holdings.{Holdings, holdings}
-use Rattle.act_model.specs.Designations.{takes_of, links_of}
+use Rattle.act_model.specs.Designations.{row_acts_of, links_of}
 use Rattle.act_model.specs.Discoveries.{seen_in, earliest, span, half_of}
 use Rattle.act_model.specs.Numbers.{numbers_of}
 use Rattle.act_model.specs.Deeds.{deeds}
 use Rattle.act_model.specs.History.{Kept, kept, next_moment}
 use Rattle.act_model.specs.Hearing.{size_rows, bytes_in, verb_rows, is_number_of, number_in, asked_in, queried_in, asked_of, caller_in, hear}
-use Rattle.act_model.specs.Doing.{enrol_rows, row_rows, batch_rows, retract_rows, tracklet_row, free_rows, designate_rows, object_rows, attribute_rows, release_rows, identify_rows, separate_rows, verdict_rows, next_rows, number_rows, designates_seen, eligible_after, taken_after, does}
+use Rattle.act_model.specs.Doing.{enrol_rows, row_rows, batch_rows, retract_rows, opening_rows, tracklet_row, free_rows, designate_rows, object_rows, attribute_rows, release_rows, identify_rows, separate_rows, verdict_rows, next_rows, number_rows, designates_seen, eligible_after, taken_after, does}
 use Rattle.act_model.specs.Refusals.{role_rows, act_in, work_out, full_rows, work_within}
 use Rattle.act_model.specs.Step.{Outcome, Refuses, Keeps, Tells, Adds, is_resend, unless_kept, unless_refused, told_receipt, told_thing, told, query_in, tells, act_step, query_step, heard_step, unless_unheard, outcome, after, step}
 use Rattle.act_model.specs.Turns.{Turn, unless_untouched, Answers, FailsToKeep, Settles, Takes, IsTurn, Conduct}
@@ -109,10 +109,10 @@ next_other : (next : Option ℕ) (first : ℕ) → AreOther (next_rows next firs
 next_other None first = tt
 next_other (Some next) first = (tt, tt)
 
-seen_other : (takes : List Take) (ts : List ℕ) (seen : List Seen) → ErrsOther (designates_seen takes ts seen)
-seen_other takes ts [] = tt
-seen_other takes ts (first ∷ more) =
-    refuses_other (object_rows takes (span first more) (half_of (earliest first more).time)) (Ok (Designated ts (next_in (half_of (earliest first more).time) takes) (earliest first more).number)) (tt, (tt, tt)) tt
+seen_other : (rows : List RowAct) (ts : List ℕ) (seen : List Seen) → ErrsOther (designates_seen rows ts seen)
+seen_other rows ts [] = tt
+seen_other rows ts (first ∷ more) =
+    refuses_other (object_rows rows (span first more) (half_of (earliest first more).time)) (Ok (Designated ts (next_in (half_of (earliest first more).time) rows) (earliest first more).number)) (tt, (tt, tt)) tt
 
 module _ (past : List Deed) (moment : ℤ) where
   does_other : (a : Act) → ErrsOther (does past moment a)
@@ -123,9 +123,9 @@ module _ (past : List Deed) (moment : ℤ) where
   does_other (act.Submit80 lines) = refuses_other (batch_rows (taken_after past moment lines)) (Ok _) (tt, tt) tt
   does_other (act.SubmitPsv lines) = refuses_other (batch_rows (taken_after past moment lines)) (Ok _) (tt, tt) tt
   does_other (act.Designate ts) =
-      refuses_other (designate_rows (holdings past) ts) (designates_seen (takes_of past) ts (seen_in (holdings past).observations ts))
+      refuses_other (designate_rows (holdings past) ts) (designates_seen (row_acts_of past) ts (seen_in (holdings past).observations ts))
       (both_other (map (tracklet_row (holdings past).tracklets) ts) (flat_map (free_rows (holdings past)) ts) (tracklets_other (holdings past).tracklets ts) (free_other (holdings past) ts))
-      (seen_other (takes_of past) ts (seen_in (holdings past).observations ts))
+      (seen_other (row_acts_of past) ts (seen_in (holdings past).observations ts))
   does_other (act.Attribute t to) = refuses_other (attribute_rows (holdings past) (links_of past) t to) (Ok _) (tt, (tt, (tt, (tt, tt)))) tt
   does_other (act.Release t) = refuses_other (release_rows (holdings past) t) (Ok _) (tt, (tt, tt)) tt
   does_other (act.Identify p s) = refuses_other (identify_rows (links_of past) (numbers_of past) p s) (Ok _) (tt, (tt, (tt, (tt, (tt, (tt, (tt, tt))))))) tt
@@ -134,6 +134,7 @@ module _ (past : List Deed) (moment : ℤ) where
   does_other (act.Number first most) =
       refuses_other (number_rows (numbers_of past) first most (eligible_after past)) (Ok _)
       (both_other (next_rows (next_number (numbers_of past)) first) _ (next_other (next_number (numbers_of past)) first) (tt, (tt, tt))) tt
+  does_other (act.Opening half given carried) = refuses_other (opening_rows (row_acts_of past) half) (Ok _) (tt, tt) tt
   does_other (act.Retract k) = refuses_other (retract_rows (holdings past).observations k) (Ok _) (tt, (tt, tt)) tt
 
 asked_act_other : (a : Asked) → ErrsOther (act_in a)

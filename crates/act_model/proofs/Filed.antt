@@ -1,7 +1,9 @@
--- Every observation that the office accepted is one that may be filed, and every tracklet has a name.
-use Rattle.std.proofs.Common.{◌≡◌, ◌⊎◌, ℕ, ℤ, List, [], ◌∷◌, length, map, Bool, true, false, cond, Option, Some, None, Result, Ok, Err, refl, subst, inl, inr}
+-- Every observation that the office accepted is one that may be filed, its station is 3 letters or digits, and every
+-- tracklet has a name.
+use Rattle.std.proofs.Common.{◌≡◌, ◌⊎◌, ℕ, ℤ, List, [], ◌∷◌, length, map, Bool, true, false, cond, Option, Some, None, Result, Ok, Err, refl, ap, subst, ◌∙◌, inl, inr}
 use Rattle.std.specs.Prelude.{take, ◌==◌, IfOk, IfSome, IsSome}
 use Rattle.std.proofs.lemmas.Bool.{and_parts, eqb-true}
+use Rattle.std.proofs.lemmas.Slice.Eq.{bytes_eq-Decides}
 use Rattle.std.proofs.lemmas.List.Elements.{All-head, All-tail}
 use Rattle.packed_names.specs.declared.name.Designation.{Designation}
 use Rattle.packed_names.specs.declared.number.Number.{Number}
@@ -14,6 +16,7 @@ use Rattle.obs_record.specs.Filed.{IsOwnName, IsTrackName, IsStated, AreStated, 
 use Rattle.station_tables.specs.Rows.{StationRow, TableRows}
 use Rattle.station_tables.specs.Stations.{is_code, rows_with_code, serving_by, serving_of, overlaps}
 use Rattle.station_tables.specs.Codes.{has_code}
+use Rattle.act_bodies.specs.Members.{is_station_code}
 use Rattle.tracklet_file.specs.declared.observation.Observation.{Observation}
 use Rattle.tracklet_file.specs.declared.tracklet.Tracklet.{Tracklet}
 use Rattle.tracklet_file.specs.Numbering.{next_number, numbered}
@@ -22,7 +25,7 @@ use Rattle.tracklet_file.specs.Tracklets.{with_tracklet, with_home}
 use Rattle.act_model.specs.declared.act.Act.{Act}
 use Rattle.act_model.specs.declared.act.Act.TheVariants as act
 use Rattle.act_model.specs.declared.deed.Deed.{Deed}
-use Rattle.act_model.specs.declared.deed.Deed.TheVariants.{Enrolled, Stationed, Coded, Submitted, Attributed, Released, Identified, Separated, Judged, Numbered, Retracted}
+use Rattle.act_model.specs.declared.deed.Deed.TheVariants.{Enrolled, Stationed, Coded, Submitted, Attributed, Released, Identified, Separated, Judged, Numbered, Retracted, Opened}
 use Rattle.act_model.specs.declared.entry.Entry.{Entry}
 use Rattle.act_model.specs.declared.reply.Refusal.{Refusal}
 use Rattle.act_model.specs.declared.taken.Placed.{Placed}
@@ -36,21 +39,26 @@ use Rattle.act_model.specs.Taken.{track_of_group, found_in, tracks_with, taken_l
 use Rattle.act_model.specs.Roster.{members}
 use Rattle.act_model.specs.OfficeTables.{tables_of}
 use Rattle.act_model.specs.Holdings.{Holdings, with_begun, with_found, with_batch, with_homes, with_deed, holdings}
-use Rattle.act_model.specs.Designations.{takes_of, links_of}
+use Rattle.act_model.specs.Designations.{row_acts_of, links_of}
 use Rattle.act_model.specs.Numbers.{numbers_of, numbered_from}
-use Rattle.act_model.specs.Doing.{enrol_rows, row_rows, batch_rows, attribute_rows, release_rows, identify_rows, separate_rows, verdict_rows, number_rows, retract_rows, eligible_after, taken_after, does}
+use Rattle.act_model.specs.Doing.{enrol_rows, row_rows, batch_rows, attribute_rows, release_rows, identify_rows, separate_rows, verdict_rows, number_rows, retract_rows, opening_rows, eligible_after, taken_after, does}
 use Rattle.act_model.specs.Deeds.{deeds}
 use Rattle.act_model.proofs.DeedCases.{deed_cases}
 use Rattle.act_model.proofs.Designating.{designated}
 use Rattle.act_model.proofs.Legal.{same_deed}
-use Rattle.act_model.proofs.Read.{IsSound, IsSoundlyRead, EightyStated, PsvStated, LettersPrinted, sound_read}
+use Rattle.act_model.proofs.Letters.{AreCodes, all_sound}
+use Rattle.act_model.proofs.Read.{IsSound, IsSoundlyRead, EightyStated, PsvStated, LettersPrinted, StationsCoded, sound_read}
 use Rattle.act_model.proofs.RowLemmas.{rows_off}
 
 -- ---- lists
 
+-- it may be filed, and its station is 3 letters or digits
+abbrev IsOnFile : Sighting → Type 0
+IsOnFile s = IsFiled s × (is_station_code (take s.station.len s.station.bytes) ≡ true)
+
 abbrev AreOnFile : List Observation → Type 0
 AreOnFile [] = Unit {0}
-AreOnFile (o ∷ observations) = IsFiled o.sighting × AreOnFile observations
+AreOnFile (o ∷ observations) = IsOnFile o.sighting × AreOnFile observations
 
 abbrev AreNamed : List Tracklet → Type 0
 AreNamed [] = Unit {0}
@@ -60,12 +68,12 @@ record AreHeld (held : Holdings) : Type 0 where
   filed : AreOnFile held.observations
   named : AreNamed held.tracklets
 
-filed_at : (observations : List Observation) (k : ℕ) (o : Observation) → AreOnFile observations → numbered observations k ≡ Some o → IsFiled o.sighting
+filed_at : (observations : List Observation) (k : ℕ) (o : Observation) → AreOnFile observations → numbered observations k ≡ Some o → IsOnFile o.sighting
 filed_at [] k o all found = absurd cc
 filed_at (newest ∷ older) k o all found = by (k == next_number older) (filed_at older k o all.1) found
   where
-    by : (b : Bool) → (numbered older k ≡ Some o → IsFiled o.sighting) → cond b (Some newest) (numbered older k) ≡ Some o → IsFiled o.sighting
-    by true rest is = let same : newest ≡ o = cc in subst (λ (x : Observation). IsFiled x.sighting) same all.0
+    by : (b : Bool) → (numbered older k ≡ Some o → IsOnFile o.sighting) → cond b (Some newest) (numbered older k) ≡ Some o → IsOnFile o.sighting
+    by true rest is = let same : newest ≡ o = cc in subst (λ (x : Observation). IsOnFile x.sighting) same all.0
     by false rest is = rest is
 
 named_at : (tracklets : List Tracklet) (t : ℕ) (tracklet : Tracklet) → AreNamed tracklets → numbered tracklets t ≡ Some tracklet → IsTrackName tracklet.name
@@ -115,7 +123,7 @@ filed_name s is =
 -- ---- what a line was found to be
 
 abbrev IsFoundFiled : Result Placed RuleCode → Type 0
-IsFoundFiled (Ok placed) = IsFiled placed.sighting
+IsFoundFiled (Ok placed) = IsOnFile placed.sighting
 IsFoundFiled (Err rule) = Unit {0}
 
 abbrev AreTakenFiled : List Taken → Type 0
@@ -130,7 +138,7 @@ begun_named placed tracklets is all = by (placed.track == next_number tracklets)
     by false = all
 
 found_held : (receipt : ℕ) (found : Result Placed RuleCode) (held : Holdings) → IsFoundFiled found → AreHeld held → AreHeld (with_found receipt found held)
-found_held receipt (Ok placed) held is all = record { filed = (is, all.filed); named = begun_named placed held.tracklets is all.named }
+found_held receipt (Ok placed) held is all = record { filed = (is, all.filed); named = begun_named placed held.tracklets is.0 all.named }
 found_held receipt (Err rule) held is all = all
 
 batch_held : (receipt : ℕ) (lines : List Taken) (held : Holdings) → AreTakenFiled lines → AreHeld held → AreHeld (with_batch receipt lines held)
@@ -139,41 +147,48 @@ batch_held receipt (taken ∷ lines) held are all = batch_held receipt lines (wi
 
 -- ---- the rules of a line
 
--- a station that a row of the tables has is a code of 3 bytes
-served_code : (code : Short) (date : ℤ) (rows : List StationRow) → is_unknown_station (serving_by (rows_with_code code rows) date) ≡ false → code.len ≡ 3
-served_code code date [] known = absurd cc
-served_code code date (row ∷ rows) known = by (is_code code row.code) refl (served_code code date rows) known
+-- a code of 3 bytes, which are letters or digits
+abbrev IsCode : Short → Type 0
+IsCode code = (code.len ≡ 3) × (is_station_code (take code.len code.bytes) ≡ true)
+
+code_of_row : (code : Short) (row : StationRow) → is_station_code row.code ≡ true → is_code code row.code ≡ true → IsCode code
+code_of_row code row coded is =
+    let parts = and_parts _ _ is in
+    let long = eqb-true code.len 3 parts.0 in
+    let same : take 3 code.bytes ≡ row.code = (bytes_eq-Decides (take 3 code.bytes) row.code).0 parts.1 in
+    (long, ap (λ (n : ℕ). is_station_code (take n code.bytes)) long ∙ ap is_station_code same ∙ coded)
+
+-- a station that a row of the tables has is such a code
+served_code : (code : Short) (date : ℤ) (rows : List StationRow) → AreCodes rows → is_unknown_station (serving_by (rows_with_code code rows) date) ≡ false → IsCode code
+served_code code date [] codes known = absurd cc
+served_code code date (row ∷ rows) codes known = by (is_code code row.code) refl (served_code code date rows codes.1) known
   where
-    by : (b : Bool) → is_code code row.code ≡ b → (is_unknown_station (serving_by (rows_with_code code rows) date) ≡ false → code.len ≡ 3)
-        → is_unknown_station (serving_by (cond b (row ∷ rows_with_code code rows) (rows_with_code code rows)) date) ≡ false → code.len ≡ 3
-    by true is rest known = eqb-true code.len 3 (and_parts _ _ is).0
+    by : (b : Bool) → is_code code row.code ≡ b → (is_unknown_station (serving_by (rows_with_code code rows) date) ≡ false → IsCode code)
+        → is_unknown_station (serving_by (cond b (row ∷ rows_with_code code rows) (rows_with_code code rows)) date) ≡ false → IsCode code
+    by true is rest known = code_of_row code row codes.0 is
     by false is rest known = rest known
 
-station_code : (rows : List StationRow) (code : Short) (date : ℤ) → is_unknown_station (serving_of rows code date) ≡ false → code.len ≡ 3
+station_code : (rows : List StationRow) (code : Short) (date : ℤ) → AreCodes rows → is_unknown_station (serving_of rows code date) ≡ false → IsCode code
 unfolding serving_of
-station_code rows code date known = served_code code date rows known
+station_code rows code date codes known = served_code code date rows codes known
 
-passed_filed : (known : KnownOffice) (tables : TableRows) (moment : ℤ) (earlier : List Sighting) (s : Sighting) → IsStated s → first_row (line_rules known tables moment earlier s) ≡ None → IsFiled s
-passed_filed known tables moment earlier s stated none =
-    record {
-      sighting = stated.sighting;
-      station = station_code tables.stations s.station _ (rows_off (line_rules known tables moment earlier s) none).0;
-      mode = stated.mode;
-      temporary = stated.temporary;
-    }
+passed_filed : (known : KnownOffice) (tables : TableRows) (moment : ℤ) (earlier : List Sighting) (s : Sighting) → AreCodes tables.stations → IsStated s → first_row (line_rules known tables moment earlier s) ≡ None → IsOnFile s
+passed_filed known tables moment earlier s codes stated none =
+    let station = station_code tables.stations s.station _ codes (rows_off (line_rules known tables moment earlier s) none).0 in
+    (record { sighting = stated.sighting; station = station.0; mode = stated.mode; temporary = stated.temporary }, station.1)
 
-module _ (known : KnownOffice) (tables : TableRows) (moment : ℤ) (passed : List Sighting) where
+module _ (known : KnownOffice) (tables : TableRows) (moment : ℤ) (passed : List Sighting) (codes : AreCodes tables.stations) where
   found_filed : (earlier : List Sighting) (track : ℕ) (read : Result Sighting RuleCode) → IfOk read IsStated → IsFoundFiled (found_in known track read (reading_fault passed (checked_reading known tables moment earlier read)))
   unfolding checked_reading
   found_filed earlier track (Err rule) stated = tt
   found_filed earlier track (Ok s) stated = by (first_row (line_rules known tables moment earlier s)) refl
     where
-      by_group : (fault : Option RuleCode) → IsFiled s → IsFoundFiled (found_in known track (Ok s) fault)
+      by_group : (fault : Option RuleCode) → IsOnFile s → IsFoundFiled (found_in known track (Ok s) fault)
       by_group None is = is
       by_group (Some rule) is = tt
 
       by : (broken : Option RuleCode) → first_row (line_rules known tables moment earlier s) ≡ broken → IsFoundFiled (found_in known track (Ok s) (reading_fault passed (unless_broken s broken)))
-      by None is = by_group (group_fault passed s) (passed_filed known tables moment earlier s stated is)
+      by None is = by_group (group_fault passed s) (passed_filed known tables moment earlier s codes stated is)
       by (Some rule) is = tt
 
   lines_filed : (before : ℕ) (lines : List Line) (now : ℕ) (earlier : List Sighting) → AreStated lines → AreTakenFiled (taken_lines known before now lines (map (ruling_among passed) (checked_lines known tables moment earlier lines)))
@@ -185,15 +200,15 @@ module _ (known : KnownOffice) (tables : TableRows) (moment : ℤ) (passed : Lis
         lines_filed before lines (tracks_with now (found_in known track line.read ruling.fault)) (with_passed (checked_reading known tables moment earlier line.read) earlier) (All-tail (λ (l : Line). IfOk l.read IsStated) line lines stated),
       )
 
-taken_filed : (past : List Deed) (moment : ℤ) (lines : List Line) → AreStated lines → AreTakenFiled (taken_after past moment lines)
+taken_filed : (past : List Deed) (moment : ℤ) (lines : List Line) → AreCodes (tables_of past).stations → AreStated lines → AreTakenFiled (taken_after past moment lines)
 unfolding batch_rulings
-taken_filed past moment lines stated =
-    lines_filed (known_of past) (tables_of past) moment (passed_in (checked_lines (known_of past) (tables_of past) moment [] lines))
+taken_filed past moment lines codes stated =
+    lines_filed (known_of past) (tables_of past) moment (passed_in (checked_lines (known_of past) (tables_of past) moment [] lines)) codes
     (length (holdings past).tracklets) lines (length (holdings past).tracklets) [] stated
 
 -- ---- deeds
 
-module _ (past : List Deed) (moment : ℤ) (all : AreHeld (holdings past)) where
+module _ (past : List Deed) (moment : ℤ) (all : AreHeld (holdings past)) (codes : AreCodes (tables_of past).stations) where
   abbrev keeps_held : Deed → Type 0
   keeps_held deed = AreHeld (with_deed (next_number past) deed (holdings past))
 
@@ -201,7 +216,7 @@ module _ (past : List Deed) (moment : ℤ) (all : AreHeld (holdings past)) where
   held_unless o done deed keeps is = subst keeps_held (same_deed o done deed is).1 keeps
 
   submit_held : (lines : List Line) → AreStated lines → keeps_held (Submitted (taken_after past moment lines))
-  submit_held lines stated = batch_held (next_number past) (taken_after past moment lines) (holdings past) (taken_filed past moment lines stated) all
+  submit_held lines stated = batch_held (next_number past) (taken_after past moment lines) (holdings past) (taken_filed past moment lines codes stated) all
 
   act_held : (a : Act) (deed : Deed) → IsSound a → does past moment a ≡ Ok deed → keeps_held deed
   unfolding does
@@ -211,7 +226,7 @@ module _ (past : List Deed) (moment : ℤ) (all : AreHeld (holdings past)) where
   act_held (act.Submit80 lines) deed sound is = held_unless (first_row (batch_rows (taken_after past moment lines))) (Submitted (taken_after past moment lines)) deed (submit_held lines sound) is
   act_held (act.SubmitPsv lines) deed sound is = held_unless (first_row (batch_rows (taken_after past moment lines))) (Submitted (taken_after past moment lines)) deed (submit_held lines sound) is
   act_held (act.Designate tracklets) deed sound is =
-      let d = designated (holdings past) (takes_of past) tracklets deed is in
+      let d = designated (holdings past) (row_acts_of past) tracklets deed is in
       subst keeps_held d.deed_is (record { filed = all.filed; named = all_homed (holdings past).tracklets tracklets _ all.named })
   act_held (act.Attribute t to) deed sound is =
       held_unless (first_row (attribute_rows (holdings past) (links_of past) t to)) (Attributed t to) deed
@@ -223,22 +238,26 @@ module _ (past : List Deed) (moment : ℤ) (all : AreHeld (holdings past)) where
   act_held (act.Separate s) deed sound is = held_unless (first_row (separate_rows (links_of past) s)) (Separated s) deed all is
   act_held (act.Verdict d u oppositions) deed sound is = held_unless (first_row (verdict_rows (links_of past) d)) (Judged d u oppositions) deed all is
   act_held (act.Number first most) deed sound is = held_unless (first_row (number_rows (numbers_of past) first most (eligible_after past))) (Numbered (numbered_from first (take most (eligible_after past)))) deed all is
+  act_held (act.Opening half given carried) deed sound is = held_unless (first_row (opening_rows (row_acts_of past) half)) (Opened half given carried) deed all is
   act_held (act.Retract k) deed sound is =
       held_unless (first_row (retract_rows (holdings past).observations k)) (Retracted k) deed
       (record { filed = filed_retracted (holdings past).observations k all.filed; named = all.named }) is
 
 -- ---- histories
 
-module _ (eighty : EightyStated) (psv : PsvStated) (letters : LettersPrinted) where
+module _ (eighty : EightyStated) (psv : PsvStated) (letters : LettersPrinted) (stations : StationsCoded) where
   all_held : (history : List Entry) → AreHeld (holdings (deeds history))
   all_held [] = record { filed = tt; named = tt }
   all_held (e ∷ past) =
       let before = all_held past in
       deed_cases (λ (deed : Deed). AreHeld (with_deed (next_number (deeds past)) deed (holdings (deeds past)))) (deeds past) e before
-      (λ a deed read done. act_held (deeds past) e.moment before a deed (subst IsSoundlyRead read (sound_read eighty psv letters e.verb e.body)) done)
+      (λ a deed read done. act_held (deeds past) e.moment before (all_sound eighty psv letters stations past).1 a deed (subst IsSoundlyRead read (sound_read eighty psv letters stations e.verb e.body)) done)
 
   pub observations_filed : (history : List Entry) (k : ℕ) (o : Observation) → numbered (holdings (deeds history)).observations k ≡ Some o → IsFiled o.sighting
-  observations_filed history k o found = (let held = all_held history in filed_at (holdings (deeds history)).observations k o held.filed found)
+  observations_filed history k o found = (let held = all_held history in (filed_at (holdings (deeds history)).observations k o held.filed found).0)
+
+  pub stations_coded : (history : List Entry) (k : ℕ) (o : Observation) → numbered (holdings (deeds history)).observations k ≡ Some o → is_station_code (take o.sighting.station.len o.sighting.station.bytes) ≡ true
+  stations_coded history k o found = (let held = all_held history in (filed_at (holdings (deeds history)).observations k o held.filed found).1)
 
   pub tracklets_named : (history : List Entry) (t : ℕ) (tracklet : Tracklet) → numbered (holdings (deeds history)).tracklets t ≡ Some tracklet → IsTrackName tracklet.name
   tracklets_named history t tracklet found = (let held = all_held history in named_at (holdings (deeds history)).tracklets t tracklet held.named found)

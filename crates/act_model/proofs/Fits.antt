@@ -1,19 +1,15 @@
 -- An act that is done fits what was done before.
-use Rattle.std.proofs.Common.{◌≡◌, ◌≢◌, ℕ, ℤ, ◌<◌, List, [], ◌∷◌, map, take, true, false, Option, Some, None, IsSome, Result, Ok, Err, refl, ap, subst, ◌∙◌, arith}
+use Rattle.std.proofs.Common.{◌≡◌, ◌≢◌, ℕ, ℤ, ◌<◌, List, [], ◌∷◌, map, take, true, false, Option, Some, None, IsSome, Ok, refl, ap, subst, ◌∙◌, arith}
 use Rattle.std.specs.Prelude.{is_none}
 use Rattle.std.specs.Ordering.{eq_by_cmp}
 use Rattle.packed_names.specs.declared.half_month.HalfMonth.{HalfMonth}
 use Rattle.packed_names.specs.declared.name.Designation.{Designation}
 use Rattle.packed_names.specs.Order.{designation_cmp}
-use Rattle.packed_names.specs.Ranges.{IsNumber, IsHalfMonth, limit_of}
-use Rattle.act_bodies.specs.declared.number.Number.{Number as NumberBody}
-use Rattle.act_bodies.specs.Bodies.{enrol_of, station_of, code_of, designate_of, attribute_of, release_of, identify_of, separate_of, verdict_of, number_of_body, retract_of}
-use Rattle.ades_psv.specs.Batch.{psv_lines_of}
-use Rattle.obs_record.specs.declared.line.Line.{Line}
-use Rattle.obs_record.specs.declared.rule.HeaderFault.{HeaderFault}
+use Rattle.packed_names.specs.Ranges.{IsHalfMonth, limit_of}
 use Rattle.station_tables.specs.Stations.{overlaps}
 use Rattle.station_tables.specs.Codes.{has_code}
 use Rattle.designate_core.specs.Takes.{given_in, next_in}
+use Rattle.designate_core.specs.Unbroken.{NoneBeforeBegun, CountsGrow}
 use Rattle.identify_core.specs.Acts.{LinkAct, is_principal_of, principal, given_in_order}
 use Rattle.identify_core.specs.Principals.{IsAscending}
 use Rattle.numbering_core.specs.Numbers.{IsUnbroken}
@@ -22,31 +18,28 @@ use Rattle.tracklet_file.specs.declared.tracklet.Tracklet.{Tracklet}
 use Rattle.tracklet_file.specs.Numbering.{numbered}
 use Rattle.act_model.specs.declared.act.Act.{Act}
 use Rattle.act_model.specs.declared.act.Act.TheVariants as act
-use Rattle.act_model.specs.declared.act.ActFault.{ActFault}
 use Rattle.act_model.specs.declared.deed.Deed.{Deed}
-use Rattle.act_model.specs.declared.deed.Deed.TheVariants.{Enrolled, Stationed, Coded, Submitted, Designated, Attributed, Released, Identified, Separated, Judged, Numbered, Retracted, Nothing}
+use Rattle.act_model.specs.declared.deed.Deed.TheVariants.{Enrolled, Stationed, Coded, Submitted, Designated, Attributed, Released, Identified, Separated, Judged, Numbered, Retracted, Opened, Nothing}
 use Rattle.act_model.specs.declared.entry.Entry.{Entry}
 use Rattle.act_model.specs.declared.reply.Refusal.{Refusal}
-use Rattle.act_model.specs.declared.request.Verb.{Verb}
-use Rattle.act_model.specs.declared.request.Verb.TheVariants.{Enrol, Station, Code, Submit80, SubmitPsv, Designate, Attribute, Release, Identify, Separate, Verdict, Number, Retract, Receipt, Tally, Unknown}
-use Rattle.act_model.specs.declared.request.Verb.TheVariants as verbs
-use Rattle.act_model.specs.Acts.{read_as, enrol_act, station_act, code_act, designate_act, attribute_act, release_act, identify_act, separate_act, verdict_act, number_act, retract_act, psv_act, act_of, IsRead}
+use Rattle.act_model.specs.Acts.{act_of, IsRead}
 use Rattle.act_model.specs.Rows.{first_row, unless}
 use Rattle.act_model.specs.Roster.{members}
 use Rattle.act_model.specs.OfficeTables.{tables_of}
 use Rattle.act_model.specs.BatchRules.{is_in_years}
 use Rattle.act_model.specs.Holdings.{holdings}
-use Rattle.act_model.specs.Designations.{takes_of, links_of, is_given, is_principal}
+use Rattle.act_model.specs.Designations.{row_acts_of, links_of, is_given, is_principal}
 use Rattle.act_model.specs.Discoveries.{earliest, span, half_of}
 use Rattle.act_model.specs.Verdicts.{verdicts_of}
 use Rattle.act_model.specs.Numbers.{with_numbers, numbers_of, numbered_from}
-use Rattle.act_model.specs.Doing.{enrol_rows, row_rows, batch_rows, tracklet_row, designate_rows, attribute_rows, release_rows, identify_rows, separate_rows, verdict_rows, number_rows, retract_rows, eligible_after, taken_after, does}
+use Rattle.act_model.specs.Doing.{enrol_rows, row_rows, batch_rows, tracklet_row, designate_rows, attribute_rows, release_rows, identify_rows, separate_rows, verdict_rows, number_rows, retract_rows, opening_rows, eligible_after, taken_after, does}
 use Rattle.act_model.specs.Fitting.{IsNew, AreTracklets, FitsObjects}
 use Rattle.act_model.specs.Deeds.{deeds}
 use Rattle.act_model.proofs.DeedCases.{deed_cases}
 use Rattle.act_model.proofs.Designating.{designated}
-use Rattle.act_model.proofs.Given.{AreSame, IsItself, AreGivenNext, has_more, given_next, next_unknown}
+use Rattle.act_model.proofs.Given.{AreSame, IsItself, AreGivenNext, has_more, given_next, next_unknown, carried_new}
 use Rattle.act_model.proofs.Halves.{discovered_in}
+use Rattle.act_model.proofs.InRange.{IsInRange, range_of_read, IsInRangeRead, AreFirst, AreOpenings, read_in_range}
 use Rattle.act_model.proofs.Legal.{same_deed}
 use Rattle.act_model.proofs.Numbered.{numbers_go_on}
 use Rattle.act_model.proofs.RowLemmas.{AreOff, rows_off, before_off, not_off}
@@ -62,81 +55,13 @@ are_there : (tracklets : List Tracklet) (ts : List ℕ) → AreOff (map (trackle
 are_there tracklets [] off = tt
 are_there tracklets (t ∷ ts) off = (is_there (numbered tracklets t) off.0, are_there tracklets ts off.1)
 
--- ---- numbers that are asked for
-
--- the first number that is asked for is one that can be given
-abbrev IsFirst : Act → Type 0
-IsFirst (act.Number first most) = IsNumber first
-IsFirst _ = Unit {0}
-
-first_of_read : (a : Act) → IsRead a → IsFirst a
-first_of_read (act.Enrol key name role) read = tt
-first_of_read (act.Station code name from to) read = tt
-first_of_read (act.Code kind letter word) read = tt
-first_of_read (act.Submit80 lines) read = tt
-first_of_read (act.SubmitPsv lines) read = tt
-first_of_read (act.Designate tracklets) read = tt
-first_of_read (act.Attribute t to) read = tt
-first_of_read (act.Release t) read = tt
-first_of_read (act.Identify p s) read = tt
-first_of_read (act.Separate s) read = tt
-first_of_read (act.Verdict d u oppositions) read = tt
-first_of_read (act.Number first most) read = read.0
-first_of_read (act.Retract k) read = tt
-
-abbrev IsFirstRead : Result Act ActFault → Type 0
-IsFirstRead (Ok a) = IsFirst a
-IsFirstRead (Err fault) = Unit {0}
-
-first_asked : {B : Type 0} (asked : B → Act) (o : Option B) → ((body : B) → IsFirst (asked body)) → IsFirstRead (read_as asked o)
-first_asked asked (Some body) is = is body
-first_asked asked None is = tt
-
--- the bodies of numberings ask for numbers that can be given
-abbrev pub AreFirst : Type 0
-AreFirst = (bytes : List ℕ) (number : NumberBody) → number_of_body bytes ≡ Some number → IsNumber number.first
-
-module _ (firsts : AreFirst) where
-  first_numbered : (body : List ℕ) (o : Option NumberBody) → number_of_body body ≡ o → IsFirstRead (read_as number_act o)
-  first_numbered body (Some number) is = firsts body number is
-  first_numbered body None is = tt
-
-  first_psv : (o : Result (List Line) (HeaderFault × ℕ)) → IsFirstRead (psv_act o)
-  first_psv (Ok lines) = tt
-  first_psv (Err fault) = tt
-
-  first_read : (verb : Verb) (body : List ℕ) → IsFirstRead (act_of verb body)
-  unfolding act_of
-  first_read Enrol body = first_asked enrol_act (enrol_of body) (λ _. tt)
-  first_read Station body = first_asked station_act (station_of body) (λ _. tt)
-  first_read Code body = first_asked code_act (code_of body) (λ _. tt)
-  first_read Submit80 body = tt
-  first_read SubmitPsv body = first_psv (psv_lines_of body)
-  first_read Designate body = first_asked designate_act (designate_of body) (λ _. tt)
-  first_read Attribute body = first_asked attribute_act (attribute_of body) (λ _. tt)
-  first_read Release body = first_asked release_act (release_of body) (λ _. tt)
-  first_read Identify body = first_asked identify_act (identify_of body) (λ _. tt)
-  first_read Separate body = first_asked separate_act (separate_of body) (λ _. tt)
-  first_read Verdict body = first_asked verdict_act (verdict_of body) (λ _. tt)
-  first_read Number body = first_numbered body (number_of_body body) refl
-  first_read Retract body = first_asked retract_act (retract_of body) (λ _. tt)
-  first_read Receipt body = tt
-  first_read Tally body = tt
-  first_read verbs.Object body = tt
-  first_read verbs.Tracklet body = tt
-  first_read verbs.Isolated body = tt
-  first_read verbs.HalfMonth body = tt
-  first_read verbs.Name body = tt
-  first_read verbs.Catalogue body = tt
-  first_read Unknown body = tt
-
 -- ---- what designations are sure of
 
 -- the designations that were given ascend
 abbrev pub AllAscend : Type 0
 AllAscend = (acts : List LinkAct) → IsAscending (given_in_order acts)
 
-module _ (same : AreSame) (itself : IsItself) where
+module _ (same : AreSame) (itself : IsItself) (none_before : NoneBeforeBegun) (grow : CountsGrow) where
   own : (p : Designation) (o : Option Designation) → is_principal_of p o ≡ true → o ≡ Some p
   own p None is = absurd cc
   own p (Some q) is = ap (λ (d : Designation). Some d) (same q p is)
@@ -152,59 +77,63 @@ module _ (same : AreSame) (itself : IsItself) where
     fits_unless o done deed fits is = let s = same_deed o done deed is in subst (FitsObjects past) s.1 (fits s.0)
 
     -- the next one of a half-month that isn't full
-    new_in : (half : HalfMonth) → IsHalfMonth half → given_in half (takes_of past) < limit_of half → IsNew (takes_of past) (links_of past) (next_in half (takes_of past))
+    new_in : (half : HalfMonth) → IsHalfMonth half → given_in half (row_acts_of past) < limit_of half → IsNew (row_acts_of past) (links_of past) (next_in half (row_acts_of past))
     new_in half is free =
         record {
           next = refl;
           free = free;
           name = record { half = is; order_from = omega arith; order_to = omega arith };
-          unknown = next_unknown same itself past next half;
+          unknown = next_unknown same itself none_before grow past next half;
         }
 
     designate_fits : (tracklets : List ℕ) (deed : Deed) → does past moment (act.Designate tracklets) ≡ Ok deed → FitsObjects past deed
     unfolding does
     designate_fits tracklets deed is =
-        let d = designated (holdings past) (takes_of past) tracklets deed is in
+        let d = designated (holdings past) (row_acts_of past) tracklets deed is in
         let half : HalfMonth = half_of (earliest d.first d.more).time in
         let off = before_off (map (tracklet_row (holdings past).tracklets) tracklets) _ (rows_off (designate_rows (holdings past) tracklets) d.there) in
         subst (FitsObjects past) d.deed_is (
           are_there (holdings past).tracklets tracklets off,
-          new_in half (discovered_in (holdings past).observations tracklets d.first d.more years d.seen_is) (has_more (takes_of past) (span d.first d.more) half d.allowed),
+          new_in half (discovered_in (holdings past).observations tracklets d.first d.more years d.seen_is) (has_more (row_acts_of past) (span d.first d.more) half d.allowed),
         )
 
-    act_fits : (a : Act) (deed : Deed) → IsFirst a → does past moment a ≡ Ok deed → FitsObjects past deed
+    act_fits : (a : Act) (deed : Deed) → IsInRange a → does past moment a ≡ Ok deed → FitsObjects past deed
     unfolding does
-    act_fits (act.Enrol k name role) deed first is = fits_unless (first_row (enrol_rows (members past) k)) (Enrolled (record { key = k; rank = role })) deed (λ _. tt) is
-    act_fits (act.Station code name from to) deed first is = fits_unless (first_row (row_rows (overlaps (tables_of past).stations code from to))) (Stationed code from to) deed (λ _. tt) is
-    act_fits (act.Code kind letter word) deed first is = fits_unless (first_row (row_rows (has_code (tables_of past).codes kind letter word))) (Coded kind letter word) deed (λ _. tt) is
-    act_fits (act.Submit80 lines) deed first is = fits_unless (first_row (batch_rows (taken_after past moment lines))) (Submitted (taken_after past moment lines)) deed (λ _. tt) is
-    act_fits (act.SubmitPsv lines) deed first is = fits_unless (first_row (batch_rows (taken_after past moment lines))) (Submitted (taken_after past moment lines)) deed (λ _. tt) is
-    act_fits (act.Designate tracklets) deed first is = designate_fits tracklets deed is
-    act_fits (act.Attribute t to) deed first is =
+    act_fits (act.Enrol k name role) deed range is = fits_unless (first_row (enrol_rows (members past) k)) (Enrolled (record { key = k; rank = role })) deed (λ _. tt) is
+    act_fits (act.Station code name from to) deed range is = fits_unless (first_row (row_rows (overlaps (tables_of past).stations code from to))) (Stationed code from to) deed (λ _. tt) is
+    act_fits (act.Code kind letter word) deed range is = fits_unless (first_row (row_rows (has_code (tables_of past).codes kind letter word))) (Coded kind letter word) deed (λ _. tt) is
+    act_fits (act.Submit80 lines) deed range is = fits_unless (first_row (batch_rows (taken_after past moment lines))) (Submitted (taken_after past moment lines)) deed (λ _. tt) is
+    act_fits (act.SubmitPsv lines) deed range is = fits_unless (first_row (batch_rows (taken_after past moment lines))) (Submitted (taken_after past moment lines)) deed (λ _. tt) is
+    act_fits (act.Designate tracklets) deed range is = designate_fits tracklets deed is
+    act_fits (act.Attribute t to) deed range is =
         fits_unless (first_row (attribute_rows (holdings past) (links_of past) t to)) (Attributed t to) deed
         (λ none. let off = rows_off (attribute_rows (holdings past) (links_of past) t to) none in
         (is_there (numbered (holdings past).tracklets t) off.0, not_off (is_given (links_of past) to) off.1.0)) is
-    act_fits (act.Release t) deed first is =
+    act_fits (act.Release t) deed range is =
         fits_unless (first_row (release_rows (holdings past) t)) (Released t) deed
         (λ none. is_there (numbered (holdings past).tracklets t) (rows_off (release_rows (holdings past) t) none).0) is
-    act_fits (act.Identify p s) deed first is =
+    act_fits (act.Identify p s) deed range is =
         fits_unless (first_row (identify_rows (links_of past) (numbers_of past) p s)) (Identified p s) deed
         (λ none. let off = rows_off (identify_rows (links_of past) (numbers_of past) p s) none in (
           own p (principal (links_of past) p) (not_off (is_principal (links_of past) p) off.1.1.0),
           own s (principal (links_of past) s) (not_off (is_principal (links_of past) s) off.1.1.1.0),
           apart p s off.1.1.1.1.0,
         )) is
-    act_fits (act.Separate s) deed first is =
+    act_fits (act.Separate s) deed range is =
         fits_unless (first_row (separate_rows (links_of past) s)) (Separated s) deed
         (λ none. let off = rows_off (separate_rows (links_of past) s) none in
         (not_off (is_given (links_of past) s) off.0, not_own s (principal (links_of past) s) off.1.0)) is
-    act_fits (act.Verdict d u oppositions) deed first is =
+    act_fits (act.Verdict d u oppositions) deed range is =
         fits_unless (first_row (verdict_rows (links_of past) d)) (Judged d u oppositions) deed
         (λ none. own d (principal (links_of past) d) (not_off (is_principal (links_of past) d) (rows_off (verdict_rows (links_of past) d) none).1.0)) is
-    act_fits (act.Number first_number most) deed first is =
+    act_fits (act.Number first_number most) deed range is =
         fits_unless (first_row (number_rows (numbers_of past) first_number most (eligible_after past))) (Numbered (numbered_from first_number (take most (eligible_after past)))) deed
-        (λ none. numbers_go_on (holdings past) (links_of past) (verdicts_of past) (numbers_of past) first_number most (up (links_of past)) unbroken first none) is
-    act_fits (act.Retract k) deed first is = fits_unless (first_row (retract_rows (holdings past).observations k)) (Retracted k) deed (λ _. tt) is
+        (λ none. numbers_go_on (holdings past) (links_of past) (verdicts_of past) (numbers_of past) first_number most (up (links_of past)) unbroken range none) is
+    act_fits (act.Opening half given carried) deed range is =
+        fits_unless (first_row (opening_rows (row_acts_of past) half)) (Opened half given carried) deed
+        (λ none. let unbegun = (rows_off (opening_rows (row_acts_of past) half) none).0 in
+        record { unbegun = unbegun; ranges = range; unknown = carried_new same itself none_before grow past next half given carried unbegun range }) is
+    act_fits (act.Retract k) deed range is = fits_unless (first_row (retract_rows (holdings past).observations k)) (Retracted k) deed (λ _. tt) is
 
   -- ---- histories
 
@@ -220,22 +149,23 @@ module _ (same : AreSame) (itself : IsItself) where
   unbroken_with past (Identified p s) before fits = before
   unbroken_with past (Separated s) before fits = before
   unbroken_with past (Judged p u oppositions) before fits = before
+  unbroken_with past (Opened half given carried) before fits = before
   unbroken_with past (Retracted k) before fits = before
   unbroken_with past Nothing before fits = before
 
-  module _ (up : AllAscend) (firsts : AreFirst) where
+  module _ (up : AllAscend) (firsts : AreFirst) (openings : AreOpenings) where
     pub numbers_unbroken : (history : List Entry) → IsUnbroken (numbers_of (deeds history))
     numbers_unbroken [] = tt
     numbers_unbroken (e ∷ past) =
         let before = numbers_unbroken past in
         deed_cases (λ (deed : Deed). IsUnbroken (with_numbers deed (numbers_of (deeds past)))) (deeds past) e before
         (λ a deed read done. unbroken_with (deeds past) deed before
-        (act_fits up (deeds past) e.moment (observed_years past) (given_next past) before a deed (subst IsFirstRead read (first_read firsts e.verb e.body)) done))
+        (act_fits up (deeds past) e.moment (observed_years past) (given_next firsts openings past) before a deed (subst IsInRangeRead read (read_in_range firsts openings e.verb e.body)) done))
 
     pub acts_fit : (history : List Entry) (moment : ℤ) (a : Act) (deed : Deed) → IsRead a → does (deeds history) moment a ≡ Ok deed → FitsObjects (deeds history) deed
-    acts_fit history moment a deed read done = act_fits up (deeds history) moment (observed_years history) (given_next history) (numbers_unbroken history) a deed (first_of_read a read) done
+    acts_fit history moment a deed read done = act_fits up (deeds history) moment (observed_years history) (given_next firsts openings history) (numbers_unbroken history) a deed (range_of_read a read) done
 
     -- and so does the act of an entry
     pub deed_fits : (history : List Entry) (e : Entry) (a : Act) (deed : Deed) → act_of e.verb e.body ≡ Ok a → does (deeds history) e.moment a ≡ Ok deed → FitsObjects (deeds history) deed
     deed_fits history e a deed read done =
-        act_fits up (deeds history) e.moment (observed_years history) (given_next history) (numbers_unbroken history) a deed (subst IsFirstRead read (first_read firsts e.verb e.body)) done
+        act_fits up (deeds history) e.moment (observed_years history) (given_next firsts openings history) (numbers_unbroken history) a deed (subst IsInRangeRead read (read_in_range firsts openings e.verb e.body)) done

@@ -1,6 +1,8 @@
--- Each designation that is given is the next one of its half-month, and wasn't given before.
+-- Each designation that an object gets is the next one of its half-month, and wasn't given before. A half-month that is
+-- taken over wasn't begun, and what it carries wasn't given before.
 use Rattle.std.proofs.Common.{◌≡◌, ℤ, ◌+◌, ◌<◌, ◌≤◌, List, [], ◌∷◌, Bool, true, false, cond, Option, Some, None, option_map, Ok, refl, sym, ap, subst, ◌∙◌, inl, inr, arith}
-use Rattle.std.specs.Prelude.{take, not, nat_lt}
+use Rattle.std.specs.Prelude.{ℕ, take, not, nat_lt, nat_eq, IsFalse}
+use Rattle.std.specs.List.{AllByRecursion, IsDistinct}
 use Rattle.std.specs.declared.cmp.Ordering.{Ordering}
 use Rattle.std.specs.declared.cmp.Ordering.TheVariants.{Less, Equal, Greater}
 use Rattle.std.specs.Ordering.{nat_cmp, ordering_then, eq_by_cmp, is_eq}
@@ -12,37 +14,45 @@ use Rattle.packed_names.specs.declared.name.Designation.{Designation}
 use Rattle.packed_names.specs.declared.name.Designation.TheVariants.{Provisional}
 use Rattle.packed_names.specs.Order.{half_cmp, designation_cmp}
 use Rattle.packed_names.specs.Ranges.{limit_of}
-use Rattle.designate_core.specs.Takes.{Take, given_in, next_in}
-use Rattle.identify_core.specs.Acts.{is_principal_of, principal}
+use Rattle.act_bodies.specs.Bodies.{IsOpening}
+use Rattle.designate_core.specs.Takes.{Take, RowAct, opened_in, taken_in, given_in, is_begun, next_in}
+use Rattle.designate_core.specs.Takes.RowAct.{Opened as OpenedRow, Took}
+use Rattle.designate_core.specs.Unbroken.{NoneBeforeBegun, CountsGrow}
+use Rattle.identify_core.specs.Acts.{LinkAct, is_principal_of, principal}
+use Rattle.identify_core.specs.Acts.LinkAct.{Given}
 use Rattle.station_tables.specs.Stations.{overlaps}
 use Rattle.station_tables.specs.Codes.{has_code}
 use Rattle.act_model.specs.declared.act.Act.{Act}
 use Rattle.act_model.specs.declared.act.Act.TheVariants as act
 use Rattle.act_model.specs.declared.deed.Deed.{Deed}
-use Rattle.act_model.specs.declared.deed.Deed.TheVariants.{Enrolled, Stationed, Coded, Submitted, Designated, Attributed, Released, Identified, Separated, Judged, Numbered, Retracted, Nothing}
+use Rattle.act_model.specs.declared.deed.Deed.TheVariants.{Enrolled, Stationed, Coded, Submitted, Designated, Attributed, Released, Identified, Separated, Judged, Numbered, Retracted, Opened, Nothing}
 use Rattle.act_model.specs.declared.entry.Entry.{Entry}
 use Rattle.act_model.specs.declared.reply.Refusal.{Refusal}
 use Rattle.act_model.specs.Rows.{first_row, unless}
 use Rattle.act_model.specs.Roster.{members}
 use Rattle.act_model.specs.OfficeTables.{tables_of}
 use Rattle.act_model.specs.Holdings.{holdings}
-use Rattle.act_model.specs.Designations.{takes_of, links_of}
+use Rattle.act_model.specs.Designations.{row_acts_of, links_of, with_order, with_orders, with_all_given}
 use Rattle.act_model.specs.Discoveries.{earliest, span, half_of}
 use Rattle.act_model.specs.Numbers.{numbers_of, numbered_from}
-use Rattle.act_model.specs.Doing.{enrol_rows, row_rows, batch_rows, object_rows, attribute_rows, release_rows, identify_rows, separate_rows, verdict_rows, number_rows, retract_rows, eligible_after, taken_after, does}
+use Rattle.act_model.specs.Doing.{enrol_rows, row_rows, batch_rows, object_rows, attribute_rows, release_rows, identify_rows, separate_rows, verdict_rows, number_rows, retract_rows, opening_rows, eligible_after, taken_after, does}
 use Rattle.act_model.specs.Deeds.{deeds}
+use Rattle.act_model.specs.Fitting.{AreNew}
 use Rattle.act_model.proofs.DeedCases.{deed_cases}
 use Rattle.act_model.proofs.Designating.{designated}
+use Rattle.act_model.proofs.InRange.{IsInRange, IsInRangeRead, AreFirst, AreOpenings, read_in_range}
 use Rattle.act_model.proofs.Legal.{same_deed}
 use Rattle.act_model.proofs.RowLemmas.{rows_off, not_off}
 
--- ---- what a designation that is given is sure of
+-- ---- what a designation that is given is sure of, and a half-month that is taken over
 
-abbrev pub IsNext : List Take → ProvisionalName → Type 0
-IsNext takes given = (given ≡ next_in given.half takes) × (given_in given.half takes < limit_of given.half)
+abbrev pub IsNext : List RowAct → ProvisionalName → Type 0
+IsNext rows given = (given ≡ next_in given.half rows) × (given_in given.half rows < limit_of given.half)
 
 abbrev pub IsGivenNext : List Deed → Deed → Type 0
-IsGivenNext past (Designated tracklets given discovery) = IsNext (takes_of past) given
+IsGivenNext past (Designated tracklets given discovery) = IsNext (row_acts_of past) given
+IsGivenNext past (Opened half given carried) =
+    IsFalse (is_begun half (row_acts_of past)) × IsOpening (record { half = half; given = given; carried = carried })
 IsGivenNext past _ = Unit {0}
 
 abbrev pub AreGivenNext : List Deed → Type 0
@@ -50,37 +60,45 @@ AreGivenNext [] = Unit {0}
 AreGivenNext (deed ∷ past) = IsGivenNext past deed × AreGivenNext past
 
 -- a half-month that isn't full has one more
-pub has_more : (takes : List Take) (time : ℤ) (half : HalfMonth) → first_row (object_rows takes time half) ≡ None → given_in half takes < limit_of half
-has_more takes time half none =
-    let off : not (nat_lt (given_in half takes) (limit_of half)) ≡ false = (rows_off (object_rows takes time half) none).1.0 in
-    let less = not_off (nat_lt (given_in half takes) (limit_of half)) off in
+pub has_more : (rows : List RowAct) (time : ℤ) (half : HalfMonth) → first_row (object_rows rows time half) ≡ None → given_in half rows < limit_of half
+has_more rows time half none =
+    let off : not (nat_lt (given_in half rows) (limit_of half)) ≡ false = (rows_off (object_rows rows time half) none).1.0 in
+    let less = not_off (nat_lt (given_in half rows) (limit_of half)) off in
     grind (arith, nat_tests)
 
 module _ (past : List Deed) (moment : ℤ) where
   next_unless : (o : Option Refusal) (done deed : Deed) → IsGivenNext past done → unless o (Ok done) ≡ Ok deed → IsGivenNext past deed
   next_unless o done deed fits is = subst (IsGivenNext past) (same_deed o done deed is).1 fits
 
-  pub act_next : (a : Act) (deed : Deed) → does past moment a ≡ Ok deed → IsGivenNext past deed
+  pub act_next : (a : Act) (deed : Deed) → IsInRange a → does past moment a ≡ Ok deed → IsGivenNext past deed
   unfolding does
-  act_next (act.Enrol k name role) deed is = next_unless (first_row (enrol_rows (members past) k)) (Enrolled (record { key = k; rank = role })) deed tt is
-  act_next (act.Station code name from to) deed is = next_unless (first_row (row_rows (overlaps (tables_of past).stations code from to))) (Stationed code from to) deed tt is
-  act_next (act.Code kind letter word) deed is = next_unless (first_row (row_rows (has_code (tables_of past).codes kind letter word))) (Coded kind letter word) deed tt is
-  act_next (act.Submit80 lines) deed is = next_unless (first_row (batch_rows (taken_after past moment lines))) (Submitted (taken_after past moment lines)) deed tt is
-  act_next (act.SubmitPsv lines) deed is = next_unless (first_row (batch_rows (taken_after past moment lines))) (Submitted (taken_after past moment lines)) deed tt is
-  act_next (act.Designate tracklets) deed is =
-      let d = designated (holdings past) (takes_of past) tracklets deed is in
-      subst (IsGivenNext past) d.deed_is (refl, has_more (takes_of past) (span d.first d.more) (half_of (earliest d.first d.more).time) d.allowed)
-  act_next (act.Attribute t to) deed is = next_unless (first_row (attribute_rows (holdings past) (links_of past) t to)) (Attributed t to) deed tt is
-  act_next (act.Release t) deed is = next_unless (first_row (release_rows (holdings past) t)) (Released t) deed tt is
-  act_next (act.Identify p s) deed is = next_unless (first_row (identify_rows (links_of past) (numbers_of past) p s)) (Identified p s) deed tt is
-  act_next (act.Separate s) deed is = next_unless (first_row (separate_rows (links_of past) s)) (Separated s) deed tt is
-  act_next (act.Verdict d u oppositions) deed is = next_unless (first_row (verdict_rows (links_of past) d)) (Judged d u oppositions) deed tt is
-  act_next (act.Number first most) deed is = next_unless (first_row (number_rows (numbers_of past) first most (eligible_after past))) (Numbered (numbered_from first (take most (eligible_after past)))) deed tt is
-  act_next (act.Retract k) deed is = next_unless (first_row (retract_rows (holdings past).observations k)) (Retracted k) deed tt is
+  act_next (act.Enrol k name role) deed range is = next_unless (first_row (enrol_rows (members past) k)) (Enrolled (record { key = k; rank = role })) deed tt is
+  act_next (act.Station code name from to) deed range is = next_unless (first_row (row_rows (overlaps (tables_of past).stations code from to))) (Stationed code from to) deed tt is
+  act_next (act.Code kind letter word) deed range is = next_unless (first_row (row_rows (has_code (tables_of past).codes kind letter word))) (Coded kind letter word) deed tt is
+  act_next (act.Submit80 lines) deed range is = next_unless (first_row (batch_rows (taken_after past moment lines))) (Submitted (taken_after past moment lines)) deed tt is
+  act_next (act.SubmitPsv lines) deed range is = next_unless (first_row (batch_rows (taken_after past moment lines))) (Submitted (taken_after past moment lines)) deed tt is
+  act_next (act.Designate tracklets) deed range is =
+      let d = designated (holdings past) (row_acts_of past) tracklets deed is in
+      subst (IsGivenNext past) d.deed_is (refl, has_more (row_acts_of past) (span d.first d.more) (half_of (earliest d.first d.more).time) d.allowed)
+  act_next (act.Attribute t to) deed range is = next_unless (first_row (attribute_rows (holdings past) (links_of past) t to)) (Attributed t to) deed tt is
+  act_next (act.Release t) deed range is = next_unless (first_row (release_rows (holdings past) t)) (Released t) deed tt is
+  act_next (act.Identify p s) deed range is = next_unless (first_row (identify_rows (links_of past) (numbers_of past) p s)) (Identified p s) deed tt is
+  act_next (act.Separate s) deed range is = next_unless (first_row (separate_rows (links_of past) s)) (Separated s) deed tt is
+  act_next (act.Verdict d u oppositions) deed range is = next_unless (first_row (verdict_rows (links_of past) d)) (Judged d u oppositions) deed tt is
+  act_next (act.Number first most) deed range is = next_unless (first_row (number_rows (numbers_of past) first most (eligible_after past))) (Numbered (numbered_from first (take most (eligible_after past)))) deed tt is
+  act_next (act.Opening half given carried) deed range is =
+      let done = same_deed (first_row (opening_rows (row_acts_of past) half)) (Opened half given carried) deed is in
+      subst (IsGivenNext past) done.1 ((rows_off (opening_rows (row_acts_of past) half) done.0).0, range)
+  act_next (act.Retract k) deed range is = next_unless (first_row (retract_rows (holdings past).observations k)) (Retracted k) deed tt is
 
-pub given_next : (history : List Entry) → AreGivenNext (deeds history)
-given_next [] = tt
-given_next (e ∷ past) = (deed_cases (IsGivenNext (deeds past)) (deeds past) e tt (λ a deed read done. act_next (deeds past) e.moment a deed done), given_next past)
+module _ (firsts : AreFirst) (openings : AreOpenings) where
+  pub given_next : (history : List Entry) → AreGivenNext (deeds history)
+  given_next [] = tt
+  given_next (e ∷ past) = (
+    deed_cases (IsGivenNext (deeds past)) (deeds past) e tt
+        (λ a deed read done. act_next (deeds past) e.moment a deed (subst IsInRangeRead read (read_in_range firsts openings e.verb e.body)) done),
+    given_next past,
+  )
 
 -- ---- a half-month's count
 
@@ -89,12 +107,10 @@ then_first Less p h = cc
 then_first Equal p h = refl
 then_first Greater p h = cc
 
-pub given_in-more : (half : HalfMonth) (take : Take) (past : List Take) → given_in half past ≤ given_in half (take ∷ past)
-given_in-more half take past = by (eq_by_cmp half_cmp take.half half)
-  where
-    by : (b : Bool) → given_in half past ≤ cond b (given_in half past + 1) (given_in half past)
-    by true = omega arith
-    by false = omega arith
+then_equal : (o : Ordering) → is_eq o ≡ true → is_eq (ordering_then o Equal) ≡ true
+then_equal Less h = cc
+then_equal Equal h = refl
+then_equal Greater h = cc
 
 -- what compares as the same is the same, and each designation compares as itself
 abbrev pub AreSame : Type 0
@@ -103,65 +119,146 @@ AreSame = (one other : Designation) → eq_by_cmp designation_cmp one other ≡ 
 abbrev pub IsItself : Type 0
 IsItself = (d : Designation) → eq_by_cmp designation_cmp d d ≡ true
 
+provisional_is : (one other : ProvisionalName) → Provisional one ≡ Provisional other → one ≡ other
+provisional_is one other is = cc
+
 module _ (same : AreSame) (itself : IsItself) where
-  half_itself : (p : ProvisionalName) → eq_by_cmp half_cmp p.half p.half ≡ true
-  half_itself p = then_first (half_cmp p.half p.half) (nat_cmp p.order p.order) (itself (Provisional p))
+  pub half_itself : (half : HalfMonth) → eq_by_cmp half_cmp half half ≡ true
+  half_itself half = then_first (half_cmp half half) (nat_cmp 0 0) (itself (Provisional (with_order half 0)))
 
-  given_in-here : (given : ProvisionalName) (take : Take) (past : List Take) → take.half ≡ given.half → given_in given.half (take ∷ past) ≡ given_in given.half past + 1
-  given_in-here given take past is =
-      let here : eq_by_cmp half_cmp take.half given.half ≡ true = subst (λ (h : HalfMonth). eq_by_cmp half_cmp h given.half ≡ true) (sym is) (half_itself given) in
-      ap (λ (b : Bool). cond b (given_in given.half past + 1) (given_in given.half past)) here
+  pub half_same : (one other : HalfMonth) → eq_by_cmp half_cmp one other ≡ true → one ≡ other
+  half_same one other is =
+      let names = provisional_is (with_order one 0) (with_order other 0) (same (Provisional (with_order one 0)) (Provisional (with_order other 0)) (then_equal (half_cmp one other) is)) in
+      ap (λ (p : ProvisionalName). p.half) names
 
-  -- ---- designations that are known
+  given_in-here : (given : ProvisionalName) (take : Take) (rows : List RowAct) → take.half ≡ given.half → given_in given.half (Took take ∷ rows) ≡ given_in given.half rows + 1
+  given_in-here given take rows is =
+      let here : eq_by_cmp half_cmp take.half given.half ≡ true = subst (λ (h : HalfMonth). eq_by_cmp half_cmp h given.half ≡ true) (sym is) (half_itself given.half) in
+      let count = ap (λ (b : Bool). cond b (taken_in given.half rows + 1) (taken_in given.half rows)) here in
+      omega (arith, count)
 
-  provisional_is : (one other : ProvisionalName) → Provisional one ≡ Provisional other → one ≡ other
-  provisional_is one other is = cc
+  opened_in-here : (p : ProvisionalName) (half : HalfMonth) (given : ℕ) (rows : List RowAct) → p.half ≡ half → opened_in p.half (OpenedRow half given ∷ rows) ≡ given
+  opened_in-here p half given rows is =
+      let here : eq_by_cmp half_cmp half p.half ≡ true = subst (λ (h : HalfMonth). eq_by_cmp half_cmp half h ≡ true) (sym is) (half_itself half) in
+      ap (λ (b : Bool). cond b given (opened_in p.half rows)) here
 
-  abbrev IsWithin : List Take → ProvisionalName → Type 0
-  IsWithin takes p = p.order ≤ given_in p.half takes
+  module _ (none : NoneBeforeBegun) (grow : CountsGrow) where
+    -- ---- designations that are known
 
-  parted_none : (b : Bool) (s : Designation) (before : Option Designation) → before ≡ None → cond b (option_map (λ _. s) before) before ≡ None
-  parted_none true s before is = ap (λ (o : Option Designation). option_map (λ _. s) o) is
-  parted_none false s before is = is
+    abbrev IsKnown : List LinkAct → ProvisionalName → Type 0
+    IsKnown acts p = principal acts (Provisional p) ≡ None → ⊥
 
-  -- the order of a designation that is known is one that was given
-  known_within : (past : List Deed) → AreGivenNext past → (p : ProvisionalName) → (principal (links_of past) (Provisional p) ≡ None → ⊥) → IsWithin (takes_of past) p
-  known_within [] next p known = absurd (known refl)
-  known_within (Designated tracklets given discovery ∷ past) next p known =
-      let take : Take = record { half = given.half; discovery = discovery } in
-      let takes : List Take = takes_of past in
-      elim (cases_Bool (eq_by_cmp designation_cmp (Provisional given) (Provisional p))) [
+    abbrev IsWithin : List RowAct → ProvisionalName → Type 0
+    IsWithin rows p = p.order ≤ given_in p.half rows
+
+    parted_none : (b : Bool) (s : Designation) (before : Option Designation) → before ≡ None → cond b (option_map (λ _. s) before) before ≡ None
+    parted_none true s before is = ap (λ (o : Option Designation). option_map (λ _. s) o) is
+    parted_none false s before is = is
+
+    -- a designation that is known was given just now, or was known before
+    given_or_known : (given p : ProvisionalName) (acts : List LinkAct) (G : Type 0) → (given ≡ p → G) → (IsKnown acts p → G) → IsKnown (Given (Provisional given) ∷ acts) p → G
+    given_or_known given p acts G here before known =
+        elim (cases_Bool (eq_by_cmp designation_cmp (Provisional given) (Provisional p))) [
+          | inl it ↦ here (provisional_is given p (same (Provisional given) (Provisional p) it))
+          | inr other ↦ before (λ unknown. known (ap (λ (b : Bool). cond b (Some (Provisional given)) (principal acts (Provisional p))) other ∙ unknown))
+        ]
+
+    -- one that is known is carried just now, or was known before
+    carried_or_known : (half : HalfMonth) (given : ℕ) (p : ProvisionalName) (G : Type 0) → (p.half ≡ half → p.order ≤ given → G) → (orders : List ℕ) (acts : List LinkAct)
+        → AllByRecursion (λ order. (1 ≤ order) × (order ≤ given)) orders → (IsKnown acts p → G) → IsKnown (with_all_given (with_orders half orders) acts) p → G
+    carried_or_known half given p G here [] acts are before known = before known
+    carried_or_known half given p G here (order ∷ orders) acts are before known =
+        carried_or_known half given p G here orders (Given (Provisional (with_order half order)) ∷ acts) are.1
+        (given_or_known (with_order half order) p acts G (λ is. here (sym (ap (λ (q : ProvisionalName). q.half) is)) (subst (λ (q : ProvisionalName). q.order ≤ given) is are.0.1)) before)
+        known
+
+    -- the order of a designation that is known is one that was given
+    known_within : (past : List Deed) → AreGivenNext past → (p : ProvisionalName) → IsKnown (links_of past) p → IsWithin (row_acts_of past) p
+    known_within [] next p known = absurd (known refl)
+    known_within (Designated tracklets given discovery ∷ past) next p known =
+        let take : Take = record { half = given.half; discovery = discovery } in
+        let rows : List RowAct = row_acts_of past in
+        given_or_known given p (links_of past) (IsWithin (Took take ∷ rows) p)
+        (λ is.
+        let order : given.order ≡ given_in given.half rows + 1 = ap (λ (q : ProvisionalName). q.order) next.0.0 in
+        let count = given_in-here given take rows refl in
+        subst (IsWithin (Took take ∷ rows)) is (omega (arith, order, count)))
+        (λ known_before.
+        let within = known_within past next.1 p known_before in
+        let more = (grow p.half (Took take) rows next.0.1).1 in
+        omega (arith, within, more)) known
+    known_within (Opened half given carried ∷ past) next p known =
+        let rows : List RowAct = row_acts_of past in
+        let ranges = next.0.1 in
+        carried_or_known half given p (IsWithin (OpenedRow half given ∷ rows) p)
+        (λ is most. let count = opened_in-here p half given rows is in omega (arith, most, count)) carried (links_of past) ranges.orders
+        (λ known_before.
+        let within = known_within past next.1 p known_before in
+        let more = (grow p.half (OpenedRow half given) rows (next.0.0, ranges.given_from, ranges.given_to)).1 in
+        omega (arith, within, more)) known
+    known_within (Identified q s ∷ past) next p known =
+        known_within past next.1 p (λ unknown. known (ap (λ (o : Option Designation). cond (is_principal_of s o) (Some q) o) unknown))
+    known_within (Separated s ∷ past) next p known =
+        known_within past next.1 p (λ unknown. known (parted_none (eq_by_cmp designation_cmp (Provisional p) s) s (principal (links_of past) (Provisional p)) unknown))
+    known_within (Enrolled member ∷ past) next p known = known_within past next.1 p known
+    known_within (Stationed code from to ∷ past) next p known = known_within past next.1 p known
+    known_within (Coded kind letter word ∷ past) next p known = known_within past next.1 p known
+    known_within (Submitted lines ∷ past) next p known = known_within past next.1 p known
+    known_within (Attributed t to ∷ past) next p known = known_within past next.1 p known
+    known_within (Released t ∷ past) next p known = known_within past next.1 p known
+    known_within (Judged d u oppositions ∷ past) next p known = known_within past next.1 p known
+    known_within (Numbered pairs ∷ past) next p known = known_within past next.1 p known
+    known_within (Retracted k ∷ past) next p known = known_within past next.1 p known
+    known_within (Nothing ∷ past) next p known = known_within past next.1 p known
+
+    -- a designation whose order is above the count is unknown
+    unknown_above : (past : List Deed) → AreGivenNext past → (p : ProvisionalName) → given_in p.half (row_acts_of past) < p.order → principal (links_of past) (Provisional p) ≡ None
+    unknown_above past next p above = by (principal (links_of past) (Provisional p)) refl
+      where
+        by : (o : Option Designation) → principal (links_of past) (Provisional p) ≡ o → o ≡ None
+        by None is = refl
+        by (Some q) is = let within = known_within past next p (λ unknown. cc) in absurd (omega (arith, within, above))
+
+    -- the next designation of a half-month is unknown
+    pub next_unknown : (past : List Deed) → AreGivenNext past → (half : HalfMonth) → principal (links_of past) (Provisional (next_in half (row_acts_of past))) ≡ None
+    next_unknown past next half = unknown_above past next (next_in half (row_acts_of past)) (omega arith)
+
+    -- ---- designations that are carried
+
+    abbrev AreUnknown : HalfMonth → List LinkAct → List ℕ → Type 0
+    AreUnknown half acts orders = AllByRecursion (λ order. principal acts (Provisional (with_order half order)) ≡ None) orders
+
+    -- nothing of a half-month that isn't begun is known
+    unbegun_unknown : (past : List Deed) → AreGivenNext past → (half : HalfMonth) (given : ℕ) (orders : List ℕ) → IsFalse (is_begun half (row_acts_of past))
+        → AllByRecursion (λ order. (1 ≤ order) × (order ≤ given)) orders → AreUnknown half (links_of past) orders
+    unbegun_unknown past next half given [] unbegun are = tt
+    unbegun_unknown past next half given (order ∷ orders) unbegun are =
+        let nothing = none half (row_acts_of past) unbegun in
+        (unknown_above past next (with_order half order) (omega (arith, nothing, are.0.0)), unbegun_unknown past next half given orders unbegun are.1)
+
+    still_unknown : (half : HalfMonth) (order : ℕ) (orders : List ℕ) (acts : List LinkAct) → AllByRecursion (λ other. nat_eq order other ≡ false) orders → AreUnknown half acts orders
+        → AreUnknown half (Given (Provisional (with_order half order)) ∷ acts) orders
+    still_unknown half order [] acts apart are = tt
+    still_unknown half order (other ∷ orders) acts apart are = (
+      elim (cases_Bool (eq_by_cmp designation_cmp (Provisional (with_order half order)) (Provisional (with_order half other)))) [
         | inl it ↦
-            let is : given ≡ p = provisional_is given p (same (Provisional given) (Provisional p) it) in
-            let order : given.order ≡ given_in given.half takes + 1 = ap (λ (q : ProvisionalName). q.order) next.0.0 in
-            let count = given_in-here given take takes refl in
-            subst (IsWithin (take ∷ takes)) is (omega (arith, order, count))
-        | inr other ↦
-            let known_before : principal (links_of past) (Provisional p) ≡ None → ⊥ =
-            λ none. known (ap (λ (b : Bool). cond b (Some (Provisional given)) (principal (links_of past) (Provisional p))) other ∙ none) in
-            let within = known_within past next.1 p known_before in
-            let more = given_in-more p.half take takes in
-            omega (arith, within, more)
-      ]
-  known_within (Identified q s ∷ past) next p known =
-      known_within past next.1 p (λ none. known (ap (λ (o : Option Designation). cond (is_principal_of s o) (Some q) o) none))
-  known_within (Separated s ∷ past) next p known =
-      known_within past next.1 p (λ none. known (parted_none (eq_by_cmp designation_cmp (Provisional p) s) s (principal (links_of past) (Provisional p)) none))
-  known_within (Enrolled member ∷ past) next p known = known_within past next.1 p known
-  known_within (Stationed code from to ∷ past) next p known = known_within past next.1 p known
-  known_within (Coded kind letter word ∷ past) next p known = known_within past next.1 p known
-  known_within (Submitted lines ∷ past) next p known = known_within past next.1 p known
-  known_within (Attributed t to ∷ past) next p known = known_within past next.1 p known
-  known_within (Released t ∷ past) next p known = known_within past next.1 p known
-  known_within (Judged d u oppositions ∷ past) next p known = known_within past next.1 p known
-  known_within (Numbered pairs ∷ past) next p known = known_within past next.1 p known
-  known_within (Retracted k ∷ past) next p known = known_within past next.1 p known
-  known_within (Nothing ∷ past) next p known = known_within past next.1 p known
+            let names = provisional_is (with_order half order) (with_order half other) (same (Provisional (with_order half order)) (Provisional (with_order half other)) it) in
+            let is : order ≡ other = ap (λ (p : ProvisionalName). p.order) names in
+            let differ : nat_eq order other ≡ false = apart.0 in
+            absurd (grind (arith, nat_tests))
+        | inr there ↦ ap (λ (b : Bool). cond b (Some (Provisional (with_order half order))) (principal acts (Provisional (with_order half other)))) there ∙ are.0
+      ],
+      still_unknown half order orders acts apart.1 are.1,
+    )
 
-  -- the next designation of a half-month is unknown
-  pub next_unknown : (past : List Deed) → AreGivenNext past → (half : HalfMonth) → principal (links_of past) (Provisional (next_in half (takes_of past))) ≡ None
-  next_unknown past next half = by (principal (links_of past) (Provisional (next_in half (takes_of past)))) refl
-    where
-      by : (o : Option Designation) → principal (links_of past) (Provisional (next_in half (takes_of past))) ≡ o → o ≡ None
-      by None is = refl
-      by (Some q) is = let within = known_within past next (next_in half (takes_of past)) (λ none. cc) in absurd (omega (arith, within))
+    all_new : (half : HalfMonth) (orders : List ℕ) (acts : List LinkAct) → IsDistinct nat_eq orders → AreUnknown half acts orders → AreNew acts (with_orders half orders)
+    unfolding IsDistinct
+    all_new half [] acts distinct are = tt
+    all_new half (order ∷ orders) acts distinct are =
+        (are.0, all_new half orders (Given (Provisional (with_order half order)) ∷ acts) distinct.1 (still_unknown half order orders acts distinct.0 are.1))
+
+    -- what an opening carries is new
+    pub carried_new : (past : List Deed) → AreGivenNext past → (half : HalfMonth) (given : ℕ) (carried : List ℕ) → IsFalse (is_begun half (row_acts_of past))
+        → IsOpening (record { half = half; given = given; carried = carried }) → AreNew (links_of past) (with_orders half carried)
+    carried_new past next half given carried unbegun ranges =
+        all_new half carried (links_of past) ranges.different (unbegun_unknown past next half given carried unbegun ranges.orders)

@@ -32,7 +32,8 @@ use Rattle.act_bodies.specs.declared.separate.Separate.{Separate as SeparateBody
 use Rattle.act_bodies.specs.declared.verdict.Verdict.{Verdict as VerdictBody}
 use Rattle.act_bodies.specs.declared.number.Number.{Number as NumberBody}
 use Rattle.act_bodies.specs.declared.retract.Retract.{Retract as RetractBody}
-use Rattle.act_bodies.specs.Bodies.{enrol_of, station_of, code_of, designate_of, attribute_of, release_of, identify_of, separate_of, verdict_of, number_of_body, retract_of}
+use Rattle.act_bodies.specs.declared.opening.Opening.{Opening as OpeningBody}
+use Rattle.act_bodies.specs.Bodies.{enrol_of, station_of, code_of, designate_of, attribute_of, release_of, identify_of, separate_of, verdict_of, number_of_body, retract_of, opening_of}
 use Rattle.station_tables.specs.Stations.{overlaps}
 use Rattle.station_tables.specs.Codes.{has_code}
 use Rattle.tracklet_file.specs.declared.tracklet.Tracklet.{Tracklet}
@@ -43,23 +44,23 @@ use Rattle.ades_psv.specs.Batch.{psv_lines_of}
 use Rattle.act_model.specs.declared.act.Act.{Act}
 use Rattle.act_model.specs.declared.act.Act.TheVariants as act
 use Rattle.act_model.specs.declared.deed.Deed.{Deed}
-use Rattle.act_model.specs.declared.deed.Deed.TheVariants.{Enrolled, Stationed, Coded, Submitted, Designated, Attributed, Released, Identified, Separated, Judged, Numbered, Retracted, Nothing}
+use Rattle.act_model.specs.declared.deed.Deed.TheVariants.{Enrolled, Stationed, Coded, Submitted, Designated, Attributed, Released, Identified, Separated, Judged, Numbered, Retracted, Opened, Nothing}
 use Rattle.act_model.specs.declared.entry.Entry.{Entry}
 use Rattle.act_model.specs.declared.reply.Refusal.{Refusal}
 use Rattle.act_model.specs.declared.reply.Refusal.TheVariants.{NotPrincipal, SameObject, BothNumbered, NumberedSecondary, NotSecondary}
 use Rattle.act_model.specs.declared.request.Verb.{Verb}
-use Rattle.act_model.specs.declared.request.Verb.TheVariants.{Enrol, Station, Code, Submit80, SubmitPsv, Designate, Attribute, Release, Identify, Separate, Verdict, Number, Retract, Receipt, Tally, Unknown}
+use Rattle.act_model.specs.declared.request.Verb.TheVariants.{Enrol, Station, Code, Submit80, SubmitPsv, Designate, Attribute, Release, Identify, Separate, Verdict, Number, Retract, Opening, Receipt, Tally, Unknown}
 use Rattle.act_model.specs.declared.request.Verb.TheVariants as verbs
 use Rattle.act_model.specs.declared.ruling.Ruling.{Ruling}
 use Rattle.act_model.specs.declared.seen.Seen.{Seen}
 use Rattle.act_model.specs.declared.taken.Placed.{Placed}
 use Rattle.act_model.specs.declared.taken.Taken.{Taken}
-use Rattle.act_model.specs.Acts.{read_as, enrol_act, station_act, code_act, designate_act, attribute_act, release_act, identify_act, separate_act, verdict_act, number_act, retract_act, psv_act, act_of}
+use Rattle.act_model.specs.Acts.{read_as, enrol_act, station_act, code_act, designate_act, attribute_act, release_act, identify_act, separate_act, verdict_act, number_act, retract_act, opening_act, psv_act, act_of}
 use Rattle.act_model.specs.BatchRules.{name_of, batch_rulings}
 use Rattle.act_model.specs.Deeds.{unless_refused_deed, done_if_read, deed_of, deeds}
-use Rattle.act_model.specs.Designations.{links_of, is_given, is_principal, principals, takes_of}
+use Rattle.act_model.specs.Designations.{links_of, is_given, is_principal, principals, row_acts_of, with_orders}
 use Rattle.act_model.specs.Discoveries.{seen_in, earliest, span, half_of}
-use Rattle.act_model.specs.Doing.{does, designation_row, enrol_rows, row_rows, batch_rows, retract_rows, designate_rows, object_rows, attribute_rows, release_rows, identify_rows, separate_rows, verdict_rows, number_rows, free_rows, is_numbered, eligible_after, taken_after, designates_seen}
+use Rattle.act_model.specs.Doing.{does, designation_row, enrol_rows, row_rows, batch_rows, retract_rows, opening_rows, designate_rows, object_rows, attribute_rows, release_rows, identify_rows, separate_rows, verdict_rows, number_rows, free_rows, is_numbered, eligible_after, taken_after, designates_seen}
 use Rattle.act_model.specs.Holdings.{Holdings, holdings, with_begun, with_found, with_batch, with_homes}
 use Rattle.act_model.specs.Known.{KnownOffice}
 use Rattle.act_model.specs.Knowing.{stands_for, known_of}
@@ -69,6 +70,7 @@ use Rattle.act_model.specs.Roster.{members}
 use Rattle.act_model.specs.Rows.{first_row, unless}
 use Rattle.act_model.specs.Taken.{first_home, found_in, taken_lines, tracks_with, track_of_group}
 use Rattle.act_model.specs.Verdicts.{verdicts_of}
+use Rattle.act_model.proofs.Carried.{all_keep}
 
 -- ---- what other crates say
 
@@ -295,6 +297,14 @@ module _ (equal : EqualIsSame) (stay : StayOwn) where
     numbers = All-append (NumberGiven (links_of past)) (reverse pairs) (numbers_of past) (reversed_given (links_of past) pairs fits) s.numbers;
     own = s.own;
   }
+  sound_more past (Opened half given carried) s fits =
+      let acts = links_of past in
+      let names = with_orders half carried in
+      record {
+        homes = all_keep (λ acts. HomesGiven acts (holdings past).tracklets) (λ d acts is. still_homes (Given (Provisional d)) acts (holdings past).tracklets is) names acts s.homes;
+        numbers = all_keep (λ acts. All (NumberGiven acts) (numbers_of past)) (λ d acts is. still_numbers (Given (Provisional d)) acts (numbers_of past) is) names acts s.numbers;
+        own = all_keep (λ acts. AreTheirOwn acts) (λ d acts is. stay (Given (Provisional d)) acts tt is) names acts s.own;
+      }
   sound_more past (Judged p u oppositions) s fits = record { homes = s.homes; numbers = s.numbers; own = s.own }
   sound_more past (Retracted k) s fits = record { homes = s.homes; numbers = s.numbers; own = s.own }
   sound_more past (Enrolled member) s fits = record { homes = s.homes; numbers = s.numbers; own = s.own }
@@ -350,6 +360,11 @@ module _ (equal : EqualIsSame) (stay : StayOwn) where
     retraction_fits (Some body) = fits_unless past (first_row (retract_rows (holdings past).observations body.observation)) (Retracted body.observation) (λ _. tt)
     retraction_fits None = tt
 
+    opening_fits : (read : Option OpeningBody) → Fits past (done_if_read past moment (read_as opening_act read))
+    unfolding does
+    opening_fits (Some body) = fits_unless past (first_row (opening_rows (row_acts_of past) body.half)) (Opened body.half body.given body.carried) (λ _. tt)
+    opening_fits None = tt
+
     taken_given : (lines : List Line) → BatchGiven (links_of past) (taken_after past moment lines)
     taken_given lines =
         batch_given (links_of past) (known_of past) (stands_given (links_of past) (numbers_of past) s.numbers) _ _ lines (batch_rulings (known_of past) (tables_of past) moment lines)
@@ -367,12 +382,12 @@ module _ (equal : EqualIsSame) (stay : StayOwn) where
     unfolding does
     object_fits tracklets = by (first_row (designate_rows (holdings past) tracklets)) (seen_in (holdings past).observations tracklets)
       where
-        by : (o : Option Refusal) (seen : List Seen) → Fits past (unless_refused_deed (unless o (designates_seen (takes_of past) tracklets seen)))
+        by : (o : Option Refusal) (seen : List Seen) → Fits past (unless_refused_deed (unless o (designates_seen (row_acts_of past) tracklets seen)))
         by (Some r) seen = tt
         by None [] = tt
         by None (first ∷ more) =
-            fits_unless past (first_row (object_rows (takes_of past) (span first more) (half_of (earliest first more).time)))
-            (Designated tracklets (next_in (half_of (earliest first more).time) (takes_of past)) (earliest first more).number)
+            fits_unless past (first_row (object_rows (row_acts_of past) (span first more) (half_of (earliest first more).time)))
+            (Designated tracklets (next_in (half_of (earliest first more).time) (row_acts_of past)) (earliest first more).number)
             (λ _. tt)
 
     designation_fits : (read : Option DesignateBody) → Fits past (done_if_read past moment (read_as designate_act read))
@@ -459,6 +474,7 @@ module _ (equal : EqualIsSame) (stay : StayOwn) where
     act_fits Verdict body = verdict_fits (verdict_of body)
     act_fits Number body = numbering_fits (number_of_body body)
     act_fits Retract body = retraction_fits (retract_of body)
+    act_fits Opening body = opening_fits (opening_of body)
     act_fits Receipt body = tt
     act_fits Tally body = tt
     act_fits verbs.Object body = tt

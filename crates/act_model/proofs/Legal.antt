@@ -21,7 +21,8 @@ use Rattle.act_bodies.specs.declared.separate.Separate.{Separate as SeparateBody
 use Rattle.act_bodies.specs.declared.verdict.Verdict.{Verdict as VerdictBody}
 use Rattle.act_bodies.specs.declared.number.Number.{Number as NumberBody}
 use Rattle.act_bodies.specs.declared.retract.Retract.{Retract as RetractBody}
-use Rattle.act_bodies.specs.Bodies.{enrol_of, station_of, code_of, designate_of, attribute_of, release_of, identify_of, separate_of, verdict_of, number_of_body, retract_of}
+use Rattle.act_bodies.specs.declared.opening.Opening.{Opening as OpeningBody}
+use Rattle.act_bodies.specs.Bodies.{enrol_of, station_of, code_of, designate_of, attribute_of, release_of, identify_of, separate_of, verdict_of, number_of_body, retract_of, opening_of}
 use Rattle.act_bodies.specs.Keys.{key_text, begins_with_plus}
 use Rattle.station_tables.specs.Stations.{overlaps}
 use Rattle.station_tables.specs.Codes.{has_code}
@@ -30,7 +31,7 @@ use Rattle.ades_psv.specs.Batch.{psv_lines_of}
 use Rattle.act_model.specs.declared.act.Act.{Act}
 use Rattle.act_model.specs.declared.act.Act.TheVariants as act
 use Rattle.act_model.specs.declared.deed.Deed.{Deed}
-use Rattle.act_model.specs.declared.deed.Deed.TheVariants.{Enrolled, Stationed, Coded, Submitted, Designated, Attributed, Released, Identified, Separated, Judged, Numbered, Retracted, Nothing}
+use Rattle.act_model.specs.declared.deed.Deed.TheVariants.{Enrolled, Stationed, Coded, Submitted, Designated, Attributed, Released, Identified, Separated, Judged, Numbered, Retracted, Opened, Nothing}
 use Rattle.act_model.specs.declared.entry.Entry.{Entry}
 use Rattle.act_model.specs.declared.keeper.OfficeState.{OfficeState}
 use Rattle.act_model.specs.declared.reply.Refusal.{Refusal}
@@ -39,18 +40,18 @@ use Rattle.act_model.specs.declared.reply.Reply.{Reply}
 use Rattle.act_model.specs.declared.reply.Reply.TheVariants.{Done, Refused}
 use Rattle.act_model.specs.declared.request.Request.{Request}
 use Rattle.act_model.specs.declared.request.Verb.{Verb}
-use Rattle.act_model.specs.declared.request.Verb.TheVariants.{Enrol, Station, Code, Submit80, SubmitPsv, Designate, Attribute, Release, Identify, Separate, Verdict, Number, Retract, Receipt, Tally, Object, Tracklet, Isolated, HalfMonth, Name, Catalogue, Unknown}
+use Rattle.act_model.specs.declared.request.Verb.TheVariants.{Enrol, Station, Code, Submit80, SubmitPsv, Designate, Attribute, Release, Identify, Separate, Verdict, Number, Retract, Opening, Receipt, Tally, Object, Tracklet, Isolated, HalfMonth, Name, Catalogue, Unknown}
 use Rattle.act_model.specs.declared.roster.Caller.{Caller}
 use Rattle.act_model.specs.declared.seen.Seen.{Seen}
 use Rattle.act_model.specs.declared.roster.Member.{Member}
 use Rattle.act_model.specs.Requests.{verb_code, is_act}
-use Rattle.act_model.specs.Acts.{read_as, enrol_act, station_act, code_act, designate_act, attribute_act, release_act, identify_act, separate_act, verdict_act, number_act, retract_act, psv_act, act_of}
+use Rattle.act_model.specs.Acts.{read_as, enrol_act, station_act, code_act, designate_act, attribute_act, release_act, identify_act, separate_act, verdict_act, number_act, retract_act, opening_act, psv_act, act_of}
 use Rattle.act_model.specs.OfficeTables.{tables_of}
 use Rattle.act_model.specs.Holdings.{holdings}
-use Rattle.act_model.specs.Designations.{takes_of, links_of}
+use Rattle.act_model.specs.Designations.{row_acts_of, links_of}
 use Rattle.act_model.specs.Discoveries.{seen_in, earliest, span, half_of}
 use Rattle.act_model.specs.Numbers.{numbers_of, numbered_from}
-use Rattle.act_model.specs.Doing.{enrol_rows, row_rows, batch_rows, designate_rows, object_rows, attribute_rows, release_rows, identify_rows, separate_rows, verdict_rows, number_rows, retract_rows, designates_seen, eligible_after, taken_after, does}
+use Rattle.act_model.specs.Doing.{enrol_rows, row_rows, batch_rows, designate_rows, object_rows, attribute_rows, release_rows, identify_rows, separate_rows, verdict_rows, number_rows, retract_rows, opening_rows, designates_seen, eligible_after, taken_after, does}
 use Rattle.act_model.specs.Roster.{members, with_enrolled, caller_of, key_at}
 use Rattle.act_model.specs.Deeds.{unless_refused_deed, done_if_read, deed_of, deeds}
 use Rattle.act_model.specs.History.{Kept, kept, next_moment, next_receipt, is_numbered, IsUnused, EachNumberOnce}
@@ -183,7 +184,7 @@ module _ (founder : Key) where
           adds_entry past e (added_own founder limit past q t e a founder (caller_again founder (members (deeds past)) q.key a.heard.caller h.caller)),
         )
 
-    legal_added : (past : List Entry) (q : Request) (t : ℤ) (e : Entry) → IsInstantNs t → IsLegal founder past → outcome founder limit past q t ≡ Adds e → IsLegal founder (e ∷ past)
+    pub legal_added : (past : List Entry) (q : Request) (t : ℤ) (e : Entry) → IsInstantNs t → IsLegal founder past → outcome founder limit past q t ≡ Adds e → IsLegal founder (e ∷ past)
     legal_added past q t e instant legal is = (legal_more past q t e legal instant (adds founder limit past q t e is), legal)
 
     legal_made : (past : List Entry) (q : Request) (t : ℤ) (reply : Reply) (next : List Entry) → IsLegal founder past → IsInstantNs t → Makes past (outcome founder limit past q t) reply next → IsLegal founder next
@@ -282,7 +283,7 @@ module _ (founder : Key) (past : List Deed) (moment : ℤ) (key : Key) (caller :
   deed_keeps_callers (act.Submit80 lines) deed is = by_deed (first_row (batch_rows (taken_after past moment lines))) (Submitted (taken_after past moment lines)) deed found is
   deed_keeps_callers (act.SubmitPsv lines) deed is = by_deed (first_row (batch_rows (taken_after past moment lines))) (Submitted (taken_after past moment lines)) deed found is
   deed_keeps_callers (act.Designate tracklets) deed is =
-      let d = designated (holdings past) (takes_of past) tracklets deed is in
+      let d = designated (holdings past) (row_acts_of past) tracklets deed is in
       subst keeps_caller d.deed_is found
   deed_keeps_callers (act.Attribute t to) deed is = by_deed (first_row (attribute_rows (holdings past) (links_of past) t to)) (Attributed t to) deed found is
   deed_keeps_callers (act.Release t) deed is = by_deed (first_row (release_rows (holdings past) t)) (Released t) deed found is
@@ -290,6 +291,7 @@ module _ (founder : Key) (past : List Deed) (moment : ℤ) (key : Key) (caller :
   deed_keeps_callers (act.Separate s) deed is = by_deed (first_row (separate_rows (links_of past) s)) (Separated s) deed found is
   deed_keeps_callers (act.Verdict d u oppositions) deed is = by_deed (first_row (verdict_rows (links_of past) d)) (Judged d u oppositions) deed found is
   deed_keeps_callers (act.Number first most) deed is = by_deed (first_row (number_rows (numbers_of past) first most (eligible_after past))) (Numbered (numbered_from first (take most (eligible_after past)))) deed found is
+  deed_keeps_callers (act.Opening half given carried) deed is = by_deed (first_row (opening_rows (row_acts_of past) half)) (Opened half given carried) deed found is
   deed_keeps_callers (act.Retract k) deed is = by_deed (first_row (retract_rows (holdings past).observations k)) (Retracted k) deed found is
 
 module _ (founder : Key) where
@@ -444,14 +446,19 @@ module _ (plain : Plain) (past : List Deed) (moment : ℤ) where
   retraction_plain (Some retract) = plain_unless (first_row (retract_rows (holdings past).observations retract.observation)) (Retracted retract.observation) tt
   retraction_plain None = tt
 
+  opening_plain : (read : Option OpeningBody) → IsPlain (done_if_read past moment (read_as opening_act read))
+  unfolding does
+  opening_plain (Some opening) = plain_unless (first_row (opening_rows (row_acts_of past) opening.half)) (Opened opening.half opening.given opening.carried) tt
+  opening_plain None = tt
+
   plain_designation : (tracklets : List ℕ) → is_plain_act (act.Designate tracklets)
   unfolding does
   plain_designation tracklets = by (first_row (designate_rows (holdings past) tracklets)) (seen_in (holdings past).observations tracklets)
     where
-      by : (o : Option Refusal) (seen : List Seen) → IsPlain (unless_refused_deed (unless o (designates_seen (takes_of past) tracklets seen)))
+      by : (o : Option Refusal) (seen : List Seen) → IsPlain (unless_refused_deed (unless o (designates_seen (row_acts_of past) tracklets seen)))
       by (Some r) seen = tt
       by None [] = tt
-      by None (first ∷ more) = plain_unless (first_row (object_rows (takes_of past) (span first more) (half_of (earliest first more).time))) (Designated tracklets (next_in (half_of (earliest first more).time) (takes_of past)) (earliest first more).number) tt
+      by None (first ∷ more) = plain_unless (first_row (object_rows (row_acts_of past) (span first more) (half_of (earliest first more).time))) (Designated tracklets (next_in (half_of (earliest first more).time) (row_acts_of past)) (earliest first more).number) tt
 
   designation_plain : (read : Option DesignateBody) → IsPlain (done_if_read past moment (read_as designate_act read))
   designation_plain (Some body) = plain_designation body.tracklets
@@ -501,6 +508,7 @@ module _ (plain : Plain) (past : List Deed) (moment : ℤ) where
   act_plain Separate body = separation_plain (separate_of body)
   act_plain Verdict body = verdict_plain (verdict_of body)
   act_plain Number body = numbering_plain (number_of_body body)
+  act_plain Opening body = opening_plain (opening_of body)
   act_plain Retract body = retraction_plain (retract_of body)
   act_plain Receipt body = tt
   act_plain Tally body = tt
@@ -524,6 +532,7 @@ with_plain (Identified p s) enrolled plain others = others
 with_plain (Separated s) enrolled plain others = others
 with_plain (Judged p u oppositions) enrolled plain others = others
 with_plain (Numbered pairs) enrolled plain others = others
+with_plain (Opened half given carried) enrolled plain others = others
 with_plain (Retracted k) enrolled plain others = others
 with_plain Nothing enrolled plain others = others
 

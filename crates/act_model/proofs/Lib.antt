@@ -8,10 +8,13 @@ pub mod Places
 mod Designating
 mod DiskFaults
 mod Acknowledged
+mod Worlds
 mod RowLemmas
 mod DeedCases
 mod TakenWith
 mod Years
+mod InRange
+mod Carried
 mod Given
 mod Halves
 mod Numbered

@@ -1,28 +1,32 @@
 -- Every designation that was given is one that its half-month has, and every number one that a minor planet can have.
-use Rattle.std.proofs.Common.{◌≡◌, ℕ, List, [], ◌∷◌, Bool, true, false, cond, eqb, Option, Some, None, option_map, refl, subst, ◌∙◌}
+use Rattle.std.proofs.Common.{◌≡◌, ℕ, ◌≤◌, List, [], ◌∷◌, Bool, true, false, cond, eqb, Option, Some, None, option_map, refl, subst, ◌∙◌, arith}
 use Rattle.std.specs.Prelude.{is_some, IsTrue}
+use Rattle.std.specs.List.{AllByRecursion}
 use Rattle.std.specs.Ordering.{eq_by_cmp}
 use Rattle.std.proofs.lemmas.Bool.{eqb-true}
+use Rattle.packed_names.specs.declared.half_month.HalfMonth.{HalfMonth}
 use Rattle.packed_names.specs.declared.name.Designation.{Designation}
 use Rattle.packed_names.specs.declared.name.Designation.TheVariants.{Provisional}
 use Rattle.packed_names.specs.declared.number.Number.{Number}
 use Rattle.packed_names.specs.Order.{designation_cmp}
-use Rattle.packed_names.specs.Ranges.{IsNumber, IsDesignation}
+use Rattle.packed_names.specs.Ranges.{IsHalfMonth, IsNumber, IsDesignation, limit_of}
+use Rattle.designate_core.specs.Unbroken.{NoneBeforeBegun, CountsGrow}
 use Rattle.identify_core.specs.Acts.{LinkAct, is_principal_of, principal_after, principal}
 use Rattle.identify_core.specs.Acts.LinkAct.{Given, Joined, Parted}
 use Rattle.numbering_core.specs.declared.numbering.Numbering.{Numbering}
 use Rattle.numbering_core.specs.Numbers.{number_of, named, IsUnbroken}
 use Rattle.act_model.specs.declared.deed.Deed.{Deed}
-use Rattle.act_model.specs.declared.deed.Deed.TheVariants.{Enrolled, Stationed, Coded, Submitted, Designated, Attributed, Released, Identified, Separated, Judged, Numbered, Retracted, Nothing}
+use Rattle.act_model.specs.declared.deed.Deed.TheVariants.{Enrolled, Stationed, Coded, Submitted, Designated, Attributed, Released, Identified, Separated, Judged, Numbered, Retracted, Opened, Nothing}
 use Rattle.act_model.specs.declared.entry.Entry.{Entry}
 use Rattle.act_model.specs.Deeds.{deeds}
-use Rattle.act_model.specs.Designations.{with_link, links_of, is_given}
+use Rattle.act_model.specs.Designations.{with_order, with_orders, with_all_given, with_link, links_of, is_given}
 use Rattle.act_model.specs.Fitting.{FitsObjects}
 use Rattle.act_model.specs.Numbers.{numbers_of}
 use Rattle.act_model.proofs.DeedCases.{deed_cases}
-use Rattle.act_model.proofs.Fits.{AllAscend, AreFirst, deed_fits, numbers_unbroken}
+use Rattle.act_model.proofs.Fits.{AllAscend, deed_fits, numbers_unbroken}
 use Rattle.act_model.proofs.Given.{AreSame, IsItself}
 use Rattle.act_model.proofs.Homes.{EqualIsSame, StayOwn, HomeGiven, named_given, sound}
+use Rattle.act_model.proofs.InRange.{AreFirst, AreOpenings}
 
 -- ---- principals
 
@@ -68,8 +72,18 @@ module _ (same : AreSame) where
   parted_more : (acts : List LinkAct) (s : Designation) → IsDesignation s → AreDesignations acts → AreDesignations (Parted s ∷ acts)
   parted_more acts s name all = λ d q is. parted_by acts s d q (eq_by_cmp designation_cmp d s) (principal acts d) refl name all is
 
+  carried_more : (half : HalfMonth) (given : ℕ) (orders : List ℕ) (acts : List LinkAct) → IsHalfMonth half → given ≤ limit_of half → AllByRecursion (λ order. (1 ≤ order) × (order ≤ given)) orders
+      → AreDesignations acts → AreDesignations (with_all_given (with_orders half orders) acts)
+  carried_more half given [] acts is most are all = all
+  carried_more half given (order ∷ orders) acts is most are all =
+      let name : IsDesignation (Provisional (with_order half order)) = record { half = is; order_from = are.0.0; order_to = omega (arith, are.0.1, most) } in
+      carried_more half given orders (Given (Provisional (with_order half order)) ∷ acts) is most are.1 (given_more acts (Provisional (with_order half order)) name all)
+
   linked : (past : List Deed) (deed : Deed) → AreDesignations (links_of past) → FitsObjects past deed → AreDesignations (with_link deed (links_of past))
   linked past (Designated tracklets given discovery) before fits = (let new = fits.1 in given_more (links_of past) (Provisional given) new.name before)
+  linked past (Opened half given carried) before fits =
+      let ranges = fits.ranges in
+      carried_more half given carried (links_of past) ranges.half ranges.given_to ranges.orders before
   linked past (Identified p s) before fits = joined_more (links_of past) p s (before p p fits.0).0 before
   linked past (Separated s) before fits = parted_more (links_of past) s (given_is (links_of past) s before fits.0) before
   linked past (Enrolled member) before fits = before
@@ -103,13 +117,13 @@ number_named (newest ∷ past) n d unbroken found = by (eqb newest.number.0 n) r
 
 -- ---- histories
 
-module _ (same : AreSame) (itself : IsItself) (up : AllAscend) (firsts : AreFirst) where
+module _ (same : AreSame) (itself : IsItself) (none : NoneBeforeBegun) (grow : CountsGrow) (up : AllAscend) (firsts : AreFirst) (openings : AreOpenings) where
   all_designations : (history : List Entry) → AreDesignations (links_of (deeds history))
   all_designations [] = λ d p none. absurd cc
   all_designations (e ∷ past) =
       let before = all_designations past in
       deed_cases (λ (deed : Deed). AreDesignations (with_link deed (links_of (deeds past)))) (deeds past) e before
-      (λ a deed read done. linked same (deeds past) deed before (deed_fits same itself up firsts past e a deed read done))
+      (λ a deed read done. linked same (deeds past) deed before (deed_fits same itself none grow up firsts openings past e a deed read done))
 
   pub given_named : (history : List Entry) (d : Designation) → is_given (links_of (deeds history)) d ≡ true → IsDesignation d
   given_named history d given = given_is (links_of (deeds history)) d (all_designations history) given
@@ -118,10 +132,10 @@ module _ (same : AreSame) (itself : IsItself) (up : AllAscend) (firsts : AreFirs
   principal_named history d p is = (all_designations history d p is).1
 
   pub number_is : (history : List Entry) (d : Designation) (n : Number) → number_of (numbers_of (deeds history)) d ≡ Some n → IsNumber n.0
-  number_is history d n found = number_known (numbers_of (deeds history)) d n (numbers_unbroken same itself up firsts history) found
+  number_is history d n found = number_known (numbers_of (deeds history)) d n (numbers_unbroken same itself none grow up firsts openings history) found
 
   pub numbered_is : EqualIsSame → StayOwn → (history : List Entry) (n : ℕ) (d : Designation) → named (numbers_of (deeds history)) n ≡ Some d → IsNumber n × IsDesignation d
   numbered_is equal stay history n d found =
       let s = sound equal stay history in
       let given : HomeGiven (links_of (deeds history)) (Some d) = subst (HomeGiven (links_of (deeds history))) found (named_given (links_of (deeds history)) (numbers_of (deeds history)) n s.numbers) in
-      (number_named (numbers_of (deeds history)) n d (numbers_unbroken same itself up firsts history) found, given_named history d given)
+      (number_named (numbers_of (deeds history)) n d (numbers_unbroken same itself none grow up firsts openings history) found, given_named history d given)

@@ -16,7 +16,7 @@ use Rattle.tracklet_file.specs.Tracklets.{with_tracklet, with_home}
 use Rattle.act_model.specs.declared.act.Act.{Act}
 use Rattle.act_model.specs.declared.act.Act.TheVariants as act
 use Rattle.act_model.specs.declared.deed.Deed.{Deed}
-use Rattle.act_model.specs.declared.deed.Deed.TheVariants.{Enrolled, Stationed, Coded, Submitted, Attributed, Released, Identified, Separated, Judged, Numbered, Retracted}
+use Rattle.act_model.specs.declared.deed.Deed.TheVariants.{Enrolled, Stationed, Coded, Submitted, Attributed, Released, Identified, Separated, Judged, Numbered, Retracted, Opened}
 use Rattle.act_model.specs.declared.entry.Entry.{Entry}
 use Rattle.act_model.specs.declared.reply.Refusal.{Refusal}
 use Rattle.act_model.specs.declared.ruling.Ruling.{Ruling}
@@ -24,8 +24,8 @@ use Rattle.act_model.specs.declared.taken.Placed.{Placed}
 use Rattle.act_model.specs.declared.taken.Taken.{Taken}
 use Rattle.act_model.specs.BatchRules.{name_of, batch_rulings}
 use Rattle.act_model.specs.Deeds.{deeds}
-use Rattle.act_model.specs.Designations.{takes_of, links_of}
-use Rattle.act_model.specs.Doing.{enrol_rows, row_rows, batch_rows, attribute_rows, release_rows, identify_rows, separate_rows, verdict_rows, number_rows, retract_rows, eligible_after, taken_after, does}
+use Rattle.act_model.specs.Designations.{row_acts_of, links_of}
+use Rattle.act_model.specs.Doing.{enrol_rows, row_rows, batch_rows, attribute_rows, release_rows, identify_rows, separate_rows, verdict_rows, number_rows, retract_rows, opening_rows, eligible_after, taken_after, does}
 use Rattle.act_model.specs.Holdings.{Holdings, with_found, with_batch, with_homes, with_deed, holdings}
 use Rattle.act_model.specs.Knowing.{known_of}
 use Rattle.act_model.specs.Known.{KnownOffice}
@@ -152,7 +152,7 @@ module _ (past : List Deed) (moment : ℤ) (all : AreThere (length (holdings pas
   act_keeps (act.Submit80 lines) deed is = keeps_unless (first_row (batch_rows (taken_after past moment lines))) (Submitted (taken_after past moment lines)) deed (submit_keeps lines) is
   act_keeps (act.SubmitPsv lines) deed is = keeps_unless (first_row (batch_rows (taken_after past moment lines))) (Submitted (taken_after past moment lines)) deed (submit_keeps lines) is
   act_keeps (act.Designate tracklets) deed is =
-      let d = designated (holdings past) (takes_of past) tracklets deed is in
+      let d = designated (holdings past) (row_acts_of past) tracklets deed is in
       subst keeps d.deed_is (homed _ (length-with_homes (holdings past).tracklets tracklets _))
   act_keeps (act.Attribute t to) deed is = keeps_unless (first_row (attribute_rows (holdings past) (links_of past) t to)) (Attributed t to) deed (homed (with_home (holdings past).tracklets t (Some to)) (length-with_home (holdings past).tracklets t (Some to))) is
   act_keeps (act.Release t) deed is = keeps_unless (first_row (release_rows (holdings past) t)) (Released t) deed (homed (with_home (holdings past).tracklets t None) (length-with_home (holdings past).tracklets t None)) is
@@ -160,6 +160,7 @@ module _ (past : List Deed) (moment : ℤ) (all : AreThere (length (holdings pas
   act_keeps (act.Separate s) deed is = keeps_unless (first_row (separate_rows (links_of past) s)) (Separated s) deed all is
   act_keeps (act.Verdict d u oppositions) deed is = keeps_unless (first_row (verdict_rows (links_of past) d)) (Judged d u oppositions) deed all is
   act_keeps (act.Number first most) deed is = keeps_unless (first_row (number_rows (numbers_of past) first most (eligible_after past))) (Numbered (numbered_from first (take most (eligible_after past)))) deed all is
+  act_keeps (act.Opening half given carried) deed is = keeps_unless (first_row (opening_rows (row_acts_of past) half)) (Opened half given carried) deed all is
   act_keeps (act.Retract k) deed is = keeps_unless (first_row (retract_rows (holdings past).observations k)) (Retracted k) deed (there_retracted (length (holdings past).tracklets) (holdings past).observations k all) is
 
 -- ---- histories

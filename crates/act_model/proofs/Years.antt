@@ -13,7 +13,7 @@ use Rattle.tracklet_file.specs.Observations.{with_retraction}
 use Rattle.act_model.specs.declared.act.Act.{Act}
 use Rattle.act_model.specs.declared.act.Act.TheVariants as act
 use Rattle.act_model.specs.declared.deed.Deed.{Deed}
-use Rattle.act_model.specs.declared.deed.Deed.TheVariants.{Enrolled, Stationed, Coded, Submitted, Attributed, Released, Identified, Separated, Judged, Numbered, Retracted}
+use Rattle.act_model.specs.declared.deed.Deed.TheVariants.{Enrolled, Stationed, Coded, Submitted, Attributed, Released, Identified, Separated, Judged, Numbered, Retracted, Opened}
 use Rattle.act_model.specs.declared.entry.Entry.{Entry}
 use Rattle.act_model.specs.declared.reply.Refusal.{Refusal}
 use Rattle.act_model.specs.declared.taken.Placed.{Placed}
@@ -26,9 +26,9 @@ use Rattle.act_model.specs.Taken.{track_of_group, found_in, tracks_with, taken_l
 use Rattle.act_model.specs.Roster.{members}
 use Rattle.act_model.specs.OfficeTables.{tables_of}
 use Rattle.act_model.specs.Holdings.{Holdings, with_found, with_batch, with_deed, holdings}
-use Rattle.act_model.specs.Designations.{takes_of, links_of}
+use Rattle.act_model.specs.Designations.{row_acts_of, links_of}
 use Rattle.act_model.specs.Numbers.{numbers_of, numbered_from}
-use Rattle.act_model.specs.Doing.{enrol_rows, row_rows, batch_rows, attribute_rows, release_rows, identify_rows, separate_rows, verdict_rows, number_rows, retract_rows, eligible_after, taken_after, does}
+use Rattle.act_model.specs.Doing.{enrol_rows, row_rows, batch_rows, attribute_rows, release_rows, identify_rows, separate_rows, verdict_rows, number_rows, retract_rows, opening_rows, eligible_after, taken_after, does}
 use Rattle.act_model.specs.Deeds.{deeds}
 use Rattle.act_model.proofs.DeedCases.{deed_cases}
 use Rattle.act_model.proofs.Designating.{designated}
@@ -129,7 +129,7 @@ module _ (past : List Deed) (moment : ℤ) (all : AreInYears (holdings past).obs
   act_years (act.Submit80 lines) deed is = years_unless (first_row (batch_rows (taken_after past moment lines))) (Submitted (taken_after past moment lines)) deed (submit_years lines) is
   act_years (act.SubmitPsv lines) deed is = years_unless (first_row (batch_rows (taken_after past moment lines))) (Submitted (taken_after past moment lines)) deed (submit_years lines) is
   act_years (act.Designate tracklets) deed is =
-      let d = designated (holdings past) (takes_of past) tracklets deed is in
+      let d = designated (holdings past) (row_acts_of past) tracklets deed is in
       subst keeps_years d.deed_is all
   act_years (act.Attribute t to) deed is = years_unless (first_row (attribute_rows (holdings past) (links_of past) t to)) (Attributed t to) deed all is
   act_years (act.Release t) deed is = years_unless (first_row (release_rows (holdings past) t)) (Released t) deed all is
@@ -137,6 +137,7 @@ module _ (past : List Deed) (moment : ℤ) (all : AreInYears (holdings past).obs
   act_years (act.Separate s) deed is = years_unless (first_row (separate_rows (links_of past) s)) (Separated s) deed all is
   act_years (act.Verdict d u oppositions) deed is = years_unless (first_row (verdict_rows (links_of past) d)) (Judged d u oppositions) deed all is
   act_years (act.Number first most) deed is = years_unless (first_row (number_rows (numbers_of past) first most (eligible_after past))) (Numbered (numbered_from first (take most (eligible_after past)))) deed all is
+  act_years (act.Opening half given carried) deed is = years_unless (first_row (opening_rows (row_acts_of past) half)) (Opened half given carried) deed all is
   act_years (act.Retract k) deed is = years_unless (first_row (retract_rows (holdings past).observations k)) (Retracted k) deed (years_retracted (holdings past).observations k all) is
 
 -- ---- histories

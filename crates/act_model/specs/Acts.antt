@@ -12,8 +12,10 @@ use Rattle.act_bodies.specs.declared.separate.Separate.{Separate as SeparateBody
 use Rattle.act_bodies.specs.declared.verdict.Verdict.{Verdict as VerdictBody}
 use Rattle.act_bodies.specs.declared.number.Number.{Number as NumberBody}
 use Rattle.act_bodies.specs.declared.retract.Retract.{Retract as RetractBody}
+use Rattle.act_bodies.specs.declared.opening.Opening.{Opening as OpeningBody}
 use Rattle.act_bodies.specs.Bodies.{enrol_of, station_of, code_of, designate_of, attribute_of, release_of, identify_of}
-use Rattle.act_bodies.specs.Bodies.{separate_of, verdict_of, number_of_body, retract_of}
+use Rattle.act_bodies.specs.Bodies.{separate_of, verdict_of, number_of_body, retract_of, opening_of}
+use Rattle.act_bodies.specs.Bodies.{IsOpening}
 use Rattle.obs_record.specs.declared.line.Line.{Line}
 use Rattle.obs_record.specs.declared.rule.HeaderFault.{HeaderFault}
 use Rattle.col80_format.specs.Batch.{lines_of}
@@ -22,8 +24,8 @@ use Rattle.act_model.specs.Queries.{IsReadQuery}
 use Rattle.act_model.specs.declared.request.Verb.{Verb}
 use Rattle.act_model.specs.declared.request.Verb.TheVariants.{Enrol, Station, Code, Submit80, SubmitPsv, Designate}
 use Rattle.act_model.specs.declared.request.Verb.TheVariants.{Attribute, Release, Identify, Separate, Verdict, Number}
-use Rattle.act_model.specs.declared.request.Verb.TheVariants.{Retract, Receipt, Tally, Object, Tracklet, Isolated}
-use Rattle.act_model.specs.declared.request.Verb.TheVariants.{HalfMonth, Name, Catalogue, Unknown}
+use Rattle.act_model.specs.declared.request.Verb.TheVariants.{Retract, Opening, Receipt, Tally, Object, Tracklet}
+use Rattle.act_model.specs.declared.request.Verb.TheVariants.{Isolated, HalfMonth, Name, Catalogue, Unknown}
 use Rattle.act_model.specs.declared.act.Act.{Act}
 use Rattle.act_model.specs.declared.act.Act.TheVariants as act
 use Rattle.act_model.specs.declared.heard.Asked.{Asked}
@@ -69,6 +71,9 @@ number_act body = act.Number body.first body.most
 abbrev pub retract_act : RetractBody → Act
 retract_act body = act.Retract body.observation
 
+abbrev pub opening_act : OpeningBody → Act
+opening_act body = act.Opening body.half body.given body.carried
+
 -- a batch in PSV form, or the first fault of its headers
 abbrev pub psv_act : Result (List Line) (HeaderFault × ℕ) → Result Act ActFault
 psv_act (Ok lines) = Ok (act.SubmitPsv lines)
@@ -91,6 +96,7 @@ act_of Separate body = read_as separate_act (separate_of body)
 act_of Verdict body = read_as verdict_act (verdict_of body)
 act_of Number body = read_as number_act (number_of_body body)
 act_of Retract body = read_as retract_act (retract_of body)
+act_of Opening body = read_as opening_act (opening_of body)
 act_of Receipt body = Err Unread
 act_of Tally body = Err Unread
 act_of Object body = Err Unread
@@ -102,11 +108,13 @@ act_of Catalogue body = Err Unread
 act_of Unknown body = Err Unread
 
 -- What reading a body makes sure of: a station's last day isn't before its first; the tracklets that are to become an
--- object are one at least, and at most 100; and so many numbers are asked for, from a number that can be given.
+-- object are one at least, and at most 100; so many numbers are asked for, from a number that can be given; and a
+-- half-month is taken over with a count that it can have, and with at most 100 different orders up to this count.
 abbrev pub IsRead : Act → Type 0
 IsRead (act.Station code name from to) = from ≤ℤ to
 IsRead (act.Designate tracklets) = (1 ≤ length tracklets) × (length tracklets ≤ 100)
 IsRead (act.Number first most) = IsNumber first × (1 ≤ most) × (most ≤ 1000)
+IsRead (act.Opening half given carried) = IsOpening (record { half = half; given = given; carried = carried })
 IsRead _ = Unit {0}
 
 abbrev pub IsReadAsked : Asked → Type 0

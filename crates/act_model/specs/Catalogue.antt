@@ -16,7 +16,7 @@ use Rattle.tracklet_file.specs.Tracklets.{name_of_track}
 use Rattle.act_model.specs.declared.deed.Deed.{Deed}
 use Rattle.act_model.specs.declared.entry.Entry.{Entry}
 use Rattle.act_model.specs.Deeds.{deeds}
-use Rattle.act_model.specs.Designations.{takes_of, links_of, principals}
+use Rattle.act_model.specs.Designations.{row_acts_of, links_of, principals}
 use Rattle.act_model.specs.Holdings.{holdings}
 use Rattle.act_model.specs.Numbers.{numbers_of}
 use Rattle.act_model.specs.OfficeTables.{tables_of}
@@ -46,9 +46,9 @@ others past p = filter (λ d. not (eq_by_cmp designation_cmp d p)) (members (lin
 abbrev pub also_line : Designation → List ℕ
 also_line d = line_of (codes "also " ++ designation_text d)
 
--- the observation by which the object with this designation was discovered
+-- the observation by which the object with this designation was discovered; a designation that was carried has none
 abbrev pub is_discovery : List Deed → Designation → ℕ → Bool
-is_discovery past p k = option_map_or (λ discovery. discovery == k) (discovery_of p (takes_of past)) false
+is_discovery past p k = option_map_or (λ discovery. discovery == k) (discovery_of p (row_acts_of past)) false
 
 -- columns 1 to 13: the object's number, its principal designation as it is packed, and an asterisk for its discovery
 abbrev pub object_front : List Deed → Designation → ℕ → Front

@@ -9,7 +9,7 @@ use Rattle.packed_names.specs.declared.half_month.HalfMonth.{HalfMonth}
 use Rattle.packed_names.specs.declared.name.Designation.{Designation}
 use Rattle.packed_names.specs.Order.{designation_cmp}
 use Rattle.packed_names.specs.Ranges.{limit_of}
-use Rattle.designate_core.specs.Takes.{Take, given_in, next_in}
+use Rattle.designate_core.specs.Takes.{RowAct, given_in, is_begun, next_in}
 use Rattle.identify_core.specs.Acts.{LinkAct}
 use Rattle.numbering_core.specs.declared.numbering.Numbering.{Numbering}
 use Rattle.numbering_core.specs.Numbers.{number_of, next_number}
@@ -29,13 +29,14 @@ use Rattle.act_model.specs.declared.act.Act.TheVariants as act
 use Rattle.act_model.specs.declared.deed.Deed.{Deed}
 use Rattle.act_model.specs.declared.deed.Deed.TheVariants.{Enrolled, Stationed, Coded, Submitted, Designated}
 use Rattle.act_model.specs.declared.deed.Deed.TheVariants.{Attributed, Released, Identified, Separated, Judged}
-use Rattle.act_model.specs.declared.deed.Deed.TheVariants.{Numbered, Retracted}
+use Rattle.act_model.specs.declared.deed.Deed.TheVariants.{Numbered, Retracted, Opened}
 use Rattle.act_model.specs.declared.reply.Refusal.{Refusal}
 use Rattle.act_model.specs.declared.reply.Refusal.TheVariants.{Unread, UnknownThing, NoLine, NotIsolated, NotHomed}
-use Rattle.act_model.specs.declared.reply.Refusal.TheVariants.{Empty, OneNight, HalfMonthFull, NotPrincipal, SameObject}
-use Rattle.act_model.specs.declared.reply.Refusal.TheVariants.{BothNumbered, NumberedSecondary, NotSecondary}
-use Rattle.act_model.specs.declared.reply.Refusal.TheVariants.{AlreadyRetracted, NotNext, NoneEligible, NumbersFull}
-use Rattle.act_model.specs.declared.reply.Refusal.TheVariants.{AlreadyThere, RosterFull}
+use Rattle.act_model.specs.declared.reply.Refusal.TheVariants.{Empty, OneNight, HalfMonthFull, HalfMonthBegun}
+use Rattle.act_model.specs.declared.reply.Refusal.TheVariants.{NotPrincipal, SameObject, BothNumbered}
+use Rattle.act_model.specs.declared.reply.Refusal.TheVariants.{NumberedSecondary, NotSecondary, AlreadyRetracted}
+use Rattle.act_model.specs.declared.reply.Refusal.TheVariants.{NotNext, NoneEligible, NumbersFull, AlreadyThere}
+use Rattle.act_model.specs.declared.reply.Refusal.TheVariants.{RosterFull}
 use Rattle.act_model.specs.declared.reply.Part.TheVariants as part
 use Rattle.act_model.specs.declared.reply.Thing.TheVariants as thing
 use Rattle.act_model.specs.declared.roster.Member.{Member}
@@ -48,7 +49,7 @@ use Rattle.act_model.specs.OfficeTables.{tables_of}
 use Rattle.act_model.specs.BatchRules.{batch_rulings}
 use Rattle.act_model.specs.Taken.{taken_lines, accepted_in, faults_in}
 use Rattle.act_model.specs.Holdings.{Holdings, holdings}
-use Rattle.act_model.specs.Designations.{takes_of, links_of, is_given, is_principal}
+use Rattle.act_model.specs.Designations.{row_acts_of, links_of, is_given, is_principal}
 use Rattle.act_model.specs.Discoveries.{seen_of, seen_in, earliest, span, half_of}
 use Rattle.act_model.specs.Verdicts.{verdicts_of}
 use Rattle.act_model.specs.Numbers.{numbers_of, eligible, numbered_from, last_number}
@@ -95,11 +96,15 @@ abbrev pub half_a_day : ℕ
 half_a_day = 43200000000000
 
 -- an object that is observed over this time and was discovered in this half-month
-abbrev pub object_rows : List Take → ℤ → HalfMonth → List (Bool × Refusal)
-object_rows takes time half =
+abbrev pub object_rows : List RowAct → ℤ → HalfMonth → List (Bool × Refusal)
+object_rows rows time half =
     (int_lt time (pos half_a_day), OneNight time)
-    ∷ (not (nat_lt (given_in half takes) (limit_of half)), HalfMonthFull half (limit_of half))
+    ∷ (not (nat_lt (given_in half rows) (limit_of half)), HalfMonthFull half (limit_of half))
     ∷ []
+
+-- a half-month that is to be taken over: it wasn't taken over before, and no designation was given in it
+abbrev pub opening_rows : List RowAct → HalfMonth → List (Bool × Refusal)
+opening_rows rows half = (is_begun half rows, HalfMonthBegun half) ∷ []
 
 -- a tracklet that is to be added to an object, and one that is to be taken out
 abbrev pub attribute_rows : Holdings → List LinkAct → ℕ → Designation → List (Bool × Refusal)
@@ -176,16 +181,21 @@ retracts observations k = unless (first_row (retract_rows observations k)) (Ok (
 
 -- An object of these tracklets, where these are their live observations: it gets the next designation of the half-month
 -- in which the earliest one was made. Each tracklet has one, and an act names a tracklet at least.
-abbrev pub designates_seen : List Take → List ℕ → List Seen → Result Deed Refusal
-designates_seen takes tracklets [] = Err (Unread part.Body)
-designates_seen takes tracklets (first ∷ more) =
-    unless (first_row (object_rows takes (span first more) (half_of (earliest first more).time)))
-    (Ok (Designated tracklets (next_in (half_of (earliest first more).time) takes) (earliest first more).number))
+abbrev pub designates_seen : List RowAct → List ℕ → List Seen → Result Deed Refusal
+designates_seen rows tracklets [] = Err (Unread part.Body)
+designates_seen rows tracklets (first ∷ more) =
+    unless (first_row (object_rows rows (span first more) (half_of (earliest first more).time)))
+    (Ok (Designated tracklets (next_in (half_of (earliest first more).time) rows) (earliest first more).number))
 
-abbrev pub designates : Holdings → List Take → List ℕ → Result Deed Refusal
-designates held takes tracklets =
+abbrev pub designates : Holdings → List RowAct → List ℕ → Result Deed Refusal
+designates held rows tracklets =
     unless (first_row (designate_rows held tracklets))
-    (designates_seen takes tracklets (seen_in held.observations tracklets))
+    (designates_seen rows tracklets (seen_in held.observations tracklets))
+
+-- A half-month is taken over, in which so many designations were given elsewhere. Those with these orders become
+-- objects.
+abbrev pub opens : List RowAct → HalfMonth → (given : ℕ) (carried : List ℕ) → Result Deed Refusal
+opens rows half given carried = unless (first_row (opening_rows rows half)) (Ok (Opened half given carried))
 
 -- a tracklet comes into an object, and out of one
 abbrev pub attributes : Holdings → List LinkAct → ℕ → Designation → Result Deed Refusal
@@ -228,7 +238,7 @@ does past moment (act.Station code name from to) = enters_station (tables_of pas
 does past moment (act.Code kind letter word) = enters_code (tables_of past) kind letter word
 does past moment (act.Submit80 lines) = submits (taken_after past moment lines)
 does past moment (act.SubmitPsv lines) = submits (taken_after past moment lines)
-does past moment (act.Designate tracklets) = designates (holdings past) (takes_of past) tracklets
+does past moment (act.Designate tracklets) = designates (holdings past) (row_acts_of past) tracklets
 does past moment (act.Attribute t to) = attributes (holdings past) (links_of past) t to
 does past moment (act.Release t) = releases (holdings past) t
 does past moment (act.Identify p s) = identifies (links_of past) (numbers_of past) p s
@@ -236,3 +246,4 @@ does past moment (act.Separate s) = separates (links_of past) s
 does past moment (act.Verdict d u oppositions) = judges (links_of past) d u oppositions
 does past moment (act.Number first most) = numbers (numbers_of past) first most (eligible_after past)
 does past moment (act.Retract k) = retracts (holdings past).observations k
+does past moment (act.Opening half given carried) = opens (row_acts_of past) half given carried

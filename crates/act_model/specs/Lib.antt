@@ -36,4 +36,5 @@ pub mod Turns
 pub mod Clocks
 pub mod Keepers
 pub mod Conducts
+pub mod Worlds
 pub mod Legal

@@ -3,13 +3,12 @@ use Rattle.std.specs.Prelude.{ℕ, ◌==◌, if◌then◌else◌, List, [], ◌�
 use Rattle.std.specs.Option.{option_or}
 use Rattle.std.specs.Result.{result_ok}
 use Rattle.ascii_text.specs.Reading.{number_at}
-use Rattle.packed_names.specs.declared.half_month.HalfMonth.{HalfMonth}
 use Rattle.packed_names.specs.declared.name.Name.{Name}
 use Rattle.packed_names.specs.Ranges.{IsHalfMonth}
-use Rattle.packed_names.specs.Judging.{is_in_range, is_half_month, answered}
+use Rattle.packed_names.specs.Judging.{is_in_range, answered}
 use Rattle.packed_names.specs.PackedReading.{packed_in}
-use Rattle.packed_names.specs.PrintedReading.{printed_in, half_in}
-use Rattle.act_bodies.specs.Members.{designation_of}
+use Rattle.packed_names.specs.PrintedReading.{printed_in}
+use Rattle.act_bodies.specs.Members.{designation_of, half_month_of}
 use Rattle.act_model.specs.declared.query.Query.{Query}
 use Rattle.act_model.specs.declared.query.Query.TheVariants as query
 use Rattle.act_model.specs.declared.request.Verb.{Verb}
@@ -24,10 +23,6 @@ from_one (Some (number, byte ∷ rest)) = None
 -- the number that a text of 1 to 18 digits without a leading zero spells
 abbrev pub counted_by : List ℕ → Option ℕ
 counted_by text = from_one (number_at 18 text)
-
--- the half-month that a text spells
-abbrev pub half_month_by : List ℕ → Option HalfMonth
-half_month_by text = result_ok (answered is_half_month (half_in text))
 
 -- the name that a text spells: a number or a designation as it is printed, or else as it is packed
 abbrev pub name_by : List ℕ → Option Name
@@ -46,7 +41,7 @@ query_of verbs.Tally body = if_empty query.Tally body
 query_of verbs.Object body = option_map query.Object (designation_of body)
 query_of verbs.Tracklet body = option_map query.Tracklet (counted_by body)
 query_of verbs.Isolated body = if_empty query.Isolated body
-query_of verbs.HalfMonth body = option_map query.HalfMonth (half_month_by body)
+query_of verbs.HalfMonth body = option_map query.HalfMonth (half_month_of body)
 query_of verbs.Name body = option_map query.Name (name_by body)
 query_of verbs.Catalogue body = if_empty query.Catalogue body
 query_of _ body = None

@@ -18,7 +18,7 @@ use Rattle.obs_record.specs.declared.name.TrackName.{TrackName}
 use Rattle.obs_record.specs.declared.name.TrackName.TheVariants as tracks
 use Rattle.obs_record.specs.declared.short.Short.{Short}
 use Rattle.obs_record.specs.declared.sighting.Sighting.{Sighting}
-use Rattle.designate_core.specs.Takes.{Take, given_in, next_of}
+use Rattle.designate_core.specs.Takes.{RowAct, given_in, next_of}
 use Rattle.identify_core.specs.Acts.{LinkAct, principal, members}
 use Rattle.numbering_core.specs.declared.numbering.Numbering.{Numbering}
 use Rattle.numbering_core.specs.Numbers.{number_of}
@@ -130,11 +130,11 @@ abbrev pub next_text : Option Provisional → List ℕ
 next_text None = codes "none"
 next_text (Some next) = designation_text (designations.Provisional next)
 
--- `halfmonth H given N next D`
-abbrev pub half_month_line : List Take → HalfMonth → List ℕ
-half_month_line takes half =
-    line_of (codes "halfmonth " ++ half_month_text half ++ codes " given " ++ decimal (given_in half takes)
-    ++ codes " next " ++ next_text (next_of half takes))
+-- `halfmonth H given N next D`: how many designations were given in it, elsewhere and here, and the next one
+abbrev pub half_month_line : List RowAct → HalfMonth → List ℕ
+half_month_line rows half =
+    line_of (codes "halfmonth " ++ half_month_text half ++ codes " given " ++ decimal (given_in half rows)
+    ++ codes " next " ++ next_text (next_of half rows))
 
 -- ---- a name
 

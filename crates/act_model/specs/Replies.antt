@@ -4,7 +4,7 @@ use Rattle.std.specs.Fmt.{signed_decimal}
 use Rattle.packed_names.specs.declared.name.Designation.TheVariants.{Provisional}
 use Rattle.obs_record.specs.declared.rule.RuleCode.{RuleCode}
 use Rattle.act_model.specs.declared.deed.Deed.{Deed}
-use Rattle.act_model.specs.declared.deed.Deed.TheVariants.{Enrolled, Submitted, Designated, Numbered}
+use Rattle.act_model.specs.declared.deed.Deed.TheVariants.{Enrolled, Submitted, Designated, Numbered, Opened}
 use Rattle.act_model.specs.declared.entry.Entry.{Entry}
 use Rattle.act_model.specs.declared.reply.Excess.TheVariants as excess
 use Rattle.act_model.specs.declared.reply.Fault.{Fault}
@@ -12,11 +12,11 @@ use Rattle.act_model.specs.declared.reply.Part.TheVariants as part
 use Rattle.act_model.specs.declared.reply.Refusal.{Refusal}
 use Rattle.act_model.specs.declared.reply.Refusal.TheVariants.{TooLarge, Unread, UnknownKey, OtherRequest, Role}
 use Rattle.act_model.specs.declared.reply.Refusal.TheVariants.{UnknownThing, Header, NoLine, NotIsolated, NotHomed}
-use Rattle.act_model.specs.declared.reply.Refusal.TheVariants.{Empty, OneNight, HalfMonthFull, NotPrincipal, SameObject}
-use Rattle.act_model.specs.declared.reply.Refusal.TheVariants.{BothNumbered, NumberedSecondary, NotSecondary}
-use Rattle.act_model.specs.declared.reply.Refusal.TheVariants.{AlreadyRetracted, NotNext, NoneEligible, NumbersFull}
-use Rattle.act_model.specs.declared.reply.Refusal.TheVariants.{AlreadyThere, RosterFull, JournalFull, DiskFault}
-use Rattle.act_model.specs.declared.reply.Refusal.TheVariants.{NoMemory}
+use Rattle.act_model.specs.declared.reply.Refusal.TheVariants.{Empty, OneNight, HalfMonthFull, HalfMonthBegun}
+use Rattle.act_model.specs.declared.reply.Refusal.TheVariants.{NotPrincipal, SameObject, BothNumbered}
+use Rattle.act_model.specs.declared.reply.Refusal.TheVariants.{NumberedSecondary, NotSecondary, AlreadyRetracted}
+use Rattle.act_model.specs.declared.reply.Refusal.TheVariants.{NotNext, NoneEligible, NumbersFull, AlreadyThere}
+use Rattle.act_model.specs.declared.reply.Refusal.TheVariants.{RosterFull, JournalFull, DiskFault, NoMemory}
 use Rattle.act_model.specs.declared.reply.Reply.{Reply}
 use Rattle.act_model.specs.declared.reply.Reply.TheVariants.{Done, Refused}
 use Rattle.act_model.specs.declared.reply.Text.{Text}
@@ -30,7 +30,8 @@ use Rattle.act_model.specs.History.{next_receipt}
 use Rattle.act_model.specs.Taken.{accepted_in, refused_in}
 use Rattle.act_model.specs.Observations.{observations}
 use Rattle.act_model.specs.Texts.{line_of, header_name, receipt_line, caller_line, counts_line, accepted_line}
-use Rattle.act_model.specs.Texts.{refused_line, designation_text, half_month_text, object_line, number_lines}
+use Rattle.act_model.specs.Texts.{refused_line, designation_text, half_month_text, object_line, object_lines}
+use Rattle.act_model.specs.Texts.{number_lines}
 
 -- the answer to a line that was taken in so, where so many observations came before it
 abbrev pub line_answer : ℕ → ℕ → Result Placed RuleCode → List ℕ
@@ -61,6 +62,7 @@ deed_answer receipt past (Enrolled member) = receipt_line receipt ++ caller_line
 deed_answer receipt past (Designated tracklets given discovery) =
     receipt_line receipt ++ object_line (Provisional given)
 deed_answer receipt past (Numbered pairs) = receipt_line receipt ++ number_lines pairs
+deed_answer receipt past (Opened half given carried) = receipt_line receipt ++ object_lines half carried
 deed_answer receipt past _ = receipt_line receipt
 
 -- the answer to an entry, worked out at the history before it
@@ -95,6 +97,7 @@ refusal_text (Empty t) = line_of (codes "refused 8 Empty " ++ decimal t)
 refusal_text (OneNight time) = line_of (codes "refused 8 OneNight " ++ signed_decimal time)
 refusal_text (HalfMonthFull half limit) =
     line_of (codes "refused 9 HalfMonthFull " ++ half_month_text half ++ codes " " ++ decimal limit)
+refusal_text (HalfMonthBegun half) = line_of (codes "refused 18 HalfMonthBegun " ++ half_month_text half)
 refusal_text (NotPrincipal d) = line_of (codes "refused 10 NotPrincipal " ++ designation_text d)
 refusal_text SameObject = line_of (codes "refused 10 SameObject")
 refusal_text BothNumbered = line_of (codes "refused 10 BothNumbered")
@@ -136,6 +139,7 @@ refusal_status (NotHomed t) = 409
 refusal_status (Empty t) = 409
 refusal_status (OneNight time) = 409
 refusal_status (HalfMonthFull half limit) = 409
+refusal_status (HalfMonthBegun half) = 409
 refusal_status (NotPrincipal d) = 409
 refusal_status SameObject = 409
 refusal_status BothNumbered = 409

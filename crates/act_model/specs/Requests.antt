@@ -4,8 +4,8 @@ use Rattle.std.specs.Prelude.{count_by}
 use Rattle.act_model.specs.declared.request.Verb.{Verb}
 use Rattle.act_model.specs.declared.request.Verb.TheVariants.{Enrol, Station, Code, Submit80, SubmitPsv, Designate}
 use Rattle.act_model.specs.declared.request.Verb.TheVariants.{Attribute, Release, Identify, Separate, Verdict, Number}
-use Rattle.act_model.specs.declared.request.Verb.TheVariants.{Retract, Receipt, Tally, Object, Tracklet, Isolated}
-use Rattle.act_model.specs.declared.request.Verb.TheVariants.{HalfMonth, Name, Catalogue, Unknown}
+use Rattle.act_model.specs.declared.request.Verb.TheVariants.{Retract, Opening, Receipt, Tally, Object, Tracklet}
+use Rattle.act_model.specs.declared.request.Verb.TheVariants.{Isolated, HalfMonth, Name, Catalogue, Unknown}
 use Rattle.act_model.specs.declared.request.Body.{Body}
 use Rattle.act_model.specs.declared.request.Body.TheVariants.{Whole, TooLong}
 use Rattle.act_model.specs.declared.request.TheConstants.{BODY_BYTES}
@@ -26,6 +26,7 @@ verb_of word =
     else (if bytes_eq word (codes "verdict") then Verdict
     else (if bytes_eq word (codes "number") then Number
     else (if bytes_eq word (codes "retract") then Retract
+    else (if bytes_eq word (codes "opening") then Opening
     else (if bytes_eq word (codes "receipt") then Receipt
     else (if bytes_eq word (codes "tally") then Tally
     else (if bytes_eq word (codes "object") then Object
@@ -34,7 +35,7 @@ verb_of word =
     else (if bytes_eq word (codes "halfmonth") then HalfMonth
     else (if bytes_eq word (codes "name") then Name
     else (if bytes_eq word (codes "catalogue") then Catalogue
-    else Unknown))))))))))))))))))))
+    else Unknown)))))))))))))))))))))
 
 -- a verb that names nothing
 abbrev pub is_unknown : Verb → Bool
@@ -51,6 +52,7 @@ is_unknown Separate = false
 is_unknown Verdict = false
 is_unknown Number = false
 is_unknown Retract = false
+is_unknown Opening = false
 is_unknown Receipt = false
 is_unknown Tally = false
 is_unknown Object = false
@@ -76,6 +78,7 @@ is_act Separate = true
 is_act Verdict = true
 is_act Number = true
 is_act Retract = true
+is_act Opening = true
 is_act Receipt = false
 is_act Tally = false
 is_act Object = false
@@ -101,6 +104,7 @@ is_officers Separate = true
 is_officers Verdict = true
 is_officers Number = true
 is_officers Retract = false
+is_officers Opening = true
 is_officers Receipt = false
 is_officers Tally = false
 is_officers Object = false
@@ -126,6 +130,7 @@ verb_code Separate = 10
 verb_code Verdict = 11
 verb_code Number = 12
 verb_code Retract = 13
+verb_code Opening = 14
 verb_code Receipt = 0
 verb_code Tally = 0
 verb_code Object = 0

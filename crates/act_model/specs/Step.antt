@@ -28,7 +28,7 @@ use Rattle.act_model.specs.Hearing.{bytes_in, hear}
 use Rattle.act_model.specs.Refusals.{work_within}
 use Rattle.act_model.specs.Tallies.{tally, tally_text}
 use Rattle.act_model.specs.Holdings.{holdings}
-use Rattle.act_model.specs.Designations.{takes_of, links_of}
+use Rattle.act_model.specs.Designations.{row_acts_of, links_of}
 use Rattle.act_model.specs.Numbers.{numbers_of}
 use Rattle.act_model.specs.Shelves.{track_head}
 use Rattle.act_model.specs.Catalogue.{catalogue}
@@ -95,7 +95,7 @@ told past caller (query.Tracklet t) =
     told_thing (thing.Tracklet t) (tracklet_text (holdings (deeds past)) (links_of (deeds past)) t)
     (track_head (holdings (deeds past)).tracklets t)
 told past caller query.Isolated = Ok (isolated_text (holdings (deeds past)))
-told past caller (query.HalfMonth half) = Ok (half_month_line (takes_of (deeds past)) half)
+told past caller (query.HalfMonth half) = Ok (half_month_line (row_acts_of (deeds past)) half)
 told past caller (query.Name name) = Ok (name_text (links_of (deeds past)) (numbers_of (deeds past)) name)
 told past caller query.Catalogue = Ok (catalogue past)
 

@@ -2,6 +2,7 @@
 use Rattle.std.specs.Prelude.{ℕ, if◌then◌else◌, List, [], ◌∷◌, ◌++◌, flat_map, codes, decimal}
 use Rattle.packed_names.specs.declared.half_month.HalfMonth.{HalfMonth}
 use Rattle.packed_names.specs.declared.name.Designation.{Designation}
+use Rattle.packed_names.specs.declared.name.Designation.TheVariants.{Provisional}
 use Rattle.packed_names.specs.declared.name.Name.TheVariants as names
 use Rattle.packed_names.specs.Judging.{is_in_range, is_half_month}
 use Rattle.packed_names.specs.Packed.{packed_text}
@@ -11,6 +12,7 @@ use Rattle.obs_record.specs.declared.rule.RuleCode.{RuleCode}
 use Rattle.obs_record.specs.declared.rule.HeaderFault.{HeaderFault}
 use Rattle.obs_record.specs.declared.rule.HeaderFault.TheVariants.{H1, H2, H3, H4, H5}
 use Rattle.obs_record.specs.Rules.{rule_name}
+use Rattle.act_model.specs.Designations.{with_order}
 
 abbrev pub line_of : List ℕ → List ℕ
 line_of text = text ++ 10 ∷ []
@@ -65,6 +67,13 @@ half_month_text half = if is_half_month half then half_text half else []
 -- `object D Q`: the designation that was given to an object, printed and packed
 abbrev pub object_line : Designation → List ℕ
 object_line d = line_of (codes "object " ++ designation_text d ++ codes " " ++ packed_designation d)
+
+-- the same for the designation of a half-month that has this order, and for each of those that have these
+abbrev pub order_line : HalfMonth → ℕ → List ℕ
+order_line half order = object_line (Provisional (with_order half order))
+
+abbrev pub object_lines : HalfMonth → List ℕ → List ℕ
+object_lines half orders = flat_map (order_line half) orders
 
 -- `number N D`: the number that was given to an object
 abbrev pub number_line : Numbering → List ℕ

@@ -7,14 +7,14 @@ ghost use Rattle.act_model.specs.Acts.{act_of, IsRead};
 use crate::request::Verb;
 use act_bodies::{
     BodyFault, Ids, Key, Rank, read_attribute, read_code, read_designate, read_enrol,
-    read_identify, read_number, read_release, read_retract, read_separate, read_station,
-    read_verdict,
+    read_identify, read_number, read_opening, read_release, read_retract, read_separate,
+    read_station, read_verdict,
 };
 use ades_psv::{PsvFault, read_psv};
 use col80_format::split_batch;
 use item_list::Bytes;
 use obs_record::{HeaderFault, Lines, Short};
-use packed_names::Designation;
+use packed_names::{Designation, HalfMonth};
 use station_tables::Kind;
 use std::alloc::Global;
 use std::error::Error;
@@ -96,6 +96,15 @@ pub enum Act {
     },
     /// To retract the observation with this number, for good.
     Retract(u64),
+    /// To take over a half-month in which designations were given elsewhere.
+    Opening {
+        /// The half-month.
+        half: HalfMonth,
+        /// How many designations were given in it, 1 to its limit.
+        given: u32,
+        /// The orders of those that become objects of this office: at most 100 different ones, from 1 to `given`.
+        carried: Ids,
+    },
 }
 
 /// Why no act was read.
@@ -309,6 +318,23 @@ fn read_retraction(alloc: Global, body: &[u8]) -> Result<Act, ActFault>
 }
 
 #[tactic(auto, unfolding(crate::specs::Acts::act_of))]
+fn read_taking_over(alloc: Global, body: &[u8]) -> Result<Act, ActFault>
+    ensures act { IfOk result (λ act. act_of Verb.Opening body.now ≡ Ok act) }
+    ensures unread { result ≡ Err ActFault.Unread → act_of Verb.Opening body.now ≡ Err ActFault.Unread }
+    ensures plain { (fault : HeaderFault) (line : ℕ) → result ≡ Err (ActFault.Header fault line) → ⊥ }
+    ensures read { IfOk result IsRead }
+{
+    match read_opening(alloc, body) {
+        Ok(opening) => Ok(Act::Opening {
+            half: opening.half,
+            given: opening.given,
+            carried: opening.carried,
+        }),
+        Err(fault) => Err(unread_body(fault)),
+    }
+}
+
+#[tactic(auto, unfolding(crate::specs::Acts::act_of))]
 fn read_psv_batch(alloc: Global, body: &[u8]) -> Result<Act, ActFault>
     requires { length body.now < 4_294_967_295 }
     ensures act { IfOk result (λ act. act_of Verb.SubmitPsv body.now ≡ Ok act) }
@@ -362,6 +388,7 @@ pub fn read_act(alloc: Global, verb: Verb, body: &[u8]) -> Result<Act, ActFault>
         Verb::Verdict => read_judgement(alloc, body),
         Verb::Number => read_numbering(alloc, body),
         Verb::Retract => read_retraction(alloc, body),
+        Verb::Opening => read_taking_over(alloc, body),
         Verb::Receipt
         | Verb::Tally
         | Verb::Object

@@ -1,12 +1,15 @@
 //! What acts do where they stand in the history.
 
+ghost use Rattle.std.specs.Prelude.{◌≡◌, ◌<◌, ◌^◌};
+ghost use Rattle.act_model.specs.Designations.{with_order};
+
 use crate::roster::Member;
 use crate::taken::TakenLines;
 use act_bodies::Ids;
 use item_list::ItemList;
 use numbering_core::Numbering;
 use obs_record::Short;
-use packed_names::{Designation, Provisional};
+use packed_names::{Designation, HalfMonth, Provisional};
 use station_tables::Kind;
 
 /// What an act does where it stands in the history, with all that was worked out there.
@@ -74,7 +77,27 @@ pub enum Deed {
     Numbered(ItemList<Numbering>),
     /// It retracts this observation, for good.
     Retracted(u64),
+    /// It takes over a half-month in which designations were given elsewhere, and some of them as objects.
+    Opened {
+        /// The half-month.
+        half: HalfMonth,
+        /// How many designations were given in it elsewhere, 1 to its limit.
+        given: u32,
+        /// The orders of those that become objects of this office, different ones from 1 to `given`.
+        carried: Ids,
+    },
     /// It does nothing: what it asks can't be read, or is refused. No history that the office comes to has such an
     /// entry.
     Nothing,
+}
+
+/// The designation of a half-month that has this order, one below 2^32.
+pub fn with_order(half: HalfMonth, order: u64) -> Provisional
+    requires { order < 2 ^ 32 }
+    ensures { result ≡ with_order half order }
+{
+    Provisional {
+        half,
+        order: order as u32,
+    }
 }

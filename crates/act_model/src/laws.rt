@@ -1,10 +1,11 @@
-//! Laws of histories and conducts, each the contract of a function that does nothing.
+//! Laws of histories, conducts and worlds, each the contract of a function that does nothing.
 
 ghost use Rattle.std.specs.Prelude.{◌≡◌, ◌+◌, ◌<◌, Bool, true, ℕ, ℤ, pos, List, [], ◌∷◌, ◌++◌, Option, Some, None};
-ghost use Rattle.std.specs.Prelude.{IsSomeAnd, Ok, unwrap_or};
+ghost use Rattle.std.specs.Prelude.{IsSomeAnd, Ok, map, reverse, take, unwrap_or};
 ghost use Rattle.obs_time.specs.Instants.{IsInstantNs};
 ghost use Rattle.act_bodies.specs.declared.key.Key.{Key};
 ghost use Rattle.act_bodies.specs.Keys.{key_text, begins_with_plus};
+ghost use Rattle.act_bodies.specs.Members.{is_station_code};
 ghost use Rattle.act_model.specs.declared.deed.Deed.{Deed};
 ghost use Rattle.act_model.specs.declared.entry.Entry.{Entry};
 ghost use Rattle.act_model.specs.declared.heard.Heard.{Heard};
@@ -27,6 +28,8 @@ ghost use Rattle.act_model.specs.Clocks.{ClockState, Gives};
 ghost use Rattle.act_model.specs.Turns.{Turn, TakesReading, Answers, IsTurn, Conduct, at_rest, Mends};
 ghost use Rattle.act_model.specs.Conducts.{Extends, HadMemory, HadNoFault, NoDiskFaults, IsStepped, IsAnswered};
 ghost use Rattle.act_model.specs.Conducts.{IsAcknowledged, EitherWay, Makes};
+ghost use Rattle.act_model.specs.Worlds.{WorldState, running, new_office, Event, Received, World};
+ghost use Rattle.act_model.specs.Worlds.{AreStillAcknowledged, AreAnsweredAgain};
 ghost use Rattle.act_model.specs.Legal.{IsLegal};
 ghost use Rattle.tracklet_file.specs.declared.observation.Observation.{Observation};
 ghost use Rattle.tracklet_file.specs.declared.tracklet.Tracklet.{Tracklet};
@@ -132,9 +135,37 @@ pub fn histories_grow()
 {}
 
 /// Each caller's numbered request becomes at most one entry, and an act in doubt has no number that was used.
-pub fn each_once()
+pub fn numbers_once()
     ensures { (founder : Key) (limit : Option ℕ) (before after : OfficeState) (turns : List Turn) →
         Conduct founder limit before turns after → EitherWay EachNumberOnce before → EitherWay EachNumberOnce after }
+{}
+
+/// Whatever is lost, sent again or stopped: in every world from the empty office the settled history is legal, with the
+/// act in doubt and without, and no two of its entries have the same caller and number. Each act whose 200 was received
+/// is acknowledged by the history as it is now, and when it is sent again it is answered alike and leaves the history.
+/// As any world goes on, what was settled stays, through each stop.
+pub fn each_once()
+    ensures legal { (founder : Key) (limit : Option ℕ) (events : List Event) (after : WorldState) →
+        World founder limit new_office events after → EitherWay (IsLegal founder) after.office }
+    ensures once { (founder : Key) (limit : Option ℕ) (events : List Event) (after : WorldState) →
+        World founder limit new_office events after → EitherWay EachNumberOnce after.office }
+    ensures acknowledged { (founder : Key) (limit : Option ℕ) (events : List Event) (after : WorldState) →
+        World founder limit new_office events after →
+        AreStillAcknowledged founder after.office.settled after.received }
+    ensures again { (founder : Key) (limit : Option ℕ) (events : List Event) (after : WorldState) →
+        World founder limit new_office events after → AreAnsweredAgain founder after.office.settled after.received }
+    ensures grows { (founder : Key) (limit : Option ℕ) (before after : WorldState) (events : List Event) →
+        World founder limit before events after → Extends before.office.settled after.office.settled }
+{}
+
+/// A conduct is a world in which each reply was received and nothing else happened, and such a world is a conduct.
+pub fn conducts_are_worlds()
+    ensures world { (founder : Key) (limit : Option ℕ) (before after : OfficeState) (received turns : List Turn) →
+        Conduct founder limit before turns after →
+        World founder limit (running before received) (map Received turns) (running after (reverse turns ++ received)) }
+    ensures conduct { (founder : Key) (limit : Option ℕ) (before after : WorldState) (turns : List Turn) →
+        World founder limit before (map Received turns) after →
+        Conduct founder limit before.office turns after.office }
 {}
 
 /// The step never answers that a disk failed. So a turn answers it only where the count of faults rose in that turn;
@@ -274,22 +305,31 @@ pub fn observed_years()
 {}
 
 /// An act that is done fits what was done before: what it names is there, a designation that it gives is the next one
-/// of its half-month and wasn't given, and numbers that it gives go on from the last one, each to an object without
-/// one.
+/// of its half-month and wasn't given, numbers that it gives go on from the last one, each to an object without one,
+/// and a half-month that it takes over wasn't begun, and none of the designations that it carries was given.
 pub fn acts_fit()
     ensures { (history : List Entry) (moment : ℤ) (act : Act) (deed : Deed) →
         IsRead act → does (deeds history) moment act ≡ Ok deed → FitsObjects (deeds history) deed }
 {
     act_bodies::laws::first_numbers_are_numbers();
+    act_bodies::laws::openings_are_in_range();
+    designate_core::laws::begun_rows();
+    designate_core::laws::counts_grow();
     identify_core::laws::given_ascend();
 }
 
-/// In each half-month the designations that were given have the orders 1, 2, 3 and so on, in the order in which they
-/// were given, and at most the half-month's limit. No designation was given twice.
+/// In each half-month the designations that acts `designate` gave have the orders o + 1, o + 2, o + 3 and so on, in the
+/// order in which they were given, where o is the half-month's opening count, and at most its limit. The orders that an
+/// opening carried are at most o. No designation was given twice, by such an act or by being carried.
 pub fn unbroken_rows()
     ensures { (history : List Entry) → UnbrokenRows history }
 {
+    act_bodies::laws::first_numbers_are_numbers();
+    act_bodies::laws::openings_are_in_range();
+    designate_core::laws::begun_rows();
+    designate_core::laws::counts_grow();
     designate_core::laws::unbroken_rows();
+    identify_core::laws::given_ascend();
 }
 
 /// Numbers run without a gap from the first one. No number was given twice, and no designation was numbered twice.
@@ -297,6 +337,9 @@ pub fn unbroken_numbers()
     ensures { (history : List Entry) → UnbrokenNumbers history }
 {
     act_bodies::laws::first_numbers_are_numbers();
+    act_bodies::laws::openings_are_in_range();
+    designate_core::laws::begun_rows();
+    designate_core::laws::counts_grow();
     identify_core::laws::given_ascend();
     numbering_core::laws::unbroken_numbers();
 }
@@ -310,6 +353,19 @@ pub fn observations_are_filed()
     col80_format::laws::lines_in_range();
     ades_psv::laws::lines_in_range();
     act_bodies::laws::letters_are_printed();
+    act_bodies::laws::stations_are_codes();
+}
+
+/// The station of each accepted observation is 3 letters or digits, retracted ones included.
+pub fn stations_are_codes()
+    ensures { (history : List Entry) (k : ℕ) (o : Observation) →
+        numbered (holdings (deeds history)).observations k ≡ Some o →
+        is_station_code (take o.sighting.station.len o.sighting.station.bytes) ≡ true }
+{
+    col80_format::laws::lines_in_range();
+    ades_psv::laws::lines_in_range();
+    act_bodies::laws::letters_are_printed();
+    act_bodies::laws::stations_are_codes();
 }
 
 /// The letter that a word stands for in the office's tables is printed, and no mode has one of those of refused
@@ -321,6 +377,7 @@ pub fn letters_are_printed()
     col80_format::laws::lines_in_range();
     ades_psv::laws::lines_in_range();
     act_bodies::laws::letters_are_printed();
+    act_bodies::laws::stations_are_codes();
 }
 
 /// What the office gave and holds are names: a designation that was given, and its principal, is one that a half-month
@@ -339,7 +396,11 @@ pub fn names_are_names()
         numbered (holdings (deeds history)).tracklets t ≡ Some tracklet → IsTrackName tracklet.name }
 {
     act_bodies::laws::first_numbers_are_numbers();
+    act_bodies::laws::openings_are_in_range();
+    designate_core::laws::begun_rows();
+    designate_core::laws::counts_grow();
     act_bodies::laws::letters_are_printed();
+    act_bodies::laws::stations_are_codes();
     ades_psv::laws::lines_in_range();
     col80_format::laws::lines_in_range();
     identify_core::laws::equal_is_same();

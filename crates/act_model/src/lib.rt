@@ -26,7 +26,7 @@ mod texts;
 
 pub use act::{Act, ActFault, read_act};
 pub use act_bodies::{Ids, Key, Rank};
-pub use deed::Deed;
+pub use deed::{Deed, with_order};
 pub use entry::Entry;
 pub use heard::{Asked, Heard, read_asked};
 pub use keeper::{Keeper, Office, OfficeState};
@@ -44,6 +44,6 @@ pub use shelf::{Names, Place, Shelf, TrackHead};
 pub use taken::{Placed, PlacedLine, Placing, Taken, TakenLine, TakenLines, faults_in, name_of};
 pub use tally::{Tally, tally_answer};
 pub use texts::{
-    batch_answer, enrol_answer, numbers_answer, object_answer, push_decimal, push_designation,
-    push_packed, receipt_answer,
+    batch_answer, enrol_answer, numbers_answer, object_answer, opening_answer, push_decimal,
+    push_designation, push_packed, receipt_answer,
 };

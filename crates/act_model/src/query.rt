@@ -2,8 +2,8 @@
 
 ghost use Rattle.std.specs.Prelude.{◌≡◌, IfSome};
 ghost use Rattle.packed_names.specs.Ranges.{IsHalfMonth};
-ghost use Rattle.act_bodies.specs.Members.{designation_of};
-ghost use Rattle.act_model.specs.Queries.{counted_by, half_month_by, if_empty, name_by, query_of, IsReadQuery};
+ghost use Rattle.act_bodies.specs.Members.{designation_of, half_month_of};
+ghost use Rattle.act_model.specs.Queries.{counted_by, if_empty, name_by, query_of, IsReadQuery};
 
 use crate::request::Verb;
 use ascii_text::reading::number_at;
@@ -54,9 +54,10 @@ fn designation_by(text: &[u8]) -> Option<Designation>
     }
 }
 
-// The half-month that a text spells.
+// The half-month whose printed form the text is.
+#[tactic(auto, unfolding(act_bodies::specs::Members::half_month_of))]
 fn half_month_by(text: &[u8]) -> Option<HalfMonth>
-    ensures half { result ≡ half_month_by text.now }
+    ensures half { result ≡ half_month_of text.now }
     ensures range { IfSome result IsHalfMonth }
 {
     read_half(text).ok()

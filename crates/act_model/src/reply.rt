@@ -105,6 +105,8 @@ pub enum Refusal {
         /// How many designations it has.
         limit: u32,
     },
+    /// The half-month was taken over before, or a designation was given in it.
+    HalfMonthBegun(HalfMonth),
     /// This designation isn't the principal one of its object.
     NotPrincipal(Designation),
     /// Both designations are the same.
@@ -173,6 +175,7 @@ pub fn refusal_status(refusal: &Refusal) -> u16
         | Refusal::Empty(_)
         | Refusal::OneNight(_)
         | Refusal::HalfMonthFull { .. }
+        | Refusal::HalfMonthBegun(_)
         | Refusal::NotPrincipal(_)
         | Refusal::SameObject
         | Refusal::BothNumbered
@@ -277,7 +280,7 @@ fn night_line(time: i64) -> ArrayVec<u8, REFUSAL_BYTES>
     line
 }
 
-fn half_month_line(half: HalfMonth, limit: u32) -> ArrayVec<u8, REFUSAL_BYTES>
+fn full_half_line(half: HalfMonth, limit: u32) -> ArrayVec<u8, REFUSAL_BYTES>
     ensures { result.items ≡ refusal_text (Refusal.HalfMonthFull half limit) }
 {
     let mut buffer = Buffer::new();
@@ -288,6 +291,17 @@ fn half_month_line(half: HalfMonth, limit: u32) -> ArrayVec<u8, REFUSAL_BYTES>
     line.push(b' ');
     line.try_extend_from_slice(buffer.format(u64::from(limit)).as_bytes())
         .unwrap();
+    line.push(b'\n');
+    line
+}
+
+fn begun_half_line(half: HalfMonth) -> ArrayVec<u8, REFUSAL_BYTES>
+    ensures { result.items ≡ refusal_text (Refusal.HalfMonthBegun half) }
+{
+    let mut line = ArrayVec::new();
+    line.try_extend_from_slice(b"refused 18 HalfMonthBegun ")
+        .unwrap();
+    put_half_month(&mut line, half);
     line.push(b'\n');
     line
 }
@@ -400,7 +414,8 @@ pub fn refusal_line(refusal: &Refusal) -> Option<ArrayVec<u8, REFUSAL_BYTES>>
         Refusal::NotHomed(t) => Some(numbered_line(b"refused 8 NotHomed ", *t)),
         Refusal::Empty(t) => Some(numbered_line(b"refused 8 Empty ", *t)),
         Refusal::OneNight(time) => Some(night_line(*time)),
-        Refusal::HalfMonthFull { half, limit } => Some(half_month_line(*half, *limit)),
+        Refusal::HalfMonthFull { half, limit } => Some(full_half_line(*half, *limit)),
+        Refusal::HalfMonthBegun(half) => Some(begun_half_line(*half)),
         Refusal::NotPrincipal(d) => Some(named_line(b"refused 10 NotPrincipal ", *d)),
         Refusal::SameObject => Some(line_in_place(b"refused 10 SameObject")),
         Refusal::BothNumbered => Some(line_in_place(b"refused 10 BothNumbered")),

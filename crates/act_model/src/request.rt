@@ -43,6 +43,9 @@ pub enum Verb {
     Number,
     /// To retract an observation, by the word `retract`. It is an act.
     Retract,
+    /// To take over a half-month in which designations were given elsewhere, by the word `opening`. It is an act of
+    /// officers.
+    Opening,
     /// To ask for the answer of an earlier act, by the word `receipt`. It is a query.
     Receipt,
     /// To ask how many entries and observations the office has, by the word `tally`. It is a query.
@@ -92,7 +95,8 @@ impl Verb {
             | Verb::Identify
             | Verb::Separate
             | Verb::Verdict
-            | Verb::Number => true,
+            | Verb::Number
+            | Verb::Opening => true,
             Verb::Submit80
             | Verb::SubmitPsv
             | Verb::Retract
@@ -108,7 +112,7 @@ impl Verb {
         }
     }
 
-    /// The number of the verb of an act, 1 to 13, and 0 for no act.
+    /// The number of the verb of an act, 1 to 14, and 0 for no act.
     pub fn code(self) -> u8
         ensures { result ≡ verb_code self }
     {
@@ -126,6 +130,7 @@ impl Verb {
             Verb::Verdict => 11,
             Verb::Number => 12,
             Verb::Retract => 13,
+            Verb::Opening => 14,
             Verb::Receipt
             | Verb::Tally
             | Verb::Object
@@ -169,6 +174,8 @@ pub fn read_verb(word: &[u8]) -> Verb
         Verb::Number
     } else if word == b"retract".as_slice() {
         Verb::Retract
+    } else if word == b"opening".as_slice() {
+        Verb::Opening
     } else if word == b"receipt".as_slice() {
         Verb::Receipt
     } else if word == b"tally".as_slice() {

@@ -9,7 +9,7 @@ ghost use Rattle.station_tables.specs.Codes.{letter_of};
 ghost use Rattle.tracklet_file.specs.Observations.{sighting_of, track_of, observations_of};
 ghost use Rattle.act_model.specs.declared.entry.Entry.{Entry};
 ghost use Rattle.act_model.specs.Deeds.{deeds};
-ghost use Rattle.act_model.specs.Designations.{takes_of, links_of, principals};
+ghost use Rattle.act_model.specs.Designations.{row_acts_of, links_of, principals};
 ghost use Rattle.act_model.specs.History.{kept};
 ghost use Rattle.act_model.specs.Holdings.{holdings};
 ghost use Rattle.act_model.specs.Numbers.{numbers_of};
@@ -112,16 +112,17 @@ pub trait Shelf {
     fn named(&self, n: Number) -> Option<Designation>
         ensures { result ≡ named (numbers_of (deeds (history self.now))) n.0 };
 
-    /// How many designations were given in a half-month, one of the years 1925 to 2099.
+    /// How many designations were given in a half-month, one of the years 1925 to 2099: its opening count, and those
+    /// that acts `designate` gave.
     fn given(&self, half: HalfMonth) -> u32
         requires { IsHalfMonth half }
-        ensures count { result ≡ given_in half (takes_of (deeds (history self.now))) }
+        ensures count { result ≡ given_in half (row_acts_of (deeds (history self.now))) }
         ensures within { result ≤ limit_of half };
 
-    /// The observation by which the object of a designation was discovered. None exactly for a designation that the
-    /// office didn't give.
+    /// The observation by which the object of a designation was discovered. None exactly for a designation that no
+    /// act `designate` gave: one that the office didn't give, or that an opening carried.
     fn discovery(&self, d: Designation) -> Option<u64>
-        ensures { result ≡ discovery_of d (takes_of (deeds (history self.now))) };
+        ensures { result ≡ discovery_of d (row_acts_of (deeds (history self.now))) };
 
     /// The letter of a word. None exactly where no row of the kind has the word.
     fn letter(&self, kind: Kind, word: Short) -> Option<u8>

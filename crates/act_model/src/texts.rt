@@ -4,10 +4,11 @@ ghost use Rattle.std.specs.Prelude.{◌≡◌, ◌+◌, ◌-◌, ◌<◌, ◌≤
 ghost use Rattle.arrayvec.specs.ArrayString.{array_string_len};
 ghost use Rattle.act_model.specs.Taken.{accepted_in, refused_in};
 ghost use Rattle.act_model.specs.Texts.{receipt_line, caller_line, counts_line, accepted_line, count_line};
-ghost use Rattle.act_model.specs.Texts.{refused_line, designation_text, packed_designation, object_line, number_line};
-ghost use Rattle.act_model.specs.Texts.{number_lines};
+ghost use Rattle.act_model.specs.Texts.{refused_line, designation_text, packed_designation, object_line, order_line};
+ghost use Rattle.act_model.specs.Texts.{object_lines, number_line, number_lines};
 ghost use Rattle.act_model.specs.Replies.{line_answer, line_answers, observations_with, batch_answer, fault_lines};
 
+use crate::deed::with_order;
 use crate::reply::Fault;
 use crate::taken::{TakenLine, TakenLines};
 use arrayvec::ArrayString;
@@ -15,7 +16,7 @@ use item_list::{Bytes, NoMemory};
 use itoa::Buffer;
 use numbering_core::Numbering;
 use obs_record::RuleCode;
-use packed_names::{Designation, Name, is_name, pack, print};
+use packed_names::{Designation, HalfMonth, Name, is_name, pack, print};
 use std::alloc::Global;
 
 /// As many bytes as the longest answer to a line has: three words, three numbers of twenty digits, and a line feed.
@@ -239,6 +240,26 @@ fn push_object_line(out: &mut Bytes, d: Designation) -> Result<(), NoMemory>
     out.push(b'\n')
 }
 
+// The same of the designation of a half-month that has this order. No half-month has one of 2^32 or more, which has no
+// text in either form.
+fn push_order_line(out: &mut Bytes, half: HalfMonth, order: u64) -> Result<(), NoMemory>
+    ensures { OnOk result (out.new ≡ out.old ++ order_line half order) }
+{
+    if order > u64::from(u32::MAX) {
+        return out.extend_from_slice(b"object  \n");
+    }
+    push_object_line(out, Designation::Provisional(with_order(half, order)))
+}
+
+fn push_object_lines(out: &mut Bytes, half: HalfMonth, orders: &[u64]) -> Result<(), NoMemory>
+    ensures { OnOk result (out.new ≡ out.old ++ object_lines half orders.now) }
+{
+    for order in orders {
+        push_order_line(out, half, *order)?;
+    }
+    Ok(())
+}
+
 fn push_number_line(out: &mut Bytes, n: Numbering) -> Result<(), NoMemory>
     ensures { OnOk result (out.new ≡ out.old ++ number_line n) }
 {
@@ -270,6 +291,26 @@ pub fn object_answer(alloc: Global, receipt: u64, d: Designation) -> Result<Byte
     let mut out = Bytes::new(alloc);
     push_receipt_line(&mut out, receipt)?;
     push_object_line(&mut out, d)?;
+    Ok(out)
+}
+
+/// The answer to an act by which a half-month was taken over and that became the entry with this receipt: the receipt,
+/// and a line for each designation that is carried, in the order of the list, with its printed and its packed form.
+///
+/// # Errors
+///
+/// Memory was refused.
+pub fn opening_answer(
+    alloc: Global,
+    receipt: u64,
+    half: HalfMonth,
+    carried: &[u64],
+) -> Result<Bytes, NoMemory>
+    ensures { IfOk result (λ text. text ≡ receipt_line receipt ++ object_lines half carried.now) }
+{
+    let mut out = Bytes::new(alloc);
+    push_receipt_line(&mut out, receipt)?;
+    push_object_lines(&mut out, half, carried)?;
     Ok(out)
 }
 

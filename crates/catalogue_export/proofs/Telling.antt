@@ -14,7 +14,7 @@ use Rattle.act_model.specs.declared.reply.Thing.TheVariants as thing
 use Rattle.act_model.specs.declared.shelf.TrackHead.{TrackHead}
 use Rattle.act_model.specs.Catalogue.{catalogue}
 use Rattle.act_model.specs.Deeds.{deeds}
-use Rattle.act_model.specs.Designations.{takes_of, links_of}
+use Rattle.act_model.specs.Designations.{row_acts_of, links_of}
 use Rattle.act_model.specs.History.{Kept, kept}
 use Rattle.act_model.specs.Holdings.{holdings}
 use Rattle.act_model.specs.Numbers.{numbers_of}
@@ -93,7 +93,7 @@ module _ (past : List Entry) (caller : ℕ) where
   unfolding told
   isolated_told text is = ap (λ (t : List ℕ). Ok t) (sym is)
 
-  pub half_month_told : (half : HalfMonth) (text : List ℕ) → text ≡ half_month_line (takes_of (deeds past)) half
+  pub half_month_told : (half : HalfMonth) (text : List ℕ) → text ≡ half_month_line (row_acts_of (deeds past)) half
       → told past caller (query.HalfMonth half) ≡ Ok text
   unfolding told
   half_month_told half text is = ap (λ (t : List ℕ). Ok t) (sym is)

@@ -4,7 +4,7 @@ ghost use Rattle.std.specs.Prelude.{◌≡◌, ◌++◌, IfOk, OnOk};
 ghost use Rattle.packed_names.specs.Ranges.{IsHalfMonth};
 ghost use Rattle.designate_core.specs.Takes.{next_of};
 ghost use Rattle.act_model.specs.Deeds.{deeds};
-ghost use Rattle.act_model.specs.Designations.{takes_of};
+ghost use Rattle.act_model.specs.Designations.{row_acts_of};
 ghost use Rattle.act_model.specs.QueryTexts.{next_text, half_month_line};
 
 use act_model::{Shelf, push_decimal, push_designation};
@@ -15,7 +15,7 @@ use std::alloc::Global;
 /// The next designation of a half-month. None where it has all that it can have.
 fn next_of<V: Shelf>(shelf: &V, half: HalfMonth) -> Option<Provisional>
     requires { IsHalfMonth half }
-    ensures { result ≡ next_of half (takes_of (deeds (V.history shelf.now))) }
+    ensures { result ≡ next_of half (row_acts_of (deeds (V.history shelf.now))) }
 {
     let given = shelf.given(half);
     if given < limit(half) {
@@ -35,14 +35,14 @@ fn push_next(out: &mut Bytes, next: Option<Provisional>) -> Result<(), NoMemory>
     }
 }
 
-/// The line of a half-month: how many designations it has, and which one is next.
+/// The line of a half-month: how many designations were given in it, elsewhere and here, and which one is next.
 pub(crate) fn half_month_text<V: Shelf>(
     alloc: Global,
     shelf: &V,
     half: HalfMonth,
 ) -> Result<Bytes, NoMemory>
     requires { IsHalfMonth half }
-    ensures { IfOk result (λ text. text ≡ half_month_line (takes_of (deeds (V.history shelf.now))) half) }
+    ensures { IfOk result (λ text. text ≡ half_month_line (row_acts_of (deeds (V.history shelf.now))) half) }
 {
     let mut out = Bytes::new(alloc);
     out.extend_from_slice(b"halfmonth ")?;

@@ -96,7 +96,8 @@ fn own_columns(name: TrackName) -> [u8; 7]
     }
 }
 
-/// Whether the object with this principal was discovered by this observation.
+/// Whether the object with this principal was discovered by this observation. A designation that was carried has no
+/// discovery.
 fn is_discovery<V: Shelf>(shelf: &V, p: Designation, k: u64) -> bool
     ensures { result ≡ is_discovery (deeds (V.history shelf.now)) p k }
 {

@@ -6,12 +6,12 @@ use Rattle.tracklet_file.specs.Contents.{Contents}
 use Rattle.act_model.specs.declared.act.Act.{Act}
 use Rattle.act_model.specs.declared.act.Act.TheVariants as act
 use Rattle.act_model.specs.declared.deed.Deed.{Deed}
-use Rattle.act_model.specs.declared.deed.Deed.TheVariants.{Enrolled, Stationed, Coded, Submitted, Designated, Attributed, Released, Identified, Separated, Judged, Numbered, Retracted, Nothing}
+use Rattle.act_model.specs.declared.deed.Deed.TheVariants.{Enrolled, Stationed, Coded, Submitted, Designated, Attributed, Released, Identified, Separated, Judged, Numbered, Opened, Retracted, Nothing}
 use Rattle.act_model.specs.declared.entry.Entry.{Entry}
 use Rattle.act_model.specs.declared.reply.Refusal.{Refusal}
 use Rattle.act_model.specs.Acts.{IsRead}
 use Rattle.act_model.specs.Deeds.{deeds}
-use Rattle.act_model.specs.Designations.{takes_of}
+use Rattle.act_model.specs.Designations.{row_acts_of}
 use Rattle.act_model.specs.Discoveries.{seen_in}
 use Rattle.act_model.specs.Doing.{tracklet_row, free_rows, next_rows, designates_seen, eligible_after, does}
 use Rattle.act_model.specs.Fitting.{FitsObjects}
@@ -32,6 +32,7 @@ objects_fit past (Identified p s) is fits = fits
 objects_fit past (Separated s) is fits = fits
 objects_fit past (Judged p u oppositions) is fits = fits
 objects_fit past (Numbered pairs) is fits = fits
+objects_fit past (Opened half given carried) is fits = fits
 objects_fit past (Enrolled member) is fits = absurd cc
 objects_fit past (Stationed code from to) is fits = absurd cc
 objects_fit past (Coded kind letter word) is fits = absurd cc
@@ -73,7 +74,7 @@ module _ (past : List Deed) (moment : ℤ) (result : Result Deed Refusal) where
   pub designates_at_once : (ts : List ℕ) → IfSome (first_row (map (tracklet_row (holdings past).tracklets) ts)) (λ r. result ≡ Err r) → IsActAtOnce past (act.Designate ts) → result ≡ does past moment (act.Designate ts)
   unfolding does
   designates_at_once ts refused once =
-      at_once (map (tracklet_row (holdings past).tracklets) ts) (flat_map (free_rows (holdings past)) ts) _ (designates_seen (takes_of past) ts (seen_in (holdings past).observations ts)) result refl refused once
+      at_once (map (tracklet_row (holdings past).tracklets) ts) (flat_map (free_rows (holdings past)) ts) _ (designates_seen (row_acts_of past) ts (seen_in (holdings past).observations ts)) result refl refused once
 
   pub numbers_at_once : (first most : ℕ) → IfSome (first_row (next_rows (next_number (numbers_of past)) first)) (λ r. result ≡ Err r) → IsActAtOnce past (act.Number first most) → result ≡ does past moment (act.Number first most)
   unfolding does

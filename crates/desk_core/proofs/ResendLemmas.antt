@@ -12,7 +12,7 @@ use Rattle.act_model.specs.declared.reply.Refusal.{Refusal}
 use Rattle.act_model.specs.declared.reply.Reply.TheVariants.{Done, Refused}
 use Rattle.act_model.specs.declared.reply.Refusal.TheVariants.{OtherRequest}
 use Rattle.act_model.specs.declared.request.Verb.{Verb}
-use Rattle.act_model.specs.declared.request.Verb.TheVariants.{Enrol, Station, Code, Submit80, SubmitPsv, Designate, Attribute, Release, Identify, Separate, Verdict, Number, Retract}
+use Rattle.act_model.specs.declared.request.Verb.TheVariants.{Enrol, Station, Code, Submit80, SubmitPsv, Designate, Attribute, Release, Identify, Separate, Verdict, Number, Retract, Opening}
 use Rattle.act_model.specs.declared.roster.Caller.{Caller}
 use Rattle.act_model.specs.Hearing.{asked_of, caller_in}
 use Rattle.act_model.specs.History.{Kept, kept, next_receipt}
@@ -47,6 +47,7 @@ verb_coded Separate act = refl
 verb_coded Verdict act = refl
 verb_coded Number act = refl
 verb_coded Retract act = refl
+verb_coded Opening act = refl
 verb_coded _ act = absurd cc
 
 same_act : (a b : Verb) → is_act a ≡ true → is_act b ≡ true → verb_code a ≡ verb_code b → a ≡ b

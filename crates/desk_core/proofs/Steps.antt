@@ -3,7 +3,7 @@ use Rattle.std.proofs.Common.{◌≡◌, ℕ, ℤ, Bool, true, false, cond, List
 use Rattle.std.specs.Prelude.{IfErr}
 use Rattle.act_bodies.specs.declared.key.Key.{Key}
 use Rattle.act_model.specs.declared.deed.Deed.{Deed}
-use Rattle.act_model.specs.declared.deed.Deed.TheVariants.{Enrolled, Stationed, Coded, Submitted, Designated, Attributed, Released, Identified, Separated, Judged, Numbered, Retracted, Nothing}
+use Rattle.act_model.specs.declared.deed.Deed.TheVariants.{Enrolled, Stationed, Coded, Submitted, Designated, Attributed, Released, Identified, Separated, Judged, Numbered, Opened, Retracted, Nothing}
 use Rattle.act_model.specs.declared.entry.Entry.{Entry}
 use Rattle.act_model.specs.declared.heard.Heard.{Heard}
 use Rattle.act_model.specs.declared.reply.Refusal.{Refusal}
@@ -94,5 +94,6 @@ callers_with past (Identified p s) within fits = within
 callers_with past (Separated s) within fits = within
 callers_with past (Judged p u oppositions) within fits = within
 callers_with past (Numbered pairs) within fits = within
+callers_with past (Opened half given carried) within fits = within
 callers_with past (Retracted k) within fits = within
 callers_with past Nothing within fits = within

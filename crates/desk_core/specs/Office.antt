@@ -10,7 +10,7 @@ use Rattle.act_bodies.specs.declared.key.Key.{Key}
 use Rattle.act_model.specs.declared.deed.Deed.{Deed}
 use Rattle.act_model.specs.declared.deed.Deed.TheVariants.{Enrolled, Stationed, Coded, Submitted, Designated}
 use Rattle.act_model.specs.declared.deed.Deed.TheVariants.{Attributed, Released, Identified, Separated, Judged}
-use Rattle.act_model.specs.declared.deed.Deed.TheVariants.{Numbered, Retracted, Nothing}
+use Rattle.act_model.specs.declared.deed.Deed.TheVariants.{Numbered, Opened, Retracted, Nothing}
 use Rattle.act_model.specs.declared.entry.Entry.{Entry}
 use Rattle.act_model.specs.declared.request.TheConstants.{BODY_BYTES}
 use Rattle.act_model.specs.declared.roster.TheConstants.{CALLERS}
@@ -25,19 +25,19 @@ use Rattle.act_model.specs.Holdings.{Holdings, holdings}
 use Rattle.act_model.specs.Places.{added_by}
 use Rattle.act_model.specs.Fitting.{FitsObjects}
 use Rattle.act_model.specs.Replies.{entry_answer}
-use Rattle.object_rules.specs.Noting.{registered_by, returned_by, homed_by}
+use Rattle.object_rules.specs.Noting.{linked_by, registered_by, returned_by, homed_by}
 use Rattle.station_tables.specs.Rows.{TableRows}
 
 -- ---- the office
 
--- for how many more entries, callers, observations, tracklets, designations, links and entries of the register there is
--- room
+-- for how many more entries, callers, observations, tracklets, acts on the rows, links and entries of the register there
+-- is room
 pub record Room : Type 0 where
   pub entries : ℕ
   pub callers : ℕ
   pub observations : ℕ
   pub tracklets : ℕ
-  pub takes : ℕ
+  pub rows : ℕ
   pub links : ℕ
   pub register : ℕ
 
@@ -88,6 +88,7 @@ Fits past (Identified p s) = FitsObjects past (Identified p s)
 Fits past (Separated s) = FitsObjects past (Separated s)
 Fits past (Judged p u oppositions) = FitsObjects past (Judged p u oppositions)
 Fits past (Numbered pairs) = FitsObjects past (Numbered pairs)
+Fits past (Opened half given carried) = FitsObjects past (Opened half given carried)
 Fits past (Retracted k) = IsTrue (is_live (holdings past).observations k)
 Fits past Nothing = Unit {0}
 
@@ -108,8 +109,8 @@ pub record IsRoomFor (deed : Deed) (room : Room) : Type 0 where
   pub callers : 0 < room.callers
   pub observations : added_by deed ≤ room.observations
   pub tracklets : added_by deed ≤ room.tracklets
-  pub takes : 1 ≤ room.takes
-  pub links : 1 ≤ room.links
+  pub rows : 1 ≤ room.rows
+  pub links : linked_by deed ≤ room.links
   pub register : registered_by deed ≤ room.register
 
 -- what such an entry used of the room: no more than it may need. No memory was taken: there is more room than before
@@ -119,13 +120,13 @@ pub record UsesRoom (deed : Deed) (old new : Room) : Type 0 where
   pub callers : old.callers ≤ new.callers + 1
   pub observations : old.observations ≤ new.observations + added_by deed
   pub tracklets : old.tracklets ≤ new.tracklets + added_by deed
-  pub takes : old.takes ≤ new.takes + 1
-  pub links : old.links ≤ new.links + 1
+  pub rows : old.rows ≤ new.rows + 1
+  pub links : old.links ≤ new.links + linked_by deed
   pub register : old.register ≤ new.register + registered_by deed
   pub no_more_entries : new.entries ≤ old.entries
   pub no_more_callers : new.callers ≤ old.callers
   pub no_more_observations : new.observations ≤ old.observations
   pub no_more_tracklets : new.tracklets ≤ old.tracklets + homed_by deed
-  pub no_more_takes : new.takes ≤ old.takes
+  pub no_more_rows : new.rows ≤ old.rows
   pub no_more_links : new.links ≤ old.links
   pub no_more_register : new.register ≤ old.register + returned_by deed

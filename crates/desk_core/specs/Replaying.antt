@@ -11,7 +11,7 @@ use Rattle.act_model.specs.Rows.{first_row}
 use Rattle.act_model.specs.declared.request.Verb.{Verb}
 use Rattle.act_model.specs.declared.request.Verb.TheVariants.{Enrol, Station, Code, Submit80, SubmitPsv, Designate}
 use Rattle.act_model.specs.declared.request.Verb.TheVariants.{Attribute, Release, Identify, Separate, Verdict, Number}
-use Rattle.act_model.specs.declared.request.Verb.TheVariants.{Retract}
+use Rattle.act_model.specs.declared.request.Verb.TheVariants.{Retract, Opening}
 
 -- the verb of an act with this number
 abbrev pub act_with : ℕ → Option Verb
@@ -29,7 +29,8 @@ act_with code =
     else (if code == 11 then Some Verdict
     else (if code == 12 then Some Number
     else (if code == 13 then Some Retract
-    else None))))))))))))
+    else (if code == 14 then Some Opening
+    else None)))))))))))))
 
 -- the entry of these fields; None where the number is no act's
 abbrev pub entry_of : (caller number : ℕ) (moment : ℤ) (code : ℕ) (body : List ℕ) → Option Entry

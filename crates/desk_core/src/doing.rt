@@ -20,7 +20,9 @@ use crate::taking::taken_lines;
 use act_model::{Act, Asked, Deed, Heard, Key, Member, Part, Rank, Refusal, TakenLines};
 use batch_rules::judge;
 use item_list::NoMemory;
-use object_rules::{attributes, designates, identifies, judges, numbers, releases, separates};
+use object_rules::{
+    attributes, designates, identifies, judges, numbers, opens, releases, separates,
+};
 use obs_record::{Lines, Short};
 use obs_time::Instant;
 use station_tables::Kind;
@@ -129,6 +131,11 @@ impl Core {
             } => judges(self, object, u, oppositions),
             Act::Number { first, most } => numbers(self, alloc, first, most),
             Act::Retract(k) => self.retracts(k),
+            Act::Opening {
+                half,
+                given,
+                carried,
+            } => opens(self, half, given, carried),
         }
     }
 

@@ -119,6 +119,7 @@ pub fn hold(file: &mut TrackletFile, receipt: u64, deed: &Deed)
         | Deed::Separated(_)
         | Deed::Judged { .. }
         | Deed::Numbered(_)
+        | Deed::Opened { .. }
         | Deed::Nothing => {}
     }
 }

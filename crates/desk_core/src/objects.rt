@@ -13,7 +13,7 @@ use designate_core::Rows;
 use identify_core::Links;
 use item_list::NoMemory;
 use numbering_core::Register;
-use object_rules::{link, note_verdicts, registered_by, take};
+use object_rules::{link, linked_by, note_rows, note_verdicts, registered_by};
 use std::alloc::{AllocError, Global};
 use std::marker::Model;
 use tracklet_file::TrackletFile;
@@ -32,11 +32,11 @@ impl Model for Objects {
     ghost Value = { ObjectsValue };
 
     ghost view = { λ o. record {
-      takes = o.rows.takes;
+      acts = o.rows.acts;
       links = o.links.links;
       verdicts = o.register.verdicts;
       numbered = o.register.numbered;
-      take_room = o.rows.spare;
+      row_room = o.rows.spare;
       link_room = o.links.spare;
       register_room = o.register.spare;
     } };
@@ -57,17 +57,20 @@ impl Objects {
     /// Takes the room for one more deed.
     pub(crate) fn reserve_for(&mut self, deed: &Deed) -> Result<(), NoMemory>
         ensures room { OnOk result (HasRoom deed.now self.new) }
-        ensures takes { self.new.takes ≡ self.old.takes }
+        ensures acts { self.new.acts ≡ self.old.acts }
         ensures links { self.new.links ≡ self.old.links }
         ensures verdicts { self.new.verdicts ≡ self.old.verdicts }
         ensures numbered { self.new.numbered ≡ self.old.numbered }
     {
-        let Ok(more) = u32::try_from(registered_by(deed)) else {
+        let Ok(linked) = u32::try_from(linked_by(deed)) else {
+            return Err(AllocError);
+        };
+        let Ok(registered) = u32::try_from(registered_by(deed)) else {
             return Err(AllocError);
         };
         self.rows.reserve()?;
-        self.links.reserve()?;
-        self.register.reserve(more)
+        self.links.reserve_many(linked)?;
+        self.register.reserve(registered)
     }
 
     /// Does a deed, where the file of observations is the one before it. It takes no memory: there is room.
@@ -80,12 +83,12 @@ impl Objects {
     {
         note_verdicts(&mut self.register, file, &self.links, deed);
         link(&mut self.links, deed);
-        take(&mut self.rows, deed);
+        note_rows(&mut self.rows, deed);
     }
 
     /// The designations that were given.
     pub(crate) fn rows(&self) -> &Rows
-        ensures { result.now.takes ≡ self.now.takes }
+        ensures { result.now.acts ≡ self.now.acts }
     {
         &self.rows
     }

@@ -73,7 +73,7 @@ impl Model for Core {
         callers = c.roster.room;
         observations = c.file.observation_room;
         tracklets = c.file.tracklet_room;
-        takes = c.objects.take_room;
+        rows = c.objects.row_room;
         links = c.objects.link_room;
         register = c.objects.register_room;
       };

@@ -26,7 +26,7 @@ use crate::office::Core;
 use crate::prepared::{Prep, Prepared};
 use act_model::{
     Deed, Entry, Heard, Key, Refusal, Reply, Request, Verb, batch_answer, enrol_answer,
-    numbers_answer, object_answer, receipt_answer,
+    numbers_answer, object_answer, opening_answer, receipt_answer,
 };
 use item_list::{Bytes, NoMemory};
 use obs_time::Instant;
@@ -250,6 +250,9 @@ impl Core {
                 object_answer(alloc, receipt, Designation::Provisional(*given))
             }
             Deed::Numbered(pairs) => numbers_answer(alloc, receipt, pairs.as_slice()),
+            Deed::Opened { half, carried, .. } => {
+                opening_answer(alloc, receipt, *half, carried.as_slice())
+            }
             Deed::Stationed { .. }
             | Deed::Coded { .. }
             | Deed::Attributed { .. }

@@ -64,6 +64,7 @@ fn act_with(code: u8) -> Option<Verb>
         11 => Some(Verb::Verdict),
         12 => Some(Verb::Number),
         13 => Some(Verb::Retract),
+        14 => Some(Verb::Opening),
         _ => None,
     }
 }

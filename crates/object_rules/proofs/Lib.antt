@@ -5,4 +5,5 @@ mod EligibleLemmas
 mod NumberingLemmas
 mod HomeLemmas
 pub mod TimeLemmas
+mod LinkLemmas
 mod LiveLemmas

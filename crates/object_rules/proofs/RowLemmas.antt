@@ -1,7 +1,7 @@
 -- Tables of conditions, one after the other.
 use Rattle.std.proofs.Common.{◌≡◌, ℕ, Bool, true, false, cond, List, [], ◌∷◌, ◌++◌, map, Option, Some, None, Result, Ok, Err, ◌⊎◌, inl, inr, refl, sym, ap, subst, ◌∙◌}
 use Rattle.std.specs.Prelude.{flat_map, IfSome}
-use Rattle.designate_core.specs.Takes.{Take}
+use Rattle.designate_core.specs.Takes.{RowAct}
 use Rattle.act_model.specs.declared.deed.Deed.{Deed}
 use Rattle.act_model.specs.declared.reply.Refusal.{Refusal}
 use Rattle.act_model.specs.declared.reply.Refusal.TheVariants.{NoMemory}
@@ -52,34 +52,34 @@ is_refused : {A : Type 0} (o : Option Refusal) (a : A) (r : Refusal) → unless 
 is_refused None a r is = absurd cc
 is_refused (Some refusal) a r is = cc
 
-module _ (held : Holdings) (takes : List Take) (ts : List ℕ) where
+module _ (held : Holdings) (rows : List RowAct) (ts : List ℕ) where
   abbrev there : Option Refusal
   there = first_row (map (tracklet_row held.tracklets) ts)
 
   abbrev free : Option Refusal
   free = first_row (flat_map (free_rows held) ts)
 
-  pub unknown_due : (r : Refusal) → there ≡ Some r → designates held takes ts ≡ Err r
+  pub unknown_due : (r : Refusal) → there ≡ Some r → designates held rows ts ≡ Err r
   unknown_due r is =
-      ap (λ (o : Option Refusal). unless o (designates_seen takes ts (seen_in held.observations ts)))
+      ap (λ (o : Option Refusal). unless o (designates_seen rows ts (seen_in held.observations ts)))
       (rows_some (map (tracklet_row held.tracklets) ts) (flat_map (free_rows held) ts) r is)
 
-  all_there : there ≡ None → designates held takes ts ≡ unless free (designates_seen takes ts (seen_in held.observations ts))
+  all_there : there ≡ None → designates held rows ts ≡ unless free (designates_seen rows ts (seen_in held.observations ts))
   all_there none =
-      ap (λ (o : Option Refusal). unless o (designates_seen takes ts (seen_in held.observations ts)))
+      ap (λ (o : Option Refusal). unless o (designates_seen rows ts (seen_in held.observations ts)))
       (rows_none (map (tracklet_row held.tracklets) ts) (flat_map (free_rows held) ts) none)
 
   pub seen_due : (seen : List Seen) (result : Result Deed Refusal) → there ≡ None → unless free (Ok (seen_in held.observations ts)) ≡ Ok seen
-      → IsDue (designates_seen takes ts seen) result → IsDue (designates held takes ts) result
+      → IsDue (designates_seen rows ts seen) result → IsDue (designates held rows ts) result
   seen_due seen result none is due =
       let both = nothing_refused free (seen_in held.observations ts) seen is in
       subst (λ (d : Result Deed Refusal). IsDue d result)
-      (ap (designates_seen takes ts) (sym both.1) ∙ sym (all_there none ∙ ap (λ (o : Option Refusal). unless o (designates_seen takes ts (seen_in held.observations ts))) both.0)) due
+      (ap (designates_seen rows ts) (sym both.1) ∙ sym (all_there none ∙ ap (λ (o : Option Refusal). unless o (designates_seen rows ts (seen_in held.observations ts))) both.0)) due
 
-  refused_due : (r : Refusal) → there ≡ None → unless free (Ok (seen_in held.observations ts)) ≡ Err r → designates held takes ts ≡ Err r
+  refused_due : (r : Refusal) → there ≡ None → unless free (Ok (seen_in held.observations ts)) ≡ Err r → designates held rows ts ≡ Err r
   refused_due r none is =
-      all_there none ∙ ap (λ (o : Option Refusal). unless o (designates_seen takes ts (seen_in held.observations ts))) (is_refused free (seen_in held.observations ts) r is)
+      all_there none ∙ ap (λ (o : Option Refusal). unless o (designates_seen rows ts (seen_in held.observations ts))) (is_refused free (seen_in held.observations ts) r is)
 
-  pub refused_either : (r : Refusal) → there ≡ None → (unless free (Ok (seen_in held.observations ts)) ≡ Err r) ⊎ (r ≡ NoMemory) → (designates held takes ts ≡ Err r) ⊎ (r ≡ NoMemory)
+  pub refused_either : (r : Refusal) → there ≡ None → (unless free (Ok (seen_in held.observations ts)) ≡ Err r) ⊎ (r ≡ NoMemory) → (designates held rows ts ≡ Err r) ⊎ (r ≡ NoMemory)
   refused_either r none (inl is) = inl (refused_due r none is)
   refused_either r none (inr is) = inr is

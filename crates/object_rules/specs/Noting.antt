@@ -1,12 +1,16 @@
 -- What a deed asks of the files that it changes.
-use Rattle.std.specs.Prelude.{◌≡◌, ◌≢◌, ◌<◌, ℕ, Bool, true, false, List, ◌++◌, length, reverse, Option, Some, None}
+use Rattle.std.specs.Prelude.{◌≡◌, ◌≢◌, ◌<◌, ◌≤◌, ℕ, Bool, true, false, IsFalse, List, ◌++◌, length, reverse, Option}
+use Rattle.std.specs.Prelude.{Some, None}
+use Rattle.std.specs.List.{AllByRecursion}
 use Rattle.std.specs.Option.{option_and_then}
 use Rattle.packed_names.specs.declared.name.Designation.{Designation}
 use Rattle.packed_names.specs.declared.name.Designation.TheVariants.{Provisional}
+use Rattle.packed_names.specs.declared.provisional.Provisional.{Provisional as ProvisionalName}
 use Rattle.packed_names.specs.Ranges.{IsHalfMonth, limit_of}
-use Rattle.designate_core.specs.Takes.{Take, given_in}
+use Rattle.designate_core.specs.Takes.{RowAct, given_in, is_begun}
 use Rattle.identify_core.specs.declared.link.Link.{Link}
-use Rattle.identify_core.specs.Principals.{principal_of, IsPrincipal}
+use Rattle.identify_core.specs.Acts.{LinkAct}
+use Rattle.identify_core.specs.Principals.{StandFor, principal_of, IsPrincipal}
 use Rattle.numbering_core.specs.declared.numbering.Numbering.{Numbering}
 use Rattle.numbering_core.specs.Numbers.{IsUnbroken}
 use Rattle.tracklet_file.specs.declared.tracklet.Tracklet.{Tracklet}
@@ -15,21 +19,33 @@ use Rattle.tracklet_file.specs.Contents.{Contents}
 use Rattle.tracklet_file.specs.Tracklets.{IsTracklet, home_of, with_home}
 use Rattle.act_model.specs.declared.deed.Deed.{Deed}
 use Rattle.act_model.specs.declared.deed.Deed.TheVariants.{Designated, Attributed, Released, Identified, Separated}
-use Rattle.act_model.specs.declared.deed.Deed.TheVariants.{Judged, Numbered, Retracted}
+use Rattle.act_model.specs.declared.deed.Deed.TheVariants.{Judged, Numbered, Opened, Retracted}
 use Rattle.act_model.specs.Holdings.{Holdings, with_homes}
-use Rattle.act_model.specs.Fitting.{AreTracklets}
+use Rattle.act_model.specs.Designations.{with_orders}
+use Rattle.act_model.specs.Fitting.{AreNew, AreTracklets}
 
--- the half-month has one designation more
-abbrev pub TakesDeed : List Take → Deed → Type 0
-TakesDeed takes (Designated tracklets given discovery) =
-    IsHalfMonth given.half × (given_in given.half takes < limit_of given.half)
-TakesDeed takes _ = Unit {0}
+-- a half-month in which a designation is given has one more, and one that is opened isn't begun and can have the count
+abbrev pub RowsDeed : List RowAct → Deed → Type 0
+RowsDeed rows (Designated tracklets given discovery) =
+    IsHalfMonth given.half × (given_in given.half rows < limit_of given.half)
+RowsDeed rows (Opened half given carried) = IsFalse (is_begun half rows) × (1 ≤ given) × (given ≤ limit_of half)
+RowsDeed rows _ = Unit {0}
 
--- a designation that is given is new, those that are identified are two principals, and what is separated is none
+-- orders from 1 to the count of what was given
+abbrev pub AreWithin : ℕ → List ℕ → Type 0
+AreWithin given orders = AllByRecursion (λ order. (1 ≤ order) × (order ≤ given)) orders
+
+-- the links stand for acts that gave none of these designations, where they are given one after the other
+abbrev pub AreUnlinked : List Link → List ProvisionalName → Type 0
+AreUnlinked links names = (acts : List LinkAct) × StandFor links acts × AreNew acts names
+
+-- a designation that is given is new, also one that is carried; those that are identified are two principals, and what
+-- is separated is none
 abbrev pub LinksDeed : List Link → Deed → Type 0
 LinksDeed links (Designated tracklets given discovery) = principal_of links (Provisional given) ≡ None
 LinksDeed links (Identified p s) = IsPrincipal links p × IsPrincipal links s × (p ≢ s)
 LinksDeed links (Separated s) = ¬ IsPrincipal links s
+LinksDeed links (Opened half given carried) = AreWithin given carried × AreUnlinked links (with_orders half carried)
 LinksDeed links _ = Unit {0}
 
 -- what is released is there
@@ -48,6 +64,12 @@ HomesDeed tracklets (Designated ts given discovery) = AreTracklets tracklets ts
 HomesDeed tracklets (Attributed t to) = IsTracklet tracklets t
 HomesDeed tracklets (Released t) = IsTracklet tracklets t
 HomesDeed tracklets _ = Unit {0}
+
+-- how many links a deed adds
+abbrev pub linked_by : Deed → ℕ
+linked_by (Designated tracklets given discovery) = 1
+linked_by (Opened half given carried) = length carried
+linked_by _ = 0
 
 -- how many entries of the register a deed may add
 abbrev pub registered_by : Deed → ℕ
@@ -101,4 +123,5 @@ is_of_objects (Identified p s) = true
 is_of_objects (Separated s) = true
 is_of_objects (Judged p u oppositions) = true
 is_of_objects (Numbered pairs) = true
+is_of_objects (Opened half given carried) = true
 is_of_objects _ = false

@@ -3,10 +3,10 @@
 ghost use Rattle.std.specs.Prelude.{◌≡◌, ◌≤ℤ◌, ◌-ℤ◌, pos, int_lt, if◌then◌else◌, map, true, Some, None, Ok, Err, IfOk, IfSome};
 ghost use Rattle.act_model.specs.Rows.{first_row, unless, IsDue};
 ghost use Rattle.act_model.specs.Holdings.{holdings};
-ghost use Rattle.act_model.specs.Designations.{takes_of, links_of};
+ghost use Rattle.act_model.specs.Designations.{row_acts_of, links_of};
 ghost use Rattle.act_model.specs.Numbers.{numbers_of};
 ghost use Rattle.act_model.specs.Doing.{tracklet_row, identify_rows, designates, designates_seen, attributes, releases};
-ghost use Rattle.act_model.specs.Doing.{identifies, separates, judges, half_a_day};
+ghost use Rattle.act_model.specs.Doing.{identifies, separates, judges, opens, half_a_day};
 ghost use Rattle.object_rules.specs.Noting.{is_of_objects};
 ghost use Rattle.object_rules.specs.Seeing.{AreOfYears};
 
@@ -17,7 +17,7 @@ use crate::observed::is_track_live;
 use crate::seeing::free_seen;
 use act_model::{Deed, Ids, Part, Refusal, Seen, Thing};
 use obs_time::Instant;
-use packed_names::{Designation, limit};
+use packed_names::{Designation, HalfMonth, limit};
 use std::alloc::Global;
 
 /// Half a day, in nanoseconds.
@@ -50,7 +50,7 @@ fn night_between(from: Instant, to: Instant) -> Option<i64>
 /// The object that these tracklets become, where these are their live observations.
 fn designates_seen<L: Ledger>(office: &L, tracklets: Ids, seen: &[Seen]) -> Result<Deed, Refusal>
     requires years { AreOfYears seen.now }
-    ensures due { result ≡ designates_seen (takes_of (L.deeds office.now)) tracklets seen.now }
+    ensures due { result ≡ designates_seen (row_acts_of (L.deeds office.now)) tracklets seen.now }
     ensures kind { IfOk result (λ deed. is_of_objects deed ≡ true) }
 {
     let Some((first, more)) = seen.split_first() else {
@@ -85,7 +85,7 @@ fn designates_seen<L: Ledger>(office: &L, tracklets: Ids, seen: &[Seen]) -> Resu
 /// memory was refused.
 pub fn designates<L: Ledger>(office: &L, alloc: Global, tracklets: Ids) -> Result<Deed, Refusal>
     ensures due { IsDue
-        (designates (holdings (L.deeds office.now)) (takes_of (L.deeds office.now)) tracklets) result }
+        (designates (holdings (L.deeds office.now)) (row_acts_of (L.deeds office.now)) tracklets) result }
     ensures unknown { IfSome (first_row (map (tracklet_row (holdings (L.deeds office.now)).tracklets) tracklets))
         (λ refusal. result ≡ Err refusal) }
     ensures kind { IfOk result (λ deed. is_of_objects deed ≡ true) }
@@ -233,5 +233,30 @@ pub fn judges<L: Ledger>(
         principal: d,
         u,
         oppositions,
+    })
+}
+
+/// A half-month is taken over, in which so many designations were given elsewhere. Those with these orders become
+/// objects of this office.
+///
+/// # Errors
+///
+/// `HalfMonthBegun` where the half-month was taken over before, or a designation was given in it.
+pub fn opens<L: Ledger>(
+    office: &L,
+    half: HalfMonth,
+    given: u32,
+    carried: Ids,
+) -> Result<Deed, Refusal>
+    ensures due { result ≡ opens (row_acts_of (L.deeds office.now)) half given carried }
+    ensures kind { IfOk result (λ deed. is_of_objects deed ≡ true) }
+{
+    if office.rows().begun(half) {
+        return Err(Refusal::HalfMonthBegun(half));
+    }
+    Ok(Deed::Opened {
+        half,
+        given,
+        carried,
     })
 }

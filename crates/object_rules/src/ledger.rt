@@ -5,7 +5,7 @@ ghost use Rattle.act_model.specs.declared.deed.Deed.{Deed};
 ghost use Rattle.identify_core.specs.Principals.{StandFor as LinksStandFor};
 ghost use Rattle.numbering_core.specs.Verdicts.{StandFor as VerdictsStandFor};
 ghost use Rattle.act_model.specs.Holdings.{holdings};
-ghost use Rattle.act_model.specs.Designations.{takes_of, links_of};
+ghost use Rattle.act_model.specs.Designations.{row_acts_of, links_of};
 ghost use Rattle.act_model.specs.Verdicts.{verdicts_of};
 ghost use Rattle.act_model.specs.Numbers.{numbers_of};
 ghost use Rattle.object_rules.specs.Seeing.{FileIsOfYears};
@@ -28,7 +28,7 @@ pub trait Ledger {
 
     /// The designations that were given.
     fn rows(&self) -> &Rows
-        ensures { result.now.takes ≡ takes_of (deeds self.now) };
+        ensures { result.now.acts ≡ row_acts_of (deeds self.now) };
 
     /// The principals of designations.
     fn links(&self) -> &Links

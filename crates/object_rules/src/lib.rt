@@ -17,10 +17,10 @@ mod observed;
 mod seeing;
 mod timed;
 
-pub use acting::{attributes, designates, identifies, judges, releases, separates};
+pub use acting::{attributes, designates, identifies, judges, opens, releases, separates};
 pub use asking::{number_named, place, principal_of, stands_for, track_head};
 pub use ledger::Ledger;
 pub use listing::{items, members, principals};
 pub use living::live;
-pub use noting::{home_tracklets, link, note_verdicts, registered_by, take};
+pub use noting::{home_tracklets, link, linked_by, note_rows, note_verdicts, registered_by};
 pub use numbering::numbers;

@@ -7,46 +7,77 @@ ghost use Rattle.identify_core.specs.Principals.{StandFor as LinksStandFor, prin
 ghost use Rattle.numbering_core.specs.Numbers.{IsUnbroken};
 ghost use Rattle.numbering_core.specs.Verdicts.{VerdictAct, StandFor as VerdictsStandFor, verdict_of};
 ghost use Rattle.tracklet_file.specs.Tracklets.{IsTracklet};
-ghost use Rattle.act_model.specs.Designations.{with_take, with_link};
+ghost use Rattle.act_model.specs.Designations.{with_row_act, with_link, with_all_given, with_orders};
 ghost use Rattle.act_model.specs.Holdings.{with_homes};
 ghost use Rattle.act_model.specs.Numbers.{with_numbers};
 ghost use Rattle.act_model.specs.Fitting.{AreTracklets};
 ghost use Rattle.act_model.specs.Verdicts.{voided, judged_by};
-ghost use Rattle.object_rules.specs.Noting.{TakesDeed, LinksDeed, TouchesDeed, NumbersDeed, HomesDeed};
-ghost use Rattle.object_rules.specs.Noting.{registered_by, returned_by, homed_by};
+ghost use Rattle.object_rules.specs.Noting.{RowsDeed, LinksDeed, TouchesDeed, NumbersDeed, HomesDeed};
+ghost use Rattle.object_rules.specs.Noting.{AreWithin, AreUnlinked, linked_by, registered_by, returned_by, homed_by};
 ghost use Rattle.object_rules.specs.Noting.{held_in, object_in, object_of_seen_in, with_deed_homes};
 
-use act_model::Deed;
+use act_model::{Deed, with_order};
 use designate_core::Rows;
 use identify_core::Links;
 use numbering_core::{Numbering, Register};
-use packed_names::Designation;
+use packed_names::{Designation, HalfMonth};
 use tracklet_file::TrackletFile;
 
-/// Gives the designation of a deed that gives one. It takes no memory.
-pub fn take(rows: &mut Rows, deed: &Deed)
-    requires fits { TakesDeed rows.old.takes deed.now }
+/// Gives the designation of a deed that gives one, and opens the half-month of one that takes it over. It takes no
+/// memory.
+pub fn note_rows(rows: &mut Rows, deed: &Deed)
+    requires fits { RowsDeed rows.old.acts deed.now }
     requires room { 1 ≤ rows.old.spare }
-    ensures takes { rows.new.takes ≡ with_take deed.now rows.old.takes }
+    ensures acts { rows.new.acts ≡ with_row_act deed.now rows.old.acts }
     ensures spare { UsesOne rows.old.spare rows.new.spare }
 {
-    if let Deed::Designated {
-        given,
-        discovery,
-        ..
-    } = deed
-    {
-        rows.take(given.half, *discovery);
+    match deed {
+        Deed::Designated {
+            given,
+            discovery,
+            ..
+        } => {
+            rows.take(given.half, *discovery);
+        }
+        Deed::Opened { half, given, .. } => rows.open(*half, *given),
+        _ => {}
     }
 }
 
-/// Links, joins and parts designations as a deed says. It takes no memory.
+/// How many links a deed adds.
+pub fn linked_by(deed: &Deed) -> u64
+    ensures { result ≡ linked_by deed.now }
+{
+    match deed {
+        Deed::Designated { .. } => 1,
+        Deed::Opened { carried, .. } => carried.len(),
+        _ => 0,
+    }
+}
+
+/// Adds the designations of a half-month that have these orders, one after the other.
+fn link_orders(links: &mut Links, half: HalfMonth, given: u32, orders: &[u64])
+    requires within { AreWithin given orders.now }
+    requires new { AreUnlinked links.old.links (with_orders half orders.now) }
+    requires room { length orders.now ≤ links.old.spare }
+    ensures links { (acts : List LinkAct) → LinksStandFor links.old.links acts →
+        LinksStandFor links.new.links (with_all_given (with_orders half orders.now) acts) }
+    ensures spare { links.old.spare ≤ links.new.spare + length orders.now }
+    ensures no_more { links.new.spare ≤ links.old.spare }
+{
+    for order in orders {
+        links.add(Designation::Provisional(with_order(half, *order)));
+    }
+}
+
+/// Adds, joins and parts designations as a deed says. It takes no memory.
 pub fn link(links: &mut Links, deed: &Deed)
     requires fits { LinksDeed links.old.links deed.now }
-    requires room { 1 ≤ links.old.spare }
+    requires room { linked_by deed.now ≤ links.old.spare }
     ensures links { (acts : List LinkAct) →
         LinksStandFor links.old.links acts → LinksStandFor links.new.links (with_link deed.now acts) }
-    ensures spare { UsesOne links.old.spare links.new.spare }
+    ensures spare { links.old.spare ≤ links.new.spare + linked_by deed.now }
+    ensures no_more { links.new.spare ≤ links.old.spare }
 {
     match deed {
         Deed::Designated { given, .. } => links.add(Designation::Provisional(*given)),
@@ -55,6 +86,11 @@ pub fn link(links: &mut Links, deed: &Deed)
             secondary,
         } => links.join(*principal, *secondary),
         Deed::Separated(s) => links.part(*s),
+        Deed::Opened {
+            half,
+            given,
+            carried,
+        } => link_orders(links, *half, *given, carried.as_slice()),
         _ => {}
     }
 }

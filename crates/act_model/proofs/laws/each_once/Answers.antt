@@ -1,5 +1,17 @@
-use Rattle.act_model.proofs.Conducts.{conduct_once}
+use Rattle.act_model.proofs.Worlds.{world_legal, world_once, world_acknowledged, world_again, world_extends}
 use Rattle.act_model.proofs.laws.each_once.Goals as goal
 
-pub returns : goal.returns
-returns c = λ founder limit before after turns. conduct_once founder limit before turns after
+pub returns-clause-legal : goal.returns-clause-legal
+returns-clause-legal c = λ founder limit events after. world_legal founder limit events after
+
+pub returns-clause-once : goal.returns-clause-once
+returns-clause-once c = λ founder limit events after. world_once founder limit events after
+
+pub returns-clause-acknowledged : goal.returns-clause-acknowledged
+returns-clause-acknowledged c = λ founder limit events after. world_acknowledged founder limit events after
+
+pub returns-clause-again : goal.returns-clause-again
+returns-clause-again c = λ founder limit events after. world_again founder limit events after
+
+pub returns-clause-grows : goal.returns-clause-grows
+returns-clause-grows c = λ founder limit before after events. world_extends founder limit before events after

@@ -3,7 +3,7 @@ use Rattle.act_model.specs.declared.query.Query.{Query}
 use Rattle.act_model.specs.declared.query.Query.TheVariants as query
 use Rattle.act_model.specs.Catalogue.{catalogue}
 use Rattle.act_model.specs.Deeds.{deeds}
-use Rattle.act_model.specs.Designations.{takes_of, links_of}
+use Rattle.act_model.specs.Designations.{row_acts_of, links_of}
 use Rattle.act_model.specs.Holdings.{holdings}
 use Rattle.act_model.specs.Numbers.{numbers_of}
 use Rattle.act_model.specs.QueryTexts.{isolated_text, half_month_line, name_text}
@@ -37,7 +37,7 @@ returns-in-HalfMonth-clause-due g c =
     let asked = query.HalfMonth c.in-HalfMonth.half in
     subst (λ (q : Query). IsDue (told past c.args.caller q) c.text_or_refusal-in-HalfMonth.result) (sym c.in-HalfMonth.is)
     (c.text_or_refusal-in-HalfMonth.ensures (told past c.args.caller asked)
-    (if_made c.half_month_text.result (λ text. text ≡ half_month_line (takes_of (deeds past)) c.in-HalfMonth.half) (λ text. told past c.args.caller asked ≡ Ok text)
+    (if_made c.half_month_text.result (λ text. text ≡ half_month_line (row_acts_of (deeds past)) c.in-HalfMonth.half) (λ text. told past c.args.caller asked ≡ Ok text)
     (λ text is. half_month_told past c.args.caller c.in-HalfMonth.half text is)
     c.half_month_text.ensures))
 

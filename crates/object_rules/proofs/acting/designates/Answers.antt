@@ -1,7 +1,7 @@
 use Rattle.std.proofs.Common.{◌≡◌, List, Ok, Err, map, ◌∙◌, sym, ap, subst, inl, ◌⊎◌}
 use Rattle.std.specs.Prelude.{flat_map}
 use Rattle.act_model.specs.declared.reply.Refusal.TheVariants.{NoMemory}
-use Rattle.act_model.specs.Designations.{takes_of}
+use Rattle.act_model.specs.Designations.{row_acts_of}
 use Rattle.act_model.specs.Discoveries.{seen_in}
 use Rattle.act_model.specs.Doing.{tracklet_row, free_rows, designates_seen}
 use Rattle.act_model.specs.Holdings.{holdings}
@@ -14,7 +14,7 @@ returns-in-Some g c =
     let held = holdings (g.L.Ledger.deeds c.args.office.now) in
     let there = sym (c.unknown_tracklet.ensures ∙ ap (λ (x : List _). first_row (map (tracklet_row held.tracklets) x)) c.as_slice.ensures) ∙ c.in-Some.is in
     record {
-      due = inl (unknown_due held (takes_of (g.L.Ledger.deeds c.args.office.now)) c.args.tracklets c.in-Some.refusal there);
+      due = inl (unknown_due held (row_acts_of (g.L.Ledger.deeds c.args.office.now)) c.args.tracklets c.in-Some.refusal there);
       unknown = refused_so _ _ c.in-Some.refusal there;
       kind = tt;
     }
@@ -26,9 +26,9 @@ returns-in-Ok g c =
     let ts = c.args.tracklets in
     let there = sym (c.unknown_tracklet.ensures ∙ ap (λ (x : List _). first_row (map (tracklet_row held.tracklets) x)) c.as_slice.ensures) ∙ c.in_default.is in
     record {
-      due = seen_due held (takes_of past) ts c.in-Ok.seen c.designates_seen.result there
+      due = seen_due held (row_acts_of past) ts c.in-Ok.seen c.designates_seen.result there
           (subst (λ (x : List _). unless (first_row (flat_map (free_rows held) x)) (Ok (seen_in held.observations x)) ≡ Ok c.in-Ok.seen) c.as_slice-2.ensures c.in-Ok.ensures.due)
-          (subst (λ (x : List _). IsDue (designates_seen (takes_of past) ts x) c.designates_seen.result) c.as_slice-in-Ok.ensures (due_is _ _ c.designates_seen.ensures.due));
+          (subst (λ (x : List _). IsDue (designates_seen (row_acts_of past) ts x) c.designates_seen.result) c.as_slice-in-Ok.ensures (due_is _ _ c.designates_seen.ensures.due));
       unknown = none_so _ c.designates_seen.result there;
       kind = c.designates_seen.ensures.kind;
     }
@@ -39,7 +39,7 @@ returns-in-Err g c =
     let held = holdings past in
     let there = sym (c.unknown_tracklet.ensures ∙ ap (λ (x : List _). first_row (map (tracklet_row held.tracklets) x)) c.as_slice.ensures) ∙ c.in_default.is in
     record {
-      due = refused_either held (takes_of past) c.args.tracklets c.in-Err.refusal there
+      due = refused_either held (row_acts_of past) c.args.tracklets c.in-Err.refusal there
           (subst (λ (x : List _). (unless (first_row (flat_map (free_rows held) x)) (Ok (seen_in held.observations x)) ≡ Err c.in-Err.refusal) ⊎ (c.in-Err.refusal ≡ NoMemory)) c.as_slice-2.ensures c.in-Err.ensures.due);
       unknown = none_so _ (Err c.in-Err.refusal) there;
       kind = tt;

@@ -55,7 +55,7 @@ returns-clause-used c =
       callers = c.enrol.new.self.room;
       observations = held.observation_room;
       tracklets = held.tracklet_room;
-      takes = c.note.new.self.take_room;
+      rows = c.note.new.self.row_room;
       links = c.note.new.self.link_room;
       register = c.note.new.self.register_room;
     })) (ap (λ (o : Office). o.spare) c.self.view_is)

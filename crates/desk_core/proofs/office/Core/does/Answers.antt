@@ -19,6 +19,12 @@ returns-in-Identify-clause-fits c =
     done_exactly c.acts_fit.ensures c.args.self.now.history c.args.moment (act.Identify c.in-Identify.principal c.in-Identify.secondary) c.identifies.result
     (subst IsRead c.in-Identify.is c.requires.read) c.identifies.ensures.due c.identifies.ensures.kind
 
+pub returns-in-Separate-clause-fits : goal.returns-in-Separate-clause-fits
+unfolding does
+returns-in-Separate-clause-fits c =
+    done_exactly c.acts_fit.ensures c.args.self.now.history c.args.moment (act.Separate c.in-Separate.s) c.separates.result
+    (subst IsRead c.in-Separate.is c.requires.read) c.separates.ensures.due c.separates.ensures.kind
+
 pub returns-in-Verdict-clause-fits : goal.returns-in-Verdict-clause-fits
 unfolding does
 returns-in-Verdict-clause-fits c =
@@ -30,6 +36,12 @@ unfolding does
 returns-in-Number-clause-fits c =
     done_fits c.acts_fit.ensures c.args.self.now.history c.args.moment (act.Number c.in-Number.first c.in-Number.most) c.numbers.result
     (subst IsRead c.in-Number.is c.requires.read) c.numbers.ensures.due c.numbers.ensures.kind
+
+pub returns-clause-fits : goal.returns-clause-fits
+unfolding does
+returns-clause-fits c =
+    done_exactly c.acts_fit.ensures c.args.self.now.history c.args.moment (act.Opening c.in-Opening.half c.in-Opening.given c.in-Opening.carried) c.opens.result
+    (subst IsRead c.in-Opening.is c.requires.read) c.opens.ensures.due c.opens.ensures.kind
 
 pub returns-in-Designate-clause-exact : goal.returns-in-Designate-clause-exact
 returns-in-Designate-clause-exact c = λ once.

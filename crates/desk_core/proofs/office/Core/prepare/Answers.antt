@@ -8,7 +8,7 @@ returns-in-Ok-clause-no_room c =
     λ none. no_room_prep c.args.limit c.args.self.now.history _ _ c.in-Ok.prep (outcome_no_room c.args.self.now.founder c.args.limit c.args.self.now.history c.args.request.now c.args.reading none) c.in-Ok.ensures.answer
 
 none_left : Room
-none_left = record { entries = 0; callers = 0; observations = 0; tracklets = 0; takes = 0; links = 0; register = 0 }
+none_left = record { entries = 0; callers = 0; observations = 0; tracklets = 0; rows = 0; links = 0; register = 0 }
 
 pub returns-in-Err-clause-no_room : goal.returns-in-Err-clause-no_room
 returns-in-Err-clause-no_room c =
