@@ -1,5 +1,6 @@
 -- The bytes of a parcel are its own.
-use Rattle.std.proofs.Common.{◌≡◌, ℕ, ℤ, ◌+◌, ◌-◌, ◌^◌, ◌<◌, ◌≤◌, List, [], ◌∷◌, ◌++◌, length, take, drop, refl, sym, ◌∙◌, ap, arith, length-append}
+use Rattle.std.proofs.Common.{◌≡◌, ℕ, ℤ, ◌+◌, ◌-◌, ◌^◌, ◌<◌, ◌≤◌, List, [], ◌∷◌, ◌++◌, length, take, drop, refl, sym, ◌∙◌, ap, arith, append_assoc, length-append}
+use Rattle.std.specs.Prelude.{replicate}
 use Rattle.std.proofs.lemmas.List.{take_at, drop_at}
 use Rattle.std.proofs.lemmas.Nat.{from_be_bytes-to_be_bytes_4, from_be_bytes-to_be_bytes_8}
 use Rattle.std.proofs.lemmas.Int.{to_z-of_z}
@@ -25,12 +26,30 @@ unfolding parcel_bytes
 laid p b1 b2 b3 b4 b5 b6 b7 e1 e2 e3 e4 e5 e6 e7 =
     e7 ∙ ap (λ b. b ++ 0 ∷ []) (e6 ∙ ap (λ b. b ++ p.body) (e5 ∙ ap (λ b. b ++ p.verb ∷ []) (e4 ∙ ap (λ b. b ++ to_be_bytes w64 (cast_unsigned w64 p.moment)) (e3 ∙ ap (λ b. b ++ to_be_bytes w64 p.number) (e2 ∙ ap (λ b. b ++ to_be_bytes w32 p.caller) e1)))))
 
--- the body among the bytes of a parcel and a gate
-pub body_of_bytes : (p : RawParcel) (bytes : List ℕ) → bytes ≡ parcel_bytes p ++ 0 ∷ [] → body_of bytes ≡ p.body
+-- the bytes of a parcel, as they lie in memory, and what lies behind them
+kept_parts : (p : RawParcel) (bytes : List ℕ) → bytes ≡ (parcel_bytes p ++ 0 ∷ []) ++ replicate 32 0 → bytes ≡ parcel_bytes p ++ replicate 33 0
+kept_parts p bytes e = e ∙ append_assoc (parcel_bytes p) (0 ∷ []) (replicate 32 0)
+
+pub length-kept : (p : RawParcel) (bytes : List ℕ) → bytes ≡ (parcel_bytes p ++ 0 ∷ []) ++ replicate 32 0 → length bytes ≡ 58 + length p.body
+length-kept p bytes e = omega (arith, ap length (kept_parts p bytes e), length-append (parcel_bytes p) (replicate 33 0), length-parcel_bytes p)
+
+-- the body among them
+pub body_of_bytes : (p : RawParcel) (bytes : List ℕ) → bytes ≡ (parcel_bytes p ++ 0 ∷ []) ++ replicate 32 0 → body_of bytes ≡ p.body
 body_of_bytes p bytes e =
-    let behind : drop 25 bytes ≡ p.body ++ 0 ∷ [] = ap (λ b. drop 25 b) (e ∙ parcel_parts p (0 ∷ [])) in
-    let long : length (drop 25 bytes) - 1 ≡ length p.body = omega (arith, ap length behind, length-append p.body (0 ∷ [])) in
-    ap (λ n. take n (drop 25 bytes)) long ∙ ap (λ b. take (length p.body) b) behind ∙ take_at p.body (0 ∷ []) (length p.body) refl
+    let behind : drop 25 bytes ≡ p.body ++ replicate 33 0 = ap (λ b. drop 25 b) (kept_parts p bytes e ∙ parcel_parts p (replicate 33 0)) in
+    let long : length (drop 25 bytes) - 33 ≡ length p.body = omega (arith, ap length behind, length-append p.body (replicate 33 0)) in
+    ap (λ n. take n (drop 25 bytes)) long ∙ ap (λ b. take (length p.body) b) behind ∙ take_at p.body (replicate 33 0) (length p.body) refl
+
+-- with the closed gate, and without it
+pub with_gate : (p : RawParcel) (bytes : List ℕ) → bytes ≡ (parcel_bytes p ++ 0 ∷ []) ++ replicate 32 0 → take (length bytes - 32) bytes ≡ parcel_bytes p ++ 0 ∷ []
+with_gate p bytes e =
+    let long : length bytes - 32 ≡ length (parcel_bytes p ++ 0 ∷ []) = omega (arith, length-kept p bytes e, length-append (parcel_bytes p) (0 ∷ []), length-parcel_bytes p) in
+    ap (λ n. take n bytes) long ∙ ap (λ b. take (length (parcel_bytes p ++ 0 ∷ [])) b) e ∙ take_at (parcel_bytes p ++ 0 ∷ []) (replicate 32 0) (length (parcel_bytes p ++ 0 ∷ [])) refl
+
+pub without_gate : (p : RawParcel) (bytes : List ℕ) → bytes ≡ (parcel_bytes p ++ 0 ∷ []) ++ replicate 32 0 → take (length bytes - 33) bytes ≡ parcel_bytes p
+without_gate p bytes e =
+    let long : length bytes - 33 ≡ length (parcel_bytes p) = omega (arith, length-kept p bytes e, length-parcel_bytes p) in
+    ap (λ n. take n bytes) long ∙ ap (λ b. take (length (parcel_bytes p)) b) (kept_parts p bytes e) ∙ take_at (parcel_bytes p) (replicate 33 0) (length (parcel_bytes p)) refl
 
 -- a number in four bytes, and in eight
 four : (m n : ℕ) (x y : List ℕ) → m < 2 ^ 32 → n < 2 ^ 32 → to_be_bytes w32 m ++ x ≡ to_be_bytes w32 n ++ y → (m ≡ n) × (x ≡ y)
@@ -42,7 +61,7 @@ eight m n x y fits_m fits_n e =
     (sym (from_be_bytes-to_be_bytes_8 m fits_m) ∙ ap (λ b. from_be_bytes w64 (take 8 b)) e ∙ from_be_bytes-to_be_bytes_8 n fits_n, ap (λ b. drop 8 b) e)
 
 -- lists that go on, cut at one length
-cut : (n : ℕ) (a b x y : List ℕ) → length a ≡ n → length b ≡ n → a ++ x ≡ b ++ y → (a ≡ b) × (x ≡ y)
+pub cut : (n : ℕ) (a b x y : List ℕ) → length a ≡ n → length b ≡ n → a ++ x ≡ b ++ y → (a ≡ b) × (x ≡ y)
 cut n a b x y la lb e = (sym (take_at a x n la) ∙ ap (λ l. take n l) e ∙ take_at b y n lb, sym (drop_at a x n la) ∙ ap (λ l. drop n l) e ∙ drop_at b y n lb)
 
 head_of : ℕ → List ℕ → ℕ

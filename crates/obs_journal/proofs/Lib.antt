@@ -1,4 +1,5 @@
 pub mod Bytes
+pub mod Seals
 pub mod Rows
 pub mod Writes
 pub mod Appends
@@ -8,3 +9,5 @@ pub mod Heads
 pub mod Fronts
 pub mod Places
 pub mod Recovery
+pub mod Chains
+pub mod Moves

@@ -4,6 +4,7 @@ use Rattle.std.proofs.lemmas.List.{map-append, drop-drop, drop_at}
 use Rattle.std.specs.List.{AllByRecursion}
 use Rattle.obs_journal.specs.Parcels.{RawParcel, IsParcel, parcel_bytes, room}
 use Rattle.obs_journal.specs.Files.{opened, row_length}
+use Rattle.obs_journal.specs.Formats.{Plain}
 use Rattle.obs_journal.specs.Fronts.{StandsAtFront}
 use Rattle.obs_journal.specs.Opening.{parcels_of, placed_from}
 use Rattle.obs_journal.specs.declared.opening.Placed.{Placed}
@@ -13,7 +14,7 @@ use Rattle.obs_journal.proofs.Quiet.{if_both}
 use Rattle.obs_journal.specs.declared.gates.Front.{Front}
 use Rattle.obs_journal.specs.declared.gates.Front.TheVariants.{Open}
 use Rattle.obs_journal.proofs.Bytes.{length-parcel_bytes}
-use Rattle.obs_journal.proofs.Rows.{opened-append, row_length-append}
+use Rattle.obs_journal.proofs.Rows.{row-append, row_length-append}
 use Rattle.obs_journal.proofs.Appends.{each_more}
 
 -- these parcels stand before the gate at this offset
@@ -28,7 +29,7 @@ more_read file ps gate next p next_is read front =
     let whole : drop gate file ≡ (1 ∷ parcel_bytes p) ++ tail = front.2 in
     let behind : drop next file ≡ tail = ap (λ n. drop n file) next_is ∙ sym (drop-drop (room p) gate file) ∙ ap (λ l. drop (room p) l) whole ∙ drop_at (1 ∷ parcel_bytes p) tail (room p) (omega (arith, length-parcel_bytes p)) in
     record {
-      file_is = read.file_is ∙ ap (λ l. opened ps l) (front.2 ∙ ap (λ l. 1 ∷ (parcel_bytes p ++ l)) (sym behind)) ∙ sym (opened-append ps (p ∷ []) (drop next file));
+      file_is = read.file_is ∙ ap (λ l. opened ps l) (front.2 ∙ ap (λ l. 1 ∷ (parcel_bytes p ++ l)) (sym behind)) ∙ sym (row-append Plain [] ps (p ∷ []) (drop next file));
       each = each_more ps p read.each front.3;
     }
 
@@ -57,4 +58,4 @@ told_more known places new front p gate next end front_is next_is new_is read st
 
 pub place_more : (places new : List Placed) (p : RawParcel) (gate next : ℕ) → next ≡ gate + room p → new ≡ places ++ record { offset = gate; parcel = p } ∷ [] → gate ≡ row_length (parcels_of places) → next ≡ row_length (parcels_of new)
 place_more places new p gate next next_is new_is place =
-    omega (arith, place, next_is, ap (λ l. row_length (parcels_of l)) new_is, ap row_length (parcels_more places (record { offset = gate; parcel = p })), row_length-append (parcels_of places) (p ∷ []))
+    omega (arith, place, next_is, ap (λ l. row_length (parcels_of l)) new_is, ap row_length (parcels_more places (record { offset = gate; parcel = p })), row_length-append Plain (parcels_of places) (p ∷ []))

@@ -1,39 +1,46 @@
 -- What the bytes of a journal stand for: a row of gates, each followed by a parcel where it is open. A gate is open
 -- where it is 1.
-use Rattle.std.specs.Prelude.{◌≡◌, ◌≢◌, ◌⊎◌, ℕ, ◌+◌, List, [], ◌∷◌, ◌++◌}
+use Rattle.std.specs.Prelude.{◌≡◌, ◌≢◌, ◌⊎◌, ℕ, List, [], ◌∷◌, ◌++◌}
 use Rattle.std.specs.List.{AllByRecursion}
-use Rattle.obs_journal.specs.Parcels.{RawParcel, IsParcel, parcel_bytes, room}
+use Rattle.obs_journal.specs.Parcels.{RawParcel, IsParcel, parcel_bytes}
+use Rattle.obs_journal.specs.Formats.{seal, row, row_length_in, file_of, Format, Plain}
 
 -- an open gate and its parcel for each, before what follows
 abbrev pub opened : List RawParcel → List ℕ → List ℕ
-opened [] rest = rest
-opened (parcel ∷ parcels) rest = 1 ∷ (parcel_bytes parcel ++ opened parcels rest)
+opened parcels rest = row Plain [] parcels rest
 
 -- how many bytes they take
 abbrev pub row_length : List RawParcel → ℕ
-row_length [] = 0
-row_length (parcel ∷ parcels) = room parcel + row_length parcels
+row_length parcels = row_length_in Plain parcels
 
 -- a file that nothing was added to: it is empty, or the one byte 1
 abbrev pub IsFresh : List ℕ → Type 0
 IsFresh file = (file ≡ []) ⊎ (file ≡ 1 ∷ [])
 
--- an open gate and its parcel for each, then a closed gate, then any bytes
-pub record IsRow (file : List ℕ) (parcels : List RawParcel) : Type 0 where
+-- a file of a format: an open gate, its parcel and the seal for each, then a closed gate, then any bytes
+pub record IsRowIn (format : Format) (file : List ℕ) (parcels : List RawParcel) : Type 0 where
   pub gate : ℕ
   pub rest : List ℕ
-  pub file_is : file ≡ opened parcels (gate ∷ rest)
+  pub file_is : file ≡ file_of format parcels (gate ∷ rest)
   pub closed : gate ≢ 1
   pub each : AllByRecursion IsParcel parcels
+
+-- a plain one
+abbrev pub IsRow : List ℕ → List RawParcel → Type 0
+IsRow file parcels = IsRowIn Plain file parcels
 
 -- the file spells these parcels
 abbrev pub Spells : List ℕ → List RawParcel → Type 0
 Spells file parcels = (IsFresh file × (parcels ≡ [])) ⊎ IsRow file parcels
 
--- no parcel with a gate after it stands at the front of these bytes
+-- after this seal no parcel with its own and a gate after it stands at the front of these bytes
+abbrev pub NoParcelIn : Format → List ℕ → List ℕ → Type 0
+NoParcelIn format last bytes = (parcel : RawParcel) (gate : ℕ) (rest : List ℕ) → IsParcel parcel →
+    bytes ≢ parcel_bytes parcel ++ (seal format last (parcel_bytes parcel) ++ gate ∷ rest)
+
+-- no parcel with a gate after it stands there
 abbrev pub NoParcel : List ℕ → Type 0
-NoParcel bytes = (parcel : RawParcel) (gate : ℕ) (rest : List ℕ) → IsParcel parcel →
-    bytes ≢ parcel_bytes parcel ++ gate ∷ rest
+NoParcel bytes = NoParcelIn Plain [] bytes
 
 -- The file is damaged at this offset: an open gate stands there after open gates with their parcels, and no parcel
 -- with a gate after it follows.

@@ -6,7 +6,8 @@ use Rattle.std.specs.Option.{option_map}
 use Rattle.std.specs.List.{AllByRecursion}
 use Rattle.disk_model.specs.Crashes.{During}
 use Rattle.obs_journal.specs.Parcels.{RawParcel, IsParcel, parcel_bytes, room}
-use Rattle.obs_journal.specs.Files.{opened, row_length, IsRow}
+use Rattle.obs_journal.specs.Formats.{file_of, next_seal, Format, Plain}
+use Rattle.obs_journal.specs.Files.{row_length, IsRow}
 
 -- A journal: its disk, the bytes of the file up to and with the closed gate, and, while a parcel is in doubt, what they
 -- are once it is added.
@@ -16,15 +17,20 @@ pub record JournalState (D : Type 0) : Type 0 where
   pub in_doubt : Option ℕ
 
 -- An image while one more parcel is in doubt: after the others any byte stands as its gate, and after that it stands
--- whole, with a closed gate after it.
-pub record IsDoubtful (image : List ℕ) (parcels : List RawParcel) (doubt : RawParcel) : Type 0 where
+-- whole, with its seal and a closed gate after it.
+pub record IsDoubtfulIn (format : Format) (image : List ℕ) (parcels : List RawParcel) (doubt : RawParcel) : Type 0 where
   pub gate : ℕ
   pub next : ℕ
   pub rest : List ℕ
-  pub image_is : image ≡ opened parcels (gate ∷ (parcel_bytes doubt ++ next ∷ rest))
+  pub image_is : image ≡ file_of format parcels
+      (gate ∷ (parcel_bytes doubt ++ (next_seal format parcels doubt ++ next ∷ rest)))
   pub closed : next ≢ 1
   pub each : AllByRecursion IsParcel parcels
   pub fits : IsParcel doubt
+
+-- of a plain file
+abbrev pub IsDoubtful : List ℕ → List RawParcel → RawParcel → Type 0
+IsDoubtful image parcels doubt = IsDoubtfulIn Plain image parcels doubt
 
 -- an image holds these parcels, and perhaps the one in doubt
 abbrev pub Holds : List RawParcel → Option RawParcel → List ℕ → Type 0

@@ -1,7 +1,10 @@
 pub mod Parcels
 pub mod Stored
+pub mod Formats
 pub mod Files
 pub mod Fronts
 pub mod Journals
 pub mod Opening
 pub mod Writing
+pub mod Chains
+pub mod Moves

@@ -4,7 +4,9 @@
 ghost use Rattle.std.specs.Prelude.{◌≡◌, ◌⊎◌, ◌+◌, ℕ, List, [], ◌++◌, ◌∷◌};
 ghost use Rattle.obs_journal.specs.Parcels.{RawParcel, IsParcel, parcel_bytes, room};
 ghost use Rattle.obs_journal.specs.Files.{row_length, IsRow, Spells, IsDamagedAt};
-ghost use Rattle.obs_journal.specs.Journals.{IsDoubtful};
+ghost use Rattle.obs_journal.specs.Journals.{IsDoubtful, IsDoubtfulIn};
+ghost use Rattle.obs_journal.specs.Formats.{room_in, row_length_in, Chained};
+ghost use Rattle.obs_journal.specs.Chains.{IsInForce, IsChain, IsBrokenAt};
 
 /// A file spells at most one list of parcels.
 pub fn one_list()
@@ -34,4 +36,30 @@ pub fn in_doubt()
 pub fn one_more()
     ensures { (parcels : List RawParcel) (parcel : RawParcel) →
         row_length (parcels ++ parcel ∷ []) ≡ row_length parcels + room parcel }
+{}
+
+/// A chained file spells at most one list of parcels, and is in force.
+pub fn one_chain()
+    ensures one { (file : List ℕ) (ps qs : List RawParcel) → IsChain file ps → IsChain file qs → ps ≡ qs }
+    ensures in_force { (file : List ℕ) (ps : List RawParcel) → IsChain file ps → IsInForce file }
+{}
+
+/// A damaged chained file spells no list, is damaged at one offset alone, and is in force.
+pub fn broken_chain()
+    ensures no_list { (file : List ℕ) (offset : ℕ) (ps : List RawParcel) →
+        IsBrokenAt file offset → IsChain file ps → ⊥ }
+    ensures one_offset { (file : List ℕ) (m n : ℕ) → IsBrokenAt file m → IsBrokenAt file n → m ≡ n }
+    ensures in_force { (file : List ℕ) (offset : ℕ) → IsBrokenAt file offset → IsInForce file }
+{}
+
+/// A chained file that holds parcels, and one in doubt after them, spells those parcels, without that one or with it.
+pub fn doubtful_chain()
+    ensures { (file : List ℕ) (parcels : List RawParcel) (doubt : RawParcel) →
+        IsDoubtfulIn Chained file parcels doubt → IsChain file parcels ⊎ IsChain file (parcels ++ doubt ∷ []) }
+{}
+
+/// One parcel more takes its room in a chained file.
+pub fn chain_room()
+    ensures { (parcels : List RawParcel) (parcel : RawParcel) →
+        row_length_in Chained (parcels ++ parcel ∷ []) ≡ row_length_in Chained parcels + room_in Chained parcel }
 {}

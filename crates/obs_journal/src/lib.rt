@@ -9,6 +9,7 @@
 //! give; what its file holds they say of disks whose reads are known.
 #![tactic(auto)]
 
+mod chain;
 mod fault;
 mod gates;
 mod journal;
@@ -16,12 +17,15 @@ pub mod laws;
 mod opening;
 mod parcel;
 mod reading;
+mod second;
 mod writing;
 
+pub use chain::ChainedJournal;
 pub use fault::OpenFault;
 pub use journal::{AppendFault, Journal, Settled};
-pub use opening::{Parcels, Placed};
+pub use opening::{Parcels, Placed, open_first};
 pub use parcel::{NoMemory, Parcel};
+pub use second::{carry, in_force};
 
 /// The longest body of a parcel, in bytes.
 pub const BODY_BYTES: usize = 1_048_576;
@@ -30,6 +34,9 @@ pub const BODY_BYTES: usize = 1_048_576;
 const OPEN: u8 = 1;
 
 const CLOSED: u8 = 0;
+
+/// The bytes of a digest.
+pub(crate) const DIGEST_BYTES: usize = 32;
 
 // How many bytes one read asks for, at most.
 const PIECE_BYTES: usize = 8_192;

@@ -1,10 +1,11 @@
 //! Opening a journal: its file is read from the front, and a fresh one gets its first gate.
 
 ghost use Rattle.std.specs.Prelude.{◌≡◌, ◌≢◌, ◌↔◌, ◌+◌, ◌<◌, ◌≤◌, ◌∷◌, [], ℕ, List, length, IfOk, IfSome, IsErr};
-ghost use Rattle.std.specs.Prelude.{IsErrOf, OnErr, OnOk, IsTrue, true, false, Ok, Err, Some};
+ghost use Rattle.std.specs.Prelude.{IsErrOf, IsSome, OnErr, OnOk, IsTrue, true, false, Ok, Err, Some};
 ghost use Rattle.disk_model.specs.Counts.{Rises};
 ghost use Rattle.disk_model.specs.Crashes.{During};
 ghost use Rattle.obs_journal.specs.Files.{IsFresh, IsRow, Spells, IsDamagedAt, row_length};
+ghost use Rattle.obs_journal.specs.Parcels.{RawParcel};
 ghost use Rattle.obs_journal.specs.Journals.{IsUnwritten};
 ghost use Rattle.obs_journal.specs.Opening.{parcels_of, placed_from, SpellsAlike};
 
@@ -77,8 +78,8 @@ fn is_fresh<D: Disk>(disk: &mut D, end: u64) -> Result<bool, Failed>
     reads_open(disk, 0)
 }
 
-// Waits until the file is safe, and gives its length.
-fn safe_end<D: Disk>(disk: &mut D) -> Result<u64, Failed>
+/// Waits until the file is safe, and gives its length.
+pub(crate) fn safe_end<D: Disk>(disk: &mut D) -> Result<u64, Failed>
     ensures end { IfOk result (λ end. IfSome (D.reads disk.old) (λ file. length file ≡ end)) }
     ensures safe { OnOk result ((image : List ℕ) → D.leaves disk.new image → D.reads disk.old ≡ Some image) }
 
@@ -117,4 +118,40 @@ pub(crate) fn recover<D: Disk>(alloc: Global, disk: &mut D) -> Result<(Parcels, 
     }
     write_and_sync(disk, 0, &[CLOSED])?;
     Ok((Parcels::new(alloc), 1))
+}
+
+/// Reads the parcels of a plain file, and puts a closed gate into a fresh one: what `Journal::open` does, over a disk
+/// that stays the caller's.
+///
+/// # Errors
+/// `DiskFault` where the disk failed, `Damaged` where the file spells no list of parcels, with the offset of the gate
+/// where it stops, `NoMemory` where memory was refused.
+pub fn open_first<D: Disk>(alloc: Global, disk: &mut D) -> Result<Parcels, OpenFault>
+    ensures spelled { IfOk result (λ parcels. IfSome (D.reads disk.old) (λ file. Spells file (parcels_of parcels))) }
+    ensures offsets { IfOk result (λ parcels. parcels ≡ placed_from 0 (parcels_of parcels)) }
+    ensures rows { IfOk result (λ parcels. (image : List ℕ) → D.leaves disk.new image →
+        IsRow image (parcels_of parcels)) }
+
+    ensures damaged { (offset : ℕ) → result ≡ Err (OpenFault.Damaged offset) →
+        IfSome (D.reads disk.old) (λ file. IsDamagedAt file offset) }
+    // Where each image of a disk with known reads spells a list, nothing is damaged.
+    ensures sound { (offset : ℕ) → result ≡ Err (OpenFault.Damaged offset) → IsSome (D.reads disk.old) →
+        ((image : List ℕ) → D.leaves disk.old image → (parcels : List RawParcel) × Spells image parcels) → ⊥ }
+
+    ensures fresh { OnOk result (IfSome (D.reads disk.old) (λ file.
+        IsFresh file → D.reads disk.new ≡ Some (0 ∷ []))) }
+    ensures kept { OnOk result (IfSome (D.reads disk.old) (λ file. (IsFresh file → ⊥) →
+        IsUnwritten D.reads D.moment D.since disk.old disk.new)) }
+
+    // A crash at any moment of the call leaves what it could leave before, or the same parcels.
+    ensures any_moment { During D.moment D.since disk.old disk.new (SpellsAlike (D.reads disk.old)) }
+    ensures unwritten { IsErr result → result ≢ Err OpenFault.DiskFault →
+        IsUnwritten D.reads D.moment D.since disk.old disk.new }
+    ensures counts { D.faults disk.old ≤ D.faults disk.new }
+    ensures cause { result ≡ Err OpenFault.DiskFault → Rises (D.faults disk.old) (D.faults disk.new) }
+{
+    match recover(alloc, disk) {
+        Ok((parcels, _position)) => Ok(parcels),
+        Err(fault) => Err(fault),
+    }
 }

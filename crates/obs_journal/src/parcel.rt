@@ -1,10 +1,12 @@
 //! One record of the journal, and its bytes.
 
-ghost use Rattle.std.specs.Prelude.{◌≡◌, ◌≤◌, ◌+◌, [], ◌∷◌, ◌++◌, length, IfOk};
+ghost use Rattle.std.specs.Prelude.{◌≡◌, ◌≤◌, ◌+◌, ◌-◌, [], ◌∷◌, ◌++◌, length, take, IfOk};
+ghost use Rattle.sha2.specs.Sha256.{sha256};
 ghost use Rattle.obs_journal.specs.Parcels.{IsParcel, parcel_bytes, room};
 ghost use Rattle.obs_journal.specs.Stored.{body_of};
 
-use crate::CLOSED;
+use crate::{CLOSED, DIGEST_BYTES};
+use sha2::{Digest, Sha256};
 use std::alloc::{AllocError, Global};
 use std::marker::Model;
 
@@ -22,8 +24,17 @@ pub struct Parcel {
     number: u64,
     moment: i64,
     verb: u8,
-    // the parcel as it stands in the file, and the closed gate after it
+    // the parcel as it stands in a plain file, the closed gate after it, and room for a digest
     bytes: Vec<u8>,
+}
+
+/// A parcel as it stands in a chained file, and its digest.
+#[derive(Drop)]
+pub(crate) struct Sealed {
+    /// The parcel, its digest and the closed gate.
+    pub(crate) bytes: Vec<u8>,
+    /// Its digest.
+    pub(crate) digest: [u8; DIGEST_BYTES],
 }
 
 impl Model for Parcel {
@@ -57,7 +68,7 @@ impl Parcel {
             record { caller = caller; number = number; moment = moment; verb = verb; body = body.now }) }
     {
         let counted = (HEAD_BYTES - 4 + body.len()) as u32;
-        let mut bytes = Vec::with_capacity(alloc, HEAD_BYTES + body.len() + 1)?;
+        let mut bytes = Vec::with_capacity(alloc, HEAD_BYTES + body.len() + 1 + DIGEST_BYTES)?;
         bytes.extend_from_slice(&counted.to_be_bytes())?;
         bytes.extend_from_slice(&caller.to_be_bytes())?;
         bytes.extend_from_slice(&number.to_be_bytes())?;
@@ -65,6 +76,7 @@ impl Parcel {
         bytes.push(verb)?;
         bytes.extend_from_slice(body)?;
         bytes.push(CLOSED)?;
+        bytes.extend_from_slice(&[CLOSED; DIGEST_BYTES])?;
         Ok(Parcel {
             caller,
             number,
@@ -109,22 +121,63 @@ impl Parcel {
         between(&self.bytes)
     }
 
-    /// The parcel and the closed gate after it, as they stand in the file.
+    /// The parcel and the closed gate after it, as they stand in a plain file.
     pub(crate) fn bytes(&self) -> &[u8]
         ensures bytes { result.now ≡ parcel_bytes self.now ++ 0 ∷ [] }
         ensures length { length result.now ≡ room self.now }
         ensures fits { IsParcel self.now }
     {
-        &self.bytes
+        without(&self.bytes, DIGEST_BYTES)
+    }
+
+    /// The parcel alone, as it stands in any file.
+    pub(crate) fn own_bytes(&self) -> &[u8]
+        ensures bytes { result.now ≡ parcel_bytes self.now }
+        ensures length { length result.now ≡ 25 + length self.now.body }
+        ensures fits { IsParcel self.now }
+    {
+        without(&self.bytes, 1 + DIGEST_BYTES)
+    }
+
+    /// The parcel as it stands in a chained file whose last digest is this: with its own digest and the closed gate.
+    pub(crate) fn sealed(self, last: &[u8; DIGEST_BYTES]) -> Sealed
+        ensures digest { result.digest ≡ sha256 (last.now ++ parcel_bytes self) }
+        ensures bytes { result.bytes.items ≡ parcel_bytes self ++ (result.digest ++ 0 ∷ []) }
+        ensures length { length result.bytes.items ≡ 58 + length self.body }
+        ensures fits { IsParcel self }
+    {
+        let digest = chain_digest(last, self.own_bytes());
+        let Parcel { mut bytes, .. } = self;
+        let end = bytes.len() - 1 - DIGEST_BYTES;
+        bytes[end..end + DIGEST_BYTES].copy_from_slice(&digest);
+        Sealed { bytes, digest }
     }
 }
 
-// The bytes of the body among those of a parcel and a gate.
+/// The digest of a parcel's bytes after the last digest.
+pub(crate) fn chain_digest(last: &[u8; DIGEST_BYTES], bytes: &[u8]) -> [u8; DIGEST_BYTES]
+    ensures { result ≡ sha256 (last.now ++ bytes.now) }
+{
+    let mut hasher = Sha256::new();
+    hasher.update(last.as_slice());
+    hasher.update(bytes);
+    hasher.finalize()
+}
+
+// The bytes but for so many at the end.
+fn without(bytes: &[u8], count: usize) -> &[u8]
+    requires { count ≤ length bytes.now }
+    ensures { result.now ≡ take (length bytes.now - count) bytes.now }
+{
+    let (front, _) = bytes.split_at(bytes.len() - count);
+    front
+}
+
+// The bytes of the body among those of a parcel, a gate and the room.
 fn between(bytes: &[u8]) -> &[u8]
-    requires { 26 ≤ length bytes.now }
+    requires { 58 ≤ length bytes.now }
     ensures { result.now ≡ body_of bytes.now }
 {
     let (_, behind) = bytes.split_at(HEAD_BYTES);
-    let (body, _) = behind.split_at(behind.len() - 1);
-    body
+    without(behind, 1 + DIGEST_BYTES)
 }

@@ -1,6 +1,7 @@
-use Rattle.std.proofs.Common.{◌≡◌, ◌+◌, ◌-◌, ◌↔◌, ℕ, get_or, Some, refl, sym, ◌∙◌}
+use Rattle.std.proofs.Common.{◌≡◌, ◌+◌, ◌-◌, ◌↔◌, ℕ, get_or, Some, refl, sym, ◌∙◌, arith}
 use Rattle.std.specs.Prelude.{IsTrue, Bool, true, false}
 use Rattle.obs_journal.specs.Parcels.{room}
+use Rattle.obs_journal.specs.Formats.{Plain}
 use Rattle.obs_journal.proofs.Appends.{gate_is, left_out_where_closed, added_where_open}
 use Rattle.obs_journal.proofs.Steps.{at_known, position_more}
 use Rattle.obs_journal.proofs.journal.Journal.mend.Goals as goal
@@ -20,7 +21,7 @@ returns-then-not-is_open-clause-dropped g c = rw (← c.self.view_is) (λ _ ps p
       let is = c.in_ok-is_open.ensures.safe image now in
       let doubtful = h.images image (g.met.D.Disk.as_read c.self.inside.disk image is) in
       let test = at_known _ (λ file. IsTrue c.in_ok-is_open.is_open ↔ (get_or file (c.self.inside.position - 1) 0 ≡ 1)) image c.in_ok-is_open.ensures.given is in
-      left_out_where_closed ps p image doubtful (λ shut. let t = test.1 (gate_is ps p c.self.inside.position image h.position doubtful ∙ shut) in let f = c.if-not-is_open.true in absurd (same_bool _ t f));
+      left_out_where_closed Plain ps p image doubtful (λ shut. let t = test.1 (gate_is Plain ps p c.self.inside.position image (omega (arith, h.position)) doubtful ∙ shut) in let f = c.if-not-is_open.true in absurd (same_bool _ t f));
   position = h.position;
   in_doubt = refl;
 })
@@ -32,7 +33,7 @@ returns-clause-added g c = rw (← c.self.view_is) (λ _ ps p h. record {
       let doubtful = h.images image (g.met.D.Disk.as_read c.self.inside.disk image is) in
       let test = at_known _ (λ file. IsTrue c.in_ok-is_open.is_open ↔ (get_or file (c.self.inside.position - 1) 0 ≡ 1)) image c.in_ok-is_open.ensures.given is in
       let f = c.if-not-is_open.false in
-      added_where_open ps p image doubtful (sym (gate_is ps p c.self.inside.position image h.position doubtful) ∙ test.0 (is_true _ f));
+      added_where_open Plain ps p image doubtful (sym (gate_is Plain ps p c.self.inside.position image (omega (arith, h.position)) doubtful) ∙ test.0 (is_true _ f));
   position = after_is _ _ _ (sym c.in-Some.is ∙ h.in_doubt) ∙ position_more ps p c.self.inside.position (room p) h.position refl;
   in_doubt = refl;
 })

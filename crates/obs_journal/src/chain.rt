@@ -1,0 +1,180 @@
+//! A chained journal that is open: parcels are added to it, each with the digest of all up to it, and a parcel in doubt
+//! is settled.
+
+ghost use Rattle.std.specs.Prelude.{◌≡◌, ◌≢◌, ◌⊎◌, ◌↔◌, ◌+◌, ◌-◌, ◌<◌, ◌≤◌, ◌^◌, ℕ, List, [], ◌∷◌, ◌++◌, slice_index};
+ghost use Rattle.std.specs.Prelude.{if◌then◌else◌, IfOk, IfErr, IfSome, OnOk, OnErr, IsErrOf, is_ok, Ok, Some, None};
+ghost use Rattle.disk_model.specs.Counts.{Rises};
+ghost use Rattle.disk_model.specs.Crashes.{During};
+ghost use Rattle.obs_journal.specs.Parcels.{RawParcel};
+ghost use Rattle.obs_journal.specs.Formats.{room_in, row_length_in, file_of, Chained};
+ghost use Rattle.obs_journal.specs.Opening.{parcels_of};
+ghost use Rattle.obs_journal.specs.Chains.{IsChain, StandsForChain, carried_disk};
+ghost use Rattle.obs_journal.specs.Moves.{IsIdle, IsCarried};
+ghost use Rattle.obs_journal.specs.Journals.{IsUnwritten};
+
+use crate::reading::is_open_for_good;
+use crate::second::carry_row;
+use crate::writing::{open_gate, stage};
+use crate::{AppendFault, DIGEST_BYTES, Parcel, Parcels, Settled};
+use disk_model::{Disk, Failed};
+use std::marker::Model;
+
+/// Where a chain stands.
+#[derive(Clone, Copy, Debug)]
+pub(crate) struct Reached {
+    /// The bytes up to and with the closed gate.
+    pub(crate) position: u64,
+    /// The digest of the last parcel; zeros before the first.
+    pub(crate) last: [u8; DIGEST_BYTES],
+}
+
+/// An open chained journal.
+#[derive(Debug, Drop)]
+pub struct ChainedJournal<D: Disk> {
+    disk: D,
+    reached: Reached,
+    // while a parcel is in doubt: where the chain stands once it is added
+    in_doubt: Option<Reached>,
+}
+
+impl<D: Disk> Model for ChainedJournal<D> {
+    ghost use Rattle.std.specs.Prelude.{◌<◌, IfSome};
+    ghost use Rattle.obs_journal.specs.Chains.{ChainState};
+
+    ghost Value = { ChainState D };
+
+    ghost view = { λ j. record { disk = j.disk; reached = j.reached; in_doubt = j.in_doubt } };
+
+    ghost invariant = { λ j. (0 < j.reached.position) × IfSome j.in_doubt (λ after. 0 < after.position) };
+}
+
+impl<D: Disk> ChainedJournal<D> {
+    /// Carries parcels into a second file that isn't in force, as `carry` does, and is the open journal of it. It takes
+    /// no memory.
+    ///
+    /// # Errors
+    /// The disk comes back where it failed.
+    pub fn carried(parcels: &Parcels, mut disk: D) -> Result<ChainedJournal<D>, D>
+        requires safe { (image : List ℕ) → D.leaves disk image → D.reads disk ≡ Some image }
+        requires idle { IfSome (D.reads disk) IsIdle }
+        requires space { row_length_in Chained (parcels_of parcels.now) + 2 < 2 ^ 64 }
+
+        ensures stands { IfOk result (λ journal. StandsForChain D.leaves journal (parcels_of parcels.now) None) }
+        ensures file { IfOk result (λ journal. IfSome (D.reads disk) (λ _.
+            D.reads journal.disk ≡ Some (file_of Chained (parcels_of parcels.now) (0 ∷ [])))) }
+        ensures any_moment { During D.moment D.since disk (carried_disk result) (IsCarried (parcels_of parcels.now)) }
+        ensures counts { D.faults disk ≤ D.faults (carried_disk result) }
+        ensures cause { IfErr result (λ failed. Rises (D.faults disk) (D.faults failed)) }
+    {
+        match carry_row(parcels, &mut disk) {
+            Ok(reached) => Ok(ChainedJournal {
+                disk,
+                reached,
+                in_doubt: None,
+            }),
+            Err(Failed) => Err(disk),
+        }
+    }
+
+    /// How many bytes of the file count: those up to and with the closed gate.
+    pub fn position(&self) -> u64
+        ensures { result ≡ self.now.reached.position }
+    {
+        self.reached.position
+    }
+
+    /// Gives the disk back, also with a parcel in doubt. No device is called.
+    pub fn close(self) -> D
+        ensures { result ≡ self.disk }
+    {
+        let ChainedJournal { disk, .. } = self;
+        disk
+    }
+
+    /// Adds a parcel. Once it is acknowledged, a crash at any later moment leaves a file that has it. No memory is
+    /// taken.
+    ///
+    /// # Errors
+    /// `Untouched` where the disk failed before the parcel's gate was written, `InDoubt` where it failed then.
+    pub fn append(&mut self, parcel: Parcel) -> Result<(), AppendFault>
+        requires settled { self.old.in_doubt ≡ None }
+        requires space { self.old.reached.position + room_in Chained parcel < 2 ^ 64 }
+
+        ensures added { OnOk result ((parcels : List RawParcel) → StandsForChain D.leaves self.old parcels None →
+            StandsForChain D.leaves self.new (parcels ++ parcel ∷ []) None) }
+        ensures untouched { IsErrOf result AppendFault.Untouched → (parcels : List RawParcel) →
+            StandsForChain D.leaves self.old parcels None → StandsForChain D.leaves self.new parcels None }
+        ensures in_doubt { IsErrOf result AppendFault.InDoubt → (parcels : List RawParcel) →
+            StandsForChain D.leaves self.old parcels None → StandsForChain D.leaves self.new parcels (Some parcel) }
+
+        // A crash at any moment of the call leaves the parcels from before it, with the new one or without.
+        ensures any_moment { (parcels : List RawParcel) → StandsForChain D.leaves self.old parcels None →
+            During D.moment D.since self.old.disk self.new.disk
+            (λ image. IsChain image parcels ⊎ IsChain image (parcels ++ parcel ∷ [])) }
+
+        ensures position { self.new.reached.position ≡ (if is_ok result
+            then self.old.reached.position + room_in Chained parcel else self.old.reached.position) }
+        ensures no_doubt { (IsErrOf result AppendFault.InDoubt → ⊥) → self.new.in_doubt ≡ None }
+        ensures counts { D.faults self.old.disk ≤ D.faults self.new.disk }
+        ensures cause { OnErr result (Rises (D.faults self.old.disk) (D.faults self.new.disk)) }
+    {
+        let position = self.reached.position;
+        let sealed = parcel.sealed(&self.reached.last);
+        let after = Reached {
+            position: position + sealed.bytes.len() as u64,
+            last: sealed.digest,
+        };
+        let Ok(()) = stage(&mut self.disk, position, &sealed.bytes) else {
+            return Err(AppendFault::Untouched);
+        };
+        let Ok(()) = open_gate(&mut self.disk, position - 1) else {
+            self.in_doubt = Some(after);
+            return Err(AppendFault::InDoubt);
+        };
+        self.reached = after;
+        Ok(())
+    }
+
+    /// Settles the parcel in doubt: waits until the file is safe, and reads the parcel's gate. With nothing in doubt
+    /// no device is called. Nothing is written.
+    ///
+    /// # Errors
+    /// `Failed` where the disk failed. The doubt stays.
+    pub fn mend(&mut self) -> Result<Settled, Failed>
+        ensures nothing { (result ≡ Ok Settled.Nothing) ↔ (self.old.in_doubt ≡ None) }
+        ensures no_call { self.old.in_doubt ≡ None → self.new ≡ self.old }
+
+        ensures added_where_open { result ≡ Ok Settled.Added →
+            IfSome (D.reads self.old.disk) (λ file. slice_index file (self.old.reached.position - 1) ≡ 1) }
+        ensures dropped_where_closed { result ≡ Ok Settled.Dropped →
+            IfSome (D.reads self.old.disk) (λ file. slice_index file (self.old.reached.position - 1) ≢ 1) }
+        ensures added { result ≡ Ok Settled.Added → (parcels : List RawParcel) (doubt : RawParcel) →
+            StandsForChain D.leaves self.old parcels (Some doubt) →
+            StandsForChain D.leaves self.new (parcels ++ doubt ∷ []) None }
+        ensures dropped { result ≡ Ok Settled.Dropped → (parcels : List RawParcel) (doubt : RawParcel) →
+            StandsForChain D.leaves self.old parcels (Some doubt) → StandsForChain D.leaves self.new parcels None }
+        ensures still_in_doubt { OnErr result ((parcels : List RawParcel) (doubt : RawParcel) →
+            StandsForChain D.leaves self.old parcels (Some doubt) →
+            StandsForChain D.leaves self.new parcels (Some doubt)) }
+
+        ensures after { IfOk result (λ settled. (self.new.in_doubt ≡ None)
+            × (settled ≡ Settled.Added → self.old.in_doubt ≡ Some self.new.reached)
+            × (settled ≡ Settled.Dropped → self.new.reached ≡ self.old.reached)) }
+        ensures as_before { OnErr result ((self.new.in_doubt ≡ self.old.in_doubt)
+            × (self.new.reached ≡ self.old.reached)) }
+        ensures unwritten { IsUnwritten D.reads D.moment D.since self.old.disk self.new.disk }
+        ensures counts { D.faults self.old.disk ≤ D.faults self.new.disk }
+        ensures cause { OnErr result (Rises (D.faults self.old.disk) (D.faults self.new.disk)) }
+    {
+        let Some(after) = self.in_doubt else {
+            return Ok(Settled::Nothing);
+        };
+        let is_open = is_open_for_good(&mut self.disk, self.reached.position - 1)?;
+        self.in_doubt = None;
+        if !is_open {
+            return Ok(Settled::Dropped);
+        }
+        self.reached = after;
+        Ok(Settled::Added)
+    }
+}
