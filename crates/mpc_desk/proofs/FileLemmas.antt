@@ -1,5 +1,5 @@
 -- What a file stands for, and how many bytes its entries take.
-use Rattle.std.proofs.Common.{◌≡◌, ◌⊎◌, ℕ, ◌+◌, List, [], ◌∷◌, ◌++◌, Option, Some, None, refl, sym, ap, ◌∙◌, inl, inr, ⊎_elim, arith}
+use Rattle.std.proofs.Common.{◌≡◌, ◌⊎◌, ℕ, ◌+◌, List, [], ◌∷◌, ◌++◌, Option, Some, None, refl, inl, inr, ⊎_elim, arith}
 use Rattle.obs_journal.specs.Parcels.{RawParcel, room}
 use Rattle.obs_journal.specs.Files.{row_length, IsRow}
 use Rattle.obs_journal.specs.Journals.{JournalState, IsDoubtful}

@@ -5,3 +5,5 @@ pub mod Turned
 pub mod OpenLemmas
 pub mod Opened
 pub mod OneHistory
+mod WorldLemmas
+pub mod Accepting

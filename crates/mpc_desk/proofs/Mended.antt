@@ -1,5 +1,5 @@
 -- A desk after mending.
-use Rattle.std.proofs.Common.{◌≡◌, ◌⊎◌, ℕ, ◌+◌, ◌-◌, ◌<◌, List, [], ◌∷◌, ◌++◌, Option, Some, None, Result, Ok, Err, refl, sym, ap, subst, ◌∙◌, arith}
+use Rattle.std.proofs.Common.{◌≡◌, ℕ, ◌-◌, ◌<◌, List, [], ◌∷◌, ◌++◌, Option, Some, None, refl, sym, subst, ◌∙◌}
 use Rattle.std.specs.Prelude.{◌^◌, IfSome, slice_index}
 use Rattle.act_bodies.specs.declared.key.Key.{Key}
 use Rattle.obs_journal.specs.declared.journal.Settled.{Settled}

@@ -1,16 +1,15 @@
 -- A file stands for one history, and one that stands for a legal history isn't damaged.
-use Rattle.std.proofs.Common.{◌≡◌, ◌⊎◌, ℕ, ◌+◌, List, [], ◌∷◌, ◌++◌, length, true, Option, Some, None, refl, sym, ap, subst, ◌∙◌, inl, inr, append_assoc, arith}
+use Rattle.std.proofs.Common.{◌≡◌, ◌⊎◌, ℕ, List, [], ◌∷◌, ◌++◌, true, Option, Some, None, refl, sym, ap, subst, ◌∙◌, inl, inr, append_assoc}
 use Rattle.std.specs.Prelude.{IfSome, IsSome, option_map}
-use Rattle.std.proofs.lemmas.List.{length-append}
 use Rattle.obs_journal.specs.Parcels.{RawParcel}
 use Rattle.obs_journal.specs.Files.{Spells}
 use Rattle.act_bodies.specs.declared.key.Key.{Key}
 use Rattle.act_model.specs.declared.entry.Entry.{Entry}
 use Rattle.act_model.specs.declared.request.Verb.{Verb}
-use Rattle.act_model.specs.declared.request.Verb.TheVariants.{Enrol, Station, Code, Submit80, SubmitPsv, Designate, Attribute, Release, Identify, Separate, Verdict, Number, Retract, Receipt, Tally, Object, Tracklet, Isolated, HalfMonth, Name, Catalogue, Unknown}
+use Rattle.act_model.specs.declared.request.Verb.TheVariants.{Enrol, Station, Code, Submit80, SubmitPsv, Designate, Attribute, Release, Identify, Separate, Verdict, Number, Retract, Opening, Receipt, Tally, Object, Tracklet, Isolated, HalfMonth, Name, Catalogue, Unknown}
 use Rattle.act_model.specs.Legal.{IsAdded, IsLegal}
 use Rattle.act_model.specs.Requests.{is_act, verb_code}
-use Rattle.desk_core.specs.Replaying.{act_with, entry_of}
+use Rattle.desk_core.specs.Replaying.{act_with}
 use Rattle.mpc_desk.specs.Files.{parcel_of, parcels_in, AreActs, Stands}
 use Rattle.mpc_desk.specs.Opening.{entry_in, StopsAt}
 
@@ -30,6 +29,7 @@ act_coded Separate act = refl
 act_coded Verdict act = refl
 act_coded Number act = refl
 act_coded Retract act = refl
+act_coded Opening act = refl
 act_coded Receipt act = absurd cc
 act_coded Tally act = absurd cc
 act_coded Object act = absurd cc

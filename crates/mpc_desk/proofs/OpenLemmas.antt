@@ -1,6 +1,6 @@
 -- Entries that are taken in again.
 use Rattle.std.proofs.Common.{◌≡◌, ℕ, ℤ, ◌+◌, ◌<◌, Bool, true, false, cond, List, [], ◌∷◌, ◌++◌, length, get_or, take, drop, Option, Some, None, Result, Ok, Err, refl, sym, ap, subst, suc, ◌∙◌, arith}
-use Rattle.std.specs.Prelude.{◌==◌, IsSomeAnd, OnOk, map, option_map}
+use Rattle.std.specs.Prelude.{◌==◌, IsSomeAnd, OnOk, option_map}
 use Rattle.std.proofs.lemmas.Bool.Decides.{nat_tests}
 use Rattle.std.proofs.lemmas.List.{take_more, take-append-drop, map-append}
 use Rattle.std.proofs.Math.Seq.{drop-cons}
@@ -12,7 +12,7 @@ use Rattle.obs_journal.specs.Opening.{parcels_of, placed_from}
 use Rattle.act_bodies.specs.declared.key.Key.{Key}
 use Rattle.act_model.specs.declared.entry.Entry.{Entry}
 use Rattle.act_model.specs.declared.request.Verb.{Verb}
-use Rattle.act_model.specs.declared.request.Verb.TheVariants.{Enrol, Station, Code, Submit80, SubmitPsv, Designate, Attribute, Release, Identify, Separate, Verdict, Number, Retract}
+use Rattle.act_model.specs.declared.request.Verb.TheVariants.{Enrol, Station, Code, Submit80, SubmitPsv, Designate, Attribute, Release, Identify, Separate, Verdict, Number, Retract, Opening}
 use Rattle.act_model.specs.Legal.{IsAdded, IsLegal}
 use Rattle.act_model.specs.Requests.{is_act, verb_code}
 use Rattle.desk_core.specs.Replaying.{act_with, entry_of}
@@ -43,7 +43,8 @@ with_code code v =
     (pick code 10 Separate v _ (code == 10) refl refl refl
     (pick code 11 Verdict v _ (code == 11) refl refl refl
     (pick code 12 Number v _ (code == 12) refl refl refl
-    (pick code 13 Retract v _ (code == 13) refl refl refl (λ none. absurd cc)))))))))))))
+    (pick code 13 Retract v _ (code == 13) refl refl refl
+    (pick code 14 Opening v _ (code == 14) refl refl refl (λ none. absurd cc))))))))))))))
 
 module _ (founder : Key) (past : List Entry) (p : RawParcel) (now : List Entry) where
   abbrev entry_with : Verb → Entry

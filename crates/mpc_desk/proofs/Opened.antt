@@ -1,19 +1,16 @@
 -- What opening finds.
-use Rattle.std.proofs.Common.{◌≡◌, ◌≢◌, ◌⊎◌, ℕ, ◌+◌, ◌<◌, List, [], ◌∷◌, ◌++◌, Option, Some, None, refl, sym, ap, subst, ◌∙◌, inl, inr, arith}
+use Rattle.std.proofs.Common.{◌≡◌, ◌≢◌, ℕ, ◌<◌, List, [], ◌∷◌, Option, Some, None, refl, sym, ap, subst, ◌∙◌, inl, inr, arith}
 use Rattle.std.specs.Prelude.{◌^◌, IfSome, IsSome}
-use Rattle.disk_model.specs.Crashes.{During}
-use Rattle.disk_model.specs.Moments.{during_weaker}
 use Rattle.obs_journal.specs.declared.opening.Placed.{Placed}
 use Rattle.obs_journal.specs.Parcels.{RawParcel}
-use Rattle.obs_journal.specs.Files.{row_length, IsFresh, Spells, IsDamagedAt}
+use Rattle.obs_journal.specs.Files.{row_length, IsFresh, Spells}
 use Rattle.obs_journal.specs.Journals.{JournalState, StandsFor}
 use Rattle.obs_journal.specs.Opening.{parcels_of, SpellsAlike}
 use Rattle.act_bodies.specs.declared.key.Key.{Key}
 use Rattle.act_model.specs.declared.entry.Entry.{Entry}
 use Rattle.act_model.specs.Legal.{IsLegal}
-use Rattle.act_model.specs.Refusals.{used}
 use Rattle.desk_core.specs.Office.{Office}
-use Rattle.mpc_desk.specs.Files.{parcels_in, AreActs, Stands}
+use Rattle.mpc_desk.specs.Files.{parcels_in, AreActs}
 use Rattle.mpc_desk.specs.Desks.{IsDesk}
 use Rattle.mpc_desk.specs.Opening.{StopsAt, IsDamagedDesk, StandsAlike}
 use Rattle.mpc_desk.proofs.FileLemmas.{used_is}

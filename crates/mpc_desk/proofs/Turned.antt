@@ -1,6 +1,6 @@
 -- Turns of a desk.
-use Rattle.std.proofs.Common.{◌≡◌, ◌⊎◌, ℕ, ◌+◌, ◌-◌, ◌<◌, ◌≤◌, ℤ, pos, Bool, true, false, List, ◌∷◌, Option, Some, None, refl, sym, ap, subst, ◌∙◌, inl, inr, ⊎_elim, arith}
-use Rattle.std.specs.Prelude.{◌^◌, min, max, IsSome, IsSomeAnd}
+use Rattle.std.proofs.Common.{◌≡◌, ℕ, ◌-◌, ◌<◌, ◌≤◌, ℤ, pos, true, false, List, ◌∷◌, Option, Some, None, refl, sym, ap, subst, ◌∙◌, inl, inr, ⊎_elim, arith}
+use Rattle.std.specs.Prelude.{max, IsSome, IsSomeAnd}
 use Rattle.obs_time.specs.Instants.{IsInstantNs}
 use Rattle.act_bodies.specs.declared.key.Key.{Key}
 use Rattle.disk_model.specs.Counts.{Rises}
@@ -14,7 +14,7 @@ use Rattle.act_model.specs.declared.reply.Reply.TheVariants.{Refused}
 use Rattle.act_model.specs.declared.request.Request.{Request}
 use Rattle.act_model.specs.Keepers.{RoseBy, TakesTurn}
 use Rattle.act_model.specs.Requests.{is_act}
-use Rattle.act_model.specs.Step.{Adds, outcome}
+use Rattle.act_model.specs.Step.{outcome}
 use Rattle.act_model.specs.Turns.{Answers, Mends, Settles, FailsToKeep}
 use Rattle.mpc_desk.specs.Files.{Stands}
 use Rattle.mpc_desk.specs.Desks.{DeskState, RestsAt, MayLeave, ActsInTurn, TakesAct, count_of, office_of, turn_of}

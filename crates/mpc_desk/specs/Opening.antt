@@ -1,6 +1,5 @@
 -- What opening a desk finds.
 use Rattle.std.specs.Prelude.{◌≡◌, ◌⊎◌, true, ℕ, List, ◌∷◌, ◌++◌, Option, Some, Result, Ok, Err}
-use Rattle.std.specs.Option.{option_map}
 use Rattle.obs_journal.specs.declared.fault.OpenFault.{OpenFault}
 use Rattle.obs_journal.specs.Parcels.{RawParcel}
 use Rattle.obs_journal.specs.Files.{Spells, IsDamagedAt, row_length}

@@ -8,12 +8,18 @@ ghost use Rattle.act_model.specs.declared.reply.Refusal.TheVariants.{DiskFault};
 ghost use Rattle.act_model.specs.declared.reply.Reply.TheVariants.{Done, Refused};
 ghost use Rattle.act_model.specs.Conducts.{IsAcknowledged};
 ghost use Rattle.act_model.specs.Keepers.{TakesTurn};
+ghost use Rattle.act_model.specs.Places.{OnePlace};
 ghost use Rattle.act_model.specs.Requests.{is_act};
 ghost use Rattle.act_model.specs.Step.{Adds, outcome};
 ghost use Rattle.act_model.specs.Turns.{Mends};
+ghost use Rattle.act_model.specs.Unbroken.{UnbrokenRows, UnbrokenNumbers};
+ghost use Rattle.mpc_desk.specs.Accepted.{AddsLines};
 ghost use Rattle.mpc_desk.specs.Desks.{IsAtRest, ActsInTurn, TakesAct, office_of};
+ghost use Rattle.mpc_desk.specs.Disks.{disk_words};
+ghost use Rattle.mpc_desk.specs.Events.{IsAct, IsQuery};
 
 use crate::desk::Desk;
+use crate::laws::lines_are_added;
 use crate::parcels::parcel_of;
 use act_model::{Refusal, Reply, Request};
 use desk_core::Prep;
@@ -54,6 +60,63 @@ impl<D: Disk> Desk<D> {
         ensures doubt { result ≡ Refused (DiskFault true) → IsSomeAnd self.new.state.doubt (λ entry.
             outcome self.old.founder (Some self.old.limit) self.new.state.settled request.now reading ≡ Adds entry) }
 
+        // In the history that is left each accepted observation stands in exactly one place, the designations of each
+        // half-month follow one another without gap or repeat, and so do the numbers.
+        ensures places { OnePlace self.new.state.settled }
+        ensures rows { UnbrokenRows self.new.state.settled }
+        ensures numbers { UnbrokenNumbers self.new.state.settled }
+        // Each act that came to it added its own accepted lines to the accepted observations, and took none away.
+        ensures lines { AddsLines self.old.state.settled self.new.state.settled }
+
+        ensures founder { self.new.founder ≡ self.old.founder }
+        ensures limit { self.new.limit ≡ self.old.limit }
+        ensures counts { D.faults self.old.disk ≤ D.faults self.new.disk }
+        ensures event { IsAct (disk_words D.reads D.leaves D.moment D.since D.faults) (record {
+          old = self.old;
+          request = request.now;
+          reading = reading;
+          reply = result;
+          new = self.new;
+        }) }
+    {
+        act_model::laws::one_place();
+        act_model::laws::unbroken_rows();
+        act_model::laws::unbroken_numbers();
+        act_model::laws::histories_grow();
+        lines_are_added();
+        self.mend_and_act(request, reading)
+    }
+
+    /// Answers a query, a request whose verb is that of no act, from the settled history. No device is called. It takes
+    /// memory.
+    pub fn ask(&self, request: &Request) -> Reply
+        requires query { is_act request.now.verb ≡ false }
+        ensures turn { TakesTurn (office_of D.faults self.now) request.now None result (office_of D.faults self.now) }
+        ensures event { IsQuery (disk_words D.reads D.leaves D.moment D.since D.faults) self.now request.now result }
+    {
+        self.core.answer(request)
+    }
+
+    /// Mends an act in doubt, and then takes the act.
+    fn mend_and_act(&mut self, request: &Request, reading: Instant) -> Reply
+        requires act { is_act request.now.verb ≡ true }
+        ensures turn { TakesTurn (office_of D.faults self.old) request.now (Some reading) result
+            (office_of D.faults self.new) }
+        ensures inside { ActsInTurn D.moment D.since D.faults (record {
+          old = self.old;
+          request = request.now;
+          reading = reading;
+          reply = result;
+          new = self.new;
+        }) }
+        ensures at_rest { IsAtRest D.leaves self.new }
+        ensures acknowledged { (text : List ℕ) → result ≡ Done text → (mended : List Entry) ×
+            Mends self.old.state.settled self.old.state.doubt mended ×
+            IsAcknowledged self.old.founder mended request.now text self.new.state.settled }
+        ensures cause { (doubt : Bool) → result ≡ Refused (DiskFault doubt) →
+            Rises (D.faults self.old.disk) (D.faults self.new.disk) }
+        ensures doubt { result ≡ Refused (DiskFault true) → IsSomeAnd self.new.state.doubt (λ entry.
+            outcome self.old.founder (Some self.old.limit) self.new.state.settled request.now reading ≡ Adds entry) }
         ensures founder { self.new.founder ≡ self.old.founder }
         ensures limit { self.new.limit ≡ self.old.limit }
         ensures counts { D.faults self.old.disk ≤ D.faults self.new.disk }
@@ -66,15 +129,6 @@ impl<D: Disk> Desk<D> {
             Ok(_) => self.act_settled(request, reading),
             Err(_) => Reply::Refused(Refusal::DiskFault { doubt: false }),
         }
-    }
-
-    /// Answers a query, a request whose verb is that of no act, from the settled history. No device is called. It takes
-    /// memory.
-    pub fn ask(&self, request: &Request) -> Reply
-        requires query { is_act request.now.verb ≡ false }
-        ensures turn { TakesTurn (office_of D.faults self.now) request.now None result (office_of D.faults self.now) }
-    {
-        self.core.answer(request)
     }
 
     /// Takes an act where nothing is in doubt.

@@ -9,6 +9,8 @@ ghost use Rattle.act_model.specs.Refusals.{used};
 ghost use Rattle.act_model.specs.Turns.{Mends};
 ghost use Rattle.desk_core.specs.Office.{Office};
 ghost use Rattle.mpc_desk.specs.Desks.{IsNext, IsDesk, IsAtRest, settled_by};
+ghost use Rattle.mpc_desk.specs.Disks.{disk_words};
+ghost use Rattle.mpc_desk.specs.Events.{IsMending, IsClosed};
 
 use desk_core::{Core, Prepared};
 use disk_model::{Disk, Failed};
@@ -89,6 +91,7 @@ impl<D: Disk> Desk<D> {
         ensures unwritten { IsUnwritten D.reads D.moment D.since self.old.disk self.new.disk }
         ensures counts { D.faults self.old.disk ≤ D.faults self.new.disk }
         ensures cause { OnErr result (Rises (D.faults self.old.disk) (D.faults self.new.disk)) }
+        ensures event { IsMending (disk_words D.reads D.leaves D.moment D.since D.faults) self.old result self.new }
     {
         obs_journal::laws::in_doubt();
         let settled = match self.journal.mend() {
@@ -110,7 +113,7 @@ impl<D: Disk> Desk<D> {
 
     /// Gives the disk back, also with an act in doubt. No device is called.
     pub fn close(self) -> D
-        ensures { result ≡ self.disk }
+        ensures { IsClosed self result }
     {
         let Desk { journal, .. } = self;
         journal.close()

@@ -12,6 +12,8 @@ ghost use Rattle.act_model.specs.Legal.{IsLegal};
 ghost use Rattle.act_model.specs.Roster.{IsFounder};
 ghost use Rattle.mpc_desk.specs.Files.{parcels_in, AreActs, Stands};
 ghost use Rattle.mpc_desk.specs.Desks.{IsAtRest};
+ghost use Rattle.mpc_desk.specs.Disks.{disk_words};
+ghost use Rattle.mpc_desk.specs.Events.{IsOpening, IsOpeningAlong};
 ghost use Rattle.mpc_desk.specs.Opening.{ComesNext, IsNotNext, StopsAt, IsDamagedDesk, StandsAlike, disk_after};
 
 use crate::desk::Desk;
@@ -97,6 +99,9 @@ impl<D: Disk> Desk<D> {
         ensures unwritten { IfErr result (λ failed. failed.0 ≢ OpenFault.DiskFault → IsSome (D.reads disk) →
             IsUnwritten D.reads D.moment D.since disk failed.1) }
         ensures counts { D.faults disk ≤ D.faults (disk_after result) }
+        ensures event { IfOk result (λ desk. IsOpening (disk_words D.reads D.leaves D.moment D.since D.faults)
+            founder limit disk desk) }
+        ensures along { IsOpeningAlong (disk_words D.reads D.leaves D.moment D.since D.faults) disk result }
         ensures cause { IfErr result (λ failed. failed.0 ≡ OpenFault.DiskFault →
             Rises (D.faults disk) (D.faults failed.1)) }
     {

@@ -1,12 +1,9 @@
-use Rattle.std.proofs.Common.{◌≡◌, ℕ, List, ◌∷◌, Err, refl, sym, ap, subst, ◌∙◌}
+use Rattle.std.proofs.Common.{◌≡◌, ℕ, Err, refl, sym, subst, ◌∙◌}
 use Rattle.std.specs.Prelude.{IsErrOf}
 use Rattle.desk_core.specs.declared.replaying.ReplayFault.{ReplayFault}
 use Rattle.desk_core.specs.declared.replaying.ReplayFault.TheVariants.{NotLegal}
 use Rattle.act_bodies.specs.declared.key.Key.{Key}
-use Rattle.act_model.specs.declared.entry.Entry.{Entry}
-use Rattle.act_model.specs.Legal.{IsLegal}
 use Rattle.obs_journal.specs.Opening.{parcels_of}
-use Rattle.mpc_desk.specs.Files.{AreActs}
 use Rattle.mpc_desk.specs.Opening.{StopsAt}
 use Rattle.mpc_desk.proofs.OpenLemmas.{taken_more, legal_more, acts_more, stops_at}
 use Rattle.mpc_desk.proofs.opening.replay_all.Goals as goal

@@ -1,4 +1,4 @@
-use Rattle.std.proofs.Common.{◌≡◌, ℕ, ◌+◌, ◌<◌, List, true, false, refl, Option, Some, None, Err, sym, ap, subst, ◌∙◌, inr, arith}
+use Rattle.std.proofs.Common.{◌≡◌, ◌<◌, List, true, false, refl, Some, Err, sym, ap, subst, ◌∙◌, inr, arith}
 use Rattle.std.specs.Prelude.{◌^◌, IsErrOf}
 use Rattle.obs_journal.specs.declared.journal.AppendFault.{AppendFault}
 use Rattle.obs_journal.specs.declared.journal.AppendFault.TheVariants.{Untouched, InDoubt}

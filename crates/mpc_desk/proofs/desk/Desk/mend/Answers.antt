@@ -1,4 +1,4 @@
-use Rattle.std.proofs.Common.{◌≡◌, ◌≢◌, ℕ, ◌-◌, Option, Some, None, Result, Ok, Err, sym, ap, subst, ◌∙◌}
+use Rattle.std.proofs.Common.{◌≡◌, ◌≢◌, ℕ, ◌-◌, Option, sym, ap, subst, ◌∙◌, rules}
 use Rattle.std.specs.Prelude.{IfSome, slice_index}
 use Rattle.act_model.specs.Refusals.{used}
 use Rattle.desk_core.specs.Office.{Ready}
@@ -38,3 +38,14 @@ returns-clause-dropped_where_closed g c = λ dropped.
 
 pub returns-clause-at_rest : goal.returns-clause-at_rest
 returns-clause-at_rest g c = rests g.D.Disk.leaves c.in_doubt.ensures c.settle.new.core c.mend.new.self c.take-doubt.new.self (invariant_of-self-2 g c)
+
+pub returns-clause-event : goal.returns-clause-event
+returns-clause-event g c = record {
+  nothing = search rules;
+  settled = search rules;
+  mends = search rules;
+  still_in_doubt = search rules;
+  at_rest = returns-clause-at_rest g c;
+  founder = search rules;
+  limit = search rules;
+}

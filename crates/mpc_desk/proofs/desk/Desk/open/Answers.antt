@@ -1,4 +1,4 @@
-use Rattle.std.proofs.Common.{◌≡◌, ℕ, ◌<◌, List, inl, refl, sym, ap, subst, ◌∙◌, arith}
+use Rattle.std.proofs.Common.{◌<◌, List, inl, refl, sym, ap, subst, ◌∙◌, arith}
 use Rattle.std.specs.Prelude.{◌^◌, Err}
 use Rattle.disk_model.specs.Moments.{during_weaker}
 use Rattle.obs_journal.specs.Files.{IsDamagedAt, Spells}
@@ -58,3 +58,6 @@ returns-in-Ok-replay_all-clause-stands g c =
       acts = c.in-Ok-replay_all.ensures.acts;
     })
     c.in-Ok-open.ensures.spelled
+
+pub returns-in-Ok-replay_all-clause-along : goal.returns-in-Ok-replay_all-clause-along
+returns-in-Ok-replay_all-clause-along g c = returns-in-Ok-replay_all-clause-any_moment g c

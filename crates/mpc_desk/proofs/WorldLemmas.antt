@@ -1,0 +1,280 @@
+-- The calls of one office on disks are a world.
+use Rattle.std.proofs.Common.{◌≡◌, ◌⊎◌, ℕ, ℤ, true, false, List, [], ◌∷◌, map, Option, Some, None, Result, Ok, Err, refl, sym, ap, subst, ◌∙◌, inl, inr, ⊎_elim}
+use Rattle.std.specs.Prelude.{IfSome, IsSome, IsSomeAnd, ◌≤◌}
+use Rattle.obs_time.specs.Instants.{IsInstantNs}
+use Rattle.disk_model.specs.declared.disk.Failed.{Failed}
+use Rattle.disk_model.specs.Moments.{images_during}
+use Rattle.obs_journal.specs.declared.fault.OpenFault.{OpenFault}
+use Rattle.obs_journal.specs.declared.journal.Settled.{Settled}
+use Rattle.obs_journal.specs.Parcels.{RawParcel}
+use Rattle.obs_journal.specs.Files.{Spells}
+use Rattle.act_bodies.specs.declared.key.Key.{Key}
+use Rattle.act_model.specs.declared.entry.Entry.{Entry}
+use Rattle.act_model.specs.declared.keeper.OfficeState.{OfficeState}
+use Rattle.act_model.specs.declared.reply.Reply.{Reply}
+use Rattle.act_model.specs.declared.request.Request.{Request}
+use Rattle.act_model.specs.Requests.{is_act}
+use Rattle.act_model.specs.Turns.{Turn, at_rest, Mends, IsTurn}
+use Rattle.act_model.specs.Worlds.{WorldState, running, new_office, Event, Received, Lost, ComesToRest, LeavesInside, Happens, World, AreStillAcknowledged}
+use Rattle.act_model.specs.Worlds as worlds
+use Rattle.mpc_desk.specs.Files.{parcels_in, Stands}
+use Rattle.mpc_desk.specs.Opening.{disk_after}
+use Rattle.mpc_desk.specs.Desks.{DeskState, DeskAct, RestsAt, IsAtRest, MayLeave, FailsOn, ActsOn, turn_in}
+use Rattle.mpc_desk.specs.Disks.{DiskWords}
+use Rattle.mpc_desk.specs.Events.{IsAct, IsMending, IsOpening, IsOpeningAlong}
+use Rattle.mpc_desk.specs.Worlds.{Place, AtDesk, InImage, OnDisks, Call, Acted, Asked, Mended, Stopped, StoppedInside, Closed, Opened, Unopened, IsBack, IsCalled, Calls, IsPlacedIn, reply_in, IsIn, IsKeptAt, AreAcknowledged}
+use Rattle.mpc_desk.proofs.OneHistory.{one_history}
+use Rattle.mpc_desk.proofs.Turned.{some_is}
+
+same_some : (file image : List ℕ) → Some file ≡ Some image → file ≡ image
+same_some file image is = cc
+
+-- ---- the history that a stop leaves
+
+-- the image stands for the settled history, or for that with the act in doubt
+record LeftAt (before : OfficeState) (image : List ℕ) : Type 0 where
+  history : List Entry
+  mends : Mends before.settled before.doubt history
+  stands : Stands image history
+
+mends_same : (past : List Entry) (doubt : Option Entry) → Mends past doubt past
+mends_same past None = refl
+mends_same past (Some entry) = inr refl
+
+with_doubt : (past : List Entry) (doubt : Option Entry) (image : List ℕ) → IsSomeAnd doubt (λ entry. Stands image (entry ∷ past)) → LeftAt (record { settled = past; doubt = doubt }) image
+with_doubt past None image with = absurd with
+with_doubt past (Some entry) image with = record { history = entry ∷ past; mends = inl refl; stands = with }
+
+left_at : (state : OfficeState) (image : List ℕ) → RestsAt state image → LeftAt state image
+left_at state image (inl stands) = record { history = state.settled; mends = mends_same state.settled state.doubt; stands = stands }
+left_at state image (inr with) = with_doubt state.settled state.doubt image with
+
+-- ---- one call
+
+module _ {D : Type 0} (on : DiskWords D) (founder : Key) (limit : ℕ) where
+  -- one event takes the world along
+  record Reaches (world : WorldState) (after : OnDisks D) : Type 0 where
+    event : Event
+    reached : WorldState
+    happens : Happens founder (Some limit) world event reached
+    is_in : IsIn on founder limit after reached
+
+  -- or nothing happens in it
+  abbrev GoesAlong : WorldState → OnDisks D → Type 0
+  GoesAlong world after = Reaches world after ⊎ IsIn on founder limit after world
+
+  -- what is known where a call begins
+  module _ (before after : OnDisks D) (world : WorldState) (is : IsIn on founder limit before world) where
+    placed_at : (from : Place D) → before.place ≡ from → IsPlacedIn on founder limit from world
+    placed_at from same = subst (λ (p : Place D). IsPlacedIn on founder limit p world) same is.place
+
+    -- the office is in the state that was reached
+    reached_in : (to : Place D) (received : List (Request × Reply)) (reached : WorldState) → after.place ≡ to → after.received ≡ received → IsPlacedIn on founder limit to reached → received ≡ map reply_in reached.received → IsIn on founder limit after reached
+    reached_in to received reached place replies placed same = record { place = subst (λ (p : Place D). IsPlacedIn on founder limit p reached) (sym place) placed; received = replies ∙ same }
+
+    -- at a desk
+    module _ (old : DeskState D) (from : before.place ≡ AtDesk old) where
+      here : IsPlacedIn on founder limit (AtDesk old) world
+      here = placed_at (AtDesk old) from
+
+      -- what holds of the desk holds of the world
+      in_world : (P : Key → ℕ → OfficeState → Type 0) → P old.founder old.limit old.state → P founder limit world.office
+      in_world P holds =
+          subst (λ (s : OfficeState). P founder limit s) (sym here.1) (subst (λ (n : ℕ). P founder n old.state) here.3 (subst (λ (k : Key). P k old.limit old.state) here.2 holds))
+
+      -- a turn whose reply was received, or lost
+      turn_received : (turn : Turn) (new : DeskState D) → IsTurn old.founder (Some old.limit) old.state turn new.state → after.place ≡ AtDesk new → after.received ≡ reply_in turn ∷ before.received
+          → new.founder ≡ old.founder → new.limit ≡ old.limit → IsAtRest on.leaves new → Reaches world after
+      turn_received turn new takes place replies same_founder same_limit rests =
+          let reached : WorldState = running new.state (turn ∷ world.received) in
+          record {
+            event = Received turn;
+            reached = reached;
+            happens = ((here.0, refl, refl), in_world (λ k n s. IsTurn k (Some n) s turn new.state) takes);
+            is_in =
+                reached_in (AtDesk new) (reply_in turn ∷ before.received) reached place replies (refl, refl, same_founder ∙ here.2, same_limit ∙ here.3, rests)
+                (ap (λ (rs : List (Request × Reply)). reply_in turn ∷ rs) is.received);
+          }
+
+      turn_lost : (turn : Turn) (new : DeskState D) → IsTurn old.founder (Some old.limit) old.state turn new.state → after.place ≡ AtDesk new → after.received ≡ before.received
+          → new.founder ≡ old.founder → new.limit ≡ old.limit → IsAtRest on.leaves new → Reaches world after
+      turn_lost turn new takes place replies same_founder same_limit rests =
+          let reached : WorldState = running new.state world.received in
+          record {
+            event = Lost turn;
+            reached = reached;
+            happens = ((here.0, refl, refl), in_world (λ k n s. IsTurn k (Some n) s turn new.state) takes);
+            is_in = reached_in (AtDesk new) before.received reached place replies (refl, refl, same_founder ∙ here.2, same_limit ∙ here.3, rests) is.received;
+          }
+
+      -- a mending
+      mended : (result : Result Settled Failed) (new : DeskState D) → IsMending on old result new → after.place ≡ AtDesk new → after.received ≡ before.received → Reaches world after
+      mended (Ok settled) new m place replies =
+          let reached : WorldState = running new.state world.received in
+          record {
+            event = worlds.Mended;
+            reached = reached;
+            happens = ((here.0, refl, refl), in_world (λ k n s. ComesToRest s new.state) (m.mends, m.settled));
+            is_in = reached_in (AtDesk new) before.received reached place replies (refl, refl, m.founder ∙ here.2, m.limit ∙ here.3, m.at_rest) is.received;
+          }
+      mended (Err failed) new m place replies =
+          let reached : WorldState = running new.state world.received in
+          let doubted : IsSome old.state.doubt = some_is old.state.doubt (λ none. let fails = m.nothing.1 none in absurd cc) in
+          record {
+            event = worlds.Unmended;
+            reached = reached;
+            happens = ((here.0, refl, refl), in_world (λ k n s. IsSome s.doubt) doubted, m.still_in_doubt ∙ sym here.1);
+            is_in = reached_in (AtDesk new) before.received reached place replies (refl, refl, m.founder ∙ here.2, m.limit ∙ here.3, m.at_rest) is.received;
+          }
+
+      -- a stop between two calls
+      abbrev left : List Entry → WorldState
+      left history = record { office = at_rest history; stopped = true; received = world.received }
+
+      left_in : (image : List ℕ) (history : List Entry) → after.place ≡ InImage image → after.received ≡ before.received → Stands image history → IsIn on founder limit after (left history)
+      left_in image history place replies stands = reached_in (InImage image) before.received (left history) place replies (refl, refl, stands) is.received
+
+      stopped : (image : List ℕ) → after.place ≡ InImage image → after.received ≡ before.received → on.leaves old.disk image → Reaches world after
+      stopped image place replies leaves =
+          let l = left_at old.state image (here.4 image leaves) in
+          record {
+            event = worlds.Stopped;
+            reached = left l.history;
+            happens = ((here.0, refl, refl), in_world (λ k n s. ComesToRest s (at_rest l.history)) (l.mends, refl));
+            is_in = left_in image l.history place replies l.stands;
+          }
+
+      -- a stop inside an act
+      module _ (q : Request) (t : ℤ) (act : is_act q.verb ≡ true) (instant : IsInstantNs t) (image : List ℕ) (place : after.place ≡ InImage image) (replies : after.received ≡ before.received) where
+        inside_at : (history : List Entry) → LeavesInside old.founder (Some old.limit) old.state q t (at_rest history) → Stands image history → Reaches world after
+        inside_at history leaves stands = record {
+          event = worlds.StoppedInside q t;
+          reached = left history;
+          happens = ((here.0, refl, refl), act, instant, in_world (λ k n s. LeavesInside k (Some n) s q t (at_rest history)) leaves);
+          is_in = left_in image history place replies stands;
+        }
+
+        inside_rest : RestsAt old.state image → Reaches world after
+        inside_rest rests = (let l = left_at old.state image rests in inside_at l.history (inl (l.mends, refl)) l.stands)
+
+        inside_mended : (mended : List Entry) → Mends old.state.settled old.state.doubt mended → MayLeave old mended q t image → Reaches world after
+        inside_mended mended mends (inl rests) = inside_rest rests
+        inside_mended mended mends (inr (entry, adds, stands)) =
+            inside_at (entry ∷ mended) (inr (record { mended = mended; mends = mends; entry = entry; adds = adds; leaves = refl })) stands
+
+    -- ---- each call
+
+    module _ (counts_now : (disk : D) (t : ℕ) (image : List ℕ) → t ≤ on.moment disk → on.leaves disk image → on.since disk t image)
+        (only_now : (disk : D) (image : List ℕ) → on.since disk (on.moment disk) image → on.leaves disk image)
+        (one_list : (file : List ℕ) (ps qs : List RawParcel) → Spells file ps → Spells file qs → ps ≡ qs) where
+      stopped_inside : (act : DeskAct D) (image : List ℕ) → before.place ≡ AtDesk act.old → after.place ≡ InImage image → after.received ≡ before.received → IsAct on act → on.since act.new.disk (on.moment act.old.disk) image → Reaches world after
+      stopped_inside act image from place replies a was = by a.inside.acts
+        where
+          rests : on.leaves act.old.disk image → RestsAt act.old.state image
+          rests leaves = (here act.old from).4 image leaves
+
+          by : FailsOn on.moment on.since act.old (turn_in act a.inside.rise) act.new ⊎ ActsOn on.moment on.since act.old (turn_in act a.inside.rise) act.reading act.new → Reaches world after
+          by (inl fails) =
+              ⊎_elim
+              (λ leaves. inside_rest act.old from act.request act.reading a.act a.turn.turn.reads.1 image place replies (rests leaves))
+              (λ never. absurd never)
+              (images_during on.leaves counts_now only_now fails.no_image image was)
+          by (inr acts) =
+              ⊎_elim
+              (λ leaves. inside_rest act.old from act.request act.reading a.act a.turn.turn.reads.1 image place replies (rests leaves))
+              (λ may. inside_mended act.old from act.request act.reading a.act a.turn.turn.reads.1 image place replies acts.mended acts.mends may)
+              (images_during on.leaves counts_now only_now acts.images image was)
+
+      opened : (image : List ℕ) (disk : D) (desk : DeskState D) → before.place ≡ InImage image → after.place ≡ AtDesk desk → after.received ≡ before.received → on.reads disk ≡ Some image → IsOpening on founder limit disk desk → Reaches world after
+      opened image disk desk from place replies reads o =
+          let at = placed_at (InImage image) from in
+          let stands : Stands image desk.state.settled = subst (λ (r : Option (List ℕ)). IfSome r (λ file. Stands file desk.state.settled)) reads o.stands in
+          let same : world.office.settled ≡ desk.state.settled = one_history one_list image world.office.settled desk.state.settled at.2 stands in
+          let rests : at_rest desk.state.settled ≡ desk.state = ap (λ (d : Option Entry). record { settled = desk.state.settled; doubt = d }) (sym o.settled) in
+          let reached : WorldState = running world.office world.received in
+          record {
+            event = worlds.Reopened;
+            reached = reached;
+            happens = ((at.0, refl, refl), refl);
+            is_in =
+                reached_in (AtDesk desk) before.received reached place replies
+                (refl, at.1 ∙ ap (λ (h : List Entry). at_rest h) same ∙ rests, o.founder_is, o.limit_is, o.at_rest) is.received;
+          }
+
+      -- an image that an opening left stands for the same history
+      still : (image : List ℕ) (disk : D) (result : Result (DeskState D) (OpenFault × D)) (left : List ℕ) (history : List Entry)
+          → IsBack on disk image → IsOpeningAlong on disk result → on.since (disk_after result) (on.moment disk) left → Stands image history → Stands left history
+      still image disk (Ok desk) left history back along was stands =
+          ⊎_elim
+          (λ leaves. subst (λ (file : List ℕ). Stands file history) (sym (back.1 left leaves)) stands)
+          (λ alike.
+          let before : Stands image desk.state.settled = subst (λ (file : List ℕ). Stands file desk.state.settled) (same_some alike.file image (sym alike.file_is ∙ back.0)) alike.before in
+          subst (Stands left) (one_history one_list image desk.state.settled history before stands) alike.now)
+          (images_during on.leaves counts_now only_now along left was)
+      still image disk (Err failed) left history back along was stands =
+          ⊎_elim
+          (λ leaves. subst (λ (file : List ℕ). Stands file history) (sym (back.1 left leaves)) stands)
+          (λ alike.
+          let before : Spells image alike.parcels = subst (λ (file : List ℕ). Spells file alike.parcels) (same_some alike.file image (sym alike.file_is ∙ back.0)) alike.before in
+          record { spelled = subst (Spells left) (one_list image alike.parcels (parcels_in history) before stands.spelled) alike.now; acts = stands.acts })
+          (images_during on.leaves counts_now only_now along left was)
+
+      unopened : (image : List ℕ) (disk : D) (result : Result (DeskState D) (OpenFault × D)) (left : List ℕ) → before.place ≡ InImage image → after.place ≡ InImage left → after.received ≡ before.received
+          → IsBack on disk image → IsOpeningAlong on disk result → on.since (disk_after result) (on.moment disk) left → IsIn on founder limit after world
+      unopened image disk result left from place replies back along was =
+          let at = placed_at (InImage image) from in
+          reached_in (InImage left) before.received world place replies (at.0, at.1, still image disk result left world.office.settled back along was at.2) is.received
+
+      called : (call : Call D) → IsCalled on founder limit before call after → GoesAlong world after
+      called (Acted act true) (goes, a) =
+          inl (turn_received act.old goes.0 (turn_in act a.turn.rise) act.new a.turn.turn goes.1 goes.2 a.founder a.limit a.at_rest)
+      called (Acted act false) (goes, a) =
+          inl (turn_lost act.old goes.0 (turn_in act a.turn.rise) act.new a.turn.turn goes.1 goes.2 a.founder a.limit a.at_rest)
+      called (Asked desk q reply true) (goes, a) =
+          inl (turn_received desk goes.0 (record { request = q; reading = None; reply = reply; rise = a.turn.rise }) desk a.turn.turn goes.1 goes.2 refl refl (here desk goes.0).4)
+      called (Asked desk q reply false) (goes, a) =
+          inl (turn_lost desk goes.0 (record { request = q; reading = None; reply = reply; rise = a.turn.rise }) desk a.turn.turn goes.1 goes.2 refl refl (here desk goes.0).4)
+      called (Mended old result new) (goes, m) = inl (mended old goes.0 result new m goes.1 goes.2)
+      called (Stopped desk image) (goes, leaves) = inl (stopped desk goes.0 image goes.1 goes.2 leaves)
+      called (StoppedInside act image) (goes, a, was) = inl (stopped_inside act image goes.0 goes.1 goes.2 a was)
+      called (Closed desk disk image) (goes, closed, leaves) =
+          inl (stopped desk goes.0 image goes.1 goes.2 (subst (λ (d : D). on.leaves d image) closed leaves))
+      called (Opened image disk desk) (goes, reads, o) = inl (opened image disk desk goes.0 goes.1 goes.2 reads o)
+      called (Unopened image disk result left) (goes, back, along, was) = inr (unopened image disk result left goes.0 goes.1 goes.2 back along was)
+
+  -- ---- calls
+
+  module _ (counts_now : (disk : D) (t : ℕ) (image : List ℕ) → t ≤ on.moment disk → on.leaves disk image → on.since disk t image)
+      (only_now : (disk : D) (image : List ℕ) → on.since disk (on.moment disk) image → on.leaves disk image)
+      (one_list : (file : List ℕ) (ps qs : List RawParcel) → Spells file ps → Spells file qs → ps ≡ qs) where
+    pub calls_world : (before : OnDisks D) (calls : List (Call D)) (after : OnDisks D) (world : WorldState) → IsIn on founder limit before world → Calls on founder limit before calls after
+        → (events : List Event) × (reached : WorldState) × World founder (Some limit) world events reached × IsIn on founder limit after reached
+    calls_world before [] after world is same = ([], world, refl, subst (λ (o : OnDisks D). IsIn on founder limit o world) (sym same) is)
+    calls_world before (call ∷ calls) after world is (between, first, others) =
+        ⊎_elim
+        (λ r.
+        let (events, reached, goes_on, is_in) = calls_world between calls after r.reached r.is_in others in
+        (r.event ∷ events, reached, (r.reached, r.happens, goes_on), is_in))
+        (λ same. calls_world between calls after world same others)
+        (called before between world is counts_now only_now one_list call first)
+
+    -- ---- what was answered
+
+    acknowledged_in : (now : List Entry) (received : List Turn) → AreStillAcknowledged founder now received → AreAcknowledged founder now (map reply_in received)
+    acknowledged_in now [] all = tt
+    acknowledged_in now (turn ∷ received) all = (all.0, acknowledged_in now received all.1)
+
+    kept_in : (place : Place D) (reached : WorldState) (history : List Entry) → IsPlacedIn on founder limit place reached → IsKeptAt place history → reached.office.settled ≡ history
+    kept_in (AtDesk desk) reached history placed is = ap (λ (s : OfficeState). s.settled) placed.1 ∙ sym is
+    kept_in (InImage image) reached history placed is = one_history one_list image reached.office.settled history placed.2 is
+
+    module _ (acknowledged : (founder : Key) (limit : Option ℕ) (events : List Event) (after : WorldState) → World founder limit new_office events after → AreStillAcknowledged founder after.office.settled after.received) where
+      pub calls_acknowledged : (image : List ℕ) (calls : List (Call D)) (after : OnDisks D) (history : List Entry) → Stands image [] → Calls on founder limit (record { place = InImage image; received = [] }) calls after
+          → IsKeptAt after.place history → AreAcknowledged founder history after.received
+      calls_acknowledged image calls after history empty called kept =
+          let world : WorldState = record { office = at_rest []; stopped = true; received = [] } in
+          let is : IsIn on founder limit (record { place = InImage image; received = [] }) world = record { place = (refl, refl, empty); received = refl } in
+          let (events, reached, goes_on, is_in) = calls_world (record { place = InImage image; received = [] }) calls after world is called in
+          let all = acknowledged founder (Some limit) (worlds.Stopped ∷ events) reached (world, ((refl, refl, refl), (refl, refl)), goes_on) in
+          subst (λ (h : List Entry). AreAcknowledged founder h after.received) (kept_in after.place reached history is_in.place kept)
+          (subst (AreAcknowledged founder reached.office.settled) (sym is_in.received) (acknowledged_in reached.office.settled reached.received all))
