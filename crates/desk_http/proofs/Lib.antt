@@ -6,4 +6,7 @@ pub mod Fronts
 pub mod Looks
 pub mod Pieces
 pub mod Wholes
+pub mod Paths
+pub mod Parts
+pub mod TargetLemmas
 pub mod Written

@@ -1,5 +1,6 @@
 pub mod Scans
 pub mod Heads
+pub mod Routes
 pub mod Fronts
 pub mod Reading
 pub mod Answers

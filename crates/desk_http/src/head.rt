@@ -10,6 +10,7 @@ ghost use Rattle.desk_http.specs.Fronts.{IsNamed, ReadsFront};
 ghost use Rattle.desk_http.specs.Reading.{IsLooked};
 
 use crate::route::{Asked, asked_of};
+use crate::routes::Routes;
 use crate::scan::{Looked, is_due, scan_more};
 use crate::{HEAD_BYTES, HEAD_FIELDS, LENGTH_DIGITS};
 use act_bodies::Key;
@@ -144,7 +145,12 @@ fn names_close(bytes: &[u8], headers: &[HeaderSpan]) -> bool
 
 // What a head says whose parts lie there in the bytes, where it keeps the rules.
 #[tactic(auto, unfolding(crate::specs::Heads::said_of))]
-fn said_of(bytes: &[u8], spans: &RequestSpans, headers: &[HeaderSpan]) -> Option<HeadParts>
+fn said_of(
+    routes: &Routes,
+    bytes: &[u8],
+    spans: &RequestSpans,
+    headers: &[HeaderSpan],
+) -> Option<HeadParts>
     requires method { IsWithin (length bytes.now) spans.now.method }
     requires path { IsWithin (length bytes.now) spans.now.path }
     requires headers { All (IsHeaderWithin (length bytes.now)) headers.now }
@@ -159,14 +165,14 @@ fn said_of(bytes: &[u8], spans: &RequestSpans, headers: &[HeaderSpan]) -> Option
     let length = body_length(bytes, headers)?;
     Some(HeadParts {
         key,
-        asked: asked_of(spans.method.of(bytes), spans.path.of(bytes)),
+        asked: asked_of(routes, spans.method.of(bytes), spans.path.of(bytes)),
         length,
         closes: spans.version == 0 || names_close(bytes, headers),
     })
 }
 
 // What a head that was parsed says.
-fn front_of(bytes: &[u8], spans: &RequestSpans, headers: &[HeaderSpan]) -> Front
+fn front_of(routes: &Routes, bytes: &[u8], spans: &RequestSpans, headers: &[HeaderSpan]) -> Front
     requires within { IsRequestWithin bytes.now headers.now spans.now }
     requires found { IsRequestOf bytes.now headers.now spans.now }
     requires few { length headers.now ≡ HEAD_FIELDS }
@@ -176,7 +182,7 @@ fn front_of(bytes: &[u8], spans: &RequestSpans, headers: &[HeaderSpan]) -> Front
     if spans.len > HEAD_BYTES {
         return Front::Bad;
     }
-    match said_of(bytes, spans, named) {
+    match said_of(routes, bytes, spans, named) {
         Some(parts) => Front::Whole {
             parts,
             size: spans.len,
@@ -186,14 +192,14 @@ fn front_of(bytes: &[u8], spans: &RequestSpans, headers: &[HeaderSpan]) -> Front
 }
 
 /// Looks for a head at the front of the bytes that have come so far. It parses them once.
-pub fn read_head(bytes: &[u8]) -> Front
+pub fn read_head(routes: &Routes, bytes: &[u8]) -> Front
     ensures front { ReadsFront bytes.now result }
     // After bytes that settle that no head comes, none is awaited.
     ensures unsettled { result ≡ Front.Part → MayBecomeRequest bytes.now }
 {
     let mut headers = [EMPTY_HEADER_SPAN; HEAD_FIELDS];
     match parse_request(bytes, &mut headers) {
-        Ok(Status::Complete(spans)) => front_of(bytes, &spans, &headers),
+        Ok(Status::Complete(spans)) => front_of(routes, bytes, &spans, &headers),
         Ok(Status::Partial) if bytes.len() < HEAD_BYTES => Front::Part,
         Ok(Status::Partial) => Front::Bad,
         Err(_) => Front::Bad,
@@ -202,7 +208,7 @@ pub fn read_head(bytes: &[u8]) -> Front
 
 /// What the front of the bytes is that have come so far, where those that had come before were looked at. They are
 /// parsed where that can say more than the last parse did.
-pub fn next_front(bytes: &[u8], before: &Looked) -> (Front, Looked)
+pub fn next_front(routes: &Routes, bytes: &[u8], before: &Looked) -> (Front, Looked)
     requires { (before.now.seen ≤ length bytes.now) × IsLooked (take before.now.seen bytes.now) before.now }
     ensures front { ReadsFront bytes.now result.0 }
     ensures looked { result.0 ≡ Front.Part → IsLooked bytes.now result.1 }
@@ -220,5 +226,5 @@ pub fn next_front(bytes: &[u8], before: &Looked) -> (Front, Looked)
         parsed: now.seen,
         ..now
     };
-    (read_head(bytes), looked)
+    (read_head(routes, bytes), looked)
 }

@@ -10,10 +10,11 @@ mod heard;
 pub mod laws;
 mod replies;
 mod route;
+mod routes;
 mod scan;
 mod wire;
 
-pub use head::{Front, HeadParts, read_head};
+pub use head::{Front, HeadParts};
 pub use heard::Heard;
 pub use replies::{SendFault, write_reply, write_unread};
 pub use route::Asked;

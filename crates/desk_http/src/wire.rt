@@ -10,6 +10,7 @@ ghost use Rattle.desk_http.specs.Answers.{ReadsBody, ReadsWhole};
 
 use crate::head::{Front, HeadParts, next_front};
 use crate::heard::{Ending, Heard, Whole};
+use crate::routes::Routes;
 use crate::scan::Looked;
 use act_model::{BODY_BYTES, Body, Request};
 use desk_io::{Failed, NoMemory, Source};
@@ -21,6 +22,7 @@ use std::marker::Model;
 #[derive(Debug, Drop)]
 pub struct Wire {
     ahead: ReadAhead,
+    routes: Routes,
 }
 
 impl Model for Wire {
@@ -32,7 +34,7 @@ impl Model for Wire {
 }
 
 impl Wire {
-    /// A wire that has read nothing ahead. It takes its buffer now, and none later.
+    /// A wire that has read nothing ahead. It takes its buffer and its router now, and no memory later but for bodies.
     ///
     /// # Errors
     ///
@@ -41,7 +43,8 @@ impl Wire {
         ensures { IfOk result (λ wire. wire ≡ []) }
     {
         let ahead = ReadAhead::new(alloc)?;
-        Ok(Wire { ahead })
+        let routes = Routes::new(alloc)?;
+        Ok(Wire { ahead, routes })
     }
 
     /// The next request of the source, after the bytes that were read ahead. Bytes that come after it stay
@@ -64,7 +67,7 @@ impl Wire {
         ensures work { work (S.reads source.new) self.new ≤ work (S.reads source.old) self.old }
         ensures progress { OnRequest result (work (S.reads source.new) self.new < work (S.reads source.old) self.old) }
     {
-        next_request(&mut self.ahead, source)
+        next_request(&mut self.ahead, &self.routes, source)
     }
 }
 
@@ -89,7 +92,11 @@ fn read_body<S: Source>(ahead: &mut ReadAhead, source: &mut S, size: u64) -> Res
 }
 
 // Reads until a head stands at the front, and uses it.
-fn read_head<S: Source>(ahead: &mut ReadAhead, source: &mut S) -> Result<HeadParts, Ending>
+fn read_head<S: Source>(
+    ahead: &mut ReadAhead,
+    routes: &Routes,
+    source: &mut S,
+) -> Result<HeadParts, Ending>
     ensures came { (piece : List ℕ) × Comes S.left S.gives (AwaitsMessage ahead.old) source.old source.new piece
         × ReadsHead (ahead.old ++ piece) ahead.new (S.left source.new) result }
     ensures counts { S.faults source.old ≤ S.faults source.new }
@@ -101,7 +108,7 @@ fn read_head<S: Source>(ahead: &mut ReadAhead, source: &mut S) -> Result<HeadPar
     let mut looked = Looked::nothing();
     'pieces: loop {
         let pending = ahead.bytes();
-        let (front, now) = next_front(pending, &looked);
+        let (front, now) = next_front(routes, pending, &looked);
         looked = now;
         match front {
             Front::Whole { parts, size } => {
@@ -133,7 +140,11 @@ fn ending(ahead: &ReadAhead) -> Ending
 }
 
 // Reads a head and its body.
-fn read_whole<S: Source>(ahead: &mut ReadAhead, source: &mut S) -> Result<Whole, Ending>
+fn read_whole<S: Source>(
+    ahead: &mut ReadAhead,
+    routes: &Routes,
+    source: &mut S,
+) -> Result<Whole, Ending>
     ensures came { (piece : List ℕ) × Comes S.left S.gives (AwaitsMessage ahead.old) source.old source.new piece
         × ReadsWhole (ahead.old ++ piece) ahead.new (S.left source.new) result }
     ensures counts { S.faults source.old ≤ S.faults source.new }
@@ -142,13 +153,13 @@ fn read_whole<S: Source>(ahead: &mut ReadAhead, source: &mut S) -> Result<Whole,
     ensures work { work (S.reads source.new) ahead.new ≤ work (S.reads source.old) ahead.old }
     ensures progress { OnOk result (work (S.reads source.new) ahead.new < work (S.reads source.old) ahead.old) }
 {
-    let parts = read_head(ahead, source)?;
+    let parts = read_head(ahead, routes, source)?;
     let body = read_body(ahead, source, parts.length)?;
     Ok(Whole { parts, body })
 }
 
 // The next request, by the bytes that are read ahead.
-fn next_request<S: Source>(ahead: &mut ReadAhead, source: &mut S) -> Heard
+fn next_request<S: Source>(ahead: &mut ReadAhead, routes: &Routes, source: &mut S) -> Heard
     ensures came { (piece : List ℕ) × Comes S.left S.gives (AwaitsMessage ahead.old) source.old source.new piece
         × ReadsMessage (ahead.old ++ piece) ahead.new (S.left source.new) result }
     ensures counts { S.faults source.old ≤ S.faults source.new }
@@ -157,7 +168,7 @@ fn next_request<S: Source>(ahead: &mut ReadAhead, source: &mut S) -> Heard
     ensures work { work (S.reads source.new) ahead.new ≤ work (S.reads source.old) ahead.old }
     ensures progress { OnRequest result (work (S.reads source.new) ahead.new < work (S.reads source.old) ahead.old) }
 {
-    match read_whole(ahead, source) {
+    match read_whole(ahead, routes, source) {
         Ok(whole) => {
             let asked = whole.parts.asked;
             Heard::Request {
