@@ -1,16 +1,18 @@
 -- Writing out the catalogue of an office that was opened and is closed again as it was.
-use Rattle.std.proofs.Common.{◌≡◌, ℕ, ◌-◌, ◌<◌, true, List, ◌∷◌, Option, Some, None, refl, sym, subst, inl, inr, arith}
+use Rattle.std.proofs.Common.{◌≡◌, ℕ, ◌-◌, ◌<◌, true, List, [], ◌∷◌, Option, Some, None, refl, sym, subst, inl, inr, arith}
 use Rattle.std.specs.Prelude.{IfSome, IsSomeAnd}
 use Rattle.disk_model.specs.Counts.{Rises}
 use Rattle.act_bodies.specs.declared.key.Key.{Key}
 use Rattle.act_bodies.specs.Keys.{key_text, begins_with_plus}
 use Rattle.act_model.specs.declared.entry.Entry.{Entry}
 use Rattle.act_model.specs.declared.keeper.OfficeState.{OfficeState}
+use Rattle.act_model.specs.Conducts.{Extends}
 use Rattle.act_model.specs.History.{EachNumberOnce}
 use Rattle.act_model.specs.Keepers.{RoseBy}
 use Rattle.act_model.specs.Legal.{IsLegal}
 use Rattle.act_model.specs.Places.{OnePlace}
 use Rattle.act_model.specs.Unbroken.{UnbrokenRows, UnbrokenNumbers}
+use Rattle.mpc_desk.specs.Accepted.{AddsLines}
 use Rattle.mpc_desk.specs.Desks.{DeskState, RestsAt, count_of}
 use Rattle.mpc_desk.specs.Files.{Stands}
 use Rattle.mpc_desk.specs.Opening.{IsDamagedDesk}
@@ -27,7 +29,8 @@ stands_settled state image none (inl stands) = stands
 stands_settled state image none (inr stands) = absurd (subst (λ (o : Option Entry). IsSomeAnd o (λ entry. Stands image (entry ∷ state.settled))) none stands)
 
 module _ (once : (founder : Key) (history : List Entry) → IsLegal founder history → EachNumberOnce history)
-    (places : (history : List Entry) → OnePlace history) (rows : (history : List Entry) → UnbrokenRows history) (numbers : (history : List Entry) → UnbrokenNumbers history) where
+    (places : (history : List Entry) → OnePlace history) (rows : (history : List Entry) → UnbrokenRows history) (numbers : (history : List Entry) → UnbrokenNumbers history)
+    (lines : (earlier later : List Entry) → Extends earlier later → AddsLines earlier later) where
   pub keeps : {D : Type 0} (on : DiskWords D) (disk now : D) (desk : DeskState D) → Opens on exporter disk desk → now ≡ desk.disk → KeepsOffice on disk now 0 desk.state.settled
   keeps {D} on disk now desk opens same = subst (λ (d : D). KeepsOffice on disk d 0 desk.state.settled) (sym same) (record {
     rise = count_of (on.faults desk.disk) - count_of (on.faults disk);
@@ -42,6 +45,7 @@ module _ (once : (founder : Key) (history : List Entry) → IsLegal founder hist
       places = places desk.state.settled;
       rows = rows desk.state.settled;
       numbers = numbers desk.state.settled;
+      lines = lines desk.state.settled desk.state.settled ([], refl);
     };
   })
 

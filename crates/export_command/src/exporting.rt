@@ -65,6 +65,7 @@ fn export_all<K: Sink, D: Disk>(alloc: Global, sink: &mut K, disk: D) -> Ended<D
     office_laws::one_place();
     office_laws::unbroken_rows();
     office_laws::unbroken_numbers();
+    desk_laws::lines_are_added();
     let desk = match open_desk(alloc, exporter(), disk) {
         Ok(desk) => desk,
         Err(ended) => return ended,

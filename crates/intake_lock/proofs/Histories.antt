@@ -23,6 +23,7 @@ use Rattle.intake_lock.specs.declared.view.Item.{Item}
 use Rattle.intake_lock.specs.declared.view.View.{View}
 use Rattle.intake_lock.specs.Rule.{IsCall, IsOrigin, Origins, Comes}
 use Rattle.intake_lock.proofs.StampLemmas.{one_counts, called_came, come_kept}
+use Rattle.intake_lock.specs.declared.clerk.Stamp.{Stamp}
 use Rattle.intake_lock.specs.Items.{reading_of, StampTells, IsTrue, AreTrue, rises, turn_of, TakesAt, Called, RisesBy}
 
 -- ---- beginnings
@@ -122,8 +123,14 @@ module _ (steps : StepLaw) (founder : Key) (limit : Option ℕ) where
         extends_on before.settled a.mended after.settled (mends_extends before.settled before.doubt a.mended a.mends) (acts_extend a.mended reading a.acts)
     takes_extend None (a, place) = extends_same before.settled after.settled (settled_is a.stays)
 
-    acts_true : (mended : List Entry) (reading : ℤ) → reading ≡ reading_of item → TakesReading item.request.verb item.reading → is_act item.request.verb ≡ true → item.position ≡ length mended → StampTells mended item.reading item.stamp after.settled → Acts mended reading → IsTrue founder limit after.settled item
-    acts_true mended reading is reads act place left (inl s) =
+    -- the stamp has as many entries as the history that the act left
+    counts_at : (past : List Entry) → after.settled ≡ past → (stamp : Option Stamp) → IfSome stamp (λ given. given.entries ≡ length after.settled) → IfSome stamp (λ given. given.entries ≡ length past)
+    counts_at past is None counts = tt
+    counts_at past is (Some given) counts = counts ∙ ap length is
+
+    acts_true : (mended : List Entry) (reading : ℤ) → reading ≡ reading_of item → TakesReading item.request.verb item.reading → is_act item.request.verb ≡ true → item.position ≡ length mended
+        → IfSome item.stamp (λ given. given.entries ≡ length after.settled) → StampTells mended item.reading item.stamp after.settled → Acts mended reading → IsTrue founder limit after.settled item
+    acts_true mended reading is reads act place counts left (inl s) =
         record {
           reads = reads;
           past = mended;
@@ -131,13 +138,20 @@ module _ (steps : StepLaw) (founder : Key) (limit : Option ℕ) where
           first = answer_extends mended item.request reading item.reply after.settled s.answers;
           answered = inl (after.settled, subst (λ (t : ℤ). Answers founder limit mended item.request t item.reply after.settled) is s.answers, extends_refl after.settled, left);
         }
-    acts_true mended reading is reads act place left (inr f) =
+    acts_true mended reading is reads act place counts left (inr f) =
         record {
           reads = reads;
           past = mended;
           place = place;
           first = extends_same mended after.settled (settled_is f.leaves);
-          answered = inr (record { doubt = f.doubt; act = act; reply = f.reply; rose = f.rose; adds = λ doubted. (f.entry, subst (λ (t : ℤ). outcome founder limit mended item.request t ≡ Adds f.entry) is f.adds) });
+          answered = inr (record {
+            doubt = f.doubt;
+            act = act;
+            reply = f.reply;
+            rose = f.rose;
+            adds = λ doubted. (f.entry, subst (λ (t : ℤ). outcome founder limit mended item.request t ≡ Adds f.entry) is f.adds);
+            tells = counts_at mended (settled_is f.leaves) item.stamp counts;
+          });
         }
 
     -- a call comes no earlier than at the end of the history before it
@@ -156,9 +170,16 @@ module _ (steps : StepLaw) (founder : Key) (limit : Option ℕ) where
           past = before.settled;
           place = place;
           first = extends_same before.settled after.settled (settled_is f.stays);
-          answered = inr (record { doubt = false; act = reads.0; reply = f.reply; rose = f.rose; adds = λ doubted. absurd cc });
+          answered = inr (record {
+            doubt = false;
+            act = reads.0;
+            reply = f.reply;
+            rose = f.rose;
+            adds = λ doubted. absurd cc;
+            tells = counts_at before.settled (settled_is f.stays) item.stamp counts;
+          });
         }
-    takes_true (Some reading) is reads counts (inr (a, place)) = acts_true a.mended reading (reading_is item (Some reading) is) (reads_as (Some reading) is reads) reads.0 place
+    takes_true (Some reading) is reads counts (inr (a, place)) = acts_true a.mended reading (reading_is item (Some reading) is) (reads_as (Some reading) is reads) reads.0 place counts
         (subst (λ (r : Option ℤ). StampTells a.mended r item.stamp after.settled) (sym is) counts) a.acts
     takes_true None is reads counts (a, place) =
         record {

@@ -38,13 +38,15 @@ pub record AddsEntry (founder : Key) (limit : Option ℕ) (past : List Entry) (i
   pub answered : (item.reply ≡ Done (entry_answer past entry)) ⊎ (item.reply ≡ Refused (DiskFault true))
 
 -- An act could not be mended or kept at this history, and the reply is that the disk failed, which counted it. The act
--- is in doubt only where the step adds an entry for it.
+-- is in doubt only where the step adds an entry for it. Its stamp, where it got one, has as many entries as the history,
+-- which the act left as it was.
 pub record Failed (founder : Key) (limit : Option ℕ) (past : List Entry) (item : Item) : Type 0 where
   pub doubt : Bool
   pub act : is_act item.request.verb ≡ true
   pub reply : item.reply ≡ Refused (DiskFault doubt)
   pub rose : 0 < item.rise
   pub adds : doubt ≡ true → (entry : Entry) × AddsAt founder limit past item entry
+  pub tells : IfSome item.stamp (λ given. given.entries ≡ length past)
 
 -- a query leaves the history, and the stamp of an act, where it got one, has as many entries as the act left
 abbrev pub StampTells : List Entry → Option ℤ → Option Stamp → List Entry → Type 0

@@ -13,7 +13,7 @@ use Rattle.act_model.specs.Turns.{Turn, IsTurn, Conduct, rises_of}
 use Rattle.mpc_desk.specs.Desks.{DeskState, RestsAt, count_of}
 use Rattle.act_model.specs.Clocks.{ClockState}
 use Rattle.command_ends.specs.Disks.{DiskWords}
-use Rattle.run_command.specs.Conducted.{InsideTurn, LeavesIn, IsEndOfEach, Grows, StaysDesk, TakesTurn, TakesTurns}
+use Rattle.run_command.specs.Conducted.{InsideTurn, LeavesIn, TurnOn, TurnsOn, IsEndOfEach, Grows, StaysDesk, TakesTurn, TakesTurns}
 use Rattle.run_command.proofs.DeskTurns.{OneTurn, one_turn, turn_with}
 
 module _ (founder : Key) (limit : Option ℕ) where
@@ -22,17 +22,24 @@ module _ (founder : Key) (limit : Option ℕ) where
   leaves_first before [] after c image rests = rests
   leaves_first before (turn ∷ turns) after (between, is, later) image rests = inl rests
 
-  -- ---- one turn more
+-- ---- one turn more
 
+module _ {D : Type 0} (on : DiskWords D) (founder : Key) (limit : Option ℕ) where
   record More (before : OfficeState) (turns : List Turn) (between : OfficeState) (turn : Turn) (after : OfficeState) (c : Conduct founder limit before turns between) (t : IsTurn founder limit between turn after) : Type 0 where
     conduct : Conduct founder limit before (turns ++ turn ∷ []) after
     earlier : (image : List ℕ) → LeavesIn founder limit before turns between c image → LeavesIn founder limit before (turns ++ turn ∷ []) after conduct image
     later : (image : List ℕ) → RestsAt between image ⊎ (InsideTurn founder limit between turn turn.reading after t.takes image ⊎ RestsAt after image) → LeavesIn founder limit before (turns ++ turn ∷ []) after conduct image
+    each : (old mid new : D) → TurnsOn on founder limit before turns between c old mid → TurnOn on founder limit between turn after t mid new → TurnsOn on founder limit before (turns ++ turn ∷ []) after conduct old new
 
   first_turn : (before between : OfficeState) (turn : Turn) (after : OfficeState) (c : between ≡ before) (t : IsTurn founder limit between turn after) → More before [] between turn after c t
   first_turn before between turn after c =
       subst (λ (b : OfficeState). (c : b ≡ before) (t : IsTurn founder limit b turn after) → More before [] b turn after c t) (sym c)
-      (λ c t. record { conduct = (after, t, refl); earlier = λ image rests. inl rests; later = λ image has. has }) c
+      (λ c t. record {
+        conduct = (after, t, refl);
+        earlier = λ image rests. inl rests;
+        later = λ image has. has;
+        each = λ old mid new same took. (new, subst (λ (d : D). TurnOn on founder limit before turn after t d new) same took, refl);
+      }) c
 
   goes_on : (before : OfficeState) (turns : List Turn) (between : OfficeState) (turn : Turn) (after : OfficeState) (c : Conduct founder limit before turns between) (t : IsTurn founder limit between turn after) → More before turns between turn after c t
   goes_on before [] between turn after c t = first_turn before between turn after c t
@@ -42,10 +49,12 @@ module _ (founder : Key) (limit : Option ℕ) where
         conduct = (mid, is, more.conduct);
         earlier = λ image has. ⊎_elim (λ rests. inl rests) (λ other. ⊎_elim (λ inside. inr (inl inside)) (λ later. inr (inr (more.earlier image later))) other) has;
         later = λ image has. inr (inr (more.later image has));
+        each = λ old mid' new took last. (took.0, took.1, more.each took.0 mid' new took.2 last);
       }
 
-  -- ---- how histories grow
+-- ---- how histories grow
 
+module _ (founder : Key) (limit : Option ℕ) where
   pub extends_on : (a b c : List Entry) → Extends a b → Extends b c → Extends a c
   extends_on a b c (new, first) (newer, second) =
       (newer ++ new, second ∙ ap (λ (l : List Entry). newer ++ l) first ∙ sym (append_assoc newer new a))
@@ -89,6 +98,7 @@ module _ {D : Type 0} (on : DiskWords D) where
   pub takes_none : (desk : DeskState D) → TakesTurns on desk [] desk
   takes_none desk = record {
     conduct = refl;
+    each = refl;
     counts = none_more (on.faults desk.disk);
     images = during_nothing desk.disk _;
     stays = record { founder = refl; limit = refl; at_rest = λ rests. rests };
@@ -105,9 +115,10 @@ module _ {D : Type 0} (on : DiskWords D) where
   module _ (start mid new : DeskState D) (turns : List Turn) (so_far : TakesTurns on start turns mid) (stays : StaysDesk on mid new) where
     joined : (turn : Turn) → OneTurn on mid new start.founder (Some start.limit) turn → TakesTurns on start (turns ++ turn ∷ []) new
     joined turn one =
-        let more = goes_on start.founder (Some start.limit) start.state turns mid.state turn new.state so_far.conduct one.is in
+        let more = goes_on on start.founder (Some start.limit) start.state turns mid.state turn new.state so_far.conduct one.is in
         record {
           conduct = more.conduct;
+          each = more.each start.disk mid.disk new.disk so_far.each (record { counts = one.counts; images = one.images; at_rest = stays.at_rest });
           counts = rose_more (on.faults start.disk) (on.faults mid.disk) (on.faults new.disk) (rises_of turns) turn.rise (rises_of (turns ++ turn ∷ [])) so_far.counts one.counts (rises_more turns turn);
           images = during_joined (during_weaker _ more.earlier so_far.images) (during_weaker _ more.later one.images);
           stays = stays_on start mid new so_far.stays stays;

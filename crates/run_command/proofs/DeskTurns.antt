@@ -21,7 +21,7 @@ use Rattle.act_model.specs.Turns.{Turn, TakesReading, Answers, Settles, FailsToK
 use Rattle.mpc_desk.specs.Desks.{DeskState, RestsAt, MayLeave, FailsOn, ActsOn, ActsInTurn, count_of, turn_of}
 use Rattle.act_model.specs.Clocks.{ClockState}
 use Rattle.command_ends.specs.Disks.{DiskWords, DiskRose}
-use Rattle.run_command.specs.Conducted.{InsideTurn, ActsOrAsks, StaysDesk, TakesTurn}
+use Rattle.run_command.specs.Conducted.{LeavesInTurn, ActsOrAsks, StaysDesk, TakesTurn}
 use Rattle.run_command.proofs.Readings.{gives_none}
 use Rattle.run_command.proofs.Laws.{WantLaws}
 
@@ -113,16 +113,11 @@ module _ {D : Type 0} (on : DiskWords D) (desk new : DeskState D) where
 
   -- ---- as a turn of a conduct
 
-  -- an image at some moment of a turn
-  abbrev pub LeavesInTurn : (founder : Key) (limit : Option ℕ) (turn : Turn) → IsTurn founder limit desk.state turn new.state → List ℕ → Type 0
-  LeavesInTurn founder limit turn is image =
-      RestsAt desk.state image ⊎ (InsideTurn founder limit desk.state turn turn.reading new.state is.takes image ⊎ RestsAt new.state image)
-
   -- a turn under this founder's key and limit, the rise of the disk's count in it, and what a crash inside it may leave
   pub record OneTurn (founder : Key) (limit : Option ℕ) (turn : Turn) : Type 0 where
     pub is : IsTurn founder limit desk.state turn new.state
     pub counts : DiskRose on turn.rise desk.disk new.disk
-    pub images : During on.moment on.since desk.disk new.disk (LeavesInTurn founder limit turn is)
+    pub images : During on.moment on.since desk.disk new.disk (LeavesInTurn founder limit desk.state turn new.state is)
 
   abbrev pub turn_with : Request → Option ℤ → Reply → ℕ → Turn
   turn_with q reading reply rise = record { request = q; reading = reading; reply = reply; rise = rise }
@@ -135,7 +130,7 @@ module _ {D : Type 0} (on : DiskWords D) (desk new : DeskState D) where
   one_turn q reply None reads (answers, same) =
       let is : IsTurn desk.founder (Some desk.limit) desk.state (turn_with q None reply 0) new.state =
       record { reads = reads; takes = record { answers = answers; stays = ap (λ (d : DeskState D). d.state) same } } in
-      let P : List ℕ → Type 0 = LeavesInTurn desk.founder (Some desk.limit) (turn_with q None reply 0) is in (
+      let P : List ℕ → Type 0 = LeavesInTurn desk.founder (Some desk.limit) desk.state (turn_with q None reply 0) new.state is in (
         0,
         record {
           is = is;

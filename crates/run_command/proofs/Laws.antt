@@ -1,5 +1,6 @@
 -- The laws of frames, of readings and of the office on which the proofs of a run rest, as the crates below ensure them.
-use Rattle.std.proofs.Common.{◌≡◌, ℕ, ℤ, List, [], ◌++◌, Option}
+use Rattle.std.proofs.Common.{◌≡◌, true, ℕ, ℤ, List, [], ◌++◌, Option, Some}
+use Rattle.obs_time.specs.Instants.{IsInstantNs}
 use Rattle.frame_grammar.specs.Frames.{Frame, framed, streamed, NoFrame}
 use Rattle.act_bodies.specs.declared.key.Key.{Key}
 use Rattle.act_model.specs.declared.entry.Entry.{Entry}
@@ -9,15 +10,17 @@ use Rattle.act_model.specs.declared.request.Request.{Request}
 use Rattle.act_model.specs.declared.reply.Refusal.{Refusal}
 use Rattle.act_model.specs.declared.reply.Refusal.TheVariants.{NoMemory}
 use Rattle.act_model.specs.declared.reply.Reply.{Reply}
-use Rattle.act_model.specs.declared.reply.Reply.TheVariants.{Refused}
-use Rattle.act_model.specs.History.{EachNumberOnce}
+use Rattle.act_model.specs.declared.reply.Reply.TheVariants.{Done, Refused}
+use Rattle.act_model.specs.History.{Kept, kept, EachNumberOnce}
 use Rattle.act_model.specs.Legal.{IsLegal}
 use Rattle.act_model.specs.Places.{OnePlace}
+use Rattle.act_model.specs.Requests.{is_act}
 use Rattle.act_model.specs.Step.{step}
 use Rattle.act_model.specs.Unbroken.{UnbrokenRows, UnbrokenNumbers}
-use Rattle.act_model.specs.Conducts.{Extends, HadMemory, HadNoFault, IsStepped, EitherWay}
+use Rattle.act_model.specs.Conducts.{Extends, HadMemory, HadNoFault, IsStepped, IsAcknowledged, EitherWay}
 use Rattle.act_model.specs.Clocks.{ClockState, Gives}
-use Rattle.act_model.specs.Turns.{Turn, Answers, Conduct, at_rest}
+use Rattle.mpc_desk.specs.Accepted.{AddsLines}
+use Rattle.act_model.specs.Turns.{Turn, Answers, IsTurn, Mends, Conduct, at_rest}
 
 pub record FrameLaws : Type 0 where
   -- bytes that come later stand after a frame, and after frames
@@ -29,7 +32,17 @@ pub record FrameLaws : Type 0 where
   -- a clock that gave some readings and then others gave them all
   pub readings : (before between after : ClockState) (xs ys : List ℤ) → Gives before between xs → Gives between after ys → Gives before after (xs ++ ys)
 
+-- what is known of legal histories: a turn and a conduct leave them, and what stands for a number in one does in later
+-- ones; an act that was answered stands for its number
+pub record KeptLaws : Type 0 where
+  pub legal_step : (founder : Key) (limit : Option ℕ) (past after : List Entry) (request : Request) (reading : ℤ) (reply : Reply) → IsLegal founder past → IsInstantNs reading → step founder limit past request reading ≡ (reply, after) → IsLegal founder after
+  pub legal_conduct : (founder : Key) (limit : Option ℕ) (before after : OfficeState) (turns : List Turn) → EitherWay (IsLegal founder) before → Conduct founder limit before turns after → EitherWay (IsLegal founder) after
+  pub acknowledged : (founder : Key) (limit : Option ℕ) (before after : OfficeState) (turn : Turn) (text : List ℕ) → IsTurn founder limit before turn after → is_act turn.request.verb ≡ true → turn.reply ≡ Done text
+      → (mended : List Entry) × Mends before.settled before.doubt mended × IsAcknowledged founder mended turn.request text after.settled
+  pub kept : (founder : Key) (earlier later : List Entry) (caller number : ℕ) (k : Kept) → IsLegal founder later → Extends earlier later → kept earlier caller number ≡ Some k → kept later caller number ≡ Some k
+
 pub record OfficeLaws : Type 0 where
+  pub keeps : KeptLaws
   -- histories grow, and keep each number once; a legal history has each number once
   pub grow : (founder : Key) (limit : Option ℕ) (before after : OfficeState) (turns : List Turn) → Conduct founder limit before turns after → Extends before.settled after.settled
   pub once : (founder : Key) (limit : Option ℕ) (before after : OfficeState) (turns : List Turn) → Conduct founder limit before turns after → EitherWay EachNumberOnce before → EitherWay EachNumberOnce after
@@ -38,6 +51,8 @@ pub record OfficeLaws : Type 0 where
   pub places : (history : List Entry) → OnePlace history
   pub rows : (history : List Entry) → UnbrokenRows history
   pub numbers : (history : List Entry) → UnbrokenNumbers history
+  -- a later history has the accepted observations of an earlier one, and those of its newer entries
+  pub lines : (earlier later : List Entry) → Extends earlier later → AddsLines earlier later
   -- where no fault was counted nothing is in doubt, and where memory was never refused either a conduct is the step
   pub rests : (founder : Key) (limit : Option ℕ) (past : List Entry) (after : OfficeState) (turns : List Turn) → Conduct founder limit (at_rest past) turns after → HadNoFault turns → after ≡ at_rest after.settled
   pub steps : (founder : Key) (limit : Option ℕ) (past : List Entry) (after : OfficeState) (turns : List Turn) → Conduct founder limit (at_rest past) turns after → HadNoFault turns → HadMemory turns → IsStepped founder limit past turns after.settled

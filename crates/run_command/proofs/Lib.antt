@@ -6,5 +6,6 @@ pub mod Served
 pub mod Answered
 pub mod Progress
 pub mod Closings
+pub mod Keeping
 pub mod RunLemmas
 pub mod Complete

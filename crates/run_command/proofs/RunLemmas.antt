@@ -21,7 +21,7 @@ use Rattle.command_ends.specs.declared.status.Status.{Status}
 use Rattle.command_ends.specs.declared.status.Status.TheVariants.{Done, Usage, BadFrame, DiskFault, Damaged, ReadFault, WriteFault, NoMemory, DoorFault}
 use Rattle.act_model.specs.Clocks.{ClockState}
 use Rattle.command_ends.specs.Disks.{DiskWords, DiskRose}
-use Rattle.run_command.specs.Conducted.{LeavesIn, TakesTurns}
+use Rattle.run_command.specs.Conducted.{LeavesIn, Rests, TurnsOn, KeepsEach, TakesTurns}
 use Rattle.run_command.specs.Runs.{Run, Supplies, Stops, RunsOn, ServesNothing, Course, Ends}
 use Rattle.command_ends.specs.Opening.{journal_bytes, Opens, EndsUnopened}
 use Rattle.command_ends.specs.Closing.{IsNotMended, IsMended, IsStillInDoubt, IsClosed}
@@ -29,6 +29,7 @@ use Rattle.run_command.specs.Closing.{Finishes}
 use Rattle.run_command.proofs.Laws.{OfficeLaws}
 use Rattle.run_command.proofs.Conducting.{leaves_first, grows, extends_on, rose_more}
 use Rattle.run_command.proofs.Closings.{never_rose, rise_between, nothing_mended, mended_extends, mended_has, mended_none, closed_as_is}
+use Rattle.run_command.proofs.Keeping.{keeps_each}
 use Rattle.run_command.proofs.Progress.{untaken}
 
 -- ---- the office
@@ -49,18 +50,22 @@ none_rose (turn ∷ turns) is =
 longer : (first last : List Entry) → Extends first last → (added : ℕ) → added ≡ length last - length first → length last ≡ length first + added
 longer first last (newer, is) added counted = omega (arith, counted, ap length is, length-append newer first)
 
-module _ (laws : OfficeLaws) {D : Type 0} (on : DiskWords D) (founder : Key) (disk : D) (opened served : DeskState D) (turns : List Turn)
-    (opens : Opens on founder disk opened) (takes : TakesTurns on opened turns served) where
+module _ (laws : OfficeLaws) {D : Type 0} (on : DiskWords D) (only_now : (disk : D) (image : List ℕ) → on.since disk (on.moment disk) image → on.leaves disk image)
+    (founder : Key) (disk : D) (opened served : DeskState D) (turns : List Turn) (opens : Opens on founder disk opened) (takes : TakesTurns on opened turns served) where
   -- the turns as a conduct from the history that the disk stood for, and its images
   record Conducted (k : Key) (limit : ℕ) (start : OfficeState) : Type 0 where
     conduct : Conduct k (Some limit) start turns served.state
+    each : TurnsOn on k (Some limit) start turns served.state conduct opened.disk served.disk
     images : During on.moment on.since opened.disk served.disk (LeavesIn k (Some limit) start turns served.state conduct)
 
   conducted : Conducted founder journal_bytes (at_rest opened.state.settled)
   conducted =
       subst (λ (s : OfficeState). Conducted founder journal_bytes s) (rests_so opened.state opens.settled)
       (subst (λ (n : ℕ). Conducted founder n opened.state) opens.limit_is
-      (subst (λ (k : Key). Conducted k opened.limit opened.state) opens.founder_is (record { conduct = takes.conduct; images = takes.images })))
+      (subst (λ (k : Key). Conducted k opened.limit opened.state) opens.founder_is (record { conduct = takes.conduct; each = takes.each; images = takes.images })))
+
+  rests : Rests on opened.disk (at_rest opened.state.settled)
+  rests = subst (λ (s : OfficeState). Rests on opened.disk s) (rests_so opened.state opens.settled) opens.at_rest
 
   module _ (Closes : OfficeState → ℕ → OfficeState → Type 0) (mending : ℕ) (last : DeskState D) (now : D) (added : ℕ)
       (closes : Closes served.state mending last.state) (mends : Mends served.state.settled served.state.doubt last.state.settled)
@@ -97,33 +102,48 @@ module _ (laws : OfficeLaws) {D : Type 0} (on : DiskWords D) (founder : Key) (di
         subst (λ (h : List Entry). IsStepped founder (Some journal_bytes) opened.state.settled turns h) (sym same)
         (laws.steps founder (Some journal_bytes) opened.state.settled served.state turns conducted.conduct faultless memory)
 
-    runs_to : RunsOn on founder disk last.disk turns Closes added
-    runs_to = record {
-      first = opened.state.settled;
-      left = served.state;
-      last = last.state;
-      opening = count_of (on.faults opened.disk) - count_of (on.faults disk);
-      mending = mending;
-      stood = opens.stood;
-      legal = opens.legal;
+    all_kept : KeepsEach on last.disk founder (Some journal_bytes) (at_rest opened.state.settled) turns served.state conducted.conduct opened.disk served.disk
+    all_kept =
+        keeps_each laws.keeps founder (Some journal_bytes) (laws.grow founder (Some journal_bytes)) on only_now served.disk last.disk closed.no_image
+        (at_rest opened.state.settled) turns served.state conducted.conduct opened.disk (opens.legal, tt) rests conducted.each
+
+    -- the images and the counts of the disk at the end
+    record OnDisk (end : D) : Type 0 where
+      kept : KeepsEach on end founder (Some journal_bytes) (at_rest opened.state.settled) turns served.state conducted.conduct opened.disk served.disk
+      counts : DiskRose on (count_of (on.faults opened.disk) - count_of (on.faults disk) + rises_of turns + mending) disk end
+      images : During on.moment on.since disk end (LeavesIn founder (Some journal_bytes) (at_rest opened.state.settled) turns served.state conducted.conduct)
+      stepped : (Rises (on.faults disk) (on.faults end) → ⊥) → HadMemory turns → IsStepped founder (Some journal_bytes) opened.state.settled turns last.state.settled
+
+    on_disk : OnDisk now
+    on_disk = subst OnDisk (sym disk_is) (record { kept = all_kept; counts = all_counts; images = all_images; stepped = all_stepped })
+
+    pub runs_on : RunsOn on founder disk now turns Closes added
+    runs_on = record {
+      opened = opened;
+      opens = opens;
+      left = served;
       conduct = conducted.conduct;
       grows = grows founder (Some journal_bytes) (laws.grow founder (Some journal_bytes)) (at_rest opened.state.settled) turns served.state conducted.conduct;
+      kept = on_disk.kept;
+      last = last;
+      mending = mending;
       closes = closes;
-      counts = all_counts;
-      images = all_images;
-      stands = closed.at_rest;
+      closed = closed;
+      disk_is = disk_is;
+      opening = count_of (on.faults opened.disk) - count_of (on.faults disk);
+      rose_opening = rise_between (on.faults disk) (on.faults opened.disk) opens.later;
+      counts = on_disk.counts;
+      images = on_disk.images;
       is_left = record {
         entries = longer opened.state.settled last.state.settled all_extends added counted;
         once = once;
         places = laws.places last.state.settled;
         rows = laws.rows last.state.settled;
         numbers = laws.numbers last.state.settled;
+        lines = laws.lines opened.state.settled last.state.settled all_extends;
       };
-      stepped = all_stepped;
+      stepped = on_disk.stepped;
     }
-
-    pub runs_on : RunsOn on founder disk now turns Closes added
-    runs_on = subst (λ (d : D). RunsOn on founder disk d turns Closes added) (sym disk_is) runs_to
 
   -- the history at the end isn't shorter
   pub fewer_before : (last : DeskState D) → Mends served.state.settled served.state.doubt last.state.settled → length opened.state.settled ≤ length last.state.settled

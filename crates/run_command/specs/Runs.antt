@@ -6,16 +6,13 @@ use Rattle.disk_model.specs.Crashes.{During}
 use Rattle.desk_io.specs.Reads.{Passes, Comes}
 use Rattle.frame_grammar.specs.Frames.{Frame, NoFrame, NeverFrame, IsSession, reached}
 use Rattle.act_bodies.specs.declared.key.Key.{Key}
-use Rattle.act_model.specs.declared.entry.Entry.{Entry}
 use Rattle.act_model.specs.declared.keeper.OfficeState.{OfficeState}
-use Rattle.act_model.specs.Legal.{IsLegal}
 use Rattle.act_model.specs.Conducts.{HadMemory, IsStepped}
 use Rattle.act_model.specs.Turns.{Turn, Conduct, at_rest, rises_of, written_reply, written}
-use Rattle.mpc_desk.specs.Desks.{RestsAt}
-use Rattle.mpc_desk.specs.Files.{Stands}
+use Rattle.mpc_desk.specs.Desks.{DeskState}
 use Rattle.command_ends.specs.Disks.{DiskWords, DiskRose}
-use Rattle.command_ends.specs.Opening.{journal_bytes, EndsUnopened}
-use Rattle.command_ends.specs.Closing.{IsNotMended, IsMended, IsStillInDoubt}
+use Rattle.command_ends.specs.Opening.{journal_bytes, Opens, EndsUnopened}
+use Rattle.command_ends.specs.Closing.{IsNotMended, IsMended, IsStillInDoubt, IsClosed}
 use Rattle.command_ends.specs.Left.{IsLeft}
 use Rattle.run_command.specs.declared.serving.Stop.{Stop}
 use Rattle.run_command.specs.declared.serving.Stop.TheVariants.{Over, NoFrameAt, ReadFailed, WriteFailed}
@@ -24,7 +21,7 @@ use Rattle.command_ends.specs.declared.status.Status.TheVariants.{Done, Usage, B
 use Rattle.command_ends.specs.declared.status.Status.TheVariants.{WriteFault, NoMemory, DoorFault}
 use Rattle.act_model.specs.Clocks.{ClockState}
 use Rattle.run_command.specs.Serving.{Serves}
-use Rattle.run_command.specs.Conducted.{LeavesIn, Grows}
+use Rattle.run_command.specs.Conducted.{LeavesIn, Grows, KeepsEach}
 
 -- ---- what a run took from its source and wrote
 
@@ -110,30 +107,35 @@ Stops before after run turns WriteFailed = StopsWriting before after run turns
 
 -- ---- the office
 
--- The office of a run, from the disk at its start to the disk at its end. The disk stood for a legal history, and the
--- turns are a conduct from there, each of whose settled histories is an end of every later one. What is in doubt then
--- is closed. The disk's count of faults rose by what it rose in opening, in the turns and in the last mending. Each
--- image at some moment of the run was one at its start, or one that the conduct allows; at the end the disk is at rest.
--- Where the count didn't rise and no turn ran out of memory, the conduct is the step, one after another.
+-- The office of a run, from the disk at its start to the disk at its end. The desk was opened on the disk, which stood
+-- for a legal history, and the turns are a conduct from there, each of whose settled histories is an end of every later
+-- one. What each turn left is in each image of the disk from the moment at which its reply was given to the end. What
+-- is in doubt when serving has stopped is closed, and the disk is then at rest. The disk's count of faults rose by what
+-- it rose in opening, in the turns and in the last mending. Each image at some moment of the run was one at its start,
+-- or one that the conduct allows. Where the count didn't rise and no turn ran out of memory, the conduct is the step,
+-- one after another.
 pub record RunsOn {D : Type 0} (on : DiskWords D) (founder : Key) (disk now : D) (turns : List Turn)
     (Closes : OfficeState → ℕ → OfficeState → Type 0) (added : ℕ) : Type 0 where
-  pub first : List Entry
-  pub left : OfficeState
-  pub last : OfficeState
-  pub opening : ℕ
+  pub opened : DeskState D
+  pub opens : Opens on founder disk opened
+  pub left : DeskState D
+  pub conduct : Conduct founder (Some journal_bytes) (at_rest opened.state.settled) turns left.state
+  pub grows : Grows founder (Some journal_bytes) (at_rest opened.state.settled) turns left.state conduct
+  pub kept : KeepsEach on now founder (Some journal_bytes) (at_rest opened.state.settled) turns left.state conduct
+      opened.disk left.disk
+  pub last : DeskState D
   pub mending : ℕ
-  pub stood : IfSome (on.reads disk) (λ file. Stands file first)
-  pub legal : IsLegal founder first
-  pub conduct : Conduct founder (Some journal_bytes) (at_rest first) turns left
-  pub grows : Grows founder (Some journal_bytes) (at_rest first) turns left conduct
-  pub closes : Closes left mending last
+  pub closes : Closes left.state mending last.state
+  pub closed : IsClosed on mending left last
+  pub disk_is : now ≡ last.disk
+  pub opening : ℕ
+  pub rose_opening : DiskRose on opening disk opened.disk
   pub counts : DiskRose on (opening + rises_of turns + mending) disk now
   pub images : During on.moment on.since disk now
-      (LeavesIn founder (Some journal_bytes) (at_rest first) turns left conduct)
-  pub stands : (image : List ℕ) → on.leaves now image → RestsAt last image
-  pub is_left : IsLeft first last.settled added
+      (LeavesIn founder (Some journal_bytes) (at_rest opened.state.settled) turns left.state conduct)
+  pub is_left : IsLeft opened.state.settled last.state.settled added
   pub stepped : ¬ Rises (on.faults disk) (on.faults now) → HadMemory turns
-      → IsStepped founder (Some journal_bytes) first turns last.settled
+      → IsStepped founder (Some journal_bytes) opened.state.settled turns last.state.settled
 
 -- the office wasn't opened: nothing was served, and no byte came and none was written
 pub record ServesNothing (run : Run) (Uncalled : Type 0) : Type 0 where

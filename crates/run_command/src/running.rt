@@ -71,12 +71,16 @@ fn run_all<S: Source, K: Sink, D: Disk, C: Clock>(
     ensures stays { (S.is_open source.new ≡ S.is_open source.old) × (K.is_open sink.new ≡ K.is_open sink.old) }
 {
     office_laws::histories_grow();
-    office_laws::each_once();
+    office_laws::histories_are_legal();
+    office_laws::acknowledged_acts_are_kept();
+    office_laws::kept_replies_stay();
+    office_laws::numbers_once();
     office_laws::legal_numbers_once();
     office_laws::one_place();
     office_laws::unbroken_rows();
     office_laws::unbroken_numbers();
     office_laws::no_faults();
+    desk_laws::lines_are_added();
     let Ok(mut reader) = FrameReader::new(alloc) else {
         return not_begun(Status::NoMemory, disk);
     };

@@ -1,5 +1,5 @@
 -- What a status of a whole call says of the counts of faults.
-use Rattle.std.proofs.Common.{◌≡◌, ℕ, ◌<◌, ◌≤◌, List, length, map, Option, Some, IfSome, refl, sym, subst, ◌∙◌, inl, inr, ⊎_elim, arith}
+use Rattle.std.proofs.Common.{◌≡◌, ℕ, ◌<◌, ◌≤◌, List, length, map, Option, Some, None, IfSome, refl, sym, ap, subst, ◌∙◌, inl, inr, ⊎_elim, arith}
 use Rattle.std.specs.Prelude.{◌⊎◌}
 use Rattle.desk_io.specs.Outside.{Rises}
 use Rattle.act_bodies.specs.declared.key.Key.{Key}
@@ -19,7 +19,8 @@ use Rattle.command_ends.specs.Statuses.{IsDoneOrNoMemory}
 use Rattle.serve_command.specs.declared.accepting.Stop.{Stop}
 use Rattle.serve_command.specs.declared.accepting.Stop.TheVariants as stops
 use Rattle.serve_command.specs.Links.{LinkWords, link_of}
-use Rattle.serve_command.specs.Gathering.{DoorState, Stops}
+use Rattle.serve_command.specs.Gathering.{DoorState}
+use Rattle.serve_command.specs.Serving.{EndsTaking}
 use Rattle.serve_command.specs.Runs.{first_fault, WritesLines, Writes, RunStart, RunEnd, Runs, Ends}
 use Rattle.serve_command.specs.Summaries.{summary}
 use Rattle.serve_command.proofs.Mending.{IsFromMending, first_so}
@@ -56,76 +57,79 @@ lines_end old new lines DoorFault writes = absurd writes
 -- ---- by why no further link was taken
 
 module _ {D I O : Type 0} (on : DiskWords D) (left last : DeskState D) (most : ℕ) (came : List (I × O)) (door after : DoorState I O) where
-  door_failed : (stop : Stop) (mended : Status) → Stops most came door after stop → MendsLast on left mended last → first_fault stop mended ≡ DoorFault
+  door_failed : (stop : Option Stop) (mended : Status) → EndsTaking most came door after stop → MendsLast on left mended last → first_fault stop mended ≡ DoorFault
       → Rises door.faults after.faults
-  door_failed stops.Full mended stopped mends is = absurd (subst (λ (s : Status). MendsLast on left s last) is mends)
-  door_failed stops.Shut mended stopped mends is = absurd (subst (λ (s : Status). MendsLast on left s last) is mends)
-  door_failed stops.Failed mended stopped mends is = stopped.1
-  door_failed stops.NoMemory mended stopped mends is = absurd cc
+  door_failed (Some stops.Full) mended stopped mends is = absurd (subst (λ (s : Status). MendsLast on left s last) is mends)
+  door_failed (Some stops.Shut) mended stopped mends is = absurd (subst (λ (s : Status). MendsLast on left s last) is mends)
+  door_failed (Some stops.Failed) mended stopped mends is = stopped.1
+  door_failed (Some stops.NoMemory) mended stopped mends is = absurd cc
+  door_failed None mended stopped mends is = absurd cc
 
-  door_held : (stop : Stop) (mended : Status) → Stops most came door after stop → (first_fault stop mended ≡ DoorFault → ⊥) → after.faults ≡ door.faults
-  door_held stops.Full mended stopped never = stopped.1
-  door_held stops.Shut mended stopped never = stopped.1
-  door_held stops.Failed mended stopped never = absurd (never refl)
-  door_held stops.NoMemory mended stopped never = stopped
+  door_held : (stop : Option Stop) (mended : Status) → EndsTaking most came door after stop → (first_fault stop mended ≡ DoorFault → ⊥) → after.faults ≡ door.faults
+  door_held (Some stops.Full) mended stopped never = stopped.1
+  door_held (Some stops.Shut) mended stopped never = stopped.1
+  door_held (Some stops.Failed) mended stopped never = absurd (never refl)
+  door_held (Some stops.NoMemory) mended stopped never = stopped
+  door_held None mended stopped never = ap (λ (d : DoorState I O). d.faults) stopped.1
 
-  disk_failed : (stop : Stop) (mended : Status) → MendsLast on left mended last → first_fault stop mended ≡ DiskFault → MendsLast on left DiskFault last
-  disk_failed stops.Full mended mends is = subst (λ (s : Status). MendsLast on left s last) is mends
-  disk_failed stops.Shut mended mends is = subst (λ (s : Status). MendsLast on left s last) is mends
-  disk_failed stops.Failed mended mends is = absurd cc
-  disk_failed stops.NoMemory mended mends is = absurd cc
+  disk_failed : (stop : Option Stop) (mended : Status) → MendsLast on left mended last → first_fault stop mended ≡ DiskFault → MendsLast on left DiskFault last
+  disk_failed (Some stops.Full) mended mends is = subst (λ (s : Status). MendsLast on left s last) is mends
+  disk_failed (Some stops.Shut) mended mends is = subst (λ (s : Status). MendsLast on left s last) is mends
+  disk_failed (Some stops.Failed) mended mends is = absurd cc
+  disk_failed (Some stops.NoMemory) mended mends is = absurd cc
+  disk_failed None mended mends is = absurd cc
 
 -- ---- the whole call
 
 module _ {D I O : Type 0} (on : DiskWords D) (links : LinkWords I O) (start : RunStart D I O) (end : RunEnd D I O)
-    (Uncalled Unwritten : Type 0) (ran : Ends on links start end Uncalled Unwritten) where
+    (Uncalled Unasked Unwritten : Type 0) (ran : Ends on links start end Uncalled Unasked Unwritten) where
   -- the lines that are written where nothing failed
-  abbrev lines_of : Runs on links start end Unwritten → List ℕ
+  abbrev lines_of : Runs on links start end Unasked Unwritten → List ℕ
   lines_of r = summary (length end.ends) (length r.last.state.settled)
 
   pub door_caused : end.status ≡ DoorFault → Rises start.door.faults end.door.faults
   door_caused is = by ran
     where
-      of_run : (r : Runs on links start end Unwritten) → Writes (first_fault r.stop r.mended) Unwritten start.taken end.taken (lines_of r) end.status → Rises start.door.faults end.door.faults
+      of_run : (r : Runs on links start end Unasked Unwritten) → Writes (first_fault r.stop r.mended) Unwritten start.taken end.taken (lines_of r) end.status → Rises start.door.faults end.door.faults
       of_run r (inl (good, lines)) = absurd (subst (WritesLines start.taken end.taken (lines_of r)) is lines)
       of_run r (inr (bad, same, unwritten)) =
           door_failed on r.left r.last start.most (map link_of r.serves.attendances) start.door end.door r.stop r.mended r.serves.stops r.mends (sym same ∙ is)
 
-      by : Ends on links start end Uncalled Unwritten → Rises start.door.faults end.door.faults
+      by : Ends on links start end Uncalled Unasked Unwritten → Rises start.door.faults end.door.faults
       by (inl (uncalled, unopened)) = absurd (subst (λ (s : Status). EndsUnopened on start.founder start.disk end.disk end.added s) is unopened)
       by (inr r) = of_run r r.writes
 
   pub door_faultless : (Uncalled → end.door.faults ≡ start.door.faults) → (end.status ≡ DoorFault → ⊥) → end.door.faults ≡ start.door.faults
   door_faultless untouched never = by ran
     where
-      of_run : (r : Runs on links start end Unwritten) → Writes (first_fault r.stop r.mended) Unwritten start.taken end.taken (lines_of r) end.status → end.door.faults ≡ start.door.faults
+      of_run : (r : Runs on links start end Unasked Unwritten) → Writes (first_fault r.stop r.mended) Unwritten start.taken end.taken (lines_of r) end.status → end.door.faults ≡ start.door.faults
       of_run r (inl (good, lines)) =
           door_held on r.left r.last start.most (map link_of r.serves.attendances) start.door end.door r.stop r.mended r.serves.stops (λ is. let no : Done ≡ DoorFault = sym good ∙ is in absurd cc)
       of_run r (inr (bad, same, unwritten)) =
           door_held on r.left r.last start.most (map link_of r.serves.attendances) start.door end.door r.stop r.mended r.serves.stops (λ is. never (same ∙ is))
 
-      by : Ends on links start end Uncalled Unwritten → end.door.faults ≡ start.door.faults
+      by : Ends on links start end Uncalled Unasked Unwritten → end.door.faults ≡ start.door.faults
       by (inl (uncalled, unopened)) = untouched uncalled
       by (inr r) = of_run r r.writes
 
   pub disk_caused : end.status ≡ DiskFault → Rises (on.faults start.disk) (on.faults end.disk)
   disk_caused is = by ran
     where
-      of_run : (r : Runs on links start end Unwritten) → Writes (first_fault r.stop r.mended) Unwritten start.taken end.taken (lines_of r) end.status → Rises (on.faults start.disk) (on.faults end.disk)
+      of_run : (r : Runs on links start end Unasked Unwritten) → Writes (first_fault r.stop r.mended) Unwritten start.taken end.taken (lines_of r) end.status → Rises (on.faults start.disk) (on.faults end.disk)
       of_run r (inl (good, lines)) = absurd (subst (WritesLines start.taken end.taken (lines_of r)) is lines)
       of_run r (inr (bad, same, unwritten)) =
           let m = disk_failed on r.left r.last start.most (map link_of r.serves.attendances) start.door end.door r.stop r.mended r.mends (sym same ∙ is) in
           subst (λ (d : D). Rises (on.faults start.disk) (on.faults d)) (sym r.disk_is)
           (rises_last (on.faults start.disk) (on.faults r.opened.disk) (on.faults r.left.disk) (on.faults r.last.disk) _ m.0 r.opens.later r.serves.grows.counts m.1.rose m.2.counts)
 
-      by : Ends on links start end Uncalled Unwritten → Rises (on.faults start.disk) (on.faults end.disk)
+      by : Ends on links start end Uncalled Unasked Unwritten → Rises (on.faults start.disk) (on.faults end.disk)
       by (inl (uncalled, unopened)) =
           let u = subst (λ (s : Status). EndsUnopened on start.founder start.disk end.disk end.added s) is unopened in
           rises_by (on.faults start.disk) (on.faults end.disk) u.0 u.1 u.2.counts
       by (inr r) = of_run r r.writes
 
   -- once the office was opened
-  own_run : Runs on links start end Unwritten → IsOwn end.status
+  own_run : Runs on links start end Unasked Unwritten → IsOwn end.status
   own_run r = by r.writes
     where
       by : Writes (first_fault r.stop r.mended) Unwritten start.taken end.taken (lines_of r) end.status → IsOwn end.status
@@ -137,7 +141,7 @@ module _ {D I O : Type 0} (on : DiskWords D) (links : LinkWords I O) (start : Ru
   none_such : (s : Status) → (EndsUnopened on start.founder start.disk end.disk end.added s → ⊥) → (IsFromMending s → ⊥) → (s ≡ WriteFault → ⊥) → end.status ≡ s → ⊥
   none_such s unopened mended written is = by ran
     where
-      by : Ends on links start end Uncalled Unwritten → ⊥
+      by : Ends on links start end Uncalled Unasked Unwritten → ⊥
       by (inl (uncalled, u)) = unopened (subst (λ (s : Status). EndsUnopened on start.founder start.disk end.disk end.added s) is u)
       by (inr r) = ⊎_elim mended written (subst IsOwn is (own_run r))
 

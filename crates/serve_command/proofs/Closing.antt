@@ -19,7 +19,6 @@ use Rattle.intake_lock.specs.Views.{seen, first_view}
 use Rattle.act_model.specs.Clocks.{ClockState}
 use Rattle.http_connection.specs.Calls.{HasCause, AreInOrder}
 use Rattle.serve_command.specs.declared.ends.LinkEnd.{LinkEnd}
-use Rattle.serve_command.specs.declared.accepting.Stop.TheVariants.{NoMemory}
 use Rattle.serve_command.specs.Links.{LinkWords, Attendance, end_of, calls_of, calls_in}
 use Rattle.serve_command.specs.Gathering.{DoorState, IsAnother, IsBetween, GatherEnd, Gathers}
 use Rattle.serve_command.specs.Serving.{IsAddedBy, AreAddedBy, AreStampsOf, StandInOrder, ServiceStart, Serves}
@@ -117,7 +116,7 @@ stamped_same stamps mine calls same stamped =
 module _ {I O : Type 0} (on : LinkWords I O) where
   -- no link was taken, and nothing was in doubt
   pub serves_none : (start : ServiceStart I O) → start.office.state.doubt ≡ None
-      → Serves on start (record { office = start.office; door = start.door; ends = []; stop = NoMemory })
+      → Serves on start (record { office = start.office; door = start.door; ends = []; stop = None })
   serves_none start settled =
       let opening = start.office in
       record {
@@ -140,7 +139,7 @@ module _ {I O : Type 0} (on : LinkWords I O) where
         };
         orders = tt;
         causes = tt;
-        stops = refl;
+        stops = (refl, refl);
       }
 
   -- what the links leave is what the closed keeper stands for
@@ -148,7 +147,7 @@ module _ {I O : Type 0} (on : LinkWords I O) where
       → IsAnother start.clock other
       → Gathers on (record { view = first_view start.office; clock = other; door = start.door; most = start.most; ends = [] }) gathered
       → Closes start.office gathered.view office
-      → Serves on start (record { office = office; door = gathered.door; ends = reverse gathered.ends; stop = gathered.stop })
+      → Serves on start (record { office = office; door = gathered.door; ends = reverse gathered.ends; stop = Some gathered.stop })
   serves_closed stays in_order start other office gathered another gathers closes =
       let opening = start.office in
       let view = gathered.view in
@@ -186,11 +185,11 @@ module _ {I O : Type 0} (on : LinkWords I O) where
   pub serves_none_from : {V : Type 0} (office_of : V → Office) (clock : ClockState) (keeper back : V) (door : DoorState I O) (most : ℕ)
       (ends : List (LinkEnd I O)) → back ≡ keeper → ends ≡ [] → (office_of keeper).state.doubt ≡ None
       → Serves on (record { clock = clock; office = office_of keeper; door = door; most = most })
-      (record { office = office_of back; door = door; ends = ends; stop = NoMemory })
+      (record { office = office_of back; door = door; ends = ends; stop = None })
   serves_none_from office_of clock keeper back door most ends back_is none settled =
       let start : ServiceStart I O = record { clock = clock; office = office_of keeper; door = door; most = most } in
-      subst (λ (l : List (LinkEnd I O)). Serves on start (record { office = office_of back; door = door; ends = l; stop = NoMemory })) (sym none)
-      (subst (λ (o : Office). Serves on start (record { office = o; door = door; ends = []; stop = NoMemory })) (sym (ap office_of back_is))
+      subst (λ (l : List (LinkEnd I O)). Serves on start (record { office = office_of back; door = door; ends = l; stop = None })) (sym none)
+      (subst (λ (o : Office). Serves on start (record { office = o; door = door; ends = []; stop = None })) (sym (ap office_of back_is))
       (serves_none start settled))
 
   pub serves_left : StaysTrue → StaysInOrder → (start : ServiceStart I O) (other : ClockState) (entered office : Office) (first : View)
@@ -198,11 +197,11 @@ module _ {I O : Type 0} (on : LinkWords I O) where
       → first ≡ first_view start.office → entered ≡ start.office → room ≡ [] → result ≡ reverse gathered.ends → after ≡ gathered.door
       → Gathers on (record { view = first; clock = other; door = start.door; most = start.most; ends = room }) gathered
       → Closes entered gathered.view office
-      → Serves on start (record { office = office; door = after; ends = result; stop = gathered.stop })
+      → Serves on start (record { office = office; door = after; ends = result; stop = Some gathered.stop })
   serves_left stays in_order start other entered office first after room result gathered another first_is entered_is room_is result_is after_is
       gathers closes =
-      subst (λ (l : List (LinkEnd I O)). Serves on start (record { office = office; door = after; ends = l; stop = gathered.stop })) (sym result_is)
-      (subst (λ (d : DoorState I O). Serves on start (record { office = office; door = d; ends = reverse gathered.ends; stop = gathered.stop })) (sym after_is)
+      subst (λ (l : List (LinkEnd I O)). Serves on start (record { office = office; door = after; ends = l; stop = Some gathered.stop })) (sym result_is)
+      (subst (λ (d : DoorState I O). Serves on start (record { office = office; door = d; ends = reverse gathered.ends; stop = Some gathered.stop })) (sym after_is)
       (serves_closed stays in_order start other office gathered another
       (subst (λ (v : View). Gathers on (record { view = v; clock = other; door = start.door; most = start.most; ends = [] }) gathered) first_is
       (subst (λ (l : List (LinkEnd I O)). Gathers on (record { view = first; clock = other; door = start.door; most = start.most; ends = l }) gathered)

@@ -11,17 +11,18 @@ use Rattle.act_model.specs.declared.keeper.OfficeState.{OfficeState}
 use Rattle.act_model.specs.declared.reply.Reply.{Reply}
 use Rattle.act_model.specs.declared.reply.Reply.TheVariants.{Done}
 use Rattle.act_model.specs.declared.request.Request.{Request}
-use Rattle.act_model.specs.Conducts.{Extends, EitherWay, IsAcknowledged}
+use Rattle.act_model.specs.Conducts.{Extends, EitherWay, IsAcknowledged, Makes}
 use Rattle.act_model.specs.Keepers.{TakesTurn as KeeperTakesTurn}
 use Rattle.act_model.specs.Legal.{IsLegal}
 use Rattle.act_model.specs.Requests.{is_act}
-use Rattle.act_model.specs.Step.{step}
+use Rattle.act_model.specs.Replies.{entry_answer}
+use Rattle.act_model.specs.Step.{Adds, outcome, step}
 use Rattle.act_model.specs.Turns.{Turn, Conduct, TakesReading, Answers, Mends, Takes, IsTurn, at_rest}
 use Rattle.intake_lock.specs.declared.clerk.Office.{Office}
 use Rattle.intake_lock.specs.declared.clerk.Stamp.{Stamp}
 use Rattle.intake_lock.specs.declared.view.Item.{Item}
 use Rattle.intake_lock.specs.Clerks.{Gave}
-use Rattle.intake_lock.specs.Items.{reading_of, HasStamp, StampTells, IsTrue, AreTrue, AreStamped, Failed, TakesAt, TakesTurn}
+use Rattle.intake_lock.specs.Items.{reading_of, IsStampOf, HasStamp, StampTells, IsTrue, AreTrue, AreStamped, Failed, TakesAt, TakesTurn}
 use Rattle.http_connection.specs.Calls.{IsAdded}
 use Rattle.mpc_desk.specs.Desks.{DeskState, IsAtRest, FailsOn, ActsOn, ActsInTurn, turn_of, office_of}
 use Rattle.act_model.specs.Clocks.{ClockState}
@@ -30,9 +31,9 @@ use Rattle.serve_command.specs.declared.ends.LinkEnd.{LinkEnd}
 use Rattle.serve_command.specs.Gathering.{DoorState}
 use Rattle.serve_command.specs.Links.{LinkWords}
 use Rattle.serve_command.specs.Serving.{AreStampsOf, Serves}
-use Rattle.serve_command.specs.Images.{AskedBy, WatchedState, StandsWithin, IsWatched, Answered, WasAsked, stamp_of, stamping, Keeps, HasPassed, WasBetween, IsKept, KeepsDone, Asked, request_in, reading_in}
+use Rattle.serve_command.specs.Images.{Asks, AskedBy, WatchedState, StandsWithin, IsWatched, Answered, WasAsked, stamp_of, stamping, Keeps, HasPassed, WasBetween, IsKept, KeepsDone, Asked, request_in, reading_in}
 use Rattle.serve_command.proofs.Gathering.{extends_on}
-use Rattle.serve_command.proofs.WatchLemmas.{Asks, GrowthLaws, within_on, rests_within, act_within, watched_more, keeps_more, moved, watched_during}
+use Rattle.serve_command.proofs.WatchLemmas.{AllMore, GrowthLaws, step_adds, within_on, rests_within, act_within, watched_more, keeps_more, moved, watched_during}
 
 -- ---- the turns of a desk that stamps its acts
 
@@ -113,17 +114,17 @@ all_weaker P Q weaker (x ∷ xs) all = (weaker x all.0, all_weaker P Q weaker xs
 
 -- what was asked before an act was asked when it is answered, and so was the act
 module _ {D : Type 0} (answered more : Answered D) (new : DeskState D) (noted : Asked) (is : more ≡ answered ++ (new, noted) ∷ []) where
-  pub asked_before : (request : Request) (reading : ℤ) → WasAsked answered request reading → WasAsked more request reading
-  asked_before request reading (then, among, asks, reads) =
-      (then, subst (λ (l : Answered D). Contains l then) (sym is) (Contains-append_left answered ((new, noted) ∷ []) then among), asks, reads)
+  pub asked_before : (founder : Key) (limit : Option ℕ) → AllMore founder limit (WasAsked answered) (WasAsked more)
+  asked_before founder limit past request reading entry adds (then, among, asks, reads, left) =
+      (then, subst (λ (l : Answered D). Contains l then) (sym is) (Contains-append_left answered ((new, noted) ∷ []) then among), asks, reads, left)
 
-  pub asked_now : (request : Request) (reading : ℤ) → request_in noted.items ≡ request → reading_in noted.items ≡ reading → WasAsked more request reading
+  pub asked_now : (request : Request) (reading : ℤ) → request_in noted.items ≡ request → reading_in noted.items ≡ reading → WasAsked more new.state.settled request reading
   asked_now request reading request_is reading_is =
-      ((new, noted), subst (λ (l : Answered D). Contains l (new, noted)) (sym is) (Contains-push answered (new, noted)), request_is, reading_is)
+      ((new, noted), subst (λ (l : Answered D). Contains l (new, noted)) (sym is) (Contains-push answered (new, noted)), request_is, reading_is, refl)
 
 module _ {D : Type 0} (laws : GrowthLaws) (moment : D → ℕ) (since : D → ℕ → List ℕ → Type 0) (faults : D → ℕ) (asked : Asks) where
   -- what was kept before an act is kept after it
-  keeps_on : (first : List Entry) (from : ℕ) (images : ℕ → List ℕ → Type 0) (then old new : DeskState D) (request : Request) (reading : ℤ) (reply : Reply) → asked request reading
+  keeps_on : (first : List Entry) (from : ℕ) (images : ℕ → List ℕ → Type 0) (then old new : DeskState D) (request : Request) (reading : ℤ) (reply : Reply) → asked new.state.settled request reading
       → IsWatched moment since first from images asked old
       → KeeperTakesTurn (office_of faults old) request (Some reading) reply (office_of faults new) → ActsInTurn moment since faults (record { old = old; request = request; reading = reading; reply = reply; new = new })
       → new.founder ≡ old.founder → new.limit ≡ old.limit → Keeps moment since old.founder (Some old.limit) asked then old → Keeps moment since new.founder (Some new.limit) asked then new
@@ -174,9 +175,9 @@ passed_on {D = D} laws moment since faults leaves only first from images old new
     (λ then has. record {
       founder = has.founder ∙ sym same;
       limit = has.limit ∙ sym limit;
-      watched = watched_more (WasAsked answered) (WasAsked more) all moment since first from images then.0 has.watched;
+      watched = watched_more moment since (WasAsked answered) (WasAsked more) first from images then.0 (all then.0.founder (Some then.0.limit)) has.watched;
       keeps = keeps_on laws moment since faults (WasAsked more) first from images then.0 old new request reading reply asks was turn inside same limit
-          (keeps_more (WasAsked answered) (WasAsked more) all moment since old.founder (Some old.limit) then.0 old has.keeps);
+          (keeps_more old.founder (Some old.limit) (WasAsked answered) (WasAsked more) (all old.founder (Some old.limit)) moment since then.0 old has.keeps);
     })
     answered passed)
     (record {
@@ -189,7 +190,7 @@ passed_on {D = D} laws moment since faults leaves only first from images old new
 -- ---- at the end of a service
 
 -- the service of a desk that is watched is that of the desk
-module _ {D I O : Type 0} (on : LinkWords I O) (moment : D → ℕ) (faults : D → ℕ) (clock : ClockState) (door after : DoorState I O) (most : ℕ) (ends : List (LinkEnd I O)) (stop : Stop)
+module _ {D I O : Type 0} (on : LinkWords I O) (moment : D → ℕ) (faults : D → ℕ) (clock : ClockState) (door after : DoorState I O) (most : ℕ) (ends : List (LinkEnd I O)) (stop : Option Stop)
     (desk last : DeskState D) (opened closed : WatchedState D) where
   pub serves_watched : opened ≡ record { desk = desk; answered = [] } → last ≡ closed.desk
       → Serves on (record { clock = clock; office = stamping moment faults opened.desk opened.answered; door = door; most = most })
@@ -250,24 +251,96 @@ has_image f [] x k low is = absurd (omega arith)
 has_image f (y ∷ ys) x zero low is = (omega arith, ap f is)
 has_image f (y ∷ ys) x (suc k) low is = let rest = has_image f ys x k (omega arith) is in let below = rest.0 in (omega arith, rest.1)
 
--- each act that a desk answered was asked by a call whose stamp it is
-pub asked_by : {D : Type 0} (moment : D → ℕ) (faults : D → ℕ) (opened left : DeskState D) (answered : Answered D) (calls : List Item)
-    → AreStampsOf (stamping moment faults opened []) (stamping moment faults left answered) calls
-    → (request : Request) (reading : ℤ) → WasAsked answered request reading → AskedBy calls request reading
-asked_by {D = D} moment faults opened left answered calls stamps request reading (then, (k, low, at), request_is, reading_is) =
-    let f : DeskState D × Asked → Stamp = λ one. stamp_of moment one.0 one.1 in
-    let image = has_image f answered then k low at in
-    elim (stamps (f then) (k, image.0, image.1)) [
-      | inl none ↦ absurd (nothing (f then) none)
-      | inr call ↦ (call.0, call.1, call.2.request ∙ request_is, call.2.reading ∙ ap (λ (t : ℤ). Some t) reading_is)
-    ]
-  where
-    nothing : (stamp : Stamp) → Contains [] stamp → ⊥
-    nothing stamp (n, low, is) = omega arith
-
 -- the law that histories that begin one another and are as long are one
 abbrev pub OneBeginning : Type 0
 OneBeginning = (a b c : List Entry) → Extends a c → Extends b c → length a ≡ length b → a ≡ b
+
+-- what the office's laws say of an act that is sent again
+abbrev pub Resends : Type 0
+Resends = (founder : Key) (limit other : Option ℕ) (past later : List Entry) (request : Request) (first again : ℤ) (text : List ℕ) (entry : Entry)
+    → step founder limit past request first ≡ (Done text, entry ∷ past) → IsLegal founder later → Extends (entry ∷ past) later → step founder other later request again ≡ (Done text, later)
+
+-- and of what stood before the newest entries
+abbrev pub Begins : Type 0
+Begins = (founder : Key) (earlier later : List Entry) → IsLegal founder later → Extends earlier later → IsLegal founder earlier
+
+-- what holds of each holds of one of them
+all_at : {X : Type 0} (P : X → Type 0) (xs : List X) (x : X) (k : ℕ) → k < length xs → slice_index_or xs k x ≡ x → AllByRecursion P xs → P x
+all_at P [] x k low is all = absurd (omega arith)
+all_at P (y ∷ ys) x zero low is all = subst P is all.0
+all_at P (y ∷ ys) x (suc k) low is all = all_at P ys x k (omega arith) is all.1
+
+no_stamp : (stamp : Stamp) → Contains [] stamp → ⊥
+no_stamp stamp (n, low, is) = omega arith
+
+module _ (one : OneBeginning) (laws : GrowthLaws) (resends : Resends) (founder : Key) (limit : Option ℕ) (later : List Entry) where
+  -- A call whose stamp has as many entries as this history, and for which the step adds an entry there, stands there: it
+  -- left that history, and if it had added the newest entry, it would be a resend there.
+  stands_there : (past : List Entry) (request : Request) (reading : ℤ) (entry : Entry) → outcome founder limit past request reading ≡ Adds entry → IsLegal founder past → Extends past later
+      → (item : Item) → IsTrue founder limit later item → (given : Stamp) → item.stamp ≡ Some given → given.entries ≡ length past → item.request ≡ request → item.reading ≡ Some reading
+      → item.position ≡ length past
+  stands_there past request reading entry adds legal begins item is given stamp_is entries request_is reading_is = by is.answered
+    where
+      stays : (after : List Entry) → after ≡ past → after ≡ is.past → item.position ≡ length past
+      stays after same left = is.place ∙ ap length (sym left ∙ same)
+
+      resent : (e : Entry) → step founder limit is.past item.request (reading_of item) ≡ (Done (entry_answer is.past e), e ∷ is.past) → past ≡ e ∷ is.past → ⊥
+      resent e first grown =
+          let again : step founder limit past item.request reading ≡ (Done (entry_answer is.past e), past) =
+          resends founder limit limit is.past past item.request (reading_of item) reading (entry_answer is.past e) e first legal ([], grown) in
+          let more : step founder limit past item.request reading ≡ (Done (entry_answer past entry), entry ∷ past) =
+          step_adds founder limit past item.request reading entry (subst (λ (q : Request). outcome founder limit past q reading ≡ Adds entry) (sym request_is) adds) in
+          let longer : past ≡ entry ∷ past = ap (λ (p : Reply × List Entry). p.1) (sym again ∙ more) in
+          omega (arith, ap length longer)
+
+      made : (after : List Entry) → after ≡ past → step founder limit is.past item.request (reading_of item) ≡ (item.reply, after)
+          → Makes is.past (outcome founder limit is.past item.request (reading_of item)) item.reply after → item.position ≡ length past
+      made after same stepped (inl left) = stays after same left
+      made after same stepped (inr (e, adds_it, reply, grown)) =
+          absurd (resent e (stepped ∙ ap (λ (r : Reply). (r, after)) reply ∙ ap (λ (h : List Entry). (Done (entry_answer is.past e), h)) grown) (sym same ∙ grown))
+
+      answered_so : (after : List Entry) → after ≡ past → Answers founder limit is.past item.request (reading_of item) item.reply after → item.position ≡ length past
+      answered_so after same (inl stepped) = made after same stepped (laws.makes founder limit is.past after item.request (reading_of item) item.reply stepped)
+      answered_so after same (inr (wants, left)) = stays after same left
+
+      by : ((after : List Entry) × Answers founder limit is.past item.request (reading_of item) item.reply after
+          × Extends after later × StampTells is.past item.reading item.stamp after) ⊎ Failed founder limit is.past item → item.position ≡ length past
+      by (inl (after, answers, stands, tells)) =
+          let counts : IfSome item.stamp (λ stamp. stamp.entries ≡ length after) = subst (λ (r : Option ℤ). StampTells is.past r item.stamp after) reading_is tells in
+          let count : given.entries ≡ length after = subst (λ (o : Option Stamp). IfSome o (λ stamp. stamp.entries ≡ length after)) stamp_is counts in
+          answered_so after (one after past later stands begins (sym count ∙ entries)) answers
+      by (inr failed) =
+          let count : given.entries ≡ length is.past = subst (λ (o : Option Stamp). IfSome o (λ stamp. stamp.entries ≡ length is.past)) stamp_is failed.tells in
+          is.place ∙ sym count ∙ entries
+
+-- each act that a desk answered, and for which the step adds an entry at the history that it left, was asked there by a
+-- call whose stamp it is
+module _ {D : Type 0} (one : OneBeginning) (laws : GrowthLaws) (resends : Resends) (starts : Begins) (moment : D → ℕ) (since : D → ℕ → List ℕ → Type 0) (faults : D → ℕ) (opened left : DeskState D)
+    (answered : Answered D) (were : AllByRecursion (λ then. WasBetween moment since (WasAsked answered) opened left then.0) answered)
+    (legal : IsLegal opened.founder left.state.settled) (calls : List Item) (true_of : AreTrue opened.founder (Some opened.limit) left.state.settled calls)
+    (stamps : AreStampsOf (stamping moment faults opened []) (stamping moment faults left answered) calls) where
+  pub asked_by : AllMore opened.founder (Some opened.limit) (WasAsked answered) (AskedBy calls)
+  asked_by past request reading entry adds (then, (k, low, at), request_is, reading_is, left_is) =
+      let f : DeskState D × Asked → Stamp = λ one. stamp_of moment one.0 one.1 in
+      let image = has_image f answered then k low at in
+      let was = all_at (λ then. WasBetween moment since (WasAsked answered) opened left then.0) answered then k low at were in
+      let begins : Extends past left.state.settled = subst (λ (h : List Entry). Extends h left.state.settled) left_is was.keeps.grows in
+      by (f then) refl begins (stamps (f then) (k, image.0, image.1))
+    where
+      by : (given : Stamp) → given ≡ stamp_of moment then.0 then.1 → Extends past left.state.settled
+          → Gave (stamping moment faults opened []).stamps given ⊎ ((item : Item) × Contains calls item × IsStampOf item given) → AskedBy calls past request reading
+      by given given_is begins (inl none) = absurd (no_stamp given none)
+      by given given_is begins (inr (item, (n, under, there), stamp)) =
+          let asks : item.request ≡ request = stamp.request ∙ ap (λ (s : Stamp). s.request) given_is ∙ request_is in
+          let reads : item.reading ≡ Some reading = stamp.reading ∙ ap (λ (s : Stamp). Some s.reading) given_is ∙ ap (λ (t : ℤ). Some t) reading_is in
+          let entries : given.entries ≡ length past = ap (λ (s : Stamp). s.entries) given_is ∙ ap length left_is in (
+            item,
+            (n, under, there),
+            asks,
+            reads,
+            stands_there one laws resends opened.founder (Some opened.limit) left.state.settled past request reading entry adds (starts opened.founder past left.state.settled legal begins) begins
+                item (all_at (IsTrue opened.founder (Some opened.limit) left.state.settled) calls item n under there true_of) given stamp.stamp entries asks reads,
+          )
 
 -- what the office's laws say of an act that is answered
 abbrev pub Acknowledges : Type 0

@@ -142,14 +142,15 @@ module _ {D : Type 0} (on : DiskWords D) (left last : DeskState D) where
   mended_so NoMemory mends = tt
   mended_so DoorFault mends = tt
 
-  pub first_so : (stop : Stop) (mended : Status) → MendsLast on left mended last → IsFromMending (first_fault stop mended)
-  first_so stops.Full mended mends = mended_so mended mends
-  first_so stops.Shut mended mends = mended_so mended mends
-  first_so stops.Failed mended mends = tt
-  first_so stops.NoMemory mended mends = tt
+  pub first_so : (stop : Option Stop) (mended : Status) → MendsLast on left mended last → IsFromMending (first_fault stop mended)
+  first_so (Some stops.Full) mended mends = mended_so mended mends
+  first_so (Some stops.Shut) mended mends = mended_so mended mends
+  first_so (Some stops.Failed) mended mends = tt
+  first_so (Some stops.NoMemory) mended mends = tt
+  first_so None mended mends = tt
 
   -- the sink hasn't failed so far
-  pub no_write_so_far : (stop : Stop) (mended so_far : Status) → so_far ≡ first_fault stop mended → MendsLast on left mended last → so_far ≡ WriteFault → ⊥
+  pub no_write_so_far : (stop : Option Stop) (mended so_far : Status) → so_far ≡ first_fault stop mended → MendsLast on left mended last → so_far ≡ WriteFault → ⊥
   no_write_so_far stop mended so_far same mends is =
       subst IsFromMending is (subst IsFromMending (sym same) (first_so stop mended mends))
 

@@ -14,19 +14,15 @@ use Rattle.act_model.specs.Conducts.{Extends, EitherWay, Makes}
 use Rattle.act_model.specs.Keepers.{TakesTurn}
 use Rattle.act_model.specs.Legal.{IsLegal}
 use Rattle.act_model.specs.Replies.{entry_answer}
-use Rattle.act_model.specs.Step.{Adds, outcome, after, step}
+use Rattle.act_model.specs.Step.{Outcome, Adds, outcome, after, step}
 use Rattle.act_model.specs.Turns.{Turn, Conduct, Mends, Settles, FailsToKeep, unless_untouched, Answers}
 use Rattle.mpc_desk.specs.Desks.{DeskState, RestsAt, MayLeave, FailsOn, ActsOn, ActsInTurn, turn_of, office_of}
 use Rattle.mpc_desk.specs.Files.{Stands}
 use Rattle.mpc_desk.specs.Opening.{StandsAlike}
 use Rattle.command_ends.specs.Disks.{DiskWords}
-use Rattle.serve_command.specs.Images.{IsOfAsked, StandsWithin, IsWatched, Keeps, WasBetween, LeavesInService}
+use Rattle.serve_command.specs.Images.{Asks, IsOfAsked, StandsWithin, IsWatched, Keeps, WasBetween, LeavesInService}
 use Rattle.serve_command.proofs.Gathering.{extends_on}
 use Rattle.serve_command.proofs.Mending.{mends_extends, mends_legal}
-
--- which acts were asked, with which readings of the clock
-abbrev pub Asks : Type 1
-Asks = Request → ℤ → Type 0
 
 -- what the office's laws say of histories
 pub record GrowthLaws : Type 0 where
@@ -50,66 +46,74 @@ within_on founder limit asked first last later image goes_on s = record {
   stands = s.stands;
 }
 
--- where more was asked
-module _ (asked more : Asks) (all : (request : Request) (reading : ℤ) → asked request reading → more request reading) where
-  pub of_more : (founder : Key) (limit : Option ℕ) (past : List Entry) (entry : Entry) → IsOfAsked founder limit asked past entry → IsOfAsked founder limit more past entry
-  of_more founder limit past entry is = record { request = is.request; reading = is.reading; was_asked = all is.request is.reading is.was_asked; adds = is.adds }
+-- what was asked at a history at which the step adds an entry for it was asked there in another sense, too
+abbrev pub AllMore : Key → Option ℕ → Asks → Asks → Type 0
+AllMore founder limit asked more =
+    (past : List Entry) (request : Request) (reading : ℤ) (entry : Entry) → outcome founder limit past request reading ≡ Adds entry → asked past request reading → more past request reading
 
-  pub within_more : (founder : Key) (limit : Option ℕ) (first last : List Entry) (image : List ℕ) → StandsWithin founder limit asked first last image → StandsWithin founder limit more first last image
-  within_more founder limit first last image s = record {
+-- where more was asked
+module _ (founder : Key) (limit : Option ℕ) (asked more : Asks) (all : AllMore founder limit asked more) where
+  pub of_more : (past : List Entry) (entry : Entry) → IsOfAsked founder limit asked past entry → IsOfAsked founder limit more past entry
+  of_more past entry is =
+      record { request = is.request; reading = is.reading; was_asked = all past is.request is.reading entry is.adds is.was_asked; adds = is.adds }
+
+  pub within_more : (first last : List Entry) (image : List ℕ) → StandsWithin founder limit asked first last image → StandsWithin founder limit more first last image
+  within_more first last image s = record {
     past = s.past;
     begins = s.begins;
     ends = s.ends;
     history = s.history;
-    within = elim s.within [ inl same ↦ inl same | inr longer ↦ inr (longer.0, of_more founder limit s.past longer.0 longer.1, longer.2) ];
+    within = elim s.within [ inl same ↦ inl same | inr longer ↦ inr (longer.0, of_more s.past longer.0 longer.1, longer.2) ];
     legal = s.legal;
     stands = s.stands;
   }
 
-  doubt_more : (founder : Key) (limit : Option ℕ) (past : List Entry) (doubt : Option Entry) → IfSome doubt (IsOfAsked founder limit asked past) → IfSome doubt (IsOfAsked founder limit more past)
-  doubt_more founder limit past None is = tt
-  doubt_more founder limit past (Some entry) is = of_more founder limit past entry is
+  pub doubt_more : (past : List Entry) (doubt : Option Entry) → IfSome doubt (IsOfAsked founder limit asked past) → IfSome doubt (IsOfAsked founder limit more past)
+  doubt_more past None is = tt
+  doubt_more past (Some entry) is = of_more past entry is
 
-  pub watched_more : {D : Type 0} (moment : D → ℕ) (since : D → ℕ → List ℕ → Type 0) (first : List Entry) (from : ℕ) (images : ℕ → List ℕ → Type 0) (desk : DeskState D)
-      → IsWatched moment since first from images asked desk → IsWatched moment since first from images more desk
-  watched_more moment since first from images desk w = record {
-    later = w.later;
-    grows = w.grows;
-    legal = w.legal;
-    doubt = doubt_more desk.founder (Some desk.limit) desk.state.settled desk.state.doubt w.doubt;
-    each = λ t image le now. ⊎_elim (λ earlier. inl earlier) (λ has. inr (within_more desk.founder (Some desk.limit) first desk.state.settled image has)) (w.each t image le now);
-  }
+  pub keeps_more : {D : Type 0} (moment : D → ℕ) (since : D → ℕ → List ℕ → Type 0) (then now : DeskState D) → Keeps moment since founder limit asked then now → Keeps moment since founder limit more then now
+  keeps_more moment since then now k =
+      record { later = k.later; grows = k.grows; each = λ image is. within_more then.state.settled now.state.settled image (k.each image is) }
 
-  pub keeps_more : {D : Type 0} (moment : D → ℕ) (since : D → ℕ → List ℕ → Type 0) (founder : Key) (limit : Option ℕ) (then now : DeskState D)
-      → Keeps moment since founder limit asked then now → Keeps moment since founder limit more then now
-  keeps_more moment since founder limit then now k =
-      record { later = k.later; grows = k.grows; each = λ image is. within_more founder limit then.state.settled now.state.settled image (k.each image is) }
-
-  pub during_more : {D : Type 0} (moment : D → ℕ) (since : D → ℕ → List ℕ → Type 0) (old new : D) (founder : Key) (limit : Option ℕ) (first last : List Entry)
+  pub during_more : {D : Type 0} (moment : D → ℕ) (since : D → ℕ → List ℕ → Type 0) (old new : D) (first last : List Entry)
       → During moment since old new (StandsWithin founder limit asked first last) → During moment since old new (StandsWithin founder limit more first last)
-  during_more moment since old new founder limit first last during =
-      record { later = during.later; either = λ t image le now. ⊎_elim (λ earlier. inl earlier) (λ has. inr (within_more founder limit first last image has)) (during.either t image le now) }
+  during_more moment since old new first last during =
+      record { later = during.later; either = λ t image le now. ⊎_elim (λ earlier. inl earlier) (λ has. inr (within_more first last image has)) (during.either t image le now) }
 
-  pub between_more : {D : Type 0} (moment : D → ℕ) (since : D → ℕ → List ℕ → Type 0) (opened now then : DeskState D)
-      → WasBetween moment since asked opened now then → WasBetween moment since more opened now then
-  between_more moment since opened now then was =
-      record {
-        before = during_more moment since opened.disk then.disk opened.founder (Some opened.limit) opened.state.settled then.state.settled was.before;
-        keeps = keeps_more moment since opened.founder (Some opened.limit) then now was.keeps;
-      }
+pub watched_more : {D : Type 0} (moment : D → ℕ) (since : D → ℕ → List ℕ → Type 0) (asked more : Asks) (first : List Entry) (from : ℕ) (images : ℕ → List ℕ → Type 0) (desk : DeskState D)
+    → AllMore desk.founder (Some desk.limit) asked more → IsWatched moment since first from images asked desk → IsWatched moment since first from images more desk
+watched_more moment since asked more first from images desk all w = record {
+  later = w.later;
+  grows = w.grows;
+  legal = w.legal;
+  doubt = doubt_more desk.founder (Some desk.limit) asked more all desk.state.settled desk.state.doubt w.doubt;
+  each = λ t image le now.
+      ⊎_elim (λ earlier. inl earlier) (λ has. inr (within_more desk.founder (Some desk.limit) asked more all first desk.state.settled image has)) (w.each t image le now);
+}
+
+pub between_more : {D : Type 0} (moment : D → ℕ) (since : D → ℕ → List ℕ → Type 0) (asked more : Asks) (opened now then : DeskState D) → AllMore opened.founder (Some opened.limit) asked more
+    → WasBetween moment since asked opened now then → WasBetween moment since more opened now then
+between_more moment since asked more opened now then all was = record {
+  before = during_more opened.founder (Some opened.limit) asked more all moment since opened.disk then.disk opened.state.settled then.state.settled was.before;
+  keeps = keeps_more opened.founder (Some opened.limit) asked more all moment since then now was.keeps;
+}
 
 -- what is said of the key and the limit of a desk is said of the desk after an act
 pub moved : {D : Type 0} (old new : DeskState D) → new.founder ≡ old.founder → new.limit ≡ old.limit → (P : Key → Option ℕ → Type 0) → P old.founder (Some old.limit) → P new.founder (Some new.limit)
 moved old new founder limit P has = subst (λ (k : Key). P k (Some new.limit)) (sym founder) (subst (λ (n : ℕ). P old.founder (Some n)) (sym limit) has)
 
 -- the step makes this history where it adds an entry
-step_adds : (founder : Key) (limit : Option ℕ) (past : List Entry) (q : Request) (t : ℤ) (entry : Entry) → outcome founder limit past q t ≡ Adds entry
+pub step_adds : (founder : Key) (limit : Option ℕ) (past : List Entry) (q : Request) (t : ℤ) (entry : Entry) → outcome founder limit past q t ≡ Adds entry
     → step founder limit past q t ≡ (Done (entry_answer past entry), entry ∷ past)
 unfolding step
 step_adds founder limit past q t entry adds = ap (after past) adds
 
 untouched_settled : (doubt : Bool) (past : List Entry) (entry : Entry) → (unless_untouched doubt past entry).settled ≡ past
 untouched_settled doubt past entry = refl
+
+one_entry : (a b : Entry) → ◌≡◌ {A = Outcome} (Adds a) (Adds b) → a ≡ b
+one_entry a b is = cc
 
 module _ (laws : GrowthLaws) (founder : Key) (limit : Option ℕ) where
   -- what is settled after an act extends what mending left
@@ -143,24 +147,62 @@ module _ {D : Type 0} (laws : GrowthLaws) (moment : D → ℕ) (since : D → �
       by (Some entry) stands either_way origin =
           record { past = old.state.settled; begins = begins; ends = ends; history = entry ∷ old.state.settled; within = inr (entry, origin, refl); legal = either_way; stands = stands }
 
-  module _ (request : Request) (reading : ℤ) (was : asked request reading) where
-    of_this : (mended : List Entry) (entry : Entry) → outcome old.founder (Some old.limit) mended request reading ≡ Adds entry → IsOfAsked old.founder (Some old.limit) asked mended entry
-    of_this mended entry adds = record { request = request; reading = reading; was_asked = was; adds = adds }
+  module _ (request : Request) (reading : ℤ) (was : asked new.state.settled request reading) where
+    -- an act that left the history that mending had left was asked there
+    of_this : (mended : List Entry) (entry : Entry) → new.state.settled ≡ mended → outcome old.founder (Some old.limit) mended request reading ≡ Adds entry → IsOfAsked old.founder (Some old.limit) asked mended entry
+    of_this mended entry same adds =
+        record { request = request; reading = reading; was_asked = subst (λ (h : List Entry). asked h request reading) same was; adds = adds }
+
+    -- what the act left, where the step adds an entry for it: the history that mending had left, or that with the entry
+    leaves_either : (mended : List Entry) (entry : Entry) (turn : Turn) → outcome old.founder (Some old.limit) mended turn.request reading ≡ Adds entry
+        → Settles old.founder (Some old.limit) mended turn reading new.state ⊎ FailsToKeep old.founder (Some old.limit) mended turn reading new.state
+        → (new.state.settled ≡ mended) ⊎ (new.state.settled ≡ entry ∷ mended)
+    leaves_either mended entry turn adds (inl settles) = by settles.answers
+      where
+        made : Makes mended (outcome old.founder (Some old.limit) mended turn.request reading) turn.reply new.state.settled → (new.state.settled ≡ mended) ⊎ (new.state.settled ≡ entry ∷ mended)
+        made (inl same) = inl same
+        made (inr (other, adds_it, reply, is)) = inr (is ∙ ap (λ (e : Entry). e ∷ mended) (one_entry other entry (sym adds_it ∙ adds)))
+
+        by : Answers old.founder (Some old.limit) mended turn.request reading turn.reply new.state.settled → (new.state.settled ≡ mended) ⊎ (new.state.settled ≡ entry ∷ mended)
+        by (inl stepped) = made (laws.makes old.founder (Some old.limit) mended new.state.settled turn.request reading turn.reply stepped)
+        by (inr (wants, same)) = inl same
+    leaves_either mended entry turn adds (inr fails) = inl (ap (λ (s : OfficeState). s.settled) fails.leaves ∙ untouched_settled fails.doubt mended fails.entry)
 
     -- an image inside an act
-    inside_within : (mended last : List Entry) (image : List ℕ) → IsInstantNs reading → Mends old.state.settled old.state.doubt mended
-        → Extends mended last → MayLeave old mended request reading image → Within last image
-    inside_within mended last image years mends ends (inl rests) =
-        rests_within last image (extends_on old.state.settled mended last (mends_extends old.state.settled old.state.doubt mended mends) ends) rests
-    inside_within mended last image years mends ends (inr (entry, adds, stands)) =
-        record {
+    inside_within : (mended : List Entry) (image : List ℕ) (turn : Turn) → turn.request ≡ request → IsInstantNs reading → Mends old.state.settled old.state.doubt mended
+        → Settles old.founder (Some old.limit) mended turn reading new.state ⊎ FailsToKeep old.founder (Some old.limit) mended turn reading new.state
+        → MayLeave old mended request reading image → Within new.state.settled image
+    inside_within mended image turn asks years mends acts (inl rests) =
+        rests_within new.state.settled image
+        (extends_on old.state.settled mended new.state.settled (mends_extends old.state.settled old.state.doubt mended mends) (acts_extend laws old.founder (Some old.limit) mended turn reading new.state acts)) rests
+    inside_within mended image turn asks years mends acts (inr (entry, adds, stands)) =
+        by (leaves_either mended entry turn (subst (λ (q : Request). outcome old.founder (Some old.limit) mended q reading ≡ Adds entry) (sym asks) adds) acts)
+      where
+        grown : Extends first mended
+        grown = extends_on first old.state.settled mended begins (mends_extends old.state.settled old.state.doubt mended mends)
+
+        legal_more : IsLegal old.founder (entry ∷ mended)
+        legal_more =
+            laws.legal_step old.founder (Some old.limit) mended (entry ∷ mended) request reading (Done (entry_answer mended entry))
+            (mends_legal old.founder old.state.settled old.state.doubt mended mends legal.0 legal.1) years (step_adds old.founder (Some old.limit) mended request reading entry adds)
+
+        by : (new.state.settled ≡ mended) ⊎ (new.state.settled ≡ entry ∷ mended) → Within new.state.settled image
+        by (inl same) = record {
           past = mended;
-          begins = extends_on first old.state.settled mended begins (mends_extends old.state.settled old.state.doubt mended mends);
-          ends = ends;
+          begins = grown;
+          ends = ([], same);
           history = entry ∷ mended;
-          within = inr (entry, of_this mended entry adds, refl);
-          legal = laws.legal_step old.founder (Some old.limit) mended (entry ∷ mended) request reading (Done (entry_answer mended entry))
-              (mends_legal old.founder old.state.settled old.state.doubt mended mends legal.0 legal.1) years (step_adds old.founder (Some old.limit) mended request reading entry adds);
+          within = inr (entry, of_this mended entry same adds, refl);
+          legal = legal_more;
+          stands = stands;
+        }
+        by (inr added) = record {
+          past = entry ∷ mended;
+          begins = extends_on first mended (entry ∷ mended) grown (entry ∷ [], refl);
+          ends = ([], added);
+          history = entry ∷ mended;
+          within = inl refl;
+          legal = legal_more;
           stands = stands;
         }
 
@@ -179,8 +221,7 @@ module _ {D : Type 0} (laws : GrowthLaws) (moment : D → ℕ) (since : D → �
           later = acts.images.later;
           either = λ t image le was.
               ⊎_elim (λ earlier. inl earlier)
-              (λ has. inr (inside_within acts.mended new.state.settled image years acts.mends
-              (acts_extend laws old.founder (Some old.limit) acts.mended (turn_of request reading reply inside.rise) reading new.state acts.acts) has))
+              (λ has. inr (inside_within acts.mended image (turn_of request reading reply inside.rise) refl years acts.mends acts.acts has))
               (acts.images.either t image le was);
         }
 
@@ -188,9 +229,9 @@ module _ {D : Type 0} (laws : GrowthLaws) (moment : D → ℕ) (since : D → �
     abbrev Doubts : OfficeState → Type 0
     Doubts state = IfSome state.doubt (IsOfAsked old.founder (Some old.limit) asked state.settled)
 
-    doubts_kept : (kept : Bool) (mended : List Entry) (entry : Entry) → outcome old.founder (Some old.limit) mended request reading ≡ Adds entry → Doubts (unless_untouched kept mended entry)
-    doubts_kept true mended entry adds = of_this mended entry adds
-    doubts_kept false mended entry adds = tt
+    doubts_kept : (kept : Bool) (mended : List Entry) (entry : Entry) → new.state.settled ≡ mended → outcome old.founder (Some old.limit) mended request reading ≡ Adds entry → Doubts (unless_untouched kept mended entry)
+    doubts_kept true mended entry same adds = of_this mended entry same adds
+    doubts_kept false mended entry same adds = tt
 
     pub act_doubts : (reply : Reply) → ActsInTurn moment since faults (record { old = old; request = request; reading = reading; reply = reply; new = new }) → Doubts new.state
     act_doubts reply inside = by inside.acts
@@ -198,7 +239,9 @@ module _ {D : Type 0} (laws : GrowthLaws) (moment : D → ℕ) (since : D → �
         on_acts : (mended : List Entry) → Settles old.founder (Some old.limit) mended (turn_of request reading reply inside.rise) reading new.state
             ⊎ FailsToKeep old.founder (Some old.limit) mended (turn_of request reading reply inside.rise) reading new.state → Doubts new.state
         on_acts mended (inl settles) = subst (λ (d : Option Entry). IfSome d (IsOfAsked old.founder (Some old.limit) asked new.state.settled)) (sym settles.settled) tt
-        on_acts mended (inr fails) = subst Doubts (sym fails.leaves) (doubts_kept fails.doubt mended fails.entry fails.adds)
+        on_acts mended (inr fails) =
+            subst Doubts (sym fails.leaves)
+            (doubts_kept fails.doubt mended fails.entry (ap (λ (s : OfficeState). s.settled) fails.leaves ∙ untouched_settled fails.doubt mended fails.entry) fails.adds)
 
         by : FailsOn moment since old (turn_of request reading reply inside.rise) new ⊎ ActsOn moment since old (turn_of request reading reply inside.rise) reading new → Doubts new.state
         by (inl fails) = subst Doubts (sym fails.fails.stays) doubt
@@ -206,7 +249,7 @@ module _ {D : Type 0} (laws : GrowthLaws) (moment : D → ℕ) (since : D → �
 
 -- a desk is watched on over an act
 pub watched_on : {D : Type 0} (laws : GrowthLaws) (moment : D → ℕ) (since : D → ℕ → List ℕ → Type 0) (faults : D → ℕ) (asked : Asks) (first : List Entry) (from : ℕ) (images : ℕ → List ℕ → Type 0)
-    (old new : DeskState D) (request : Request) (reading : ℤ) (reply : Reply) → asked request reading → IsWatched moment since first from images asked old
+    (old new : DeskState D) (request : Request) (reading : ℤ) (reply : Reply) → asked new.state.settled request reading → IsWatched moment since first from images asked old
     → TakesTurn (office_of faults old) request (Some reading) reply (office_of faults new) → ActsInTurn moment since faults (record { old = old; request = request; reading = reading; reply = reply; new = new })
     → new.founder ≡ old.founder → new.limit ≡ old.limit → IsWatched moment since first from images asked new
 watched_on laws moment since faults asked first from images old new request reading reply asks was turn inside same limit =

@@ -1,5 +1,6 @@
 -- What a crash at any moment of a service leaves.
-use Rattle.std.specs.Prelude.{◌≡◌, ◌⊎◌, ℕ, ◌≤◌, ℤ, pos, List, [], ◌∷◌, length, map, Option, Some, None, IfSome, Contains}
+use Rattle.std.specs.Prelude.{◌≡◌, ◌⊎◌, ℕ, ◌≤◌, ℤ, pos, List, [], ◌∷◌, length, map}
+use Rattle.std.specs.Prelude.{Option, Some, None, IfSome, Contains}
 use Rattle.disk_model.specs.Crashes.{During}
 use Rattle.act_bodies.specs.declared.key.Key.{Key}
 use Rattle.act_model.specs.declared.entry.Entry.{Entry}
@@ -23,22 +24,27 @@ use Rattle.http_server.specs.declared.log.Log.{Log}
 
 -- ---- entries of acts that were asked
 
--- the entry is what the step adds at this history for an act that was asked, with that act's reading of the clock
-pub record IsOfAsked (founder : Key) (limit : Option ℕ) (asked : Request → ℤ → Type 0) (past : List Entry)
+-- which acts were asked at which histories, with which readings of the clock
+abbrev pub Asks : Type 1
+Asks = List Entry → Request → ℤ → Type 0
+
+-- the entry is what the step adds at this history for an act that was asked there, with that act's reading of the clock
+pub record IsOfAsked (founder : Key) (limit : Option ℕ) (asked : Asks) (past : List Entry)
     (entry : Entry) : Type 0 where
   pub request : Request
   pub reading : ℤ
-  pub was_asked : asked request reading
+  pub was_asked : asked past request reading
   pub adds : outcome founder limit past request reading ≡ Adds entry
 
--- one of these calls asked this act, with this reading of the clock
-abbrev pub AskedBy : List Item → Request → ℤ → Type 0
-AskedBy calls request reading =
+-- one of these calls, whose place is the end of this history, asked this act, with this reading of the clock
+abbrev pub AskedBy : List Item → List Entry → Request → ℤ → Type 0
+AskedBy calls past request reading =
     (item : Item) × Contains calls item × (item.request ≡ request) × (item.reading ≡ Some reading)
+    × (item.position ≡ length past)
 
 -- The image stands for a legal history, to which the office came between these two; or for one that has one entry more
--- than such a history: that which the step adds there for an act that was asked.
-pub record StandsWithin (founder : Key) (limit : Option ℕ) (asked : Request → ℤ → Type 0) (first last : List Entry)
+-- than such a history: that which the step adds there for an act that was asked there.
+pub record StandsWithin (founder : Key) (limit : Option ℕ) (asked : Asks) (first last : List Entry)
     (image : List ℕ) : Type 0 where
   pub past : List Entry
   pub begins : Extends first past
@@ -53,7 +59,7 @@ pub record StandsWithin (founder : Key) (limit : Option ℕ) (asked : Request �
 -- legal, the act in doubt was asked, and each image since a moment before is one of those, or stands for a history to
 -- which the office came, or for one entry more.
 pub record IsWatched {D : Type 0} (moment : D → ℕ) (since : D → ℕ → List ℕ → Type 0) (first : List Entry) (from : ℕ)
-    (images : ℕ → List ℕ → Type 0) (asked : Request → ℤ → Type 0) (desk : DeskState D) : Type 0 where
+    (images : ℕ → List ℕ → Type 0) (asked : Asks) (desk : DeskState D) : Type 0 where
   pub later : from ≤ moment desk.disk
   pub grows : Extends first desk.state.settled
   pub legal : EitherWay (IsLegal desk.founder) desk.state
@@ -90,11 +96,11 @@ stamp_of moment desk asked = record {
 abbrev pub Answered : Type 0 → Type 0
 Answered D = List (DeskState D × Asked)
 
--- one of the acts that were answered was this one, with this reading of the clock
-abbrev pub WasAsked : {D : Type 0} → Answered D → Request → ℤ → Type 0
-WasAsked {D = D} answered request reading =
+-- one of the acts that were answered was this one, with this reading of the clock, and it left this history
+abbrev pub WasAsked : {D : Type 0} → Answered D → List Entry → Request → ℤ → Type 0
+WasAsked {D = D} answered left request reading =
     (then : DeskState D × Asked) × Contains answered then × (request_in then.1.items ≡ request)
-    × (reading_in then.1.items ≡ reading)
+    × (reading_in then.1.items ≡ reading) × (then.0.state.settled ≡ left)
 
 -- a desk, and how it was when it had answered each of its acts
 pub record WatchedState (D : Type 0) : Type 0 where
@@ -111,7 +117,7 @@ stamping moment faults desk answered =
 -- What was settled in a desk then is in each image of its disk since: its history has gone on from there, and each
 -- image since that moment stands for a history to which the office came from there on, or for one entry more.
 pub record Keeps {D : Type 0} (moment : D → ℕ) (since : D → ℕ → List ℕ → Type 0) (founder : Key) (limit : Option ℕ)
-    (asked : Request → ℤ → Type 0) (then now : DeskState D) : Type 0 where
+    (asked : Asks) (then now : DeskState D) : Type 0 where
   pub later : moment then.disk ≤ moment now.disk
   pub grows : Extends then.state.settled now.state.settled
   pub each : (image : List ℕ) → since now.disk (moment then.disk) image
@@ -119,7 +125,7 @@ pub record Keeps {D : Type 0} (moment : D → ℕ) (since : D → ℕ → List �
 
 -- a desk that is watched from a moment on was so later, and has kept what it had then
 pub record HasPassed {D : Type 0} (moment : D → ℕ) (since : D → ℕ → List ℕ → Type 0) (first : List Entry) (from : ℕ)
-    (images : ℕ → List ℕ → Type 0) (asked : Request → ℤ → Type 0) (now then : DeskState D) : Type 0 where
+    (images : ℕ → List ℕ → Type 0) (asked : Asks) (now then : DeskState D) : Type 0 where
   pub founder : then.founder ≡ now.founder
   pub limit : then.limit ≡ now.limit
   pub watched : IsWatched moment since first from images asked then
@@ -127,7 +133,7 @@ pub record HasPassed {D : Type 0} (moment : D → ℕ) (since : D → ℕ → Li
 
 -- The desk was so at some moment between: each image up to then stands for no more than the history that it had then,
 -- or for one entry more, and all that it had then is in each image since.
-pub record WasBetween {D : Type 0} (moment : D → ℕ) (since : D → ℕ → List ℕ → Type 0) (asked : Request → ℤ → Type 0)
+pub record WasBetween {D : Type 0} (moment : D → ℕ) (since : D → ℕ → List ℕ → Type 0) (asked : Asks)
     (opened now then : DeskState D) : Type 0 where
   pub before : During moment since opened.disk then.disk
       (StandsWithin opened.founder (Some opened.limit) asked opened.state.settled then.state.settled)
@@ -137,7 +143,7 @@ pub record WasBetween {D : Type 0} (moment : D → ℕ) (since : D → ℕ → L
 -- reply at the call's place, and left the history that the desk then had: the act's entry is in that, the newest where
 -- the call added it, an earlier one where it had been sent before. So it is in each image of the disk from that moment
 -- on.
-pub record IsKept {D : Type 0} (moment : D → ℕ) (since : D → ℕ → List ℕ → Type 0) (asked : Request → ℤ → Type 0)
+pub record IsKept {D : Type 0} (moment : D → ℕ) (since : D → ℕ → List ℕ → Type 0) (asked : Asks)
     (opened now : DeskState D) (item : Item) (text : List ℕ) : Type 0 where
   pub then : DeskState D
   pub noted : Asked
@@ -152,7 +158,7 @@ pub record IsKept {D : Type 0} (moment : D → ℕ) (since : D → ℕ → List 
   pub between : WasBetween moment since asked opened now then
 
 -- where the call is an act that was done, its entry is kept
-abbrev pub KeepsDone : {D : Type 0} (moment : D → ℕ) (since : D → ℕ → List ℕ → Type 0) (asked : Request → ℤ → Type 0)
+abbrev pub KeepsDone : {D : Type 0} (moment : D → ℕ) (since : D → ℕ → List ℕ → Type 0) (asked : Asks)
     → DeskState D → DeskState D → Item → Type 0
 KeepsDone moment since asked opened now item =
     IfSome item.reading (λ reading. (text : List ℕ) → item.reply ≡ Done text
@@ -162,7 +168,7 @@ KeepsDone moment since asked opened now item =
 
 -- an image at some moment of a service, its opening included: the file stood for the same history as it was read, or
 -- the office came there
-abbrev pub LeavesInService : Option (List ℕ) → Key → Option ℕ → (Request → ℤ → Type 0) → List Entry → List Entry
+abbrev pub LeavesInService : Option (List ℕ) → Key → Option ℕ → Asks → List Entry → List Entry
     → List ℕ → Type 0
 LeavesInService reads founder limit asked first last image =
     StandsAlike reads first image ⊎ StandsWithin founder limit asked first last image

@@ -1,5 +1,5 @@
 -- What a call that serves a door leaves, by the status with which it ended.
-use Rattle.std.specs.Prelude.{◌≡◌, ◌≢◌, ◌⊎◌, ℕ, ◌+◌, List, [], length, Option, Some}
+use Rattle.std.specs.Prelude.{◌≡◌, ◌≢◌, ◌⊎◌, ℕ, ◌+◌, List, [], length, Option, Some, None}
 use Rattle.std.specs.List.{AllByRecursion}
 use Rattle.std.specs.Io.KnownBytes.{Appends}
 use Rattle.desk_io.specs.Outside.{AppendsPart}
@@ -31,11 +31,12 @@ use Rattle.serve_command.specs.Summaries.{summary}
 
 -- The first fault that arose: of the door, or out of memory, or else what the last mending gave, which is made
 -- whatever the links stopped at.
-abbrev pub first_fault : Stop → Status → Status
-first_fault stops.Full mended = mended
-first_fault stops.Shut mended = mended
-first_fault stops.Failed mended = DoorFault
-first_fault stops.NoMemory mended = NoMemory
+abbrev pub first_fault : Option Stop → Status → Status
+first_fault (Some stops.Full) mended = mended
+first_fault (Some stops.Shut) mended = mended
+first_fault (Some stops.Failed) mended = DoorFault
+first_fault (Some stops.NoMemory) mended = NoMemory
+first_fault None mended = NoMemory
 
 -- ---- the two lines
 
@@ -79,21 +80,22 @@ pub record RunEnd (D I O : Type 0) : Type 0 where
   pub status : Status
 
 -- The desk was opened, the links of the door were attended, an act in doubt was mended once, and the two lines were
--- written where nothing had failed. `Unwritten` says that the sink is as it was.
+-- written where nothing had failed. `Unasked` says that clock and door are as they were, which they are where memory
+-- for the links was refused; `Unwritten` that the sink is.
 --
 -- Each image at some moment of the call was one at its start, or stands for a legal history to which the office came,
--- or for one entry more, which the step adds there for an act that a link asked. At the end each stands for the settled
--- history, or for that with the act in doubt. That history is legal, extends the one at the opening, and has all that
--- every legal history has. The entry of each act that was done, also of one that was sent again, is in each image since
--- the moment at which it was answered, its stamp's. The disk's count of faults rose by at least what it rose in
--- opening, in the calls for the links and in the last mending; where it didn't rise no call is answered that the disk
--- failed.
+-- or for one entry more, which the step adds there for an act that a link asked at that place. At the end each stands
+-- for the settled history, or for that with the act in doubt. That history is legal, extends the one at the opening,
+-- and has all that every legal history has. The entry of each act that was done, also of one that was sent again, is in
+-- each image since the moment at which it was answered, its stamp's. The disk's count of faults rose by at least what
+-- it rose in opening, in the calls for the links and in the last mending; where it didn't rise no call is answered that
+-- the disk failed.
 pub record Runs {D I O : Type 0} (on : DiskWords D) (links : LinkWords I O) (start : RunStart D I O)
-    (end : RunEnd D I O) (Unwritten : Type 0) : Type 0 where
+    (end : RunEnd D I O) (Unasked Unwritten : Type 0) : Type 0 where
   pub opened : DeskState D
   pub opens : Opens on start.founder start.disk opened
   pub left : DeskState D
-  pub stop : Stop
+  pub stop : Option Stop
   pub answered : Answered D
   pub serves : Serves links
       (record {
@@ -108,6 +110,7 @@ pub record Runs {D I O : Type 0} (on : DiskWords D) (links : LinkWords I O) (sta
         ends = end.ends;
         stop = stop;
       })
+  pub unasked : stop ≡ None → Unasked
   pub last : DeskState D
   pub mended : Status
   pub mends : MendsLast on left mended last
@@ -135,7 +138,7 @@ pub record Runs {D I O : Type 0} (on : DiskWords D) (links : LinkWords I O) (sta
 -- What stands at the end of the call. Either the office couldn't be opened, and `Uncalled` says that the sink, the
 -- clock and the door were not called and that there are no links; or it was opened, and the links were attended.
 abbrev pub Ends : {D I O : Type 0} → DiskWords D → LinkWords I O → RunStart D I O → RunEnd D I O → Type 0 → Type 0
-    → Type 0
-Ends on links start end Uncalled Unwritten =
+    → Type 0 → Type 0
+Ends on links start end Uncalled Unasked Unwritten =
     (Uncalled × EndsUnopened on start.founder start.disk end.disk end.added end.status)
-    ⊎ Runs on links start end Unwritten
+    ⊎ Runs on links start end Unasked Unwritten

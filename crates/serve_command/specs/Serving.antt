@@ -1,5 +1,6 @@
 -- What a keeper of the office stands for once the links of a door were attended.
-use Rattle.std.specs.Prelude.{◌≡◌, ◌≢◌, ◌⊎◌, ℕ, Bool, List, [], ◌∷◌, ◌++◌, length, map, IfSome, Contains}
+use Rattle.std.specs.Prelude.{◌≡◌, ◌≢◌, ◌⊎◌, ℕ, Bool, List, [], ◌∷◌, ◌++◌, length, map}
+use Rattle.std.specs.Prelude.{Option, Some, None, IfSome, Contains}
 use Rattle.std.specs.List.{AllByRecursion}
 use Rattle.desk_io.specs.Doors.{Gives}
 use Rattle.act_model.specs.declared.entry.Entry.{Entry}
@@ -66,12 +67,19 @@ pub record ServiceStart (I O : Type 0) : Type 0 where
   pub door : DoorState I O
   pub most : ℕ
 
--- what there is when a door was served: the office, the door, how the links ended, and why no further one was taken
+-- what there is when a door was served: the office, the door, how the links ended, and why no further one was taken;
+-- None where memory for the links was refused
 pub record ServiceEnd (I O : Type 0) : Type 0 where
   pub office : Office
   pub door : DoorState I O
   pub ends : List (LinkEnd I O)
-  pub stop : Stop
+  pub stop : Option Stop
+
+-- Why no more links were taken than these. Where memory for the links was refused there are none, and the door tells
+-- what it told.
+abbrev pub EndsTaking : {I O : Type 0} → ℕ → List (I × O) → DoorState I O → DoorState I O → Option Stop → Type 0
+EndsTaking most came before after (Some stop) = Stops most came before after stop
+EndsTaking most came before after None = (came ≡ []) × (after ≡ before)
 
 -- The links that a door gave were attended, each once, and their ends stand in the door's order. The calls for each
 -- have places in the one history to which all came, that rise; a call is answered that the disk failed only where the
@@ -84,4 +92,4 @@ pub record Serves {I O : Type 0} (on : LinkWords I O) (start : ServiceStart I O)
   pub grows : Grows start.office end.office (calls_in attendances)
   pub orders : AllByRecursion (StandInOrder start.office end.office.state.settled) attendances
   pub causes : AllByRecursion HasCause (calls_in attendances)
-  pub stops : Stops start.most (map link_of attendances) start.door end.door end.stop
+  pub stops : EndsTaking start.most (map link_of attendances) start.door end.door end.stop

@@ -1,6 +1,6 @@
 //! The links of a door, attended over one keeper of the office.
 
-ghost use Rattle.std.specs.Prelude.{◌≡◌, ◌≤◌, None};
+ghost use Rattle.std.specs.Prelude.{◌≡◌, ◌≤◌, [], None};
 ghost use Rattle.intake_lock.specs.Rule.{MOST};
 ghost use Rattle.act_model.specs.Clocks.{clock_of};
 ghost use Rattle.serve_command.specs.Links.{link_words};
@@ -8,7 +8,7 @@ ghost use Rattle.serve_command.specs.Gathering.{door_of};
 ghost use Rattle.serve_command.specs.Serving.{Serves};
 
 use crate::accepting::{Gathered, Stop, attend_links};
-use crate::ends::LinkEnds;
+use crate::ends::{LinkEnd, no_ends, turned_round};
 use crate::gates::{Lent, take_back};
 use desk_io::{Clock, Door};
 use http_connection::laws as link_laws;
@@ -23,16 +23,17 @@ pub struct Attended<V, I, O> {
     /// The keeper.
     pub keeper: V,
     /// The ends of the links, in the door's order.
-    pub ends: LinkEnds<I, O>,
-    /// Why no further link was taken.
-    pub stop: Stop,
+    pub ends: Vec<LinkEnd<I, O>>,
+    /// Why no further link was taken. None where memory for the links was refused, so that none was awaited.
+    pub stop: Option<Stop>,
 }
 
 /// Attends up to so many links of a door, at most 1,000, with a keeper of the office without an act in doubt: each link
 /// in a thread of its own, while the next one is awaited. The links take turns at the keeper, and each has a clock of
 /// its own.
 ///
-/// Where memory is refused before the first link, the door isn't called. It returns when all links were left.
+/// Where memory for the links is refused, none is awaited, and door, clock and keeper are as they were. It returns when
+/// all links were left.
 pub fn attend_door<V: Clerk + Send, C: Clock + Send, G: Door + Send, R: Threads + Wait + Sync>(
     rt: &R,
     alloc: Global,
@@ -57,25 +58,28 @@ pub fn attend_door<V: Clerk + Send, C: Clock + Send, G: Door + Send, R: Threads 
         (record {
           office = V.office result.keeper;
           door = door_of G.links G.faults door.new;
-          ends = result.ends;
+          ends = result.ends.items;
           stop = result.stop;
         }) }
+    // Where memory for the links was refused, nothing was called, also where the door tells nothing.
+    ensures unasked { result.stop ≡ None → (door.new ≡ door.old) × (clock.new ≡ clock.old)
+        × (result.keeper ≡ keeper) × (result.ends.items ≡ []) }
 {
     lock_laws::calls_are_true();
     link_laws::places_stay_in_order();
     let Ok(room) = Vec::with_capacity(alloc, connections as usize) else {
         return Attended {
             keeper,
-            ends: LinkEnds::none(alloc),
-            stop: Stop::NoMemory,
+            ends: no_ends(alloc),
+            stop: None,
         };
     };
     let (lock, root) = match TurnLock::new(alloc, keeper) {
         Ok(made) => made,
         Err(keeper) => return Attended {
             keeper,
-            ends: LinkEnds::none(alloc),
-            stop: Stop::NoMemory,
+            ends: no_ends(alloc),
+            stop: None,
         },
     };
     let other = clock.another();
@@ -99,7 +103,7 @@ pub fn attend_door<V: Clerk + Send, C: Clock + Send, G: Door + Send, R: Threads 
     take_back(door);
     Attended {
         keeper: lock.close(root),
-        ends: LinkEnds::from_last(ends),
-        stop,
+        ends: turned_round(ends),
+        stop: Some(stop),
     }
 }

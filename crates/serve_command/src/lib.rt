@@ -11,6 +11,6 @@ mod summaries;
 mod watching;
 
 pub use accepting::Stop;
-pub use ends::{LinkEnd, LinkEnds};
+pub use ends::LinkEnd;
 pub use keeping::{Attended, attend_door};
 pub use serving::serve;

@@ -16,7 +16,7 @@ ghost use Rattle.serve_command.specs.Runs.{first_fault, Writes, Ends};
 ghost use Rattle.serve_command.specs.Summaries.{summary};
 
 use crate::accepting::Stop;
-use crate::ends::LinkEnds;
+use crate::ends::{LinkEnd, count_of, no_ends};
 use crate::keeping::Attended;
 use crate::summaries::write_summary;
 use crate::watching::attend_watched;
@@ -33,13 +33,13 @@ use std::sync::Wait;
 use std::thread::Threads;
 
 // The first fault that arose, where the last mending gave this status.
-fn first_fault(stop: Stop, mended: Status) -> Status
+fn first_fault(stop: Option<Stop>, mended: Status) -> Status
     ensures { result ≡ first_fault stop mended }
 {
     match stop {
-        Stop::Full | Stop::Shut => mended,
-        Stop::Failed => Status::DoorFault,
-        Stop::NoMemory => Status::NoMemory,
+        Some(Stop::Full | Stop::Shut) => mended,
+        Some(Stop::Failed) => Status::DoorFault,
+        Some(Stop::NoMemory) | None => Status::NoMemory,
     }
 }
 
@@ -72,7 +72,7 @@ fn run<D: Disk + Send, K: Sink, C: Clock + Send, G: Door + Send, R: Threads + Wa
     disk: D,
     clock: &mut C,
     door: &mut G,
-) -> (Ended<D>, LinkEnds<G::In, G::Out>)
+) -> (Ended<D>, Vec<LinkEnd<G::In, G::Out>>)
     requires founder { IsFounder founder }
     requires most { connections ≤ MOST }
     // What was attended, added, kept, mended and written at each end, and what a crash at any moment leaves.
@@ -89,13 +89,13 @@ fn run<D: Disk + Send, K: Sink, C: Clock + Send, G: Door + Send, R: Threads + Wa
         (record {
           disk = result.0.disk;
           door = door_of G.links G.faults door.new;
-          ends = result.1;
+          ends = result.1.items;
           taken = K.taken sink.new;
           added = result.0.added;
           status = result.0.status;
         })
-        ((sink.new ≡ sink.old) × (clock.new ≡ clock.old) × (door.new ≡ door.old) × (result.1 ≡ []))
-        (sink.new ≡ sink.old) }
+        ((sink.new ≡ sink.old) × (clock.new ≡ clock.old) × (door.new ≡ door.old) × (result.1.items ≡ []))
+        ((clock.new ≡ clock.old) × (door.new ≡ door.old)) (sink.new ≡ sink.old) }
 
     // The sink failed where the end is `WriteFault`, and nowhere else.
     ensures write_cause { result.0.status ≡ Status.WriteFault → Rises (K.faults sink.old) (K.faults sink.new) }
@@ -108,13 +108,19 @@ fn run<D: Disk + Send, K: Sink, C: Clock + Send, G: Door + Send, R: Threads + Wa
     lock_laws::beginnings();
     link_laws::added_calls();
     office_laws::acknowledged_acts_are_kept();
+    office_laws::histories_grow();
+    office_laws::histories_are_legal();
+    office_laws::steps_add_one_entry();
+    office_laws::kept_replies_stay();
+    office_laws::prefixes_are_legal();
     office_laws::legal_numbers_once();
     office_laws::one_place();
     office_laws::unbroken_rows();
     office_laws::unbroken_numbers();
+    desk_laws::lines_are_added();
     let desk = match open_desk(alloc, founder, disk) {
         Ok(desk) => desk,
-        Err(ended) => return (ended, LinkEnds::none(alloc)),
+        Err(ended) => return (ended, no_ends(alloc)),
     };
     let before = desk.entries();
     let Attended {
@@ -124,7 +130,7 @@ fn run<D: Disk + Send, K: Sink, C: Clock + Send, G: Door + Send, R: Threads + Wa
     } = attend_watched::<Brand, D, C, G, R>(rt, alloc, desk, connections, clock, door);
     let mended = mend_last(&mut desk);
     let entries = desk.entries();
-    let status = write_lines(sink, first_fault(stop, mended), ends.len(), entries);
+    let status = write_lines(sink, first_fault(stop, mended), count_of(&ends), entries);
     let added = entries - before;
     (
         Ended {
@@ -154,7 +160,7 @@ pub fn serve<D: Disk + Send, K: Sink, C: Clock + Send, G: Door + Send, R: Thread
     disk: D,
     clock: &mut C,
     door: &mut G,
-) -> (Ended<D>, LinkEnds<G::In, G::Out>)
+) -> (Ended<D>, Vec<LinkEnd<G::In, G::Out>>)
     requires founder { IsFounder founder }
     requires most { connections ≤ MOST }
     // What was attended, added, kept, mended and written at each end, and what a crash at any moment leaves.
@@ -171,13 +177,13 @@ pub fn serve<D: Disk + Send, K: Sink, C: Clock + Send, G: Door + Send, R: Thread
         (record {
           disk = result.0.disk;
           door = door_of G.links G.faults door.new;
-          ends = result.1;
+          ends = result.1.items;
           taken = K.taken sink.new;
           added = result.0.added;
           status = result.0.status;
         })
-        ((sink.new ≡ sink.old) × (clock.new ≡ clock.old) × (door.new ≡ door.old) × (result.1 ≡ []))
-        (sink.new ≡ sink.old) }
+        ((sink.new ≡ sink.old) × (clock.new ≡ clock.old) × (door.new ≡ door.old) × (result.1.items ≡ []))
+        ((clock.new ≡ clock.old) × (door.new ≡ door.old)) (sink.new ≡ sink.old) }
 
     // A file that stands for a legal history, and no fault of the disk, the door or the sink, give `Done`, or
     // `NoMemory`. A fresh file stands for the history without entries; faults of links play no part.

@@ -161,13 +161,14 @@ pub(crate) fn attend_watched<
         (record {
           office = stamping D.moment D.faults result.keeper answered;
           door = door_of G.links G.faults door.new;
-          ends = result.ends;
+          ends = result.ends.items;
           stop = result.stop;
         })
         × AllByRecursion (λ then. WasBetween D.moment D.since (WasAsked answered) desk result.keeper then.0) answered
         × During D.moment D.since desk.disk result.keeper.disk
         (StandsWithin desk.founder (Some desk.limit) (WasAsked answered) desk.state.settled
         result.keeper.state.settled) }
+    ensures unasked { result.stop ≡ None → (door.new ≡ door.old) × (clock.new ≡ clock.old) }
 {
     let watched = Watched::<D, W>::new(desk);
     let Attended { keeper, ends, stop } = attend_door(rt, alloc, watched, connections, clock, door);

@@ -16,6 +16,6 @@ returns-clause-ends g c =
     let opens = subst (λ (k : Key). Opens on k c.args.disk c.in-Ok.desk) c.exporter.ensures.key c.in-Ok.ensures.opens in
     inr (record {
       history = c.in-Ok.desk.state.settled;
-      keeps = keeps c.legal_numbers_once.ensures c.one_place.ensures c.unbroken_rows.ensures c.unbroken_numbers.ensures on c.args.disk c.close.result c.in-Ok.desk opens c.close.ensures;
+      keeps = keeps c.legal_numbers_once.ensures c.one_place.ensures c.unbroken_rows.ensures c.unbroken_numbers.ensures c.lines_are_added.ensures on c.args.disk c.close.result c.in-Ok.desk opens c.close.ensures;
       written = c.write_out-status.ensures.written;
     })

@@ -19,18 +19,25 @@ pub overflow_sub-added : goal.overflow_sub-added
 overflow_sub-added g c =
     let on = (disk_words g.D.Disk.reads g.D.Disk.leaves g.D.Disk.moment g.D.Disk.since g.D.Disk.faults) in
     let laws : OfficeLaws = record {
+      keeps = record {
+        legal_step = c.histories_are_legal.ensures.step;
+        legal_conduct = c.histories_are_legal.ensures.conduct;
+        acknowledged = c.acknowledged_acts_are_kept.ensures;
+        kept = c.kept_replies_stay.ensures.entry;
+      };
       grow = c.histories_grow.ensures;
-      once = c.each_once.ensures;
+      once = c.numbers_once.ensures;
       legal_once = c.legal_numbers_once.ensures;
       places = c.one_place.ensures;
       rows = c.unbroken_rows.ensures;
       numbers = c.unbroken_numbers.ensures;
+      lines = c.lines_are_added.ensures;
       rests = c.no_faults.ensures.settled;
       steps = c.no_faults.ensures.stepped;
     } in
     let s = c.serve-stop.ensures.stops in
     let mends = finish_mends on c.serve-stop.new.desk c.finish-status.new.desk c.serve-stop.result c.finish-status.result c.finish-status.ensures in
-    let fewer = fewer_before laws on c.args.founder c.args.disk c.in-Ok-open_desk.desk c.serve-stop.new.desk s.1 c.in-Ok-open_desk.ensures.opens s.5 c.finish-status.new.desk mends in
+    let fewer = fewer_before laws on g.met.D.Disk.only_now c.args.founder c.args.disk c.in-Ok-open_desk.desk c.serve-stop.new.desk s.1 c.in-Ok-open_desk.ensures.opens s.5 c.finish-status.new.desk mends in
     let after = c.entries.ensures in
     let before = c.entries-before.ensures in
     omega (arith, fewer, after, before)
@@ -39,12 +46,19 @@ pub returns-clause-ends : goal.returns-clause-ends
 returns-clause-ends g c =
     let on = (disk_words g.D.Disk.reads g.D.Disk.leaves g.D.Disk.moment g.D.Disk.since g.D.Disk.faults) in
     let laws : OfficeLaws = record {
+      keeps = record {
+        legal_step = c.histories_are_legal.ensures.step;
+        legal_conduct = c.histories_are_legal.ensures.conduct;
+        acknowledged = c.acknowledged_acts_are_kept.ensures;
+        kept = c.kept_replies_stay.ensures.entry;
+      };
       grow = c.histories_grow.ensures;
-      once = c.each_once.ensures;
+      once = c.numbers_once.ensures;
       legal_once = c.legal_numbers_once.ensures;
       places = c.one_place.ensures;
       rows = c.unbroken_rows.ensures;
       numbers = c.unbroken_numbers.ensures;
+      lines = c.lines_are_added.ensures;
       rests = c.no_faults.ensures.settled;
       steps = c.no_faults.ensures.stepped;
     } in
@@ -55,7 +69,7 @@ returns-clause-ends g c =
       s.0,
       s.2,
       s.3,
-      served_ends laws on c.args.founder c.args.disk c.in-Ok-open_desk.desk c.serve-stop.new.desk s.1 c.in-Ok-open_desk.ensures.opens s.5 _ _ s.0 _ c.finish-status.new.desk c.close.result (c.entries.result - c.entries-before.result) c.close.ensures counted
+      served_ends laws on g.met.D.Disk.only_now c.args.founder c.args.disk c.in-Ok-open_desk.desk c.serve-stop.new.desk s.1 c.in-Ok-open_desk.ensures.opens s.5 _ _ s.0 _ c.finish-status.new.desk c.close.result (c.entries.result - c.entries-before.result) c.close.ensures counted
           c.serve-stop.result c.finish-status.result s.4 c.finish-status.ensures,
     )
 

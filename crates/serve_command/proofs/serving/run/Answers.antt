@@ -1,4 +1,5 @@
 use Rattle.std.proofs.Common.{◌+◌, ◌-◌, ◌≤◌, length, Some, refl, inl, inr, sym, subst, arith}
+use Rattle.act_model.specs.Legal.{IsLegal}
 use Rattle.command_ends.specs.Disks.{disk_words}
 use Rattle.intake_lock.specs.Items.{RisesBy, rises}
 use Rattle.serve_command.specs.Links.{calls_in}
@@ -7,11 +8,11 @@ use Rattle.serve_command.proofs.Gathering.{no_longer}
 use Rattle.serve_command.proofs.Mending.{closed_so, mending_extends, extends_to, ends_legal, rose_between, counted, no_call_rose, quiet_calls, no_write_so_far, writes_as}
 use Rattle.serve_command.specs.Images.{Answered, AskedBy, WasAsked, WasBetween}
 use Rattle.serve_command.proofs.KeptLemmas.{all_weaker, asked_by, kept_calls}
-use Rattle.serve_command.proofs.WatchLemmas.{between_more, during_more, service_images}
+use Rattle.serve_command.proofs.WatchLemmas.{GrowthLaws, between_more, during_more, service_images}
 use Rattle.serve_command.proofs.serving.run.Goals as goal
 
 pub returns-in-Err-clause-ends : goal.returns-in-Err-clause-ends
-returns-in-Err-clause-ends g c = inl ((refl, refl, refl, c.none.ensures), c.in-Err.ensures.unopened)
+returns-in-Err-clause-ends g c = inl ((refl, refl, refl, c.no_ends.ensures), c.in-Err.ensures.unopened)
 
 pub write_lines-status-requires : goal.write_lines-status-requires
 write_lines-status-requires g c =
@@ -51,10 +52,18 @@ returns-clause-ends g c =
     closed.closed.counts) in
     let answered = c.attend_watched-desk.ensures.serves.0 in
     let all = calls_in serves.attendances in
-    let asks = asked_by on.moment faults opened left answered all serves.grows.stamps in
+    let laws : GrowthLaws = record {
+      grow = c.histories_grow.ensures;
+      legal_step = c.histories_are_legal.ensures.step;
+      legal_conduct = c.histories_are_legal.ensures.conduct;
+      makes = c.steps_add_one_entry.ensures;
+    } in
+    let legal_left = (serves.grows.legal (subst (λ k. IsLegal k opened.state.settled) (sym opens.founder_is) opens.legal)).0 in
+    let asks = asked_by c.beginnings.ensures.one laws c.kept_replies_stay.ensures.resend c.prefixes_are_legal.ensures on.moment on.since faults opened left answered
+    c.attend_watched-desk.ensures.serves.2 legal_left all serves.grows.true_of serves.grows.stamps in
     let were = all_weaker (λ then. WasBetween on.moment on.since (WasAsked answered) opened left then.0)
     (λ then. WasBetween on.moment on.since (AskedBy all) opened left then.0)
-    (λ then was. between_more (WasAsked answered) (AskedBy all) asks on.moment on.since opened left then.0 was)
+    (λ then was. between_more on.moment on.since (WasAsked answered) (AskedBy all) opened left then.0 asks was)
     answered c.attend_watched-desk.ensures.serves.2 in
     inr (
     record {
@@ -64,13 +73,14 @@ returns-clause-ends g c =
       stop = c.attend_watched-desk.result.stop;
       answered = c.attend_watched-desk.ensures.serves.0;
       serves = serves;
+      unasked = λ is. let same = c.attend_watched-desk.ensures.unasked is in (same.1, same.0);
       last = last;
       mended = c.mend_last-mended.result;
       mends = c.mend_last-mended.ensures;
-      writes = writes_as _ _ _ _ _ _ _ _ _ _ c.first_fault.ensures c.len.ensures c.entries-entries.ensures c.write_lines-status.ensures.writes;
+      writes = writes_as _ _ _ _ _ _ _ _ _ _ c.first_fault.ensures c.count_of.ensures c.entries-entries.ensures c.write_lines-status.ensures.writes;
       disk_is = c.close.ensures;
       images = service_images on c.args.founder (AskedBy all) c.args.disk c.close.result opened left last opens.founder_is opens.images
-          (during_more (WasAsked answered) (AskedBy all) asks on.moment on.since opened.disk left.disk opened.founder (Some opened.limit)
+          (during_more opened.founder (Some opened.limit) (WasAsked answered) (AskedBy all) asks on.moment on.since opened.disk left.disk
           opened.state.settled left.state.settled c.attend_watched-desk.ensures.serves.3)
           closed.closed.no_image (mending_extends left.state last.state closed.rise closed.does) c.close.ensures;
       kept = kept_calls g.D.Disk.moment g.D.Disk.since (AskedBy all) opened left last c.beginnings.ensures.one
@@ -87,6 +97,7 @@ returns-clause-ends g c =
         places = c.one_place.ensures last.state.settled;
         rows = c.unbroken_rows.ensures last.state.settled;
         numbers = c.unbroken_numbers.ensures last.state.settled;
+        lines = c.lines_are_added.ensures opened.state.settled last.state.settled grows;
       };
       opening = opening;
       rose_opening = rose;

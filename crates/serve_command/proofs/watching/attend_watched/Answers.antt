@@ -19,4 +19,5 @@ returns g c =
         watched_during g.D.Disk.moment g.D.Disk.since g.W.Opening.history g.W.Opening.moment g.W.Opening.images (WasAsked answered) c.args.desk c.close.result
             c.requires.history c.requires.moment (λ t image. (c.requires.images t image).1) founder limit c.close.ensures.later c.close.ensures.images,
       );
+      unasked = λ is. let same = c.attend_door-keeper.ensures.unasked is in (same.0, same.1);
     }

@@ -1,4 +1,4 @@
-use Rattle.std.proofs.Common.{◌≡◌, ℤ, List, [], ◌∷◌, ◌++◌, ap, ◌∙◌}
+use Rattle.std.proofs.Common.{◌≡◌, ℤ, List, [], ◌∷◌, ◌++◌, Some, ap, ◌∙◌}
 use Rattle.act_model.specs.declared.request.Request.{Request}
 use Rattle.serve_command.specs.Images.{WasAsked, request_in, reading_in}
 use Rattle.serve_command.proofs.KeptLemmas.{stamped_act, asked_before, asked_now, passed_on}
@@ -24,7 +24,8 @@ invariant_of-self g c =
     let request_is : request_in c.and-asked.result.items ≡ c.args.request.now = ap request_in noted_is in
     let reading_is : reading_in c.and-asked.result.items ≡ c.args.reading = ap reading_in noted_is in
     let more_is = c.and-answered.ensures in
-    let was = watched_more (WasAsked answered) (WasAsked more) (asked_before answered more new noted more_is) D.moment D.since W.history W.moment W.images old c.self.invariant.0 in
+    let was = watched_more D.moment D.since (WasAsked answered) (WasAsked more) W.history W.moment W.images old
+    (asked_before answered more new noted more_is old.founder (Some old.limit)) c.self.invariant.0 in
     let asks = asked_now answered more new noted more_is c.args.request.now c.args.reading request_is reading_is in
     let is = watched_on laws D.moment D.since D.faults (WasAsked more) W.history W.moment W.images old new c.args.request.now c.args.reading c.act-reply.result asks was
     c.act-reply.ensures.turn c.act-reply.ensures.inside c.act-reply.ensures.founder c.act-reply.ensures.limit in (
