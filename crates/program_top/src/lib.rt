@@ -4,10 +4,12 @@
 //! `top` carries the theorem; the program, mpc_cli, hands it the real ones.
 #![tactic(auto)]
 
+mod ends;
 pub mod top;
 
 pub use act_model as model;
 pub use command_ends::{Ended, Status};
 pub use command_line::Words;
+pub use ends::LinkEnds;
 pub use http_connection::{Left, answer_one, attend};
-pub use serve_command::{LinkEnd, LinkEnds};
+pub use serve_command::LinkEnd;

@@ -1,21 +1,37 @@
-use Rattle.std.proofs.Common.{◌≡◌, ℕ, List, Option, Some, sym, subst}
+use Rattle.std.proofs.Common.{◌≡◌, ℕ, List, Option, Some, refl, ◌∙◌, rules}
 use Rattle.act_bodies.specs.declared.key.Key.{Key}
-use Rattle.act_model.specs.Legal.{IsLegal}
 use Rattle.command_line.specs.declared.command.Command.{Command}
 use Rattle.command_line.specs.declared.command.Command.TheVariants.{Serve}
 use Rattle.command_line.specs.Commands.{command_of}
+use Rattle.program_top.proofs.Promised.{by_serve, by_alone, source_quiet}
 use Rattle.program_top.proofs.top.top.Goals as goal
+use Rattle.program_top.proofs.top.top.Goals.{in-Some+in-Run-1, in-None-1}
 
--- the words name one key
-one_key : (words : List (List ℕ)) (result : Option Command) (command : Command) (one key : Key) (n m : ℕ) → result ≡ command_of words → result ≡ Some command → command ≡ Serve one n → command_of words ≡ Some (Serve key m) → one ≡ key
-one_key words result command one key n m reads some serve named = cc
+-- the words name this command
+named : (words : List (List ℕ)) (result : Option Command) (command one : Command) → result ≡ command_of words → result ≡ Some command → command ≡ one → Some one ≡ command_of words
+named words result command one reads some is = cc
 
-pub returns-in-Some-Serve-clause-serve_complete : goal.returns-in-Some-Serve-clause-serve_complete
-returns-in-Some-Serve-clause-serve_complete g c = λ key connections file history named reads stands legal no_write no_disk no_door.
-    let same : c.in-Some-Serve.key ≡ key = one_key c.args.words.now c.command_of.result c.in-Some-Serve.field-0 c.in-Some-Serve.key key c.in-Some-Serve.connections connections c.command_of.ensures.command c.in-Some-Serve.is c.in-Some-Serve.field-0-is named in
-    c.serve.ensures.complete file history reads stands (subst (λ (k : Key). IsLegal k history) (sym same) legal) no_disk no_door no_write
+pub returns-in-Some-Serve : goal.returns-in-Some-Serve
+returns-in-Some-Serve g c =
+    let served = c.serve-ended.ensures in
+    record {
+      promises =
+          by_serve _ _ _ _ c.in-Some-Serve.key c.in-Some-Serve.connections (command_of c.args.words.now)
+          (named c.args.words.now c.command_of.result c.in-Some-Serve.field-0 _ c.command_of.ensures.command c.in-Some-Serve.is c.in-Some-Serve.field-0-is)
+          (record {
+            source = refl;
+            ends = rw (← c.from.ensures) (rw c.new.ensures c.serve-ended.ensures.ends);
+            complete = λ file history reads stands legal no_write no_disk no_door. served.complete file history reads stands legal no_disk no_door no_write;
+            sound = served.sound;
+          })
+          served.own.0
+          (source_quiet _ _ refl served.own.1 served.disk_cause served.write_cause served.write_faultless served.counts served.stays)
+          (record { cause = served.door_cause; faultless = served.door_faultless });
+    }
 
-pub returns-in-Some-Serve-clause-serve_sound : goal.returns-in-Some-Serve-clause-serve_sound
-returns-in-Some-Serve-clause-serve_sound g c = λ key connections file history offset named reads stands legal is.
-    let same : c.in-Some-Serve.key ≡ key = one_key c.args.words.now c.command_of.result c.in-Some-Serve.field-0 c.in-Some-Serve.key key c.in-Some-Serve.connections connections c.command_of.ensures.command c.in-Some-Serve.is c.in-Some-Serve.field-0-is named in
-    c.serve.ensures.sound file history offset reads stands (subst (λ (k : Key). IsLegal k history) (sym same) legal) is
+pub returns-in-Some-Run : goal.returns-in-Some-Run
+returns-in-Some-Run g c =
+    let other : (key : Key) (connections : ℕ) → command_of c.args.words.now ≡ Some (Serve key connections) → ⊥ = λ key connections is. elim c.in-Some-Run-1.branch [ in-Some+in-Run-1 w ↦ search rules | in-None-1 w ↦ search rules ] in
+    record {
+      promises = by_alone _ _ _ _ (command_of c.args.words.now) other c.single.ensures.promises (refl, c.new-in-Some-Run-2.ensures ∙ c.new-in-Some-Run.ensures.items);
+    }
