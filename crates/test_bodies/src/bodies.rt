@@ -5,4 +5,5 @@ mod codes;
 mod enrols;
 mod keys;
 mod levels;
+mod openings;
 mod stations;

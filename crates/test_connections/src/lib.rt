@@ -9,6 +9,10 @@ mod connections;
 #[cfg(test)]
 mod doors;
 #[cfg(test)]
+mod holding;
+#[cfg(test)]
+mod limits;
+#[cfg(test)]
 mod sockets;
 #[cfg(test)]
 mod submitting;

@@ -275,6 +275,56 @@ fn routes(rt: HostRuntime) {
     assert_eq!(rt; wrong_row(rt.alloc(), ROUTES), None);
 }
 
+// Targets with bytes above 127. A byte 200 alone is no text, and a head with it is none; 195 and 169 are one letter.
+const BYTES: &[(&[u8], Want)] = &[
+    (b"POST /v1/act/\xc8/submit80 HTTP/1.1\r\n\r\n", Want::Unread),
+    (
+        b"POST /v1/act/7\xc8/submit80 HTTP/1.1\r\n\r\n",
+        Want::Unread,
+    ),
+    (
+        b"POST /v1/act/7/submit80\xc8 HTTP/1.1\r\n\r\n",
+        Want::Unread,
+    ),
+    (
+        b"POST /v1\xc8/act/7/submit80 HTTP/1.1\r\n\r\n",
+        Want::Unread,
+    ),
+    (b"GET /v1/ask/tally\xc8 HTTP/1.1\r\n\r\n", Want::Unread),
+    (
+        b"POST /v1/act/\xc3\xa9/submit80 HTTP/1.1\r\n\r\n",
+        Want::Asks("", None, "submit80", "", false),
+    ),
+    (
+        b"POST /v1/act/7/submit80\xc3\xa9 HTTP/1.1\r\n\r\n",
+        Want::Asks("", Some(7), "", "", false),
+    ),
+    // a path with a slash more, or without a verb, has no route, and a number all the same
+    (
+        b"POST /v1/act/7/submit80/ HTTP/1.1\r\n\r\n",
+        Want::Asks("", Some(7), "", "", false),
+    ),
+    (
+        b"POST /v1/act/7/ HTTP/1.1\r\n\r\n",
+        Want::Asks("", Some(7), "", "", false),
+    ),
+];
+
+// The first of them of which something else is heard, counted from 0; None where there is none.
+fn wrong_bytes(alloc: Global, rows: &[(&[u8], Want)]) -> Option<usize> {
+    for (place, &(text, want)) in rows.iter().enumerate() {
+        if !is_heard(alloc, text, 4_096, 0, &[want]) {
+            return Some(place);
+        }
+    }
+    None
+}
+
+#[test]
+fn targets_of_any_bytes(rt: HostRuntime) {
+    assert_eq!(rt; wrong_bytes(rt.alloc(), BYTES), None);
+}
+
 #[test]
 fn fields(rt: HostRuntime) {
     assert_eq!(rt; wrong_row(rt.alloc(), FIELDS), None);

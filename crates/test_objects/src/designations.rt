@@ -2,6 +2,7 @@
 
 ghost use Rattle.packed_names.specs.Ranges.{IsHalfMonth};
 
+mod openings;
 mod plain;
 
 use designate_core::*;

@@ -1,6 +1,6 @@
 //! Tests of links between designations, beside a plain list of them.
 
-ghost use Rattle.std.specs.Prelude.{◌≡◌, ◌↔◌, IsTrue};
+ghost use Rattle.std.specs.Prelude.{◌≡◌, ◌↔◌, ◌+◌, ◌≤◌, IsTrue};
 ghost use Rattle.identify_core.specs.Principals.{principal_of, IsPrincipal};
 
 mod plain;
@@ -156,5 +156,42 @@ fn identified_and_separated(rt: HostRuntime) -> Result<(), Fail> {
     let mut links = Links::new(rt.alloc())?;
     let mut plain = Plain::new(rt.alloc());
     assert_eq!(rt; right_calls(&mut links, &mut plain), CALLS.len());
+    Ok(())
+}
+
+// Adds the designation in room that was taken before. It takes no memory.
+fn added_in_room(links: &mut Links, d: Designation) -> bool
+    requires { 1 ≤ links.old.spare }
+    ensures { links.old.spare ≤ links.new.spare + 1 }
+{
+    if links.principal(d).is_some() {
+        return false;
+    }
+    links.add(d);
+    true
+}
+
+// Takes room for three designations at once and adds them, out of their order. How many were added.
+fn added_at_once(links: &mut Links) -> Result<u32, NoMemory> {
+    links.reserve_many(3)?;
+    let mut count: u32 = 0;
+    if added_in_room(links, given(3)) {
+        count = count.saturating_add(1);
+    }
+    if added_in_room(links, given(1)) {
+        count = count.saturating_add(1);
+    }
+    if added_in_room(links, given(2)) {
+        count = count.saturating_add(1);
+    }
+    Ok(count)
+}
+
+#[test]
+fn room_for_many_at_once(rt: HostRuntime) -> Result<(), Fail> {
+    let mut links = Links::new(rt.alloc())?;
+    links.reserve_many(0)?;
+    assert_eq!(rt; added_at_once(&mut links)?, 3);
+    assert_eq!(rt; told(&links), (123, [1, 2, 3]));
     Ok(())
 }

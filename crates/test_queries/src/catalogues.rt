@@ -542,3 +542,220 @@ fn catalogue_of_three_objects(rt: HostRuntime) {
     assert_eq!(rt; MADE_CATALOGUE.len(), 1_170);
     catalogue_alone(rt.alloc(), MADE, 7, MADE_CATALOGUE).expect(&rt, "as wanted");
 }
+
+/// A half-month is taken over, with two designations.
+const OPENED: &[Row] = &[(
+    FOUNDER,
+    6,
+    "opening",
+    "{\"half\":\"2024 E\",\"given\":3,\"carried\":[1,3]}",
+    "200 ",
+    "receipt 6\nobject 2024 EA K24E00A\nobject 2024 EC K24E00C\n",
+)];
+
+/// Both stand there without an observation.
+const OPENED_CATALOGUE: &str = concat!(
+    "catalogue 1\n",
+    "entries 6\n",
+    "isolated 0\n",
+    "objects 0\n",
+    "retracted 0\n",
+    "accepted 0\n",
+    "object 2024 EA number none observations 0\n",
+    "object 2024 EC number none observations 0\n",
+    "end\n",
+);
+
+/// Lines under one of them, the first with a star.
+const STARRED: &str = concat!(
+    "     K24E00C* C2024 03 01.50000 06 12 34.56 +23 45 01.2          19.5 V      703\n",
+    "     K24E00C  C2024 03 01.51000 06 12 34.56 +23 45 01.2          19.5 V      703\n",
+);
+
+const STARRED_TEXT: &str =
+    "receipt 7\naccepted 2 refused 0\nline 1 obs 1 track 1\nline 2 obs 2 track 1\n";
+
+const FILED: &[Row] = &[(OBSERVER, 1, "submit80", STARRED, "200 ", STARRED_TEXT)];
+
+/// The star isn't read, and the first of the lines is no discovery.
+const FILED_CATALOGUE: &str = concat!(
+    "catalogue 1\n",
+    "entries 7\n",
+    "isolated 0\n",
+    "objects 2\n",
+    "retracted 0\n",
+    "accepted 2\n",
+    "object 2024 EA number none observations 0\n",
+    "object 2024 EC number none observations 2\n",
+    "     K24E00C  C2024 03 01.50000 06 12 34.56 +23 45 01.2          19.5 V      703\n",
+    "     K24E00C  C2024 03 01.51000 06 12 34.56 +23 45 01.2          19.5 V      703\n",
+    "end\n",
+);
+
+/// The tracklets of one batch come to them, one to each.
+const SHARED: &[Row] = &[
+    (
+        OBSERVER,
+        1,
+        "submitpsv",
+        MIDNIGHT,
+        "200 ",
+        concat!(
+            "receipt 7\n",
+            "accepted 4 refused 0\n",
+            "line 5 obs 1 track 1\n",
+            "line 6 obs 2 track 1\n",
+            "line 7 obs 3 track 2\n",
+            "line 8 obs 4 track 2\n",
+        ),
+    ),
+    (
+        FOUNDER,
+        7,
+        "attribute",
+        "{\"tracklet\":1,\"to\":\"2024 EC\"}",
+        "200 ",
+        "receipt 8\n",
+    ),
+    (
+        FOUNDER,
+        8,
+        "attribute",
+        "{\"tracklet\":2,\"to\":\"2024 EA\"}",
+        "200 ",
+        "receipt 9\n",
+    ),
+];
+
+const SHARED_CATALOGUE: &str = concat!(
+    "catalogue 1\n",
+    "entries 9\n",
+    "isolated 0\n",
+    "objects 4\n",
+    "retracted 0\n",
+    "accepted 4\n",
+    "object 2024 EA number none observations 2\n",
+    "     K24E00A  C2024 03 16.50000010 00 48.000-05 30 00.00               W     703\n",
+    "     K24E00A  C2024 03 16.52083310 00 50.400-05 30 00.00               W     703\n",
+    "object 2024 EC number none observations 2\n",
+    "     K24E00C  C2024 03 16.00000010 00 00.000-05 30 00.00         20.25VW     703\n",
+    "     K24E00C  C2024 03 16.02083310 00 02.400-05 30 00.00         20.3 VW     703\n",
+    "end\n",
+);
+
+/// The same tracklets after the lines under 2024 EC.
+const SECOND_TEXT: &str = concat!(
+    "receipt 8\n",
+    "accepted 4 refused 0\n",
+    "line 5 obs 3 track 2\n",
+    "line 6 obs 4 track 2\n",
+    "line 7 obs 5 track 3\n",
+    "line 8 obs 6 track 3\n",
+);
+
+/// The office gives a designation of its own, and what was carried becomes a name of its object.
+const UNDER_OWN: &[Row] = &[
+    (OBSERVER, 1, "submit80", STARRED, "200 ", STARRED_TEXT),
+    (OBSERVER, 2, "submitpsv", MIDNIGHT, "200 ", SECOND_TEXT),
+    (
+        FOUNDER,
+        7,
+        "designate",
+        "{\"tracklets\":[2,3]}",
+        "200 ",
+        "receipt 9\nobject 2024 ED K24E00D\n",
+    ),
+    (
+        FOUNDER,
+        8,
+        "identify",
+        "{\"principal\":\"2024 ED\",\"secondary\":\"2024 EC\"}",
+        "200 ",
+        "receipt 10\n",
+    ),
+];
+
+/// The discovery of 2024 ED has its star, after earlier lines.
+const UNDER_OWN_CATALOGUE: &str = concat!(
+    "catalogue 1\n",
+    "entries 10\n",
+    "isolated 0\n",
+    "objects 6\n",
+    "retracted 0\n",
+    "accepted 6\n",
+    "object 2024 EA number none observations 0\n",
+    "object 2024 ED number none observations 6\n",
+    "also 2024 EC\n",
+    "     K24E00D  C2024 03 01.50000 06 12 34.56 +23 45 01.2          19.5 V      703\n",
+    "     K24E00D  C2024 03 01.51000 06 12 34.56 +23 45 01.2          19.5 V      703\n",
+    "     K24E00D* C2024 03 16.00000010 00 00.000-05 30 00.00         20.25VW     703\n",
+    "     K24E00D  C2024 03 16.02083310 00 02.400-05 30 00.00         20.3 VW     703\n",
+    "     K24E00D  C2024 03 16.50000010 00 48.000-05 30 00.00               W     703\n",
+    "     K24E00D  C2024 03 16.52083310 00 50.400-05 30 00.00               W     703\n",
+    "end\n",
+);
+
+/// It becomes a name of what was carried.
+const UNDER_CARRIED: &[Row] = &[
+    (OBSERVER, 1, "submit80", STARRED, "200 ", STARRED_TEXT),
+    (OBSERVER, 2, "submitpsv", MIDNIGHT, "200 ", SECOND_TEXT),
+    (
+        FOUNDER,
+        7,
+        "designate",
+        "{\"tracklets\":[2,3]}",
+        "200 ",
+        "receipt 9\nobject 2024 ED K24E00D\n",
+    ),
+    (
+        FOUNDER,
+        8,
+        "identify",
+        "{\"principal\":\"2024 EC\",\"secondary\":\"2024 ED\"}",
+        "200 ",
+        "receipt 10\n",
+    ),
+];
+
+/// No line has a star.
+const UNDER_CARRIED_CATALOGUE: &str = concat!(
+    "catalogue 1\n",
+    "entries 10\n",
+    "isolated 0\n",
+    "objects 6\n",
+    "retracted 0\n",
+    "accepted 6\n",
+    "object 2024 EA number none observations 0\n",
+    "object 2024 EC number none observations 6\n",
+    "also 2024 ED\n",
+    "     K24E00C  C2024 03 01.50000 06 12 34.56 +23 45 01.2          19.5 V      703\n",
+    "     K24E00C  C2024 03 01.51000 06 12 34.56 +23 45 01.2          19.5 V      703\n",
+    "     K24E00C  C2024 03 16.00000010 00 00.000-05 30 00.00         20.25VW     703\n",
+    "     K24E00C  C2024 03 16.02083310 00 02.400-05 30 00.00         20.3 VW     703\n",
+    "     K24E00C  C2024 03 16.50000010 00 48.000-05 30 00.00               W     703\n",
+    "     K24E00C  C2024 03 16.52083310 00 50.400-05 30 00.00               W     703\n",
+    "end\n",
+);
+
+/// What comes after the opening, and what the catalogue is then.
+const AFTER_OPENING: &[(&[Row], &str)] = &[
+    (&[], OPENED_CATALOGUE),
+    (FILED, FILED_CATALOGUE),
+    (SHARED, SHARED_CATALOGUE),
+    (UNDER_OWN, UNDER_OWN_CATALOGUE),
+    (UNDER_CARRIED, UNDER_CARRIED_CATALOGUE),
+];
+
+/// Each by its place in the table.
+fn after_an_opening(alloc: Global) -> Result<(), Wrong> {
+    for (place, &(later, after)) in AFTER_OPENING.iter().enumerate() {
+        let added = (later.len() as u64).saturating_add(6);
+        catalogue_of(alloc, &[OPENED, later], added, after, place)?;
+    }
+    Ok(())
+}
+
+#[test]
+fn catalogues_of_carried_designations(rt: HostRuntime) {
+    after_an_opening(rt.alloc()).expect(&rt, "as wanted");
+}

@@ -565,6 +565,212 @@ const NAMES: &[Row] = &[
     (OBSERVER, 0, "receipt", "3", "200 ", "receipt 17\n"),
 ];
 
+/// Half-months that are taken over: with two designations, with the last one alone, and without any; what was counted
+/// and not carried isn't known.
+const OF_OPENINGS: &[Row] = &[
+    (
+        FOUNDER,
+        6,
+        "opening",
+        "{\"half\":\"2024 E\",\"given\":3,\"carried\":[1,3]}",
+        "200 ",
+        "receipt 6\nobject 2024 EA K24E00A\nobject 2024 EC K24E00C\n",
+    ),
+    (
+        OBSERVER,
+        0,
+        "halfmonth",
+        "2024 E",
+        "200 ",
+        "halfmonth 2024 E given 3 next 2024 ED\n",
+    ),
+    (
+        OBSERVER,
+        0,
+        "halfmonth",
+        "2024 D",
+        "200 ",
+        "halfmonth 2024 D given 0 next 2024 DA\n",
+    ),
+    (
+        OBSERVER,
+        0,
+        "halfmonth",
+        "2023 E",
+        "200 ",
+        "halfmonth 2023 E given 0 next 2023 EA\n",
+    ),
+    (
+        OBSERVER,
+        0,
+        "object",
+        "2024 EA",
+        "200 ",
+        "principal 2024 EA\nnumber none\nname 2024 EA\n",
+    ),
+    (
+        OBSERVER,
+        0,
+        "object",
+        "2024 EC",
+        "200 ",
+        "principal 2024 EC\nnumber none\nname 2024 EC\n",
+    ),
+    (
+        OBSERVER,
+        0,
+        "object",
+        "2024 EB",
+        "404 ",
+        "refused 5 UnknownThing designation 2024 EB\n",
+    ),
+    (
+        OBSERVER,
+        0,
+        "object",
+        "2024 ED",
+        "404 ",
+        "refused 5 UnknownThing designation 2024 ED\n",
+    ),
+    (
+        OBSERVER,
+        0,
+        "name",
+        "2024 EA",
+        "200 ",
+        "printed 2024 EA\npacked K24E00A\nprincipal 2024 EA\n",
+    ),
+    (
+        OBSERVER,
+        0,
+        "name",
+        "K24E00C",
+        "200 ",
+        "printed 2024 EC\npacked K24E00C\nprincipal 2024 EC\n",
+    ),
+    (
+        OBSERVER,
+        0,
+        "name",
+        "2024 EB",
+        "200 ",
+        "printed 2024 EB\npacked K24E00B\nprincipal none\n",
+    ),
+    (
+        FOUNDER,
+        7,
+        "opening",
+        "{\"half\":\"2024 F\",\"given\":14791836,\"carried\":[14791836]}",
+        "200 ",
+        "receipt 7\nobject 2024 FL591673 _OFzzzz\n",
+    ),
+    (
+        OBSERVER,
+        0,
+        "halfmonth",
+        "2024 F",
+        "200 ",
+        "halfmonth 2024 F given 14791836 next none\n",
+    ),
+    (
+        OBSERVER,
+        0,
+        "object",
+        "2024 FL591673",
+        "200 ",
+        "principal 2024 FL591673\nnumber none\nname 2024 FL591673\n",
+    ),
+    (
+        OBSERVER,
+        0,
+        "name",
+        "_OFzzzz",
+        "200 ",
+        "printed 2024 FL591673\npacked _OFzzzz\nprincipal 2024 FL591673\n",
+    ),
+    (
+        OBSERVER,
+        0,
+        "name",
+        "_OFzzzy",
+        "200 ",
+        "printed 2024 FK591673\npacked _OFzzzy\nprincipal none\n",
+    ),
+    (
+        FOUNDER,
+        8,
+        "opening",
+        "{\"half\":\"1998 S\",\"given\":15500,\"carried\":[]}",
+        "200 ",
+        "receipt 8\n",
+    ),
+    (
+        OBSERVER,
+        0,
+        "halfmonth",
+        "1998 S",
+        "200 ",
+        "halfmonth 1998 S given 15500 next none\n",
+    ),
+    (
+        OBSERVER,
+        0,
+        "object",
+        "1998 SZ619",
+        "404 ",
+        "refused 5 UnknownThing designation 1998 SZ619\n",
+    ),
+    (
+        FOUNDER,
+        9,
+        "opening",
+        "{\"half\":\"2061 Y\",\"given\":15500,\"carried\":[15500]}",
+        "200 ",
+        "receipt 9\nobject 2061 YZ619 K61Yz9Z\n",
+    ),
+    (
+        OBSERVER,
+        0,
+        "halfmonth",
+        "2061 Y",
+        "200 ",
+        "halfmonth 2061 Y given 15500 next 2061 YA620\n",
+    ),
+    (
+        FOUNDER,
+        10,
+        "opening",
+        "{\"half\":\"2062 A\",\"given\":15500,\"carried\":[]}",
+        "200 ",
+        "receipt 10\n",
+    ),
+    (
+        OBSERVER,
+        0,
+        "halfmonth",
+        "2062 A",
+        "200 ",
+        "halfmonth 2062 A given 15500 next none\n",
+    ),
+    (OBSERVER, 0, "isolated", "", "200 ", ""),
+    (
+        FOUNDER,
+        0,
+        "receipt",
+        "6",
+        "200 ",
+        "receipt 6\nobject 2024 EA K24E00A\nobject 2024 EC K24E00C\n",
+    ),
+    (
+        OBSERVER,
+        0,
+        "tally",
+        "",
+        "200 ",
+        "entries 10\nisolated 0\nobjects 0\nretracted 0\naccepted 0\n",
+    ),
+];
+
 #[test]
 fn tells_of_a_tracklet_in_columns(rt: HostRuntime) {
     session(rt.alloc(), &[OF_COLUMNS], 6).expect(&rt, "as wanted");
@@ -584,4 +790,9 @@ fn tells_of_identified_objects(rt: HostRuntime) {
 fn tells_of_everything(rt: HostRuntime) {
     let tables = [ACTS, OBJECTS, TRACKLETS, NAMES];
     session(rt.alloc(), &tables, 19).expect(&rt, "as wanted");
+}
+
+#[test]
+fn tells_of_half_months_that_are_taken_over(rt: HostRuntime) {
+    session(rt.alloc(), &[OF_OPENINGS], 10).expect(&rt, "as wanted");
 }

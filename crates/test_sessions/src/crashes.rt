@@ -1,11 +1,9 @@
 //! What a run leaves on the disk: the bytes of its journal, what a crash after each call of the disk leaves of an act,
 //! and an act in doubt that another caller's act settles.
 
-use super::disks::{ENROLS, FILE};
+use super::files::{ENROLLED, ENROLS, FILE};
 use std::alloc::Global;
 use testkit_sessions::{BATCH, Call, Drive, FOUNDER, OBSERVER, Row, Script, Wrong, call_in_turn};
-
-const ENROLLED: &str = "200 19\nreceipt 1\ncaller 1\n";
 
 fn written(alloc: Global) -> Result<(), Wrong> {
     let drive = Drive {
@@ -55,8 +53,7 @@ fn crashed(
         ..Drive::EMPTY
     };
     let stopped = Call {
-        crashes: true,
-        pick,
+        pick: Some(pick),
         ..*stopped
     };
     let opened = Call {

@@ -1,4 +1,4 @@
-//! Runs over a disk: an empty one, one that an earlier run left, one whose calls fail, and files that are no journal.
+//! Runs over a disk: an empty one, one that an earlier run left, and one whose calls fail.
 
 use std::alloc::Global;
 use testkit_sessions::{
@@ -68,7 +68,7 @@ fn stopped_after(alloc: Global, day: &Frames, count: usize) -> Result<(), Wrong>
         write: (count as u64).saturating_mul(2).saturating_add(1),
         status: "WriteFault",
         number: 7,
-        crashes: true,
+        pick: Some(0),
         ..Call::run(&bytes, kept, &before)
     };
     let replies = day.answers(alloc, 0, FRAMES)?;
@@ -155,54 +155,4 @@ fn on_failing_disks(alloc: Global) -> Result<(), Wrong> {
 #[test]
 fn failing_disks(rt: HostRuntime) {
     on_failing_disks(rt.alloc()).expect(&rt, "as wanted");
-}
-
-// The journal of one act: the founder's enrolment of an observer on 2024-04-01.
-pub(super) const FILE: [u8; 78] =
-    *b"\x01\0\0\0\x48\0\0\0\0\0\0\0\0\0\0\0\x01\x17\xc1\xfe\xe6\xa8\x7a\0\0\x01\
-        {\"key\":\"observer-1\",\"name\":\"Ann\",\"role\":\"observer\"}\0";
-
-pub(super) const ENROLS: &str = concat!(
-    "+founder-1 1 enrol 51\n",
-    "{\"key\":\"observer-1\",\"name\":\"Ann\",\"role\":\"observer\"}",
-);
-
-// How many bytes of the file there are, its last byte, the status and its number, and the sink's bytes.
-const FILES: &[(usize, u8, &str, u8, &str)] = &[
-    (78, 0, "Done", 0, "200 19\nreceipt 1\ncaller 1\n"),
-    (78, 1, "Damaged at 77", 5, ""),
-    (77, 0, "Damaged at 0", 5, ""),
-    (40, 0, "Damaged at 0", 5, ""),
-];
-
-// So many bytes of the file, of which the last one of all is this, stay as they are.
-fn opened(alloc: Global, length: usize, last: u8, call: Call) -> Result<(), Wrong> {
-    let mut file = FILE;
-    file[77] = last;
-    let (front, _) = file.split_at(length.min(78));
-    let drive = Drive {
-        file: front,
-        left: Some(front),
-        ..Drive::EMPTY
-    };
-    call_in_turn(alloc, &drive, &[call])
-}
-
-// Each file by its place in the table.
-fn on_files(alloc: Global) -> Result<(), Wrong> {
-    for (mark, &(length, last, status, number, taken)) in FILES.iter().enumerate() {
-        let call = Call {
-            mark,
-            status,
-            number,
-            ..Call::run(ENROLS.as_bytes(), 0, taken.as_bytes())
-        };
-        opened(alloc, length, last, call)?;
-    }
-    Ok(())
-}
-
-#[test]
-fn files(rt: HostRuntime) {
-    on_files(rt.alloc()).expect(&rt, "as wanted");
 }

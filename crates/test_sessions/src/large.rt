@@ -89,7 +89,30 @@ const BEFORE: &str = "     P10abcd  C2024 03 15.";
 
 const BEHIND: &str = " 06 12 34.56 +23 45 01.2          19.5 V      703\n";
 
-/// The founder's sixth request is a batch of 1,200 lines of 81 bytes, each a little later than the one before.
+/// What is told of their tracklet: each line is 864 milliseconds after the one before, from the 10,000th of these on.
+fn tracklet(alloc: Global) -> Result<Vec<u8>, NoMemory> {
+    let mut text = Vec::new(alloc);
+    put(
+        &mut text,
+        "track 1 station 703 name P10abcd\nhome isolated\n",
+    )?;
+    for line in 0..1_200u64 {
+        let observation = line.saturating_add(1);
+        let time = line.saturating_add(10_000).saturating_mul(864);
+        let (minutes, rest) = (time / 60_000, time % 60_000);
+        let (hour, minute) = (minutes / 60, minutes % 60);
+        let (second, part) = (rest / 1_000, rest % 1_000);
+        let next = format!(in alloc;
+            "obs {observation} live 2024-03-15T{hour:02}:{minute:02}:{second:02}.{part:03}000000Z"
+        )?;
+        put(&mut text, next.as_str())?;
+        put(&mut text, " 93.144000000000 +23.750333333333\n")?;
+    }
+    Ok(text)
+}
+
+/// The founder's sixth request is a batch of 1,200 lines of 81 bytes, each a little later than the one before; then the
+/// founder asks for their tracklet.
 fn accepted(alloc: Global) -> Result<(), Wrong> {
     let (mut bytes, mut taken) = begun(alloc)?;
     put(&mut bytes, "+founder-1 6 submit80 97200\n")?;
@@ -98,6 +121,9 @@ fn accepted(alloc: Global) -> Result<(), Wrong> {
     put(&mut text, "receipt 6\naccepted 1200 refused 0\n")?;
     put_taken(alloc, &mut text, 1_200)?;
     put_reply(alloc, &mut taken, "200 ", &text)?;
+    put(&mut bytes, "+founder-1 0 tracklet 1\n1")?;
+    let told = tracklet(alloc)?;
+    put_reply(alloc, &mut taken, "200 ", &told)?;
     let call = Call {
         greatest: 65_536,
         ..Call::run(&bytes, 6, &taken)

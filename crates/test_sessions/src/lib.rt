@@ -5,24 +5,26 @@
 #![tactic(auto)]
 
 #[cfg(test)]
+mod counts;
+#[cfg(test)]
 mod crashes;
 #[cfg(test)]
 mod disks;
 #[cfg(test)]
+mod each_place;
+#[cfg(test)]
 mod edges;
 #[cfg(test)]
-mod half_months;
-#[cfg(test)]
-mod histories;
+mod files;
 #[cfg(test)]
 mod large;
 #[cfg(test)]
 mod limits;
 #[cfg(test)]
-mod many_callers;
-#[cfg(test)]
 mod members;
 #[cfg(test)]
 mod objects;
+#[cfg(test)]
+mod opened_journals;
 #[cfg(test)]
 mod runs;

@@ -2,7 +2,9 @@
 //! tracklets, and what is told of its object of 2,000 observations; all of it once more of the journal that was left.
 
 use std::alloc::Global;
-use testkit_sessions::{FOUNDER, NoMemory, OBSERVER, Script, Wrong, call_days, put, put_number};
+use testkit_sessions::{
+    FOUNDER, NoMemory, OBSERVER, Script, Wrong, call_days, put, put_lines, put_number,
+};
 
 /// How many lines the batch in 80 columns has, and of how many tracklets: the first line of each of them comes first,
 /// then the second one of each, and so on.
@@ -186,8 +188,22 @@ fn add_acts(alloc: Global, script: &mut Script) -> Result<(), NoMemory> {
     script.add(FOUNDER, 6, "designate", &body, "200 ", text)
 }
 
+/// The receipts of both batches, and the first of them under another number: each line's place is taken.
+fn add_receipts(alloc: Global, script: &mut Script) -> Result<(), NoMemory> {
+    let text = columns_text(alloc)?;
+    script.add(OBSERVER, 0, "receipt", b"1", "200 ", &text)?;
+    let text = fields_text(alloc)?;
+    script.add(OBSERVER, 0, "receipt", b"2", "200 ", &text)?;
+    let mut text = Vec::new(alloc);
+    put(&mut text, "refused 7 NoLine\n")?;
+    put_lines(alloc, &mut text, LINES, 1, "line ", " refused B4\n")?;
+    let body = columns(alloc)?;
+    script.add(OBSERVER, 3, "submit80", &body, "422 ", &text)
+}
+
 /// What is told after them.
 fn add_queries(alloc: Global, script: &mut Script) -> Result<(), NoMemory> {
+    add_receipts(alloc, script)?;
     script.add(OBSERVER, 0, "tally", b"", "200 ", TALLY.as_bytes())?;
     let text = object(alloc)?;
     script.add(OBSERVER, 0, "object", b"2024 EA", "200 ", &text)?;
@@ -276,7 +292,7 @@ fn a_full_day(alloc: Global) -> Result<(), Wrong> {
     add_acts(alloc, &mut later)?;
     let written = catalogue(alloc)?;
     later.add(OBSERVER, 0, "catalogue", b"", "200 ", &written)?;
-    call_days(alloc, 8_388_608, &day, 8, true, &later, &written)
+    call_days(alloc, 8_388_608, &day, 8, Some(0), &later, &written)
 }
 
 #[test]

@@ -1,12 +1,11 @@
 //! Calls of the program on an empty disk in memory.
 
-use crate::links::{End, Sent, door_of, wrong_end};
+use crate::links::{End, Exchanged, Sent, door_of, long_door, wrong_end, wrong_long_end};
 use desk_io::{Clock, Door, MemSink, MemSource, NoMemory, Sink, Source, TcpDoor, TickClock};
 use disk_model::{Disk, MemDisk};
 use obs_time::Instant;
 use program_top::top::{single, top};
-use program_top::{Ended, Words};
-use serve_command::LinkEnds;
+use program_top::{Ended, LinkEnds, Words};
 use std::alloc::Global;
 use std::net::{Net, TcpListener, TcpStream};
 use std::rt::Clock as HostClock;
@@ -157,6 +156,23 @@ pub fn call_over_links<R: Threads + Wait + Sync>(
     let mut door = door_of(alloc, links, fails)?;
     let ends = call_top(rt, alloc, call, &mut door)?;
     Ok(wrong_end(&ends, wanted))
+}
+
+/// Calls `top` on an empty disk, with these links through a door in memory, and gives the place of the first link that
+/// ended otherwise.
+///
+/// # Errors
+///
+/// What is wrong with the call.
+pub fn call_over_long_links<R: Threads + Wait + Sync>(
+    rt: &R,
+    alloc: Global,
+    call: &Call,
+    links: &[Exchanged],
+) -> Result<Option<usize>, Wrong> {
+    let mut door = long_door(alloc, links)?;
+    let ends = call_top(rt, alloc, call, &mut door)?;
+    Ok(wrong_long_end(alloc, &ends, links)?)
 }
 
 /// Calls `top` on an empty disk, with links that come through port 8017 of this machine, and gives how many came.

@@ -12,9 +12,9 @@ mod links;
 mod meeting;
 mod peer;
 
-pub use calls::{call_over_links, call_single};
+pub use calls::{call_over_links, call_over_long_links, call_single};
 pub use held::{Held, call_held};
-pub use links::{End, Sent};
+pub use links::{End, Exchanged, Sent, Text};
 pub use meeting::{Place, call_met};
 pub use peer::{ANSWER_BYTES, Served, is_free, serve_peer};
 pub use program_top::Left;

@@ -1,6 +1,6 @@
 //! Two links of which one is held at a place of its own until the other, which comes only then, was answered.
 
-ghost use Rattle.std.specs.Prelude.{length, None};
+ghost use Rattle.std.specs.Prelude.{◌<◌, ◌≤◌, length, None};
 
 use crate::calls::call_top;
 use crate::links::{End, Took, wrong_end};
@@ -13,7 +13,7 @@ use std::thread::{Threads, yield_now};
 use testkit_sessions::{Call, Wrong};
 
 /// How often a link that is held looks whether it may go on, before it fails.
-const LOOKS: u64 = 1_000_000;
+const LOOKS: u64 = 4_000_000;
 
 /// A count that the two links share.
 type Count = Arc<AtomicU64, Global>;
@@ -27,13 +27,27 @@ enum Part {
     Follows,
 }
 
-/// Where a link is held: before the read or before the write that begins so many bytes from the start, or further on.
+/// Where a link is held.
 #[derive(Clone, Copy, Debug, PartialEq, Eq)]
 pub enum Place {
-    /// Of what it sends.
+    /// Before the read that begins so many bytes from the start of what it sends, or further on.
     Sent(u64),
-    /// Of what it is answered.
+    /// Where so many bytes of what it is answered are taken. A write that goes further takes the bytes up to there.
     Answered(u64),
+}
+
+// As much of a piece as a link of this part takes at once, so many bytes from its start: up to its place.
+fn up_to_place(part: Part, place: u64, piece: &[u8]) -> &[u8]
+    ensures within { length result.now ≤ length piece.now }
+    ensures some { 0 < length piece.now → 0 < length result.now }
+{
+    match part {
+        Part::HoldsAt(at) if place < at => {
+            let (front, _) = piece.split_at(piece.len().min((at - place) as usize));
+            front
+        }
+        _ => piece,
+    }
 }
 
 // Whether the count came that far, in time.
@@ -143,7 +157,8 @@ impl Sink for MetSink {
 
     fn write(&mut self, piece: &[u8]) -> Result<usize, Failed> {
         if self.meeting.may_go_on(self.part, self.place) {
-            if let Ok(count) = self.sink.write(piece) {
+            let front = up_to_place(self.part, self.place, piece);
+            if let Ok(count) = self.sink.write(front) {
                 self.place = self.place.saturating_add(count as u64);
                 if self.part == Part::Follows {
                     self.meeting

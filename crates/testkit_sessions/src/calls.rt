@@ -34,9 +34,8 @@ pub struct Call<'a> {
     /// What its sink takes: all of these bytes, or where `least` is given the first ones, at least so many and not all.
     pub taken: &'a [u8],
     pub least: Option<usize>,
-    /// Whether a crash comes then, and by which pick it takes what isn't safe on the disk: 0 takes all of it.
-    pub crashes: bool,
-    pub pick: u64,
+    /// By which pick a crash then takes what isn't safe on the disk, where one comes: 0 takes all of it.
+    pub pick: Option<u64>,
 }
 
 /// The words of `run` with the founder's key.
@@ -61,8 +60,7 @@ impl<'a> Call<'a> {
             added,
             taken,
             least: None,
-            crashes: false,
-            pick: 0,
+            pick: None,
         }
     }
 
@@ -232,10 +230,9 @@ pub fn call_in_turn(alloc: Global, drive: &Drive, calls: &[Call]) -> Result<(), 
     let mut disk = drive.disk(alloc)?;
     for call in calls {
         let left = call_on(alloc, call, disk)?;
-        disk = if call.crashes {
-            left.crash(call.pick)
-        } else {
-            left
+        disk = match call.pick {
+            Some(pick) => left.crash(pick),
+            None => left,
         };
     }
     let Some(file) = drive.left else {

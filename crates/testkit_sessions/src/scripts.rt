@@ -87,8 +87,8 @@ impl Script {
 }
 
 /// Runs a session by which the history grows by so many entries, on an empty disk that has room for so many bytes;
-/// takes what isn't safe by a crash, where one is wanted; runs a session by which the history stays, over the journal
-/// that was left; and writes the catalogue out, which is this one; for an empty one it doesn't.
+/// takes what isn't safe by a crash with this pick, where there is one; runs a session by which the history stays, over
+/// the journal that was left; and writes the catalogue out, which is this one; for an empty one it doesn't.
 ///
 /// # Errors
 ///
@@ -98,7 +98,7 @@ pub fn call_days<'a>(
     room: usize,
     day: &'a Script,
     added: u64,
-    crashes: bool,
+    pick: Option<u64>,
     later: &'a Script,
     written: &'a [u8],
 ) -> Result<(), Wrong> {
@@ -107,7 +107,7 @@ pub fn call_days<'a>(
         ..Drive::EMPTY
     };
     let first = Call {
-        crashes,
+        pick,
         ..day.call(added)
     };
     let second = Call {

@@ -1,52 +1,79 @@
-//! The plain form of the rows: a list of all takes that is walked at each question.
+//! The plain form of the rows: a list of what came to them that is walked at each question.
 
 use item_list::NoMemory;
 use packed_names::{Designation, HalfMonth, Provisional};
 use std::alloc::Global;
 
-/// A designation that was given, and the number of the observation by which its object was discovered.
+/// A half-month that was opened with a count, or a designation and the observation by which its object was discovered.
 #[derive(Drop)]
-struct Taken {
-    given: Provisional,
-    discovery: u64,
+enum Came {
+    Opened(HalfMonth, u32),
+    Took(Provisional, u64),
 }
 
 #[derive(Drop)]
 pub(super) struct Plain {
-    taken: Vec<Taken>,
+    came: Vec<Came>,
 }
 
 impl Plain {
     pub(super) fn new(alloc: Global) -> Plain {
         Plain {
-            taken: Vec::new(alloc),
+            came: Vec::new(alloc),
         }
     }
 
-    fn given(&self, half: HalfMonth) -> u32 {
-        let mut given: u32 = 0;
-        for taken in &self.taken {
-            if taken.given.half == half {
-                given = given.saturating_add(1);
+    pub(super) fn given(&self, asked: HalfMonth) -> u32 {
+        let mut count: u32 = 0;
+        for came in &self.came {
+            match came {
+                Came::Opened(half, given) => {
+                    if *half == asked {
+                        count = count.saturating_add(*given);
+                    }
+                }
+                Came::Took(taken, _) => {
+                    if taken.half == asked {
+                        count = count.saturating_add(1);
+                    }
+                }
             }
         }
-        given
+        count
+    }
+
+    pub(super) fn begun(&self, asked: HalfMonth) -> bool {
+        for came in &self.came {
+            let half = match came {
+                Came::Opened(half, _) => *half,
+                Came::Took(taken, _) => taken.half,
+            };
+            if half == asked {
+                return true;
+            }
+        }
+        false
+    }
+
+    pub(super) fn open(&mut self, half: HalfMonth, given: u32) -> Result<(), NoMemory> {
+        self.came.push(Came::Opened(half, given))?;
+        Ok(())
     }
 
     /// The order of the designation that is given.
     pub(super) fn take(&mut self, half: HalfMonth, discovery: u64) -> Result<u32, NoMemory> {
         let order = self.given(half).saturating_add(1);
-        self.taken.push(Taken {
-            given: Provisional { half, order },
-            discovery,
-        })?;
+        self.came
+            .push(Came::Took(Provisional { half, order }, discovery))?;
         Ok(order)
     }
 
     pub(super) fn find(&self, d: Designation) -> Option<u64> {
-        for taken in &self.taken {
-            if d == Designation::Provisional(taken.given) {
-                return Some(taken.discovery);
+        for came in &self.came {
+            if let Came::Took(taken, discovery) = came {
+                if d == Designation::Provisional(*taken) {
+                    return Some(*discovery);
+                }
             }
         }
         None

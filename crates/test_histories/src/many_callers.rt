@@ -1,5 +1,5 @@
-//! A thousand callers and one, each with a batch and a retraction of its own; and a hundred rows of stations, and as
-//! many letters as there are.
+//! A thousand callers and one, each with a batch and a retraction of its own; and a hundred rows of stations, as many
+//! letters as there are, keys of each length, and three rows of one station.
 
 use std::alloc::Global;
 use testkit_sessions::{FOUNDER, NoMemory, Row, Script, Wrong, call_days};
@@ -112,7 +112,7 @@ fn callers(alloc: Global) -> Result<(), Wrong> {
     }
     day.add_rows(LAST)?;
     later.add_rows(LAST)?;
-    call_days(alloc, 4_194_304, &day, 3_007, false, &later, b"")
+    call_days(alloc, 4_194_304, &day, 3_007, None, &later, b"")
 }
 
 #[test]
@@ -165,6 +165,76 @@ const OF_ROWS_TEXT: &str = concat!(
     "line 6 refused T1\n",
 );
 
+/// Two rows more of the first station, each of the days before.
+const EARLIER: &[Row] = &[
+    (
+        FOUNDER,
+        189,
+        "station",
+        "{\"code\":\"S00\",\"name\":\"x\",\"from\":\"1990-01-01\",\"to\":\"1997-12-31\"}",
+        "200 ",
+        "receipt 189\n",
+    ),
+    (
+        FOUNDER,
+        190,
+        "station",
+        "{\"code\":\"S00\",\"name\":\"x\",\"from\":\"1980-01-01\",\"to\":\"1989-12-31\"}",
+        "200 ",
+        "receipt 190\n",
+    ),
+    (FOUNDER, 191, "submit80", OF_DAYS, "200 ", OF_DAYS_TEXT),
+];
+
+/// Lines of the days of each of its rows, and of a day before them all.
+const OF_DAYS: &str = concat!(
+    "     S2        1998 01 01.00000 06 12 34.56 +23 45 01.2          19.5 A      S00\n",
+    "     S2        1998 01 01.10000 06 12 34.56 +23 45 01.2          19.5 A      S00\n",
+    "     S3        1997 12 31.80000 06 12 34.56 +23 45 01.2          19.5 A      S00\n",
+    "     S3        1997 12 31.90000 06 12 34.56 +23 45 01.2          19.5 A      S00\n",
+    "     S4        1989 12 31.80000 06 12 34.56 +23 45 01.2          19.5 A      S00\n",
+    "     S4        1989 12 31.90000 06 12 34.56 +23 45 01.2          19.5 A      S00\n",
+    "     S5        1979 12 31.90000 06 12 34.56 +23 45 01.2          19.5 A      S00\n",
+);
+
+const OF_DAYS_TEXT: &str = concat!(
+    "receipt 191\n",
+    "accepted 6 refused 1\n",
+    "line 1 obs 5 track 3\n",
+    "line 2 obs 6 track 3\n",
+    "line 3 obs 7 track 4\n",
+    "line 4 obs 8 track 4\n",
+    "line 5 obs 9 track 5\n",
+    "line 6 obs 10 track 5\n",
+    "line 7 refused T2\n",
+);
+
+/// Keys have 8 to 32 characters.
+const KEY: &str = "abcdefghijklmnopqrstuvwxyz-01234";
+
+/// A caller whose key has so many is enrolled, and asks.
+fn add_key(alloc: Global, script: &mut Script, length: usize) -> Result<(), NoMemory> {
+    let key = KEY.get(0..length).unwrap_or("");
+    let number = (length as u64).saturating_add(156);
+    let caller = (length as u64).saturating_sub(7);
+    let body = format!(in alloc; "{{\"key\":\"{key}\",\"name\":\"x\",\"role\":\"observer\"}}")?;
+    let text = format!(in alloc; "receipt {number}\ncaller {caller}\n")?;
+    let (body, text) = (body.as_bytes(), text.as_bytes());
+    script.add(FOUNDER, number, "enrol", body, "200 ", text)?;
+    let text = b"halfmonth 2024 E given 0 next 2024 EA\n";
+    script.add(key, 0, "halfmonth", b"2024 E", "200 ", text)
+}
+
+/// The lines of those rows; then a caller with a key of each length, and the rows of earlier days.
+fn add_more(alloc: Global, script: &mut Script) -> Result<(), NoMemory> {
+    let batch = (FOUNDER, 163, "submit80", OF_ROWS, "200 ", OF_ROWS_TEXT);
+    script.add_rows(&[batch])?;
+    for length in 8..=32usize {
+        add_key(alloc, script, length)?;
+    }
+    script.add_rows(EARLIER)
+}
+
 fn rows(alloc: Global) -> Result<(), Wrong> {
     let mut day = Script::new(alloc);
     for row in 0..100u64 {
@@ -173,11 +243,10 @@ fn rows(alloc: Global) -> Result<(), Wrong> {
     for row in 0..LETTERS.len() {
         add_letter(alloc, &mut day, row)?;
     }
-    let batch = (FOUNDER, 163, "submit80", OF_ROWS, "200 ", OF_ROWS_TEXT);
-    day.add_rows(&[batch])?;
+    add_more(alloc, &mut day)?;
     let mut later = Script::new(alloc);
-    later.add_rows(&[batch])?;
-    call_days(alloc, 1_048_576, &day, 163, true, &later, b"")
+    add_more(alloc, &mut later)?;
+    call_days(alloc, 1_048_576, &day, 191, Some(0), &later, b"")
 }
 
 #[test]

@@ -62,12 +62,13 @@ fn add_batch(alloc: Global, script: &mut Script, batch: u64) -> Result<(), NoMem
     script.add(OBSERVER, number, "submit80", &body, "200 ", &text)
 }
 
-const ORDER_LETTERS: &str = "ABCDEFGHJKLMNOPQRSTUVWXYZ";
+/// The letters of a half-month's orders, one after the other.
+pub(super) const ORDER_LETTERS: &str = "ABCDEFGHJKLMNOPQRSTUVWXYZ";
 
 const DIGITS: &str = "0123456789ABCDEFGHIJKLMNOPQRSTUVWXYZabcdefghijklmnopqrstuvwxyz";
 
 /// The character of a text at a place; none past its end.
-fn at(text: &'static str, place: u64) -> &'static str {
+pub(super) fn at(text: &'static str, place: u64) -> &'static str {
     text.get(place as usize..(place as usize).saturating_add(1))
         .unwrap_or("")
 }
@@ -333,7 +334,7 @@ fn later(alloc: Global) -> Result<Script, NoMemory> {
 
 fn a_full_half_month(alloc: Global) -> Result<(), Wrong> {
     let (day, later) = (day(alloc)?, later(alloc)?);
-    call_days(alloc, 16_777_216, &day, 16_813, false, &later, b"")
+    call_days(alloc, 16_777_216, &day, 16_813, None, &later, b"")
 }
 
 #[test]
