@@ -3,7 +3,8 @@
 say, 10,000 at least), each of two observations. Half of the tracklets stand in objects, two in each; of the objects every
 second one has a good verdict, and all but 180 of those have a number. The office is one running program, whose journal lies
 in /dev/shm, so that the disk costs little. The requests of a kind are sent together, and their answers awaited; the best of
-three times is printed, in microseconds a request. Each answer has to have status 200.
+three times is printed, in microseconds a request. Each answer has to have status 200. An opening takes over a half-month that
+has no designation yet, and carries 100 of them, the most that it may; the openings come last, since each leaves 100 objects.
 
 Build the program first: (cd crates/mpc_cli && rt run -- run --key +founder-1 </dev/null). Then: python3 bench/acts.py
 """
@@ -21,6 +22,8 @@ FIRST_NUMBER = 620_000
 BATCH = 4_000  # lines of a batch, two of each tracklet
 OPEN = 180  # objects that can be numbered, and aren't
 MANY = 60  # requests of a kind that are sent together
+HALF_LETTERS = "ABCDEFGHJKLMNOPQRSTUVWXY"  # of a year's half-months
+CARRIED = ",".join(str(order) for order in range(1, 101))  # as many as an opening may carry
 FOLDER = "/dev/shm" if os.path.isdir("/dev/shm") else None
 
 
@@ -103,6 +106,11 @@ def number(office, names):
         office.ask([office.frame("number", f'{{"first":{FIRST_NUMBER + first},"most":1000}}')])
 
 
+def half_month(i):
+    """A half-month from 1925 on, counted from 0; the designations of the office are of 2024."""
+    return f"{1925 + i // 24} {HALF_LETTERS[i % 24]}"
+
+
 def kinds(tracks, names):
     """The requests of each kind: the verb, and a body for each of three times as many as are sent together. None: no request."""
     free = tracks // 2 + 2  # isolated tracklets stand from here on
@@ -128,10 +136,11 @@ def kinds(tracks, names):
         ("name", lambda i: f"{FIRST_NUMBER + given // 2 + i}"),
         ("isolated", lambda i: "" if i < 3 else None),
         ("catalogue", lambda i: "" if i < 3 and tracks <= 10_000 else None),
+        ("opening", lambda i: f'{{"half":"{half_month(i)}","given":100,"carried":[{CARRIED}]}}'),
     ]
 
 
-ACTS = "submit80 designate attribute release identify separate verdict number retract enrol station".split()
+ACTS = "submit80 designate attribute release identify separate verdict number retract enrol station opening".split()
 
 
 def microseconds(office, verb, body):
