@@ -119,7 +119,7 @@ AreSame = (one other : Designation) → eq_by_cmp designation_cmp one other ≡ 
 abbrev pub IsItself : Type 0
 IsItself = (d : Designation) → eq_by_cmp designation_cmp d d ≡ true
 
-provisional_is : (one other : ProvisionalName) → Provisional one ≡ Provisional other → one ≡ other
+pub provisional_is : (one other : ProvisionalName) → Provisional one ≡ Provisional other → one ≡ other
 provisional_is one other is = cc
 
 module _ (same : AreSame) (itself : IsItself) where

@@ -1,15 +1,16 @@
 -- The designations and the numbers of a history follow one another.
-use Rattle.std.proofs.Common.{◌≡◌, ℕ, zero, suc, ◌+◌, ◌≤◌, Bool, true, false, cond, List, [], ◌∷◌, ◌++◌, length, refl, sym, ap, subst, ◌∙◌, inl, inr, arith}
+use Rattle.std.proofs.Common.{◌≡◌, ℕ, zero, suc, ◌+◌, ◌≤◌, Bool, true, false, cond, List, [], ◌∷◌, ◌++◌, length, Option, Some, None, refl, sym, ap, subst, ◌∙◌, inl, inr, arith}
 use Rattle.std.specs.Prelude.{◌⊎◌, nat_eq}
 use Rattle.std.specs.List.{AllByRecursion, Contains, IsDistinct}
 use Rattle.std.specs.Ordering.{eq_by_cmp}
 use Rattle.std.proofs.lemmas.Bool.Decides.{nat_tests}
 use Rattle.packed_names.specs.declared.half_month.HalfMonth.{HalfMonth}
 use Rattle.packed_names.specs.declared.provisional.Provisional.{Provisional}
-use Rattle.packed_names.specs.Order.{half_cmp}
+use Rattle.packed_names.specs.declared.name.Designation.TheVariants.{Provisional as ByHalf}
+use Rattle.packed_names.specs.Order.{half_cmp, designation_cmp}
 use Rattle.packed_names.specs.Ranges.{limit_of}
-use Rattle.designate_core.specs.Takes.{RowAct, opened_in, given_in, taken_in, next_in, designations_given}
-use Rattle.designate_core.specs.Takes.RowAct.{Opened as OpenedRow}
+use Rattle.designate_core.specs.Takes.{RowAct, opened_in, given_in, taken_in, next_in, designations_given, discovery_of}
+use Rattle.designate_core.specs.Takes.RowAct.{Opened as OpenedRow, Took}
 use Rattle.designate_core.specs.Unbroken.{orders_in, down_from, AreFitting, AreDifferent, UnbrokenRow, EachWithinLimit, EachGivenOnce, EachAboveOpening, NoneBeforeBegun, CountsGrow}
 use Rattle.numbering_core.specs.Numbers.{IsUnbroken}
 use Rattle.numbering_core.specs.Unbroken.{WithoutGap, NumbersOnce, DesignationsOnce}
@@ -20,7 +21,7 @@ use Rattle.act_model.specs.Deeds.{deeds}
 use Rattle.act_model.specs.Designations.{row_acts_of, with_order, with_orders}
 use Rattle.act_model.specs.Numbers.{numbers_of}
 use Rattle.act_model.specs.Unbroken.{given_by, carried_by, UnbrokenRows, UnbrokenNumbers}
-use Rattle.act_model.proofs.Given.{AreSame, IsItself, AreGivenNext, half_itself, half_same, given_next}
+use Rattle.act_model.proofs.Given.{AreSame, IsItself, AreGivenNext, half_itself, half_same, provisional_is, given_next}
 use Rattle.act_model.proofs.InRange.{AreFirst, AreOpenings}
 
 -- the designations that acts `designate` gave are those that objects took
@@ -184,6 +185,19 @@ module _ (same : AreSame) (itself : IsItself) (none : NoneBeforeBegun) (grow : C
       by true here rest = (subst (λ (h : HalfMonth). p.order ≤ most h) (half_same same itself p.half half here) (each p (0, omega arith, refl)), rest)
       by false there rest = rest
 
+  -- a designation that no object took has no discovery
+  untaken : (p : Provisional) (rows : List RowAct) → (Contains (designations_given rows) p → ⊥) → discovery_of (ByHalf p) rows ≡ None
+  untaken p [] never = refl
+  untaken p (OpenedRow half given ∷ rows) never = untaken p rows never
+  untaken p (Took take ∷ rows) never =
+      by (eq_by_cmp designation_cmp (ByHalf p) (ByHalf (next_in take.half rows))) refl (untaken p rows (λ among. never (later (next_in take.half rows) p (designations_given rows) among)))
+    where
+      by : (b : Bool) → eq_by_cmp designation_cmp (ByHalf p) (ByHalf (next_in take.half rows)) ≡ b → discovery_of (ByHalf p) rows ≡ None → cond b (Some take.discovery) (discovery_of (ByHalf p) rows) ≡ None
+      by true is earlier =
+          let next : p ≡ next_in take.half rows = provisional_is p (next_in take.half rows) (same (ByHalf p) (ByHalf (next_in take.half rows)) is) in
+          absurd (never (0, omega arith, sym next))
+      by false is earlier = earlier
+
   module _ (in_order : UnbrokenRow) (within : EachWithinLimit) (once : EachGivenOnce) (above : EachAboveOpening) (firsts : AreFirst) (openings : AreOpenings) where
     rows_of : (rows : List RowAct) (given : List Provisional) → AreFitting rows → given ≡ designations_given rows → (half : HalfMonth)
         → orders_in half given ≡ down_from (opened_in half rows) (taken_in half rows)
@@ -208,6 +222,13 @@ module _ (same : AreSame) (itself : IsItself) (none : NoneBeforeBegun) (grow : C
               let most = carried_within past next p was in
               omega (arith, higher, most.1));
         }
+
+    pub carried_undiscovered : (history : List Entry) (p : Provisional) → Contains (carried_by (deeds history)) p → discovery_of (ByHalf p) (row_acts_of (deeds history)) ≡ None
+    carried_undiscovered history p was =
+        let past = deeds history in
+        let next = given_next firsts openings history in
+        let most = carried_within past next p was in
+        untaken p (row_acts_of past) (λ taken. let higher = above (row_acts_of past) p (rows_fit past next) taken in omega (arith, higher, most.1))
 
 pub unbroken_numbers : WithoutGap → NumbersOnce → DesignationsOnce → (history : List Entry) → IsUnbroken (numbers_of (deeds history)) → UnbrokenNumbers history
 unbroken_numbers gap once each history unbroken =

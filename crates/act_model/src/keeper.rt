@@ -21,6 +21,28 @@ pub struct OfficeState {
     pub doubt: Option<Entry>,
 }
 
+/// What an act gets when it is answered. It is for proofs alone.
+#[derive(Debug, Drop)]
+pub struct Stamp {
+    /// The moment of the keeper's disk then.
+    pub moment: u64,
+    /// How many entries the settled history has then.
+    pub entries: u64,
+    /// What was asked.
+    pub request: Request,
+    /// The clock's reading.
+    pub reading: Instant,
+}
+
+/// The stamps of a keeper. They are for proofs alone.
+#[derive(Debug, Drop)]
+pub struct Stamps {
+    /// The moment of the keeper's disk.
+    pub moment: u64,
+    /// The stamps of the acts that were answered, the oldest first.
+    pub given: ItemList<Stamp>,
+}
+
 /// What contracts see of a keeper.
 #[derive(Debug, Drop)]
 pub struct Office {
@@ -32,9 +54,11 @@ pub struct Office {
     pub state: OfficeState,
     /// How often the disk has failed. At the greatest number that its type has it stands still.
     pub faults: u64,
+    /// The moment of the disk, and the stamps of the acts that were answered. None where no act is stamped.
+    pub stamps: Option<Stamps>,
 }
 
-/// Something that keeps the office: it takes one turn after another.
+/// Something that keeps the office: it takes one turn after another, and may stamp each act when it answers it.
 ///
 /// No call changes the founding officer's key or the limit.
 pub trait Keeper: Drop {

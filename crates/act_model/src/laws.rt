@@ -1,7 +1,8 @@
 //! Laws of histories, conducts and worlds, each the contract of a function that does nothing.
 
 ghost use Rattle.std.specs.Prelude.{◌≡◌, ◌+◌, ◌<◌, Bool, true, ℕ, ℤ, pos, List, [], ◌∷◌, ◌++◌, Option, Some, None};
-ghost use Rattle.std.specs.Prelude.{IsSomeAnd, Ok, map, reverse, take, unwrap_or};
+ghost use Rattle.std.specs.Prelude.{IsSomeAnd, Ok, map, reverse, take, unwrap_or, false};
+ghost use Rattle.std.specs.List.{Contains};
 ghost use Rattle.obs_time.specs.Instants.{IsInstantNs};
 ghost use Rattle.act_bodies.specs.declared.key.Key.{Key};
 ghost use Rattle.act_bodies.specs.Keys.{key_text, begins_with_plus};
@@ -34,7 +35,9 @@ ghost use Rattle.act_model.specs.Legal.{IsLegal};
 ghost use Rattle.tracklet_file.specs.declared.observation.Observation.{Observation};
 ghost use Rattle.tracklet_file.specs.declared.tracklet.Tracklet.{Tracklet};
 ghost use Rattle.packed_names.specs.declared.name.Designation.{Designation};
+ghost use Rattle.packed_names.specs.declared.name.Designation.TheVariants.{Provisional as ByHalf};
 ghost use Rattle.packed_names.specs.declared.number.Number.{Number};
+ghost use Rattle.packed_names.specs.declared.provisional.Provisional.{Provisional};
 ghost use Rattle.packed_names.specs.Ranges.{IsNumber, IsDesignation};
 ghost use Rattle.obs_record.specs.declared.short.Short.{Short};
 ghost use Rattle.obs_record.specs.Filed.{IsTrackName, IsFiled};
@@ -45,7 +48,9 @@ ghost use Rattle.station_tables.specs.Codes.{letter_of};
 ghost use Rattle.station_tables.specs.Letters.{IsLetterOf};
 ghost use Rattle.identify_core.specs.Acts.{principal};
 ghost use Rattle.numbering_core.specs.Numbers.{number_of, named};
-ghost use Rattle.act_model.specs.Designations.{links_of, is_given};
+ghost use Rattle.act_model.specs.Catalogue.{is_discovery};
+ghost use Rattle.act_model.specs.Designations.{links_of, is_given, row_acts_of};
+ghost use Rattle.designate_core.specs.Takes.{discovery_of};
 ghost use Rattle.act_model.specs.Numbers.{numbers_of};
 ghost use Rattle.act_model.specs.OfficeTables.{tables_of};
 ghost use Rattle.tracklet_file.specs.Numbering.{numbered};
@@ -54,7 +59,7 @@ ghost use Rattle.act_model.specs.Acts.{IsRead};
 ghost use Rattle.act_model.specs.BatchRules.{is_in_years};
 ghost use Rattle.act_model.specs.Doing.{does};
 ghost use Rattle.act_model.specs.Fitting.{FitsObjects};
-ghost use Rattle.act_model.specs.Unbroken.{UnbrokenRows, UnbrokenNumbers};
+ghost use Rattle.act_model.specs.Unbroken.{carried_by, UnbrokenRows, UnbrokenNumbers};
 ghost use Rattle.act_model.specs.Holdings.{holdings};
 ghost use Rattle.act_model.specs.Observations.{observations};
 ghost use Rattle.act_model.specs.Listing.{ListsEachOnce};
@@ -323,6 +328,22 @@ pub fn acts_fit()
 /// opening carried are at most o. No designation was given twice, by such an act or by being carried.
 pub fn unbroken_rows()
     ensures { (history : List Entry) → UnbrokenRows history }
+{
+    act_bodies::laws::first_numbers_are_numbers();
+    act_bodies::laws::openings_are_in_range();
+    designate_core::laws::begun_rows();
+    designate_core::laws::counts_grow();
+    designate_core::laws::unbroken_rows();
+    identify_core::laws::given_ascend();
+}
+
+/// A designation that an opening carried has no discovery, since no act of this office gave it: no line of the catalogue
+/// has an asterisk for it.
+pub fn carried_have_no_discovery()
+    ensures none { (history : List Entry) (p : Provisional) → Contains (carried_by (deeds history)) p →
+        discovery_of (ByHalf p) (row_acts_of (deeds history)) ≡ None }
+    ensures star { (history : List Entry) (p : Provisional) (k : ℕ) → Contains (carried_by (deeds history)) p →
+        is_discovery (deeds history) (ByHalf p) k ≡ false }
 {
     act_bodies::laws::first_numbers_are_numbers();
     act_bodies::laws::openings_are_in_range();

@@ -29,7 +29,7 @@ pub use act_bodies::{Ids, Key, Rank};
 pub use deed::{Deed, with_order};
 pub use entry::Entry;
 pub use heard::{Asked, Heard, read_asked};
-pub use keeper::{Keeper, Office, OfficeState};
+pub use keeper::{Keeper, Office, OfficeState, Stamp, Stamps};
 pub use known::Known;
 pub use query::{Query, read_query};
 pub use reply::{

@@ -110,6 +110,7 @@ module _ {D : Type 0} (moment : D → ℕ) (since : D → ℕ → List ℕ → T
     counts = acts.counts;
     founder = founder;
     limit = ap (λ (n : ℕ). Some n) limit;
+    stamps = refl;
   }
 
 -- the turn of a query
@@ -121,4 +122,5 @@ ask_turn faults desk q reply query answers = record {
   counts = rose_none (faults desk.disk);
   founder = refl;
   limit = refl;
+  stamps = refl;
 }

@@ -1,6 +1,6 @@
 -- The desk: the office on a disk.
 use Rattle.std.specs.Prelude.{◌≡◌, ◌⊎◌, ℕ, ◌+◌, ◌-◌, ◌^◌, ◌<◌, min, ℤ, List, ◌∷◌, Option, Some, option_map, IfSome}
-use Rattle.std.specs.Prelude.{IsSomeAnd}
+use Rattle.std.specs.Prelude.{IsSomeAnd, None}
 use Rattle.disk_model.specs.Counts.{Rises}
 use Rattle.disk_model.specs.Crashes.{During}
 use Rattle.obs_journal.specs.Journals.{JournalState, StandsFor}
@@ -127,6 +127,7 @@ office_of faults desk = record {
   limit = Some desk.limit;
   state = desk.state;
   faults = count_of (faults desk.disk);
+  stamps = None;
 }
 
 -- the history once the act in doubt was settled so

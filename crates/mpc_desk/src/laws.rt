@@ -30,9 +30,9 @@ pub fn damage()
     obs_journal::laws::damage();
 }
 
-/// The calls of one office on disks of a kind, with stops between them and inside them, are a world: where the office is
-/// in a state of the world before them, the world goes on to one that it is in after them, with the settled history of
-/// the desk, or the one that the image stands for, and with the replies that were received. So each act whose 200 was
+/// The calls of one office on disks of a kind, with stops between them and inside them, are a world: where the office
+/// is in a state of the world before them, the world goes on to one that it is in after them, with the settled history
+/// of the desk, or the one that the image stands for, and with the replies that were received. So each act whose 200 was
 /// received since the office was opened on an empty file is acknowledged by the history that is kept now.
 pub fn calls_are_worlds<D: Disk>()
     ensures world { (founder : Key) (limit : ℕ) (before after : OnDisks D) (calls : List (Call D))

@@ -44,6 +44,7 @@ plain_turn old new q t reply act instant founder answers = record {
   counts = refl;
   founder = founder;
   limit = refl;
+  stamps = refl;
 }
 
 pub plain_query : (core : Office) (q : Request) (reply : Reply) → is_act q.verb ≡ false → Answers core.founder None core.history q (pos 0) reply core.history → TakesTurn (plain_office core) q None reply (plain_office core)
@@ -53,6 +54,7 @@ plain_query core q reply query answers = record {
   counts = refl;
   founder = refl;
   limit = refl;
+  stamps = refl;
 }
 
 -- no answer of the step, or that memory was refused, is that a disk failed
