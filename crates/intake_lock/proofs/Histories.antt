@@ -6,7 +6,7 @@ use Rattle.std.proofs.lemmas.List.Elements.{Contains-append_left, Contains-appen
 use Rattle.std.proofs.lemmas.List.Sums.{sum_by-cons}
 use Rattle.act_bodies.specs.declared.key.Key.{Key}
 use Rattle.act_model.specs.declared.entry.Entry.{Entry}
-use Rattle.intake_lock.specs.declared.clerk.Office.{Office}
+use Rattle.act_model.specs.declared.keeper.Office.{Office}
 use Rattle.act_model.specs.declared.keeper.OfficeState.{OfficeState}
 use Rattle.act_model.specs.declared.reply.Reply.{Reply}
 use Rattle.act_model.specs.declared.reply.Reply.TheVariants.{Done, Refused}
@@ -23,7 +23,7 @@ use Rattle.intake_lock.specs.declared.view.Item.{Item}
 use Rattle.intake_lock.specs.declared.view.View.{View}
 use Rattle.intake_lock.specs.Rule.{IsCall, IsOrigin, Origins, Comes}
 use Rattle.intake_lock.proofs.StampLemmas.{one_counts, called_came, come_kept}
-use Rattle.intake_lock.specs.declared.clerk.Stamp.{Stamp}
+use Rattle.act_model.specs.declared.keeper.Stamp.{Stamp}
 use Rattle.intake_lock.specs.Items.{reading_of, StampTells, IsTrue, AreTrue, rises, turn_of, TakesAt, Called, RisesBy}
 
 -- ---- beginnings

@@ -11,7 +11,7 @@ use lib.ListN.{get_elem?}
 use Rattle.atomic_table.specs.Table.{State, Splits, Joins, Final, Seen, opening as table_opening}
 use Rattle.atomic_table.proofs.Lists.{at_snoc, at_longer, set_here, set_else}
 use Rattle.act_model.specs.declared.entry.Entry.{Entry}
-use Rattle.intake_lock.specs.declared.clerk.Office.{Office}
+use Rattle.act_model.specs.declared.keeper.Office.{Office}
 use Rattle.act_model.specs.Conducts.{Extends}
 use Rattle.act_model.specs.Legal.{IsLegal}
 use Rattle.intake_lock.specs.declared.view.Item.{Item}

@@ -3,12 +3,12 @@ use Rattle.std.proofs.Common.{◌≡◌, ◌≤◌, ℕ, ℤ, List, [], ◌∷�
 use Rattle.std.specs.Prelude.{◌⊎◌, IfSome, IsSomeAnd, Contains}
 use Rattle.std.proofs.lemmas.List.{append-nil}
 use Rattle.std.proofs.lemmas.List.Elements.{Contains-append_left, Contains-append_right, Contains-push, Contains-push_cases}
-use Rattle.intake_lock.specs.declared.clerk.Office.{Office}
-use Rattle.intake_lock.specs.declared.clerk.Stamp.{Stamp}
-use Rattle.intake_lock.specs.declared.clerk.Stamps.{Stamps}
+use Rattle.act_model.specs.declared.keeper.Office.{Office}
+use Rattle.act_model.specs.declared.keeper.Stamp.{Stamp}
+use Rattle.act_model.specs.declared.keeper.Stamps.{Stamps}
 use Rattle.intake_lock.specs.declared.view.Item.{Item}
 use Rattle.intake_lock.specs.declared.view.View.{View}
-use Rattle.intake_lock.specs.Clerks.{Gave, GoesOn, StampsOn}
+use Rattle.intake_lock.specs.Stamps.{Gave, GoesOn, StampsOn}
 use Rattle.intake_lock.specs.Items.{HasStamp, AreStamped, IsStampOf, Stamped, Called}
 use Rattle.intake_lock.specs.Rule.{IsCall, StampsCome}
 

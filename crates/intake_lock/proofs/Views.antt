@@ -6,7 +6,7 @@ use mathlib.Core.Logic.{dite}
 use native.Mathlib.Decide.{ℕ_discrete}
 use lib.ListN.{get_elem?}
 use Rattle.atomic_table.proofs.Lists.{at_set, set_here, set_else}
-use Rattle.intake_lock.specs.declared.clerk.Office.{Office}
+use Rattle.act_model.specs.declared.keeper.Office.{Office}
 use Rattle.act_model.specs.Conducts.{Extends}
 use Rattle.intake_lock.specs.declared.view.Item.{Item}
 use Rattle.intake_lock.specs.declared.view.Role.{Role}
@@ -15,7 +15,7 @@ use Rattle.intake_lock.specs.declared.view.Stage.{Stage}
 use Rattle.intake_lock.specs.declared.view.Stage.TheVariants.{Idle, Waiting, Holding}
 use Rattle.intake_lock.specs.declared.view.View.{View}
 use Rattle.intake_lock.specs.Views.{seen, live, one_if_live, ticketed, one_if_ticketed, HasTicketAt, HasTicket, HasTurnAt, HasTurn}
-use Rattle.intake_lock.specs.Clerks.{StampsOn}
+use Rattle.intake_lock.specs.Stamps.{StampsOn}
 use Rattle.intake_lock.specs.Rule.{FitsStage, IsKnown, FitsRole, Fits, At, Apart, Rooted, Latest, IsCall, IsHome, IsOut}
 use Rattle.intake_lock.proofs.Histories.{extends_on}
 use Rattle.intake_lock.proofs.StampLemmas.{stamps_on, stamped_later}

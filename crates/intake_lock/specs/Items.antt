@@ -4,7 +4,7 @@ use Rattle.std.specs.Prelude.{sum_by, Option, Some, None, IfSome, IsSomeAnd, unw
 use Rattle.std.specs.List.{AllByRecursion}
 use Rattle.act_bodies.specs.declared.key.Key.{Key}
 use Rattle.act_model.specs.declared.entry.Entry.{Entry}
-use Rattle.intake_lock.specs.declared.clerk.Office.{Office}
+use Rattle.act_model.specs.declared.keeper.Office.{Office}
 use Rattle.act_model.specs.declared.keeper.OfficeState.{OfficeState}
 use Rattle.act_model.specs.declared.reply.Refusal.TheVariants.{DiskFault}
 use Rattle.act_model.specs.declared.reply.Reply.{Reply}
@@ -16,10 +16,10 @@ use Rattle.act_model.specs.Keepers.{RoseBy}
 use Rattle.act_model.specs.Replies.{entry_answer}
 use Rattle.act_model.specs.Step.{Adds, outcome}
 use Rattle.act_model.specs.Turns.{Turn, TakesReading, Answers, FailsToMend, ActsMended, Asks}
-use Rattle.intake_lock.specs.declared.clerk.Stamp.{Stamp}
-use Rattle.intake_lock.specs.declared.clerk.Stamps.{Stamps}
+use Rattle.act_model.specs.declared.keeper.Stamp.{Stamp}
+use Rattle.act_model.specs.declared.keeper.Stamps.{Stamps}
 use Rattle.intake_lock.specs.declared.view.Item.{Item}
-use Rattle.intake_lock.specs.Clerks.{Gave}
+use Rattle.intake_lock.specs.Stamps.{Gave}
 
 -- the reading of a call, or 0 where it took none
 abbrev pub reading_of : Item → ℤ
@@ -38,8 +38,8 @@ pub record AddsEntry (founder : Key) (limit : Option ℕ) (past : List Entry) (i
   pub answered : (item.reply ≡ Done (entry_answer past entry)) ⊎ (item.reply ≡ Refused (DiskFault true))
 
 -- An act could not be mended or kept at this history, and the reply is that the disk failed, which counted it. The act
--- is in doubt only where the step adds an entry for it. Its stamp, where it got one, has as many entries as the history,
--- which the act left as it was.
+-- is in doubt only where the step adds an entry for it. Its stamp, where it got one, has as many entries as the
+-- history, which the act left as it was.
 pub record Failed (founder : Key) (limit : Option ℕ) (past : List Entry) (item : Item) : Type 0 where
   pub doubt : Bool
   pub act : is_act item.request.verb ≡ true
@@ -139,7 +139,7 @@ pub record IsItemOf (before : Office) (request : Request) (reading : Option ℤ)
   pub answered : item.reply ≡ reply
   pub calls : Calls before item after
 
--- the clerk took one turn: a call of this request, with this reading of the clock for an act, which was answered so
+-- the keeper took one turn: a call of this request, with this reading of the clock for an act, which was answered so
 abbrev pub TakesTurn : Office → Request → Option ℤ → Reply → Office → Type 0
 TakesTurn before request reading reply after = (item : Item) × IsItemOf before request reading reply after item
 

@@ -1,4 +1,4 @@
-pub mod Clerks
+pub mod Stamps
 pub mod Items
 pub mod Views
 pub mod Rule

@@ -1,12 +1,12 @@
 -- What each step of the lock tells its thread: of the seat before, the number that was found, and the seat after.
 use Rattle.std.specs.Prelude.{◌≡◌, ◌≢◌, ◌⊎◌, ℕ, List, [], ◌∷◌, Option, Some}
 use Rattle.atomic_table.specs.Table.{Me}
-use Rattle.intake_lock.specs.declared.clerk.Office.{Office}
+use Rattle.act_model.specs.declared.keeper.Office.{Office}
 use Rattle.act_model.specs.Conducts.{Extends}
 use Rattle.intake_lock.specs.declared.view.Item.{Item}
 use Rattle.intake_lock.specs.declared.view.Stage.TheVariants.{Waiting}
 use Rattle.intake_lock.specs.declared.view.View.{View}
-use Rattle.intake_lock.specs.Clerks.{StampsOn}
+use Rattle.intake_lock.specs.Stamps.{StampsOn}
 use Rattle.intake_lock.specs.Rule.{word}
 use Rattle.intake_lock.specs.Views.{seen, waiting, holding, published, idle}
 

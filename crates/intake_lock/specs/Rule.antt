@@ -8,8 +8,8 @@ use mathlib.Core.Option as slot
 use lib.ListN.{get_elem?}
 use Rattle.atomic_table.specs.Table.{State}
 use Rattle.act_model.specs.declared.entry.Entry.{Entry}
-use Rattle.intake_lock.specs.declared.clerk.Office.{Office}
-use Rattle.intake_lock.specs.declared.clerk.Stamp.{Stamp}
+use Rattle.act_model.specs.declared.keeper.Office.{Office}
+use Rattle.act_model.specs.declared.keeper.Stamp.{Stamp}
 use Rattle.act_model.specs.Conducts.{Extends, EitherWay}
 use Rattle.act_model.specs.Legal.{IsLegal}
 use Rattle.intake_lock.specs.declared.view.Item.{Item}
@@ -18,7 +18,7 @@ use Rattle.intake_lock.specs.declared.view.Role.TheVariants.{Root, Branch, Spent
 use Rattle.intake_lock.specs.declared.view.Stage.{Stage}
 use Rattle.intake_lock.specs.declared.view.Stage.TheVariants.{Idle, Waiting, Holding}
 use Rattle.intake_lock.specs.declared.view.View.{View}
-use Rattle.intake_lock.specs.Clerks.{Gave, StampsOn}
+use Rattle.intake_lock.specs.Stamps.{Gave, StampsOn}
 use Rattle.intake_lock.specs.Items.{AddsEntry, AreTrue, AreStamped, IsStampOf, RisesBy}
 use Rattle.intake_lock.specs.Views.{seen, live, ticketed, made_by, rises_by, HasTicket, HasTurn}
 

@@ -1,7 +1,7 @@
 -- What passes know, and how it changes.
 use Rattle.std.specs.Prelude.{◌≡◌, ℕ, ◌+◌, ◌-◌, nat_lt, if◌then◌else◌, List, [], ◌++◌, length, None}
 use Rattle.act_model.specs.declared.entry.Entry.{Entry}
-use Rattle.intake_lock.specs.declared.clerk.Office.{Office}
+use Rattle.act_model.specs.declared.keeper.Office.{Office}
 use Rattle.intake_lock.specs.declared.view.Item.{Item}
 use Rattle.intake_lock.specs.declared.view.Role.{Role}
 use Rattle.intake_lock.specs.declared.view.Role.TheVariants.{Root, Branch, Spent}

@@ -1,7 +1,7 @@
 //! The rule of the lock, over what its table holds.
 
-use crate::clerk::Clerk;
 use crate::view::View;
+use act_model::Keeper;
 use atomic_table::{Seat as TableSeat, Shared, Table, TableRule};
 use std::alloc::Global;
 use std::snapshot::Snapshot;
@@ -9,7 +9,7 @@ use std::snapshot::Snapshot;
 /// The rule. The table is told of the keeper with which the lock was made.
 pub struct Turns;
 
-impl<V: Clerk> TableRule<Option<V>, View, Snapshot<V>> for Turns {
+impl<V: Keeper> TableRule<Option<V>, View, Snapshot<V>> for Turns {
     ghost use Rattle.intake_lock.specs.Rule.{Standing};
     ghost use Rattle.intake_lock.specs.Views.{first_view};
 

@@ -5,10 +5,10 @@ ghost use Rattle.std.specs.Prelude.{◌≡◌, ◌≤◌, ℕ, List, Option, len
 ghost use Rattle.act_bodies.specs.declared.key.Key.{Key};
 ghost use Rattle.act_model.specs.declared.entry.Entry.{Entry};
 ghost use Rattle.act_model.specs.Conducts.{Extends};
-ghost use Rattle.intake_lock.specs.declared.clerk.Office.{Office};
-ghost use Rattle.intake_lock.specs.declared.clerk.Stamps.{Stamps};
+ghost use Rattle.act_model.specs.declared.keeper.Office.{Office};
+ghost use Rattle.act_model.specs.declared.keeper.Stamps.{Stamps};
 ghost use Rattle.intake_lock.specs.declared.view.Item.{Item};
-ghost use Rattle.intake_lock.specs.Clerks.{StampsOn};
+ghost use Rattle.intake_lock.specs.Stamps.{StampsOn};
 ghost use Rattle.intake_lock.specs.Items.{IsTrue, Calls, HasStamp, AreStamped};
 
 /// Histories that begin one another: what begins a beginning of a history begins it; a beginning is no longer; and two

@@ -8,7 +8,6 @@
 //! can never be joined, and the lock never closed.
 #![tactic(auto)]
 
-mod clerk;
 mod keeping;
 pub mod laws;
 mod lock;
@@ -17,7 +16,6 @@ mod plays;
 mod turn;
 mod view;
 
-pub use clerk::{Clerk, Office, Stamp, Stamps};
 pub use lock::TurnLock;
 pub use pass::Pass;
 pub use turn::Turn;

@@ -5,7 +5,7 @@ ghost use Rattle.std.specs.Prelude.{IfNone};
 ghost use Rattle.act_model.specs.Conducts.{Extends};
 ghost use Rattle.intake_lock.specs.declared.view.Role.TheVariants.{Root, Branch};
 ghost use Rattle.intake_lock.specs.declared.view.Stage.TheVariants.{Waiting, Holding};
-ghost use Rattle.intake_lock.specs.Clerks.{StampsOn};
+ghost use Rattle.intake_lock.specs.Stamps.{StampsOn};
 ghost use Rattle.intake_lock.specs.Items.{Called};
 ghost use Rattle.intake_lock.specs.Passes.{MaySplit, IsRoot};
 ghost use Rattle.intake_lock.specs.Plays.{Gets};
@@ -13,35 +13,39 @@ ghost use Rattle.intake_lock.specs.Rule.{word, Closes};
 ghost use Rattle.intake_lock.specs.Views.{live, seen, first_view, waiting, holding, published, idle, stem, branch};
 ghost use Rattle.intake_lock.specs.Views.{joined};
 
-use crate::clerk::Clerk;
 use crate::keeping::{DRAWN, KEEPER, LENGTH, LockTable, SERVED, Seat, Words};
 use crate::pass::Pass;
 use crate::plays::{Draw, Fork, Look, Merge, Next, Publish, Tell, Turned};
 use crate::turn::{Log, Turn};
 use crate::view::View;
+use act_model::Keeper;
 use atomic_table::{Mark, Refused, RuledPerch, Table};
 use std::alloc::Global;
 use std::fmt;
 use std::fmt::{Debug, Formatter};
+use std::hint::spin_loop;
 use std::marker::{Brand, Model};
 use std::snapshot::Snapshot;
 use std::sync::Wait;
+
+// How often a thread looks whether its turn came before it parks.
+const LOOKS: u32 = 1_000;
 
 /// A lock round a keeper of the office, which callers in many threads enter one after another.
 ///
 /// Contracts see which lock it is, and the office that the keeper stood for when the lock was made.
 #[derive(Drop)]
-pub struct TurnLock<V: Clerk> {
+pub struct TurnLock<V: Keeper> {
     table: LockTable<V>,
 }
 
-impl<V: Clerk> Debug for TurnLock<V> {
+impl<V: Keeper> Debug for TurnLock<V> {
     fn fmt<W: fmt::Write>(&self, f: &mut Formatter<W>) -> fmt::Result {
         f.write_str("TurnLock")
     }
 }
 
-impl<V: Clerk> Model for TurnLock<V> {
+impl<V: Keeper> Model for TurnLock<V> {
     ghost use Rattle.std.specs.Prelude.{◌≡◌};
     ghost use Rattle.intake_lock.specs.Passes.{LockState};
 
@@ -52,7 +56,7 @@ impl<V: Clerk> Model for TurnLock<V> {
     ghost invariant = { λ l. (l.table.shared.table_id.words ≡ 3) × (l.table.shared.table_id.slots ≡ 1) };
 }
 
-impl<V: Clerk> TurnLock<V> {
+impl<V: Keeper> TurnLock<V> {
     /// A lock round a keeper without an act in doubt, and the root's pass.
     ///
     /// # Errors
@@ -110,6 +114,7 @@ impl<V: Clerk> TurnLock<V> {
             log,
         }
     }
+
     /// Leaves: publishes the calls of the turn, puts the keeper back, and gives the turn on. The pass has then seen the
     /// turn's history, its calls are those of the turn and its own from before, and it made as many entries more as the
     /// history has.
@@ -127,8 +132,11 @@ impl<V: Clerk> TurnLock<V> {
         } = turn;
         publish::<V, Brand>(&self.table.shared, &mut seat, &log, &keeper);
         drop(self.table.shared.exchange(&mut seat, KEEPER, Some(keeper)));
-        self.table.shared.fetch_add::<Next>(&mut seat, SERVED, 1);
-        self.table.shared.wake_all(SERVED);
+        let served = self.table.shared.fetch_add::<Next>(&mut seat, SERVED, 1);
+        // Whoever draws a ticket after this look finds it served, and needs no waking.
+        if self.table.shared.peek(DRAWN) != served.wrapping_add(1) {
+            self.table.shared.wake_all(SERVED);
+        }
         Pass {
             badge: seat.into_badge(),
         }
@@ -202,7 +210,7 @@ impl<V: Clerk> TurnLock<V> {
 
 // Looks at the ticket that is served, and takes the slot where it is the pass's own. None then, and else the ticket
 // that is served.
-fn look<V: Clerk>(words: &Words<V>, seat: &mut Seat<V>, ticket: u64) -> Option<u64>
+fn look<V: Keeper>(words: &Words<V>, seat: &mut Seat<V>, ticket: u64) -> Option<u64>
     requires seat { (seat.old.table_id ≡ words.now.table_id) × (words.now.table_id.words ≡ 3) × (seat.old.me.1 ≡ []) }
     requires ticket { (t : ℕ) × (seat.old.me.0.stage ≡ Waiting t) × (ticket ≡ word t) }
     requires live { live seat.old.me.0 ≡ 1 }
@@ -215,8 +223,28 @@ fn look<V: Clerk>(words: &Words<V>, seat: &mut Seat<V>, ticket: u64) -> Option<u
     if served == ticket { None } else { Some(served) }
 }
 
+// Looks again and again for some microseconds, about as long as a turn without the disk takes, since it takes longer to
+// wake a thread that parks, and all who come later wait for it. None where the ticket came, and else what was served.
+fn look_a_while<V: Keeper>(words: &Words<V>, seat: &mut Seat<V>, ticket: u64) -> Option<u64>
+    requires seat { (seat.old.table_id ≡ words.now.table_id) × (words.now.table_id.words ≡ 3) × (seat.old.me.1 ≡ []) }
+    requires ticket { (t : ℕ) × (seat.old.me.0.stage ≡ Waiting t) × (ticket ≡ word t) }
+    requires live { live seat.old.me.0 ≡ 1 }
+    ensures seat { (seat.new.table_id ≡ seat.old.table_id) × (seat.new.id ≡ seat.old.id) }
+    ensures missed { IfSome result (λ served. seat.new.me ≡ seat.old.me) }
+    ensures gets { IfNone result ((t : ℕ) × Gets V.office t seat.old.me seat.new.me) }
+{
+    for _ in 0..LOOKS {
+        let missed = look(words, seat, ticket);
+        if missed.is_none() {
+            return None;
+        }
+        spin_loop();
+    }
+    look(words, seat, ticket)
+}
+
 // Waits until the ticket is served, and takes the slot.
-fn await_turn<V: Clerk, R: Wait>(rt: &R, words: &Words<V>, seat: &mut Seat<V>, ticket: u64)
+fn await_turn<V: Keeper, R: Wait>(rt: &R, words: &Words<V>, seat: &mut Seat<V>, ticket: u64)
     requires seat { (seat.old.table_id ≡ words.now.table_id) × (words.now.table_id.words ≡ 3) × (seat.old.me.1 ≡ []) }
     requires ticket { (t : ℕ) × (seat.old.me.0.stage ≡ Waiting t) × (ticket ≡ word t) }
     requires live { live seat.old.me.0 ≡ 1 }
@@ -224,7 +252,7 @@ fn await_turn<V: Clerk, R: Wait>(rt: &R, words: &Words<V>, seat: &mut Seat<V>, t
     ensures gets { (t : ℕ) × Gets V.office t seat.old.me seat.new.me }
 {
     for _ in rt.forever() {
-        let Some(served) = look(words, seat, ticket) else {
+        let Some(served) = look_a_while(words, seat, ticket) else {
             return;
         };
         words.park(rt, SERVED, (served % (1 << 32)) as u32);
@@ -233,7 +261,7 @@ fn await_turn<V: Clerk, R: Wait>(rt: &R, words: &Words<V>, seat: &mut Seat<V>, t
 }
 
 // Publishes the calls of a turn. The log and the keeper say which, and what office they left.
-fn publish<V: Clerk, W: Turned>(words: &Words<V>, seat: &mut Seat<V>, _log: &Mark<Log>, keeper: &V)
+fn publish<V: Keeper, W: Turned>(words: &Words<V>, seat: &mut Seat<V>, _log: &Mark<Log>, keeper: &V)
     requires seat { (seat.old.table_id ≡ words.now.table_id) × (words.now.table_id.words ≡ 3) }
     requires turn { (t : ℕ) × (seat.old.me.0.stage ≡ Holding t) }
     requires live { live seat.old.me.0 ≡ 1 }

@@ -1,7 +1,7 @@
 //! Turns at the keeper behind the lock.
 
 ghost use Rattle.std.specs.Prelude.{◌≡◌, ℤ, true, false, [], Option, Some, None};
-ghost use Rattle.intake_lock.specs.declared.clerk.Office.{Office};
+ghost use Rattle.act_model.specs.declared.keeper.Office.{Office};
 ghost use Rattle.act_model.specs.declared.reply.Reply.{Reply};
 ghost use Rattle.act_model.specs.declared.reply.Reply.TheVariants.{Done};
 ghost use Rattle.act_model.specs.declared.request.Request.{Request};
@@ -11,10 +11,9 @@ ghost use Rattle.act_model.specs.Requests.{is_act};
 ghost use Rattle.intake_lock.specs.Items.{TakesTurn, Noted};
 ghost use Rattle.intake_lock.specs.Views.{spent};
 
-use crate::clerk::Clerk;
 use crate::keeping::Seat;
 use crate::view::{Item, View};
-use act_model::{Reply, Request};
+use act_model::{Keeper, Reply, Request};
 use atomic_table::{Mark, PerchPlay, PerchRule, RuledPerch};
 use item_list::ItemList;
 use obs_time::Instant;
@@ -83,20 +82,20 @@ pub type Notes<V> = RuledPerch<Option<V>, View, Log, Noting>;
 ///
 /// A turn that is dropped is lost with its keeper, and nobody enters any more.
 #[derive(Drop)]
-pub struct Turn<V: Clerk> {
+pub struct Turn<V: Keeper> {
     pub(crate) seat: Seat<V>,
     pub(crate) keeper: V,
     pub(crate) notes: Notes<V>,
     pub(crate) log: Mark<Log>,
 }
 
-impl<V: Clerk> Debug for Turn<V> {
+impl<V: Keeper> Debug for Turn<V> {
     fn fmt<W: fmt::Write>(&self, f: &mut Formatter<W>) -> fmt::Result {
         f.write_str("Turn")
     }
 }
 
-impl<V: Clerk> Model for Turn<V> {
+impl<V: Keeper> Model for Turn<V> {
     ghost use Rattle.std.specs.Prelude.{◌≡◌, ℕ, [], ◌∷◌, None};
     ghost use Rattle.intake_lock.specs.declared.view.Stage.TheVariants.{Holding};
     ghost use Rattle.intake_lock.specs.Items.{Called};
@@ -122,7 +121,7 @@ impl<V: Clerk> Model for Turn<V> {
 }
 
 // Notes a call that the keeper answered. The arguments say which, for the proof alone.
-fn note_call<V: Clerk, W: Answered>(
+fn note_call<V: Keeper, W: Answered>(
     notes: &Notes<V>,
     log: &mut Mark<Log>,
     _before: &Snapshot<V>,
@@ -139,7 +138,7 @@ fn note_call<V: Clerk, W: Answered>(
     notes.load::<Note<W>>(log);
 }
 
-impl<V: Clerk> Turn<V> {
+impl<V: Keeper> Turn<V> {
     /// Takes the turn of an act at this reading of the clock. The request has the verb of an act. It takes memory.
     pub fn act(&mut self, request: &Request, reading: Instant) -> Reply
         requires act { is_act request.now.verb ≡ true }

@@ -1,7 +1,6 @@
 //! What a pass knows. The types of this file are for proofs alone: no value of them is made.
 
-use crate::clerk::{Office, Stamp};
-use act_model::{Entry, Reply, Request};
+use act_model::{Entry, Office, Reply, Request, Stamp};
 use item_list::ItemList;
 use obs_time::Instant;
 

@@ -13,11 +13,23 @@ use std::sync::Wait;
 use std::test::*;
 use std::thread::{Threads, join};
 
-// A keeper that never has memory, and counts the acts that it was asked for.
+// A keeper that never has memory, counts the acts that it was asked for, and takes so many steps for each: with a
+// million a turn takes so long that whoever waits for the next one parks.
 #[derive(Drop)]
 struct Forgetful {
     founder: Key,
     acts: u64,
+    steps: u32,
+    draw: u64,
+}
+
+// So many steps, each a draw after the one before.
+fn work(steps: u32, first: u64) -> u64 {
+    let mut draw = first;
+    for _ in 0..steps {
+        draw = draw.wrapping_mul(6_364_136_223_846_793_005).wrapping_add(1);
+    }
+    draw
 }
 
 impl Keeper for Forgetful {
@@ -28,10 +40,12 @@ impl Keeper for Forgetful {
       limit = None;
       state = record { settled = []; doubt = None };
       faults = 0;
+      stamps = None;
     } };
 
     fn act(&mut self, _request: &Request, _reading: Instant) -> Reply {
         self.acts = self.acts.wrapping_add(1);
+        self.draw = work(self.steps, self.draw);
         Reply::Refused(Refusal::NoMemory)
     }
 
@@ -118,15 +132,22 @@ fn acts_of_two<R: Threads + Wait + Sync>(
     Some(keeper.acts)
 }
 
-#[test]
-fn threads_take_turns(rt: HostRuntime) {
+// The acts of two threads, with so many steps an act.
+fn acts_with<R: Threads + Wait + Sync>(rt: &R, alloc: Global, steps: u32) -> Option<u64> {
+    let reading = Instant::new(0)?;
     let keeper = Forgetful {
         founder: Key::new(b"+founder-1"),
         acts: 0,
+        steps,
+        draw: 0,
     };
-    let Some(reading) = Instant::new(0) else {
-        unreachable!()
-    };
-    let acts = acts_of_two(&rt, rt.alloc(), keeper, reading);
-    assert_eq!(rt; acts, Some(20));
+    acts_of_two(rt, alloc, keeper, reading)
+}
+
+#[test]
+fn threads_take_turns(rt: HostRuntime) {
+    for steps in [0, 1_000_000] {
+        let acts = acts_with(&rt, rt.alloc(), steps);
+        assert_eq!(rt; acts, Some(20));
+    }
 }

@@ -5,7 +5,7 @@
 ghost use Rattle.std.specs.Prelude.{◌≡◌};
 
 use act_model::{Keeper, Reply, Request, Verb};
-use intake_lock::{Clerk, Pass, TurnLock};
+use intake_lock::{Pass, TurnLock};
 use std::alloc::Global;
 use std::sync::Wait;
 use testkit_desks::{
@@ -43,7 +43,7 @@ fn is_done(request: &Request, reply: &Reply) -> bool {
 }
 
 // All turns of a thread. How many of its acts were done; 0 where memory was refused.
-fn take_turns<V: Clerk, R: Wait>(
+fn take_turns<V: Keeper, R: Wait>(
     rt: &R,
     alloc: Global,
     lock: &TurnLock<V>,
@@ -189,7 +189,7 @@ struct ManyTurns;
 impl Turns for ManyTurns {
     type Told = bool;
 
-    fn take<V: Clerk, R: Wait>(
+    fn take<V: Keeper, R: Wait>(
         &self,
         rt: &R,
         alloc: Global,

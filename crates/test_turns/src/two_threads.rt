@@ -3,7 +3,7 @@
 ghost use Rattle.std.specs.Prelude.{◌≡◌};
 
 use act_model::{Keeper, Verb};
-use intake_lock::{Clerk, Pass, TurnLock};
+use intake_lock::{Pass, TurnLock};
 use std::alloc::Global;
 use std::sync::Wait;
 use testkit_desks::{
@@ -12,7 +12,7 @@ use testkit_desks::{
 
 // Ten turns, in each of which a caller is enrolled, under the numbers from this one on. How many of them had a greater
 // receipt than the one before; 0 where memory was refused.
-fn take_ten_turns<V: Clerk, R: Wait>(
+fn take_ten_turns<V: Keeper, R: Wait>(
     rt: &R,
     alloc: Global,
     lock: &TurnLock<V>,
@@ -49,7 +49,7 @@ struct TenTurns;
 impl Turns for TenTurns {
     type Told = (u64, Option<u64>, Option<u64>);
 
-    fn take<V: Clerk, R: Wait>(
+    fn take<V: Keeper, R: Wait>(
         &self,
         rt: &R,
         alloc: Global,

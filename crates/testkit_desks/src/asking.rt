@@ -5,7 +5,7 @@ ghost use Rattle.std.specs.Prelude.{◌≡◌};
 use act_model::{Body, Keeper, Key, Reply, Request, Verb};
 use desk_io::TickClock;
 use http_connection::answer_one;
-use intake_lock::{Clerk, Pass, TurnLock};
+use intake_lock::{Pass, TurnLock};
 use item_list::Bytes;
 use obs_time::Instant;
 use std::alloc::Global;
@@ -37,7 +37,7 @@ pub fn new_clock() -> Option<TickClock> {
 }
 
 /// One turn at the lock.
-pub fn take_turn<V: Clerk, R: Wait>(
+pub fn take_turn<V: Keeper, R: Wait>(
     rt: &R,
     alloc: Global,
     lock: &TurnLock<V>,

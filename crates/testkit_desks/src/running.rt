@@ -7,7 +7,7 @@ ghost use Rattle.testkit_desks.specs.Roots.{IsRootFor};
 
 use crate::turns::Turns;
 use act_model::Keeper;
-use intake_lock::{Clerk, Pass, TurnLock};
+use intake_lock::{Pass, TurnLock};
 use std::alloc::Global;
 use std::sync::Wait;
 use std::thread::{Threads, join};
@@ -16,7 +16,7 @@ use std::thread::{Threads, join};
 pub const THREADS: u64 = 8;
 
 /// Splits a branch off the root, where as many more may be split as threads are left.
-fn split_root<V: Clerk>(lock: &TurnLock<V>, root: Pass, left: u64) -> Result<(Pass, Pass), Pass>
+fn split_root<V: Keeper>(lock: &TurnLock<V>, root: Pass, left: u64) -> Result<(Pass, Pass), Pass>
     requires lock { root.lock ≡ lock.now.id }
     requires some { 0 < left }
     requires root { IsRootFor left root.view.role }
@@ -37,7 +37,7 @@ fn with(others: Option<Vec<u64>>, more: u64) -> Option<Vec<u64>> {
 
 /// Runs so many threads, each with a branch of its own. What came of the turns of each, in the order of their numbers;
 /// None where memory was refused.
-pub(crate) fn run_threads<V: Clerk + Send, J: Turns + Sync, R: Threads + Wait + Sync>(
+pub(crate) fn run_threads<V: Keeper + Send, J: Turns + Sync, R: Threads + Wait + Sync>(
     rt: &R,
     alloc: Global,
     lock: &TurnLock<V>,

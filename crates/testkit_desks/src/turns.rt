@@ -3,7 +3,7 @@
 ghost use Rattle.std.specs.Prelude.{◌≡◌};
 
 use act_model::Keeper;
-use intake_lock::{Clerk, Pass, TurnLock};
+use intake_lock::{Pass, TurnLock};
 use std::alloc::Global;
 use std::sync::Wait;
 
@@ -13,7 +13,7 @@ pub trait Turns {
     type Told;
 
     /// All turns of a thread, which are counted from 1, and a number that tells what came of them.
-    fn take<V: Clerk, R: Wait>(
+    fn take<V: Keeper, R: Wait>(
         &self,
         rt: &R,
         alloc: Global,

@@ -13,7 +13,7 @@ fetch_add-ticket-requires g c =
     let view : view_in c.pass.inside.badge.views ≡ c.into_seat-seat.result.me.0 = ap view_in c.into_seat-seat.ensures.2 in (
       c.into_seat-seat.ensures.0 ∙ ap (λ (p : PassState). p.lock) c.pass.view_is ∙ c.requires ∙ sym (ap (λ (l : LockState). l.id) c.self.view_is),
       omega arith,
-      draws c.steps_add_one_entry.ensures g.V.Clerk.office (g.V.Clerk.office c.self.inside.table.shared.key.value) c.self.inside.table.shared.table_id.slots c.into_seat-seat.result.id c.into_seat-seat.result.me
+      draws c.steps_add_one_entry.ensures g.V.Keeper.office (g.V.Keeper.office c.self.inside.table.shared.key.value) c.self.inside.table.shared.table_id.slots c.into_seat-seat.result.id c.into_seat-seat.result.me
           (subst (λ (v : View). live v ≡ 1) view c.pass.invariant.2)
           (subst (λ (v : View). v.stage ≡ Idle) view c.pass.invariant.1),
     )

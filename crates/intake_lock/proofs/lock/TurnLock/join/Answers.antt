@@ -20,7 +20,7 @@ join_seat-requires g c =
       c.into_seat.ensures.0 ∙ ap (λ (p : PassState). p.lock) c.other.view_is ∙ c.requires.lock.1 ∙ sym (ap (λ (l : LockState). l.id) c.self.view_is),
       c.into_seat.ensures.3,
       omega arith,
-      joins c.steps_add_one_entry.ensures g.V.Clerk.office (g.V.Clerk.office c.self.inside.table.shared.key.value) c.into_seat-seat.result.id c.into_seat.result.id root.0 c.into_seat-seat.result.me.0 c.into_seat.result.me.0 root.1
+      joins c.steps_add_one_entry.ensures g.V.Keeper.office (g.V.Keeper.office c.self.inside.table.shared.key.value) c.into_seat-seat.result.id c.into_seat.result.id root.0 c.into_seat-seat.result.me.0 c.into_seat.result.me.0 root.1
           (subst (λ (v : View). v.stage ≡ Idle) view c.pass.invariant.1)
           (subst (λ (v : View). v.role ≡ Branch) given' c.requires.branch)
           (subst (λ (v : View). v.stage ≡ Idle) view' c.other.invariant.1),
@@ -35,7 +35,7 @@ load-requires g c =
     let both : c.join_seat.new.seat.me.0 ≡ joined c.into_seat-seat.result.me.0 c.into_seat.result.me.0 = ap (λ (m : View × List (ℕ × Option g.row.V.Denot)). m.0) c.join_seat.ensures.2 in (
       c.join_seat.ensures.0 ∙ c.into_seat-seat.ensures.0 ∙ ap (λ (p : PassState). p.lock) c.pass.view_is ∙ c.requires.lock.0 ∙ sym (ap (λ (l : LockState). l.id) c.self.view_is),
       omega arith,
-      tells c.steps_add_one_entry.ensures g.V.Clerk.office (g.V.Clerk.office c.self.inside.table.shared.key.value) c.self.inside.table.shared.table_id.slots c.join_seat.new.seat.id c.join_seat.new.seat.me
+      tells c.steps_add_one_entry.ensures g.V.Keeper.office (g.V.Keeper.office c.self.inside.table.shared.key.value) c.self.inside.table.shared.table_id.slots c.join_seat.new.seat.id c.join_seat.new.seat.me
           (subst (λ (v : View). live v ≡ 1) (sym both) (joined_live c.into_seat-seat.result.me.0 c.into_seat.result.me.0 root.0 root.1))
           (subst (λ (v : View). length v.also ≤ length (seen v)) (sym both) (also_short c.into_seat-seat.result.me.0 c.into_seat.result.me.0)),
     )

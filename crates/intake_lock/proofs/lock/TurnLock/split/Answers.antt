@@ -13,6 +13,6 @@ split_seat-other-requires g c =
     let root = may_split c.into_seat-seat.result.me.0.role (subst (λ (v : View). MaySplit v.role) given c.requires.root) in (
       c.into_seat-seat.ensures.0 ∙ ap (λ (p : PassState). p.lock) c.pass.view_is ∙ c.requires.lock ∙ sym (ap (λ (l : LockState). l.id) c.self.view_is),
       omega arith,
-      splits c.steps_add_one_entry.ensures g.V.Clerk.office (g.V.Clerk.office c.self.inside.table.shared.key.value) c.into_seat-seat.result.id root.0 c.into_seat-seat.result.me.0 root.1
+      splits c.steps_add_one_entry.ensures g.V.Keeper.office (g.V.Keeper.office c.self.inside.table.shared.key.value) c.into_seat-seat.result.id root.0 c.into_seat-seat.result.me.0 root.1
           (subst (λ (v : View). v.stage ≡ Idle) view c.pass.invariant.1) root.2,
     )

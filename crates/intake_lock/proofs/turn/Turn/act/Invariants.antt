@@ -3,9 +3,9 @@ use Rattle.intake_lock.proofs.turn.Turn.act.Given as goal
 abbrev pub ghosts-note_call : goal.ghosts-note_call
 ghosts-note_call g a =
     record {
-      before = g.V.Clerk.office a._before.now.value;
+      before = g.V.Keeper.office a._before.now.value;
       request = a._request.now;
       reading = a._reading;
       reply = a._reply.now;
-      after = g.V.Clerk.office a._keeper.now;
+      after = g.V.Keeper.office a._keeper.now;
     }

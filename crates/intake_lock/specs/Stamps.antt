@@ -1,19 +1,7 @@
--- The office of a clerk, and how its stamps go on.
+-- The stamps of a keeper, and how they go on.
 use Rattle.std.specs.Prelude.{◌≡◌, ◌≤◌, List, ◌++◌, Option, Some, None, IsSomeAnd, Contains}
-use Rattle.act_model.specs.declared.keeper.Office.{Office as KeptOffice}
-use Rattle.intake_lock.specs.declared.clerk.Office.{Office}
-use Rattle.intake_lock.specs.declared.clerk.Stamp.{Stamp}
-use Rattle.intake_lock.specs.declared.clerk.Stamps.{Stamps}
-
--- the office of a keeper, with these stamps
-abbrev pub with_stamps : Option Stamps → KeptOffice → Office
-with_stamps stamps office = record {
-  founder = office.founder;
-  limit = office.limit;
-  state = office.state;
-  faults = office.faults;
-  stamps = stamps;
-}
+use Rattle.act_model.specs.declared.keeper.Stamp.{Stamp}
+use Rattle.act_model.specs.declared.keeper.Stamps.{Stamps}
 
 -- this stamp was given
 abbrev pub Gave : Option Stamps → Stamp → Type 0
