@@ -7,7 +7,8 @@ use Rattle.std.specs.List.{AllByRecursion}
 use Rattle.disk_model.specs.Files.{written}
 use Rattle.disk_model.specs.Crashes.{Torn}
 use Rattle.obs_journal.specs.Parcels.{RawParcel, IsParcel, parcel_bytes}
-use Rattle.obs_journal.specs.Formats.{head, first_seal, next_seal, file_of, front_length, Format}
+use Rattle.obs_journal.specs.Formats.{head, first_seal, next_seal, file_of, front_length}
+use Rattle.obs_journal.specs.declared.format.Format.{Format}
 use Rattle.obs_journal.specs.Files.{IsRowIn}
 use Rattle.obs_journal.specs.Journals.{IsDoubtfulIn}
 use Rattle.obs_journal.proofs.Rows.{length-file_of, row-append, file_behind}

@@ -1,5 +1,5 @@
 -- The bytes of a parcel are its own.
-use Rattle.std.proofs.Common.{◌≡◌, ℕ, ℤ, ◌+◌, ◌-◌, ◌^◌, ◌<◌, ◌≤◌, List, [], ◌∷◌, ◌++◌, length, take, drop, refl, sym, ◌∙◌, ap, arith, append_assoc, length-append}
+use Rattle.std.proofs.Common.{◌≡◌, ℕ, ℤ, ◌+◌, ◌-◌, ◌^◌, ◌<◌, List, [], ◌∷◌, ◌++◌, length, take, drop, refl, sym, ◌∙◌, ap, arith, append_assoc, length-append}
 use Rattle.std.specs.Prelude.{replicate}
 use Rattle.std.proofs.lemmas.List.{take_at, drop_at}
 use Rattle.std.proofs.lemmas.Nat.{from_be_bytes-to_be_bytes_4, from_be_bytes-to_be_bytes_8}
@@ -84,10 +84,6 @@ one_parcel p q x y fp fq e =
   where
     of_z_fits : (z : ℤ) → FitsSigned w64 z → cast_unsigned w64 z < 2 ^ 64
     of_z_fits z fits = (Fits-of_z {w = w64} {z = z} fits).fits
-
--- no parcel where the bytes are too few
-pub too_few : (bytes : List ℕ) (p : RawParcel) (gate : ℕ) (rest : List ℕ) → bytes ≡ parcel_bytes p ++ gate ∷ rest → 26 + length p.body ≤ length bytes
-too_few bytes p gate rest e = omega (arith, ap length e, length-append (parcel_bytes p) (gate ∷ rest), length-parcel_bytes p)
 
 -- the length that stands before a parcel
 pub says_length : (bytes : List ℕ) (p : RawParcel) (rest : List ℕ) → IsParcel p → bytes ≡ parcel_bytes p ++ rest → from_be_bytes w32 (take 4 bytes) ≡ counted p

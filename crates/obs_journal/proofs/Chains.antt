@@ -1,10 +1,15 @@
 -- Chained files, and a chained journal with one parcel more.
 use Rattle.std.proofs.Common.{◌≡◌, ℕ, ◌+◌, List, [], ◌∷◌, ◌++◌, length, get_or, sym, ◌∙◌, ap, arith}
+use Rattle.std.specs.Prelude.{IfSome, IsSome}
+use Rattle.std.specs.declared.option.Option.{Option}
+use Rattle.std.specs.declared.option.Option.TheVariants.{Some}
 use Rattle.sha2.specs.Sha256.{sha256}
 use Rattle.obs_journal.specs.Parcels.{RawParcel, parcel_bytes}
-use Rattle.obs_journal.specs.Formats.{first_seal, last_seal, next_seal, row_length_in, front_length, Chained}
+use Rattle.obs_journal.specs.Formats.{first_seal, last_seal, next_seal, row_length_in, front_length}
+use Rattle.obs_journal.specs.declared.format.Format.TheVariants.{Chained}
 use Rattle.obs_journal.specs.Chains.{IsInForce, IsChain, IsBrokenAt, reached_after}
 use Rattle.obs_journal.specs.declared.chain.Reached.{Reached}
+use Rattle.obs_journal.proofs.Quiet.{never_both}
 use Rattle.obs_journal.proofs.Rows.{length-file_of, row_length-append, last_seal-append, row_or_damage, one_damage, behind_head}
 
 pub chain_in_force : (file : List ℕ) (ps : List RawParcel) → IsChain file ps → IsInForce file
@@ -20,6 +25,10 @@ pub one_break : (file : List ℕ) (m n : ℕ) → IsBrokenAt file m → IsBroken
 one_break file m n d e =
     let same = one_damage Chained (first_seal Chained) d.before e.before d.rest e.rest d.each e.each d.stops e.stops (behind_head Chained _ _ (sym d.file_is ∙ e.file_is)) in
     omega (arith, same, d.offset_is, e.offset_is)
+
+-- a file that spells a list isn't damaged
+pub never_broken : (known : Option (List ℕ)) (offset : ℕ) → IfSome known (λ file. IsBrokenAt file offset) → IsSome known → ((file : List ℕ) → known ≡ Some file → (ps : List RawParcel) × IsChain file ps) → ⊥
+never_broken known offset = never_both known (λ file. IsBrokenAt file offset) (λ file. (ps : List RawParcel) × IsChain file ps) (λ file broken list. broken_spells_nothing file offset list.0 broken list.1)
 
 -- where the chain stands before a parcel
 pub at_gate : (r : Reached) (ps : List RawParcel) → r ≡ reached_after ps → r.position ≡ front_length Chained ps + 1

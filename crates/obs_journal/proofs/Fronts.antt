@@ -1,12 +1,19 @@
 -- What was read at a gate, put together.
-use Rattle.std.proofs.Common.{◌≡◌, ◌≢◌, ℕ, ◌+◌, ◌-◌, ◌<◌, ◌≤◌, List, [], ◌∷◌, ◌++◌, length, get_or, take, drop, refl, sym, ◌∙◌, ap, subst, arith, length-drop, append_assoc, take-append-drop}
+use Rattle.std.proofs.Common.{◌≡◌, ◌≢◌, ℕ, ◌+◌, ◌-◌, ◌<◌, ◌≤◌, List, [], ◌∷◌, ◌++◌, length, get_or, take, drop, refl, sym, ◌∙◌, ap, arith, length-append, length-drop, append_assoc, take-append-drop}
 use Rattle.std.proofs.lemmas.List.{drop-drop, drop_more, get_or_default, take_all}
 use Rattle.obs_journal.proofs.Quiet.{if_both}
 use Rattle.std.specs.Prelude.{Result, Ok, Err, IfOk, IfSome}
 use Rattle.std.specs.declared.option.Option.{Option}
-use Rattle.std.specs.Int.{w32, w64, to_be_bytes, cast_unsigned}
+use Rattle.std.specs.Int.{w32, w64, to_be_bytes, cast_unsigned, cast_signed}
+use Rattle.std.specs.Int.RustNames.{FitsSigned}
+use Rattle.std.proofs.lemmas.Int.{to_z-of_z}
 use Rattle.obs_journal.specs.Parcels.{RawParcel, IsParcel, parcel_bytes}
-use Rattle.obs_journal.specs.Fronts.{head_spelled, with_body, HasRoom, StandsAtFront}
+use Rattle.obs_journal.specs.Formats.{seal, seal_length, room_in}
+use Rattle.obs_journal.specs.Files.{NoParcelIn}
+use Rattle.obs_journal.specs.Fronts.{head_spelled, with_body, HasRoom, StandsAtFront, StandsBehind, IsInside}
+use Rattle.obs_journal.specs.declared.format.Format.{Format}
+use Rattle.obs_journal.proofs.Bytes.{length-parcel_bytes}
+use Rattle.obs_journal.proofs.Seals.{length-seal, room_is, wrong_seal}
 use Rattle.obs_journal.specs.declared.gates.Head.{Head}
 use Rattle.obs_journal.specs.declared.gates.Front.{Front}
 use Rattle.obs_journal.specs.declared.gates.Front.TheVariants.{Closed, Damaged, Open}
@@ -22,41 +29,67 @@ first_and_rest : (bytes : List ℕ) (byte : ℕ) → 1 ≤ length bytes → get_
 first_and_rest [] byte long is = absurd (omega (arith, long))
 first_and_rest (b ∷ bytes) byte long is = ap (λ x. x ∷ bytes) is
 
--- a gate, a head, a body and what is after them
-pub put_together : (file bytes body : List ℕ) (gate n : ℕ) (head : Head) → bytes ≡ take 26 (drop gate file) → bytes ≡ 1 ∷ head_spelled head → body ≡ take n (drop (gate + 26) file) → length body + 21 ≡ head.counted → gate + 26 + n < length file
-    → drop gate file ≡ 1 ∷ (parcel_bytes (with_body head body) ++ get_or (drop n (drop (gate + 26) file)) 0 0 ∷ drop 1 (drop n (drop (gate + 26) file)))
-put_together file bytes body gate n head front spelled body_is long inside =
-    let behind = drop (gate + 26) file in
-    let rest = drop n behind in
-    let more : 0 < length rest = omega (arith, length-drop n behind, length-drop (gate + 26) file) in
-    let rest_is : rest ≡ get_or rest 0 0 ∷ drop 1 rest = drop_more rest 0 0 more in
-    let behind_is : behind ≡ body ++ (get_or rest 0 0 ∷ drop 1 rest) = sym (take-append-drop n behind) ∙ ap (λ l. l ++ rest) (sym body_is) ∙ ap (λ l. body ++ l) rest_is in
-    sym (take-append-drop 26 (drop gate file)) ∙ ap (λ l. l ++ drop 26 (drop gate file)) (sym front ∙ spelled) ∙ ap (λ l. (1 ∷ head_spelled head) ++ l) (drop-drop 26 gate file ∙ behind_is)
-    ∙ ap (λ l. 1 ∷ l) (sym (append_assoc (head_spelled head) body (get_or rest 0 0 ∷ drop 1 rest)) ∙ ap (λ l. l ++ (get_or rest 0 0 ∷ drop 1 rest)) (sym (with_body_bytes head body long)))
+-- the parcel that is made of a head and a body, its moment kept as bits
+pub made_of : (head : Head) (body : List ℕ) → FitsSigned w64 head.moment → record { caller = head.caller; number = head.number; moment = cast_signed w64 (cast_unsigned w64 head.moment); verb = head.verb; body = body } ≡ with_body head body
+made_of head body fits = let same = to_z-of_z w64 head.moment fits in λ i. record { caller = head.caller; number = head.number; moment = same i; verb = head.verb; body = body }
+
+-- a head, a body, a seal and what is after them
+behind_is : (behind got body own : List ℕ) (n m : ℕ) (head : Head) → got ≡ take m behind → body ≡ take n got → own ≡ drop n got → length body + 21 ≡ head.counted → head_spelled head ++ behind ≡ parcel_bytes (with_body head body) ++ (own ++ drop m behind)
+behind_is behind got body own n m head got_is body_is own_is long =
+    let whole : got ≡ body ++ own = sym (take-append-drop n got) ∙ ap (λ l. l ++ drop n got) (sym body_is) ∙ ap (λ l. body ++ l) (sym own_is) in
+    let parts : behind ≡ body ++ (own ++ drop m behind) = sym (take-append-drop m behind) ∙ ap (λ l. l ++ drop m behind) (sym got_is ∙ whole) ∙ append_assoc body own (drop m behind) in
+    ap (λ l. head_spelled head ++ l) parts ∙ sym (append_assoc (head_spelled head) body (own ++ drop m behind)) ∙ ap (λ l. l ++ (own ++ drop m behind)) (sym (with_body_bytes head body long))
+
+-- a parcel with its seal was read behind a head, or with another seal
+pub sealed_behind : (f : Format) (last digest behind got body own : List ℕ) (n m : ℕ) (head : Head) (p : RawParcel) → got ≡ take m behind → body ≡ take n got → own ≡ drop n got → length body + 21 ≡ head.counted → p ≡ with_body head body
+    → digest ≡ seal f last (parcel_bytes p) → own ≡ digest → (rest : List ℕ) × (head_spelled head ++ behind ≡ parcel_bytes p ++ (seal f last (parcel_bytes p) ++ rest))
+sealed_behind f last digest behind got body own n m head p got_is body_is own_is long p_is digest_is own_digest =
+    (drop m behind, behind_is behind got body own n m head got_is body_is own_is long ∙ ap (λ (q : RawParcel). parcel_bytes q ++ (own ++ drop m behind)) (sym p_is) ∙ ap (λ l. parcel_bytes p ++ (l ++ drop m behind)) (own_digest ∙ digest_is))
+
+pub wrong_behind : (f : Format) (last digest behind got body own : List ℕ) (n m : ℕ) (head : Head) (p : RawParcel) → got ≡ take m behind → body ≡ take n got → own ≡ drop n got → length body + 21 ≡ head.counted → p ≡ with_body head body
+    → digest ≡ seal f last (parcel_bytes p) → IsParcel p → length own ≡ seal_length f → own ≢ digest → NoParcelIn f last (head_spelled head ++ behind)
+wrong_behind f last digest behind got body own n m head p got_is body_is own_is long p_is digest_is fits own_long other =
+    wrong_seal f last own (drop m behind) (head_spelled head ++ behind) p fits own_long (λ same. other (same ∙ sym digest_is)) (behind_is behind got body own n m head got_is body_is own_is long ∙ ap (λ (q : RawParcel). parcel_bytes q ++ (own ++ drop m behind)) (sym p_is))
 
 -- what holds of each value that a result may be
 pub each_ok : {T E : Type 0} (result : Result T E) (P : T → Type 0) → ((value : T) → result ≡ Ok value → P value) → IfOk result P
 each_ok (Ok value) P each = each value refl
 each_ok (Err fault) P each = tt
 
+-- where a gate and a head stand, what is behind them
+gate_read : (file bytes : List ℕ) (gate count : ℕ) (head : Head) → count ≡ 26 → bytes ≡ take count (drop gate file) → bytes ≡ 1 ∷ head_spelled head → drop gate file ≡ 1 ∷ (head_spelled head ++ drop (gate + 26) file)
+gate_read file bytes gate count head count_is front spelled =
+    sym (take-append-drop 26 (drop gate file)) ∙ ap (λ l. l ++ drop 26 (drop gate file)) (sym (front ∙ ap (λ c. take c (drop gate file)) count_is) ∙ spelled) ∙ ap (λ l. (1 ∷ head_spelled head) ++ l) (drop-drop 26 gate file)
+
+-- a gate after a parcel that is inside
+gate_after : (f : Format) (last bytes rest : List ℕ) (p : RawParcel) (left : ℕ) → bytes ≡ 1 ∷ (parcel_bytes p ++ (seal f last (parcel_bytes p) ++ rest)) → length bytes ≡ left → room_in f p < left → rest ≡ get_or rest 0 0 ∷ drop 1 rest
+gate_after f last bytes rest p left is long inside =
+    let own = seal f last (parcel_bytes p) in
+    drop_more rest 0 0 (omega (arith, ap length is, long, inside, length-append (parcel_bytes p) (own ++ rest), length-append own rest, length-parcel_bytes p, length-seal f last (parcel_bytes p), room_is f p))
+
+-- a parcel whose head has room is inside
+pub inside_of : (f : Format) (front : Front) (counted left : ℕ) → HasRoom f counted left → ((parcel : RawParcel) (digest : List ℕ) → front ≡ Open parcel digest → length parcel.body + 21 ≡ counted) → IsInside f front left
+inside_of f Closed counted left room long = tt
+inside_of f Damaged counted left room long = tt
+inside_of f (Open parcel digest) counted left room long = omega (arith, long parcel digest refl, room.inside, room_is f parcel)
+
 -- what was read at an open gate
-pub front_read : (front : Front) (known : Option (List ℕ)) (bytes : List ℕ) (gate end count : ℕ) (head : Head) → count ≡ 26 → IfSome known (λ file. bytes ≡ take count (drop gate file)) → bytes ≡ 1 ∷ head_spelled head → HasRoom head.counted (end - gate)
-    → ((parcel : RawParcel) → front ≡ Open parcel → IfSome known (λ file. parcel ≡ with_body head (take (head.counted - 21) (drop (gate + 26) file)))) → ((parcel : RawParcel) → front ≡ Open parcel → length parcel.body + 21 ≡ head.counted)
-    → ((parcel : RawParcel) → front ≡ Open parcel → IsParcel parcel) → (front ≡ Damaged → IfSome known (λ file. length file < gate + 26 + (head.counted - 21))) → front ≢ Closed
-    → IfSome known (λ file. length file ≡ end → StandsAtFront (drop gate file) front)
-front_read Closed known bytes gate end count head count_is whole spelled room open_is long fits ends not_closed = absurd (not_closed refl)
-front_read Damaged known bytes gate end count head count_is whole spelled room open_is long fits ends not_closed =
-    if_both (λ file. bytes ≡ take count (drop gate file)) (λ file. length file < gate + 26 + (head.counted - 21)) (λ file. length file ≡ end → StandsAtFront (drop gate file) Damaged) known
-    (λ file was short at_end. absurd (omega (arith, short, at_end, room.least, room.inside))) whole (ends refl)
-front_read (Open parcel) known bytes gate end count head count_is whole spelled room open_is long fits ends not_closed =
-    if_both (λ file. bytes ≡ take count (drop gate file)) (λ file. parcel ≡ with_body head (take (head.counted - 21) (drop (gate + 26) file))) (λ file. length file ≡ end → StandsAtFront (drop gate file) (Open parcel)) known
-    (λ file was is at_end.
-    let n = head.counted - 21 in
-    let body = take n (drop (gate + 26) file) in
-    let body_long : length body + 21 ≡ head.counted = ap (λ (p : RawParcel). length p.body + 21) (sym is) ∙ long parcel refl in
-    let there = put_together file bytes body gate n head (was ∙ ap (λ c. take c (drop gate file)) count_is) spelled refl body_long (omega (arith, at_end, room.least, room.inside)) in
-    subst (λ (p : RawParcel). StandsAtFront (drop gate file) (Open p)) (sym is) (get_or (drop n (drop (gate + 26) file)) 0 0, drop 1 (drop n (drop (gate + 26) file)), there, subst (λ (p : RawParcel). IsParcel p) is (fits parcel refl)))
-    whole (open_is parcel refl)
+pub front_read : (f : Format) (last : List ℕ) (front : Front) (known : Option (List ℕ)) (bytes : List ℕ) (gate end count : ℕ) (head : Head) → count ≡ 26 → IfSome known (λ file. bytes ≡ take count (drop gate file)) → bytes ≡ 1 ∷ head_spelled head
+    → IfSome known (λ file. StandsBehind f last head (drop (gate + 26) file) front) → ((parcel : RawParcel) (digest : List ℕ) → front ≡ Open parcel digest → IsParcel parcel) → IsInside f front (end - gate)
+    → IfSome known (λ file. length file ≡ end → StandsAtFront f last (drop gate file) front)
+front_read f last Closed known bytes gate end count head count_is whole spelled behind fits inside =
+    if_both (λ file. bytes ≡ take count (drop gate file)) (λ file. StandsBehind f last head (drop (gate + 26) file) Closed) (λ file. length file ≡ end → StandsAtFront f last (drop gate file) Closed) known (λ file was none at_end. absurd none) whole behind
+front_read f last Damaged known bytes gate end count head count_is whole spelled behind fits inside =
+    if_both (λ file. bytes ≡ take count (drop gate file)) (λ file. StandsBehind f last head (drop (gate + 26) file) Damaged) (λ file. length file ≡ end → StandsAtFront f last (drop gate file) Damaged) known
+    (λ file was none at_end. (head_spelled head ++ drop (gate + 26) file, gate_read file bytes gate count head count_is was spelled, none)) whole behind
+front_read f last (Open parcel digest) known bytes gate end count head count_is whole spelled behind fits inside =
+    if_both (λ file. bytes ≡ take count (drop gate file)) (λ file. StandsBehind f last head (drop (gate + 26) file) (Open parcel digest)) (λ file. length file ≡ end → StandsAtFront f last (drop gate file) (Open parcel digest)) known
+    (λ file was there at_end.
+    let own = seal f last (parcel_bytes parcel) in
+    let rest = there.0 in
+    let is : drop gate file ≡ 1 ∷ (parcel_bytes parcel ++ (own ++ rest)) = gate_read file bytes gate count head count_is was spelled ∙ ap (λ l. 1 ∷ l) there.1 in
+    let more = gate_after f last (drop gate file) rest parcel (end - gate) is (length-drop gate file ∙ ap (λ n. n - gate) at_end) inside in
+    (get_or rest 0 0, drop 1 rest, is ∙ ap (λ l. 1 ∷ (parcel_bytes parcel ++ (own ++ l))) more, fits parcel digest refl)) whole behind
 
 -- the gate and the head among the bytes that were read
 pub gate_and_head : (bytes all : List ℕ) (byte : ℕ) (head : Head) → all ≡ bytes → 1 ≤ length bytes → byte ≡ get_or bytes 0 byte → byte ≡ 1 → take (length all - 1) (drop 1 all) ≡ head_spelled head → bytes ≡ 1 ∷ head_spelled head

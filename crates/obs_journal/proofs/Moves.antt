@@ -11,7 +11,8 @@ use Rattle.disk_model.specs.Crashes.{Torn, After, Passes, EachSince, During}
 use Rattle.disk_model.specs.Moments.{during_call, during_joined, during_one_more, during_weaker}
 use Rattle.obs_journal.specs.Parcels.{RawParcel, IsParcel, parcel_bytes}
 use Rattle.sha2.specs.Sha256.{sha256}
-use Rattle.obs_journal.specs.Formats.{first_seal, seal, last_seal, room_in, row, row_length_in, Chained}
+use Rattle.obs_journal.specs.Formats.{first_seal, seal, last_seal, room_in, row, row_length_in}
+use Rattle.obs_journal.specs.declared.format.Format.TheVariants.{Chained}
 use Rattle.obs_journal.specs.Opening.{parcels_of}
 use Rattle.obs_journal.specs.declared.opening.Placed.{Placed}
 use Rattle.obs_journal.proofs.Rows.{length-row, row-append, row_behind, row_length-append, last_seal-append}
@@ -159,7 +160,7 @@ known_grown (Some file) (Some byte) mid new bytes one grown same = subst (λ r. 
 
 -- ---- the row, parcel by parcel
 
-parcels_of-more : (places : List Placed) (i : ℕ) (p : Placed) → i < length places → p ≡ get_or places i p → parcels_of (take (i + 1) places) ≡ parcels_of (take i places) ++ p.parcel ∷ []
+pub parcels_of-more : (places : List Placed) (i : ℕ) (p : Placed) → i < length places → p ≡ get_or places i p → parcels_of (take (i + 1) places) ≡ parcels_of (take i places) ++ p.parcel ∷ []
 parcels_of-more places i p within here =
     ap parcels_of (take_more places i p within ∙ ap (λ (x : Placed). take i places ++ x ∷ []) (sym here)) ∙ map-append (λ (x : Placed). x.parcel) (take i places) (p ∷ [])
 

@@ -1,7 +1,7 @@
 -- Calls that write nothing.
-use Rattle.std.proofs.Common.{◌≡◌, inl, ⊎_elim, ℕ, ◌+◌, ◌-◌, ◌≤◌, List, ◌++◌, length, take, drop, sym, ◌∙◌, ap, arith, append_assoc, length-drop, take-append-drop}
+use Rattle.std.proofs.Common.{◌≡◌, inl, ⊎_elim, ℕ, ◌+◌, ◌-◌, ◌≤◌, List, ◌++◌, length, take, drop, refl, sym, ◌∙◌, ap, arith, append_assoc, length-drop, take-append-drop}
 use Rattle.std.proofs.lemmas.List.{take_at, drop-drop, drop-take, take-take, length-take-le}
-use Rattle.std.specs.Prelude.{IfSome}
+use Rattle.std.specs.Prelude.{IfSome, IsSome}
 use Rattle.std.specs.declared.option.Option.{Option}
 use Rattle.std.specs.declared.option.Option.TheVariants.{None, Some}
 use Rattle.disk_model.specs.Files.{Gives}
@@ -29,6 +29,11 @@ unwritten_joined first second = record { same = second.same ∙ first.same; no_i
 pub if_both : {A : Type 0} (P Q R : A → Type 0) (known : Option A) → ((x : A) → P x → Q x → R x) → IfSome known P → IfSome known Q → IfSome known R
 if_both P Q R None both p q = tt
 if_both P Q R (Some x) both p q = both x p q
+
+-- nor what no file has at once
+pub never_both : (known : Option (List ℕ)) (P Q : List ℕ → Type 0) → ((file : List ℕ) → P file → Q file → ⊥) → IfSome known P → IsSome known → ((file : List ℕ) → known ≡ Some file → Q file) → ⊥
+never_both None P Q never p some q = cc
+never_both (Some file) P Q never p some q = never file p (q file refl)
 
 -- what a read gives stands in the front of its piece
 pub given_front : (file : List ℕ) (at n : ℕ) (old new rest : List ℕ) → Gives file at n old new → take n (new ++ rest) ≡ take n (drop at file)

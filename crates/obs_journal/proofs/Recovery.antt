@@ -1,16 +1,18 @@
 -- What a fresh file, and a file that is only read, may be left as.
-use Rattle.std.proofs.Common.{◌≡◌, ◌≢◌, ◌↔◌, inl, inr, ⊎_elim, ℕ, ◌≤◌, List, [], ◌∷◌, length, refl, ap, subst, arith}
+use Rattle.std.proofs.Common.{◌≡◌, ◌↔◌, inl, inr, ⊎_elim, ℕ, ◌≤◌, List, [], ◌∷◌, length, refl, ap, subst, arith}
 use Rattle.std.proofs.lemmas.Bool.{cases_eq}
-use Rattle.std.specs.Prelude.{Result, Ok, Err, IfOk, OnOk, IfSome, IsSome, IsTrue, Bool, true, false}
+use Rattle.std.specs.Prelude.{Result, Ok, IfOk, IfSome, IsSome, IsTrue, Bool, true, false}
 use Rattle.std.specs.declared.option.Option.{Option}
 use Rattle.std.specs.declared.option.Option.TheVariants.{None, Some}
-use Rattle.disk_model.specs.Files.{written}
 use Rattle.disk_model.specs.Crashes.{Torn, After, Passes, EachSince, During}
 use Rattle.disk_model.specs.Moments.{during_one_more, during_weaker, images_after}
 use Rattle.obs_journal.specs.Parcels.{RawParcel}
-use Rattle.obs_journal.specs.Files.{IsFresh, IsRow, Spells, IsDamagedAt}
+use Rattle.obs_journal.specs.Files.{IsFresh, IsRowIn, Spells, IsBrokenIn, IsDamagedAt}
+use Rattle.obs_journal.specs.declared.format.Format.{Format}
+use Rattle.obs_journal.specs.declared.format.Format.TheVariants.{Plain}
 use Rattle.obs_journal.specs.Journals.{IsUnwritten}
 use Rattle.obs_journal.specs.Opening.{SpellsAlike}
+use Rattle.obs_journal.proofs.Quiet.{never_both}
 use Rattle.obs_journal.proofs.Steps.{at_known}
 use Rattle.obs_journal.proofs.Rows.{damage_spells_nothing}
 
@@ -42,45 +44,23 @@ fresh_torn known before image is fresh torn = record {
 
 -- a file that isn't fresh is damaged where its reading says so
 pub damaged_there : (known : Option (List ℕ)) (end offset : ℕ) (is_fresh : Bool) → is_fresh ≡ false → IfSome known (λ file. length file ≡ end) → IfSome known (λ file. length file ≡ end → (IsTrue is_fresh ↔ IsFresh file))
-    → IfSome known (λ file. length file ≡ end → file ≢ 1 ∷ [] → IsDamagedAt file offset) → IfSome known (λ file. IsDamagedAt file offset)
+    → IfSome known (λ file. length file ≡ end → IsBrokenIn Plain file offset) → IfSome known (λ file. IsDamagedAt file offset)
 damaged_there None end offset is_fresh not_so long fresh damaged = tt
-damaged_there (Some file) end offset is_fresh not_so long fresh damaged = damaged long (λ one. let so : is_fresh ≡ true = (fresh long).1 (inr one) in absurd (cc (so, not_so)))
+damaged_there (Some file) end offset is_fresh not_so long fresh damaged =
+    let d = damaged long in
+    record {
+      before = d.before;
+      rest = d.rest;
+      file_is = d.file_is;
+      each = d.each;
+      stops = d.stops;
+      not_fresh = λ one. let so : is_fresh ≡ true = (fresh long).1 (inr one) in absurd (cc (so, not_so));
+      offset_is = omega (arith, d.offset_is);
+    }
 
 -- a file that spells a list isn't damaged
 pub never_damaged : (known : Option (List ℕ)) (offset : ℕ) → IfSome known (λ file. IsDamagedAt file offset) → IsSome known → ((file : List ℕ) → known ≡ Some file → (ps : List RawParcel) × Spells file ps) → ⊥
-never_damaged None offset damaged some spells = cc
-never_damaged (Some file) offset damaged some spells = let list = spells file refl in damage_spells_nothing file offset list.0 damaged list.1
-
--- what holds anyway holds of each result
-pub on_ok : {T E : Type 0} (result : Result T E) (P : Type 0) → P → OnOk result P
-on_ok (Ok value) P holds = holds
-on_ok (Err fault) P holds = tt
-
--- a file that isn't fresh, as its reading says
-pub not_fresh : (known : Option (List ℕ)) (end : ℕ) (is_fresh : Bool) (P : Type 0) → is_fresh ≡ false → IfSome known (λ file. length file ≡ end) → IfSome known (λ file. length file ≡ end → (IsTrue is_fresh ↔ IsFresh file))
-    → IfSome known (λ file. IsFresh file → P)
-not_fresh None end is_fresh P not_so long fresh = tt
-not_fresh (Some file) end is_fresh P not_so long fresh = λ there. let so : is_fresh ≡ true = (fresh long).1 there in absurd (cc (so, not_so))
-
--- one that is fresh, as its reading says
-pub surely_fresh : (known : Option (List ℕ)) (end : ℕ) (is_fresh : Bool) (P : Type 0) → is_fresh ≡ true → IfSome known (λ file. length file ≡ end) → IfSome known (λ file. length file ≡ end → (IsTrue is_fresh ↔ IsFresh file))
-    → IfSome known (λ file. (IsFresh file → ⊥) → P)
-surely_fresh None end is_fresh P so long fresh = tt
-surely_fresh (Some file) end is_fresh P so long fresh = λ other. absurd (other ((fresh long).0 so))
-
-pub each_known : (known : Option (List ℕ)) (P : List ℕ → Type 0) → ((file : List ℕ) → P file) → IfSome known P
-each_known None P all = tt
-each_known (Some file) P all = all file
-
--- a fresh file with the closed gate 0 in it
-pub fresh_written : (known last now : Option (List ℕ)) → last ≡ known → IfSome last (λ file. now ≡ Some (written 0 (0 ∷ []) file)) → IfSome known (λ file. IsFresh file → now ≡ Some (0 ∷ []))
-fresh_written None last now same wrote = tt
-fresh_written (Some file) last now same wrote =
-    let said : now ≡ Some (written 0 (0 ∷ []) file) = subst (λ r. IfSome r (λ file. now ≡ Some (written 0 (0 ∷ []) file))) same wrote in
-    λ fresh. elim fresh [
-      | inl empty ↦ subst (λ f. now ≡ Some (written 0 (0 ∷ []) f)) empty said
-      | inr one ↦ subst (λ f. now ≡ Some (written 0 (0 ∷ []) f)) one said
-    ]
+never_damaged known offset = never_both known (λ file. IsDamagedAt file offset) (λ file. (ps : List RawParcel) × Spells file ps) (λ file damaged list. damage_spells_nothing file offset list.0 damaged list.1)
 
 module _ {D : Type 0} (reads : D → Option (List ℕ)) (leaves : D → List ℕ → Type 0) (moment : D → ℕ) (since : D → ℕ → List ℕ → Type 0)
     (counts_now : (disk : D) (t : ℕ) (image : List ℕ) → t ≤ moment disk → leaves disk image → since disk t image)
@@ -89,11 +69,11 @@ module _ {D : Type 0} (reads : D → Option (List ℕ)) (leaves : D → List ℕ
   pub image_before : {old new : D} → IsUnwritten reads moment since old new → (image : List ℕ) → leaves new image → leaves old image
   image_before unwritten image now = ⊎_elim (λ was. was) (λ none. absurd none) (images_after leaves counts_now only_now unwritten.no_image image now)
 
-  pub row_known : {old mid new : D} (end : ℕ) (ps : List RawParcel) → IfSome (reads old) (λ file. length file ≡ end) → ((image : List ℕ) → leaves mid image → reads old ≡ Some image) → IsUnwritten reads moment since mid new
-      → IfSome (reads old) (λ file. length file ≡ end → IsRow file ps) → (image : List ℕ) → leaves new image → IsRow image ps
-  row_known {old = old} end ps long safe unwritten row image now =
+  pub row_known : {old mid new : D} (f : Format) (end : ℕ) (ps : List RawParcel) → IfSome (reads old) (λ file. length file ≡ end) → ((image : List ℕ) → leaves mid image → reads old ≡ Some image) → IsUnwritten reads moment since mid new
+      → IfSome (reads old) (λ file. length file ≡ end → IsRowIn f file ps) → (image : List ℕ) → leaves new image → IsRowIn f image ps
+  row_known {old = old} f end ps long safe unwritten row image now =
       let is = safe image (image_before unwritten image now) in
-      at_known (reads old) (λ file. length file ≡ end → IsRow file ps) image row is (at_known (reads old) (λ file. length file ≡ end) image long is)
+      at_known (reads old) (λ file. length file ≡ end → IsRowIn f file ps) image row is (at_known (reads old) (λ file. length file ≡ end) image long is)
 
   pub during_fresh : {old mid last new : D} (end : ℕ) (is_fresh : Bool) → is_fresh ≡ true → IfSome (reads old) (λ file. length file ≡ end) → ((image : List ℕ) → leaves mid image → reads old ≡ Some image)
       → IfSome (reads old) (λ file. length file ≡ end → (IsTrue is_fresh ↔ IsFresh file)) → IsUnwritten reads moment since old last → IsUnwritten reads moment since mid last → Passes moment since last new → EachSince moment since last new (After (Torn 0 1) (leaves last))

@@ -2,7 +2,9 @@
 use Rattle.std.proofs.Common.{◌≡◌, ◌≢◌, inl, inr, ℕ, ◌+◌, List, [], ◌∷◌, ◌++◌, length, drop, refl, sym, ◌∙◌, ap, subst, arith, append_assoc, length-append}
 use Rattle.std.specs.List.{AllByRecursion}
 use Rattle.obs_journal.specs.Parcels.{RawParcel, IsParcel, parcel_bytes}
-use Rattle.obs_journal.specs.Formats.{head, first_seal, seal, last_seal, row, row_length_in, file_of, front_length, Format, Plain}
+use Rattle.obs_journal.specs.Formats.{head, first_seal, seal, last_seal, row, row_length_in, file_of, front_length}
+use Rattle.obs_journal.specs.declared.format.Format.{Format}
+use Rattle.obs_journal.specs.declared.format.Format.TheVariants.{Plain}
 use Rattle.obs_journal.specs.Files.{IsFresh, IsRow, IsRowIn, Spells, NoParcelIn, IsDamagedAt}
 use Rattle.obs_journal.proofs.Bytes.{length-parcel_bytes, cut}
 use Rattle.obs_journal.proofs.Seals.{length-seal, room_is, one_sealed}

@@ -6,7 +6,9 @@ use Rattle.std.specs.declared.option.Option.TheVariants.{Some}
 use Rattle.disk_model.specs.Crashes.{Torn, After, Passes, EachSince, During}
 use Rattle.disk_model.specs.Moments.{during_call, during_one_more}
 use Rattle.obs_journal.specs.Parcels.{RawParcel, IsParcel, parcel_bytes, room}
-use Rattle.obs_journal.specs.Formats.{next_seal, front_length, Format, Plain}
+use Rattle.obs_journal.specs.Formats.{next_seal, front_length}
+use Rattle.obs_journal.specs.declared.format.Format.{Format}
+use Rattle.obs_journal.specs.declared.format.Format.TheVariants.{Plain}
 use Rattle.obs_journal.specs.Files.{row_length, IsRowIn}
 use Rattle.obs_journal.specs.Journals.{IsDoubtfulIn}
 use Rattle.obs_journal.specs.Writing.{IsSafe}

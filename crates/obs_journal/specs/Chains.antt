@@ -3,12 +3,19 @@ use Rattle.std.specs.Prelude.{◌≡◌, ℕ, ◌+◌, ◌≤◌, List, [], ◌�
 use Rattle.std.specs.declared.option.Option.{Option}
 use Rattle.std.specs.declared.option.Option.TheVariants.{None, Some}
 use Rattle.std.specs.Option.{option_map}
-use Rattle.std.specs.List.{AllByRecursion}
-use Rattle.obs_journal.specs.Parcels.{RawParcel, IsParcel}
-use Rattle.obs_journal.specs.Formats.{first_seal, last_seal, row_length_in, front_length, file_of, Chained}
-use Rattle.obs_journal.specs.Files.{IsRowIn, NoParcelIn}
+use Rattle.obs_journal.specs.Parcels.{RawParcel, parcel_bytes}
+use Rattle.obs_journal.specs.Formats.{first_seal, seal, last_seal, room_in, row_length_in}
+use Rattle.obs_journal.specs.declared.format.Format.{Format}
+use Rattle.obs_journal.specs.declared.format.Format.TheVariants.{Chained}
+use Rattle.obs_journal.specs.Files.{IsRowIn, IsBrokenIn}
 use Rattle.obs_journal.specs.Journals.{IsDoubtfulIn}
 use Rattle.obs_journal.specs.declared.chain.Reached.{Reached}
+use Rattle.obs_journal.specs.declared.fault.OpenFault.{OpenFault}
+use Rattle.obs_journal.specs.declared.opening.Placed.{Placed}
+
+-- the format of a chained file, for crates above, which can't name the variants
+abbrev pub chained : Format
+chained = Chained
 
 -- the file has a byte behind the first one, and that is 1
 abbrev pub IsInForce : List ℕ → Type 0
@@ -19,21 +26,23 @@ IsInForce file = (2 ≤ length file) × (slice_index file 0 ≡ 1)
 abbrev pub IsChain : List ℕ → List RawParcel → Type 0
 IsChain file parcels = IsRowIn Chained file parcels
 
--- The chained file is damaged at this offset: an open gate stands there after open gates with their parcels and
--- digests, and no parcel with its digest and a gate after it follows.
-pub record IsBrokenAt (file : List ℕ) (offset : ℕ) : Type 0 where
-  pub before : List RawParcel
-  pub rest : List ℕ
-  pub file_is : file ≡ file_of Chained before (1 ∷ rest)
-  pub each : AllByRecursion IsParcel before
-  pub stops : NoParcelIn Chained (last_seal Chained (first_seal Chained) before) rest
-  pub offset_is : offset ≡ front_length Chained before
+-- the chained file is damaged at this offset: an open gate stands there after open gates with their parcels and
+-- digests, and no parcel with its digest and a gate after it follows
+abbrev pub IsBrokenAt : List ℕ → ℕ → Type 0
+IsBrokenAt file offset = IsBrokenIn Chained file offset
 
 -- where a chain stands after these parcels: the bytes up to and with the closed gate, and the last digest
 abbrev pub reached_after : List RawParcel → Reached
 reached_after parcels = record {
   position = row_length_in Chained parcels + 2;
   last = last_seal Chained (first_seal Chained) parcels;
+}
+
+-- and where it stands with one parcel more
+abbrev pub reached_with : Reached → RawParcel → Reached
+reached_with reached parcel = record {
+  position = reached.position + room_in Chained parcel;
+  last = seal Chained reached.last (parcel_bytes parcel);
 }
 
 -- a chained journal: its disk, where its chain stands, and, while a parcel is in doubt, where it stands once that is
@@ -54,6 +63,11 @@ pub record StandsForChain {D : Type 0} (leaves : D → List ℕ → Type 0) (jou
   pub images : (image : List ℕ) → leaves journal.disk image → HoldsChain parcels doubt image
   pub reached : journal.reached ≡ reached_after parcels
   pub in_doubt : journal.in_doubt ≡ option_map (λ parcel. reached_after (parcels ++ parcel ∷ [])) doubt
+
+-- the disk after opening: the journal's, or the one that was handed back
+abbrev pub opened_disk : {D : Type 0} → Result (ChainState D × List Placed) (OpenFault × D) → D
+opened_disk (Ok opened) = opened.0.disk
+opened_disk (Err failed) = failed.1
 
 -- the disk after carrying: the journal's, or the one that was handed back
 abbrev pub carried_disk : {D : Type 0} → Result (ChainState D) D → D

@@ -1,9 +1,11 @@
 -- What the bytes of a journal stand for: a row of gates, each followed by a parcel where it is open. A gate is open
 -- where it is 1.
-use Rattle.std.specs.Prelude.{◌≡◌, ◌≢◌, ◌⊎◌, ℕ, List, [], ◌∷◌, ◌++◌}
+use Rattle.std.specs.Prelude.{◌≡◌, ◌≢◌, ◌⊎◌, ℕ, List, [], ◌∷◌, ◌++◌, length, take}
 use Rattle.std.specs.List.{AllByRecursion}
 use Rattle.obs_journal.specs.Parcels.{RawParcel, IsParcel, parcel_bytes}
-use Rattle.obs_journal.specs.Formats.{seal, row, row_length_in, file_of, Format, Plain}
+use Rattle.obs_journal.specs.Formats.{head, first_seal, seal, last_seal, row, row_length_in, front_length, file_of}
+use Rattle.obs_journal.specs.declared.format.Format.{Format}
+use Rattle.obs_journal.specs.declared.format.Format.TheVariants.{Plain}
 
 -- an open gate and its parcel for each, before what follows
 abbrev pub opened : List RawParcel → List ℕ → List ℕ
@@ -41,6 +43,20 @@ NoParcelIn format last bytes = (parcel : RawParcel) (gate : ℕ) (rest : List �
 -- no parcel with a gate after it stands there
 abbrev pub NoParcel : List ℕ → Type 0
 NoParcel bytes = NoParcelIn Plain [] bytes
+
+-- the file begins as one of the format does
+abbrev pub HasHead : Format → List ℕ → Type 0
+HasHead format file = take (length (head format)) file ≡ head format
+
+-- A file of a format is damaged at this offset: an open gate stands there after open gates with their parcels and
+-- seals, and no parcel with its seal and a gate after it follows.
+pub record IsBrokenIn (format : Format) (file : List ℕ) (offset : ℕ) : Type 0 where
+  pub before : List RawParcel
+  pub rest : List ℕ
+  pub file_is : file ≡ file_of format before (1 ∷ rest)
+  pub each : AllByRecursion IsParcel before
+  pub stops : NoParcelIn format (last_seal format (first_seal format) before) rest
+  pub offset_is : offset ≡ front_length format before
 
 -- The file is damaged at this offset: an open gate stands there after open gates with their parcels, and no parcel
 -- with a gate after it follows.

@@ -3,14 +3,10 @@
 use Rattle.std.specs.Prelude.{ℕ, ◌+◌, List, [], ◌∷◌, ◌++◌, length, replicate}
 use Rattle.sha2.specs.Sha256.{sha256}
 use Rattle.obs_journal.specs.Parcels.{RawParcel, parcel_bytes, room}
+use Rattle.obs_journal.specs.declared.format.Format.{Format}
+use Rattle.obs_journal.specs.declared.format.Format.TheVariants.{Plain, Chained}
 
--- plain: the file is the row, and a parcel's bytes are all that stands between two gates; chained: the byte 1 stands
--- before the row, and after each parcel's bytes the digest of the chain so far
-pub data Format : Type 0 where
-  Plain : Format
-  Chained : Format
-
--- what stands before the row
+-- what stands before the row: nothing in a plain file, the byte 1 in a chained one
 abbrev pub head : Format → List ℕ
 head Plain = []
 head Chained = 1 ∷ []
@@ -28,6 +24,11 @@ seal Chained last bytes = sha256 (last ++ bytes)
 abbrev pub seal_length : Format → ℕ
 seal_length Plain = 0
 seal_length Chained = 32
+
+-- the seal that the 32 bytes which are kept of it stand for: of a plain one nothing is kept
+abbrev pub kept : Format → List ℕ → List ℕ
+kept Plain digest = []
+kept Chained digest = digest
 
 -- the last seal after these parcels
 abbrev pub last_seal : Format → List ℕ → List RawParcel → List ℕ

@@ -6,7 +6,9 @@ use Rattle.std.specs.Option.{option_map}
 use Rattle.std.specs.List.{AllByRecursion}
 use Rattle.disk_model.specs.Crashes.{During}
 use Rattle.obs_journal.specs.Parcels.{RawParcel, IsParcel, parcel_bytes, room}
-use Rattle.obs_journal.specs.Formats.{file_of, next_seal, Format, Plain}
+use Rattle.obs_journal.specs.Formats.{file_of, next_seal}
+use Rattle.obs_journal.specs.declared.format.Format.{Format}
+use Rattle.obs_journal.specs.declared.format.Format.TheVariants.{Plain}
 use Rattle.obs_journal.specs.Files.{row_length, IsRow}
 
 -- A journal: its disk, the bytes of the file up to and with the closed gate, and, while a parcel is in doubt, what they

@@ -4,6 +4,9 @@ use Rattle.std.specs.declared.option.Option.{Option}
 use Rattle.std.specs.declared.option.Option.TheVariants.{Some}
 use Rattle.disk_model.specs.Files.{written}
 use Rattle.obs_journal.specs.Parcels.{RawParcel, parcel_bytes}
+use Rattle.obs_journal.specs.Formats.{seal}
+use Rattle.obs_journal.specs.declared.format.Format.{Format}
+use Rattle.obs_journal.specs.declared.format.Format.TheVariants.{Plain}
 
 -- the file with these bytes at this offset is safe: each image is what was read before, with the bytes
 abbrev pub IsSafe : {D : Type 0} (reads : D → Option (List ℕ)) (leaves : D → List ℕ → Type 0) (at : ℕ)
@@ -11,7 +14,12 @@ abbrev pub IsSafe : {D : Type 0} (reads : D → Option (List ℕ)) (leaves : D �
 IsSafe reads leaves at bytes old new =
     (image : List ℕ) → leaves new image → (file : List ℕ) × (reads old ≡ Some file) × (image ≡ written at bytes file)
 
--- the file with a parcel after the closed gate that ends at this position: the parcel stands there with the closed
--- gate 0 after it, and its own gate is 1
+-- the file with a parcel after the closed gate that ends at this position, where this is the last seal: the parcel
+-- stands there with its seal and the closed gate 0 after it, and its own gate is 1
+abbrev pub appended_in : Format → List ℕ → RawParcel → ℕ → List ℕ → List ℕ
+appended_in format last parcel position file = written (position - 1) (1 ∷ [])
+    (written position (parcel_bytes parcel ++ (seal format last (parcel_bytes parcel) ++ 0 ∷ [])) file)
+
+-- in a plain file
 abbrev pub appended : RawParcel → ℕ → List ℕ → List ℕ
-appended parcel position file = written (position - 1) (1 ∷ []) (written position (parcel_bytes parcel ++ 0 ∷ []) file)
+appended parcel position file = appended_in Plain [] parcel position file

@@ -2,21 +2,27 @@
 //! is settled.
 
 ghost use Rattle.std.specs.Prelude.{◌≡◌, ◌≢◌, ◌⊎◌, ◌↔◌, ◌+◌, ◌-◌, ◌<◌, ◌≤◌, ◌^◌, ℕ, List, [], ◌∷◌, ◌++◌, slice_index};
-ghost use Rattle.std.specs.Prelude.{if◌then◌else◌, IfOk, IfErr, IfSome, OnOk, OnErr, IsErrOf, is_ok, Ok, Some, None};
+ghost use Rattle.std.specs.Prelude.{if◌then◌else◌, IfOk, IfErr, IfSome, IsSome, OnOk, OnErr, IsErrOf, is_ok, Ok};
+ghost use Rattle.std.specs.Prelude.{Some, None};
 ghost use Rattle.disk_model.specs.Counts.{Rises};
 ghost use Rattle.disk_model.specs.Crashes.{During};
 ghost use Rattle.obs_journal.specs.Parcels.{RawParcel};
-ghost use Rattle.obs_journal.specs.Formats.{room_in, row_length_in, file_of, Chained};
-ghost use Rattle.obs_journal.specs.Opening.{parcels_of};
-ghost use Rattle.obs_journal.specs.Chains.{IsChain, StandsForChain, carried_disk};
+ghost use Rattle.obs_journal.specs.Formats.{room_in, row_length_in, file_of};
+ghost use Rattle.obs_journal.specs.declared.format.Format.TheVariants.{Chained};
+ghost use Rattle.obs_journal.specs.Opening.{parcels_of, placed_in};
+ghost use Rattle.obs_journal.specs.Chains.{IsInForce, IsChain, IsBrokenAt, StandsForChain, reached_with};
+ghost use Rattle.obs_journal.specs.Chains.{opened_disk, carried_disk};
+ghost use Rattle.obs_journal.specs.Writing.{appended_in};
 ghost use Rattle.obs_journal.specs.Moves.{IsIdle, IsCarried};
 ghost use Rattle.obs_journal.specs.Journals.{IsUnwritten};
 
+use crate::opening::recover_chain;
 use crate::reading::is_open_for_good;
 use crate::second::carry_row;
 use crate::writing::{open_gate, stage};
-use crate::{AppendFault, DIGEST_BYTES, Parcel, Parcels, Settled};
+use crate::{AppendFault, DIGEST_BYTES, OpenFault, Parcel, Parcels, Settled};
 use disk_model::{Disk, Failed};
+use std::alloc::Global;
 use std::marker::Model;
 
 /// Where a chain stands.
@@ -49,6 +55,46 @@ impl<D: Disk> Model for ChainedJournal<D> {
 }
 
 impl<D: Disk> ChainedJournal<D> {
+    /// Opens the journal on a disk that is in force, as `in_force` tells: waits until the file is safe, and reads its
+    /// parcels from the front, each with its digest. Nothing is written.
+    ///
+    /// # Errors
+    /// The disk comes back beside the fault: `DiskFault` where the disk failed, `Damaged` where the file spells no list
+    /// of parcels, with the offset of the gate where it stops, `NoMemory` where memory was refused.
+    pub fn open(alloc: Global, mut disk: D) -> Result<(ChainedJournal<D>, Parcels), (OpenFault, D)>
+        requires in_force { IfSome (D.reads disk) IsInForce }
+
+        ensures spelled { IfOk result (λ opened. IfSome (D.reads disk)
+            (λ file. IsChain file (parcels_of opened.1))) }
+        ensures offsets { IfOk result (λ opened. opened.1 ≡ placed_in Chained 1 (parcels_of opened.1)) }
+        ensures stands { IfOk result (λ opened. StandsForChain D.leaves opened.0 (parcels_of opened.1) None) }
+
+        ensures damaged { IfErr result (λ failed. (offset : ℕ) → failed.0 ≡ OpenFault.Damaged offset →
+            IfSome (D.reads disk) (λ file. IsBrokenAt file offset)) }
+        // Where each image of a disk with known reads spells a list, nothing is damaged.
+        ensures sound { IfErr result (λ failed. (offset : ℕ) → failed.0 ≡ OpenFault.Damaged offset →
+            IsSome (D.reads disk) →
+            ((image : List ℕ) → D.leaves disk image → (parcels : List RawParcel) × IsChain image parcels) → ⊥) }
+
+        // So a crash at any moment of the call leaves what it could leave before.
+        ensures unwritten { IsUnwritten D.reads D.moment D.since disk (opened_disk result) }
+        ensures counts { D.faults disk ≤ D.faults (opened_disk result) }
+        ensures cause { IfErr result (λ failed. failed.0 ≡ OpenFault.DiskFault →
+            Rises (D.faults disk) (D.faults failed.1)) }
+    {
+        match recover_chain(alloc, &mut disk) {
+            Ok((parcels, reached)) => {
+                let journal = ChainedJournal {
+                    disk,
+                    reached,
+                    in_doubt: None,
+                };
+                Ok((journal, parcels))
+            }
+            Err(fault) => Err((fault, disk)),
+        }
+    }
+
     /// Carries parcels into a second file that isn't in force, as `carry` does, and is the open journal of it. It takes
     /// no memory.
     ///
@@ -107,6 +153,10 @@ impl<D: Disk> ChainedJournal<D> {
         ensures in_doubt { IsErrOf result AppendFault.InDoubt → (parcels : List RawParcel) →
             StandsForChain D.leaves self.old parcels None → StandsForChain D.leaves self.new parcels (Some parcel) }
 
+        // What is written: the parcel with its digest and the closed gate 0 after it, and the parcel's own gate 1.
+        ensures file { OnOk result (IfSome (D.reads self.old.disk) (λ file. D.reads self.new.disk ≡
+            Some (appended_in Chained self.old.reached.last parcel self.old.reached.position file))) }
+
         // A crash at any moment of the call leaves the parcels from before it, with the new one or without.
         ensures any_moment { (parcels : List RawParcel) → StandsForChain D.leaves self.old parcels None →
             During D.moment D.since self.old.disk self.new.disk
@@ -114,6 +164,10 @@ impl<D: Disk> ChainedJournal<D> {
 
         ensures position { self.new.reached.position ≡ (if is_ok result
             then self.old.reached.position + room_in Chained parcel else self.old.reached.position) }
+        ensures reached { self.new.reached ≡
+            (if is_ok result then reached_with self.old.reached parcel else self.old.reached) }
+        ensures doubt { IsErrOf result AppendFault.InDoubt →
+            self.new.in_doubt ≡ Some (reached_with self.old.reached parcel) }
         ensures no_doubt { (IsErrOf result AppendFault.InDoubt → ⊥) → self.new.in_doubt ≡ None }
         ensures counts { D.faults self.old.disk ≤ D.faults self.new.disk }
         ensures cause { OnErr result (Rises (D.faults self.old.disk) (D.faults self.new.disk)) }

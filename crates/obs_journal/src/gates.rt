@@ -5,12 +5,14 @@ ghost use Rattle.std.specs.Prelude.{min, IfOk, IfSome, IsErrOf, IsNone, IsTrue, 
 ghost use Rattle.std.specs.Int.{w32, w64, to_be_bytes};
 ghost use Rattle.disk_model.specs.Counts.{Rises};
 ghost use Rattle.obs_journal.specs.Parcels.{RawParcel, IsParcel};
-ghost use Rattle.obs_journal.specs.Files.{NoParcel};
-ghost use Rattle.obs_journal.specs.Fronts.{head_spelled, with_body, HasRoom, StandsAtFront, IsInside};
+ghost use Rattle.obs_journal.specs.Formats.{seal, seal_length, kept};
+ghost use Rattle.obs_journal.specs.Files.{NoParcelIn};
+ghost use Rattle.obs_journal.specs.Fronts.{head_spelled, HasRoom, StandsAtFront, StandsBehind, IsInside, IsSealed};
 ghost use Rattle.obs_journal.specs.Journals.{IsUnwritten};
 
+use crate::format::Format;
 use crate::reading::read_bytes;
-use crate::{OPEN, OpenFault, Parcel};
+use crate::{DIGEST_BYTES, OPEN, OpenFault, Parcel};
 use disk_model::Disk;
 use std::alloc::Global;
 
@@ -25,10 +27,15 @@ const FIELD_BYTES: usize = 21;
 pub(crate) enum Front {
     /// The gate is closed.
     Closed,
-    /// The gate is open, and no parcel with a gate after it follows.
+    /// The gate is open, and no parcel with its seal and a gate after it follows.
     Damaged,
-    /// The gate is open, and this is its parcel.
-    Open(Parcel),
+    /// The gate is open.
+    Open {
+        /// Its parcel.
+        parcel: Parcel,
+        /// What is kept of the parcel's seal.
+        digest: [u8; DIGEST_BYTES],
+    },
 }
 
 // The fields before the body.
@@ -83,51 +90,53 @@ fn head_of(bytes: &[u8]) -> Head
     }
 }
 
-fn has_room(counted: u32, left: u64) -> bool
-    ensures { IsTrue result ↔ HasRoom counted left }
+fn has_room(format: Format, counted: u32, left: u64) -> bool
+    ensures { IsTrue result ↔ HasRoom format counted left }
 {
     let counted = u64::from(counted);
-    21 <= counted && counted <= 1_048_597 && counted + 6 <= left
+    21 <= counted && counted <= 1_048_597 && counted + 6 + format.seal_bytes() as u64 <= left
 }
 
-// The head in these bytes after an open gate, where its parcel and the gate after it are among the bytes that are
-// left of the file, of which the gate is the first.
-fn whole_head(bytes: &[u8], left: u64) -> Option<Head>
+// The head in these bytes after an open gate, where its parcel, the seal and the gate after it are among the bytes that
+// are left of the file, of which the gate is the first.
+fn whole_head(format: Format, bytes: &[u8], left: u64) -> Option<Head>
     requires { length bytes.now + 1 ≡ min 26 left }
     ensures head { IfSome result (λ head. bytes.now ≡ head_spelled head) }
-    ensures inside { IfSome result (λ head. HasRoom head.counted left) }
-    ensures none { IsNone result → (behind : List ℕ) → length behind + 1 ≡ left →
-        bytes.now ≡ take (length bytes.now) behind → NoParcel behind }
+    ensures inside { IfSome result (λ head. HasRoom format head.counted left) }
+    ensures none { IsNone result → (last behind : List ℕ) → length behind + 1 ≡ left →
+        bytes.now ≡ take (length bytes.now) behind → NoParcelIn format last behind }
 {
     if left <= GATE_AND_HEAD_BYTES {
         return None;
     }
     let head = head_of(bytes);
-    if has_room(head.counted, left) {
+    if has_room(format, head.counted, left) {
         Some(head)
     } else {
         None
     }
 }
 
-// Reads the body after a head, which the gate after it follows.
+// Reads the body after a head, and the seal after it.
 fn read_parcel<D: Disk>(
     alloc: Global,
     disk: &mut D,
+    format: Format,
+    last: &[u8; DIGEST_BYTES],
     at: u64,
     head: Head,
     bytes: &mut Vec<u8>,
 ) -> Result<Front, OpenFault>
     requires least { 21 ≤ head.counted }
     requires most { head.counted ≤ 1048597 }
-    requires place { at + (head.counted - 21) < 2 ^ 64 }
-    ensures open { (parcel : RawParcel) → result ≡ Ok (Front.Open parcel) →
-        IfSome (D.reads disk.old) (λ file. parcel ≡ with_body head (take (head.counted - 21) (drop at file))) }
-    ensures long { (parcel : RawParcel) → result ≡ Ok (Front.Open parcel) →
+    requires place { at + (head.counted - 21) + seal_length format < 2 ^ 64 }
+    ensures behind { IfOk result (λ front. IfSome (D.reads disk.old)
+        (λ file. StandsBehind format (kept format last.now) head (drop at file) front)) }
+    ensures long { (parcel : RawParcel) (digest : List ℕ) → result ≡ Ok (Front.Open parcel digest) →
         length parcel.body + 21 ≡ head.counted }
-    ensures fits { (parcel : RawParcel) → result ≡ Ok (Front.Open parcel) → IsParcel parcel }
-    ensures ends { result ≡ Ok Front.Damaged →
-        IfSome (D.reads disk.old) (λ file. length file < at + (head.counted - 21)) }
+    ensures fits { (parcel : RawParcel) (digest : List ℕ) → result ≡ Ok (Front.Open parcel digest) →
+        IsParcel parcel }
+    ensures sealed { IfOk result (λ front. IsSealed format (kept format last.now) front) }
     ensures not_closed { result ≢ Ok Front.Closed }
 
     ensures unwritten { IsUnwritten D.reads D.moment D.since disk.old disk.new }
@@ -136,32 +145,42 @@ fn read_parcel<D: Disk>(
     ensures not_damaged { (offset : ℕ) → result ≢ Err (OpenFault.Damaged offset) }
 {
     bytes.clear();
-    if !read_bytes(disk, at, head.counted as usize - FIELD_BYTES, bytes)? {
+    let body_bytes = head.counted as usize - FIELD_BYTES;
+    if !read_bytes(disk, at, body_bytes + format.seal_bytes(), bytes)? {
         return Ok(Front::Damaged);
     }
+    let (body, seal) = bytes.split_at(body_bytes);
     let parcel = Parcel::make(
         alloc,
         head.caller,
         head.number,
         head.moment,
         head.verb,
-        bytes,
+        body,
     )?;
-    Ok(Front::Open(parcel))
+    let digest = format.next(last, &parcel);
+    if !format.is_seal(&digest, seal) {
+        return Ok(Front::Damaged);
+    }
+    Ok(Front::Open { parcel, digest })
 }
 
-/// Reads what stands at a gate of a file that ends at `end`. `bytes` is room to read into.
+/// Reads what stands at a gate of a file that ends at `end`, after the last seal, of which this is kept. `bytes` is
+/// room to read into.
 pub(crate) fn read_front<D: Disk>(
     alloc: Global,
     disk: &mut D,
+    format: Format,
+    last: &[u8; DIGEST_BYTES],
     gate: u64,
     end: u64,
     bytes: &mut Vec<u8>,
 ) -> Result<Front, OpenFault>
     requires { gate < end }
     ensures front { IfOk result (λ front. IfSome (D.reads disk.old) (λ file. length file ≡ end →
-        StandsAtFront (drop gate file) front)) }
-    ensures inside { IfOk result (λ front. IsInside front (end - gate)) }
+        StandsAtFront format (kept format last.now) (drop gate file) front)) }
+    ensures inside { IfOk result (λ front. IsInside format front (end - gate)) }
+    ensures sealed { IfOk result (λ front. IsSealed format (kept format last.now) front) }
 
     ensures unwritten { IsUnwritten D.reads D.moment D.since disk.old disk.new }
     ensures counts { D.faults disk.old ≤ D.faults disk.new }
@@ -177,8 +196,9 @@ pub(crate) fn read_front<D: Disk>(
     if bytes[0] != OPEN {
         return Ok(Front::Closed);
     }
-    let Some(head) = whole_head(&bytes[1..], left) else {
+    let Some(head) = whole_head(format, &bytes[1..], left) else {
         return Ok(Front::Damaged);
     };
-    read_parcel(alloc, disk, gate + GATE_AND_HEAD_BYTES, head, bytes)
+    let at = gate + GATE_AND_HEAD_BYTES;
+    read_parcel(alloc, disk, format, last, at, head, bytes)
 }

@@ -5,7 +5,8 @@ ghost use Rattle.std.specs.Prelude.{◌≡◌, ◌⊎◌, ◌+◌, ℕ, List, []
 ghost use Rattle.obs_journal.specs.Parcels.{RawParcel, IsParcel, parcel_bytes, room};
 ghost use Rattle.obs_journal.specs.Files.{row_length, IsRow, Spells, IsDamagedAt};
 ghost use Rattle.obs_journal.specs.Journals.{IsDoubtful, IsDoubtfulIn};
-ghost use Rattle.obs_journal.specs.Formats.{room_in, row_length_in, Chained};
+ghost use Rattle.obs_journal.specs.Formats.{room_in, row_length_in};
+ghost use Rattle.obs_journal.specs.declared.format.Format.TheVariants.{Chained};
 ghost use Rattle.obs_journal.specs.Chains.{IsInForce, IsChain, IsBrokenAt};
 
 /// A file spells at most one list of parcels.

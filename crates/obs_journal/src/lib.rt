@@ -11,6 +11,7 @@
 
 mod chain;
 mod fault;
+mod format;
 mod gates;
 mod journal;
 pub mod laws;
@@ -25,7 +26,7 @@ pub use fault::OpenFault;
 pub use journal::{AppendFault, Journal, Settled};
 pub use opening::{Parcels, Placed, open_first};
 pub use parcel::{NoMemory, Parcel};
-pub use second::{carry, in_force};
+pub use second::{carried_length, carry, in_force};
 
 /// The longest body of a parcel, in bytes.
 pub const BODY_BYTES: usize = 1_048_576;

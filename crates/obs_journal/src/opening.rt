@@ -4,15 +4,20 @@ ghost use Rattle.std.specs.Prelude.{◌≡◌, ◌≢◌, ◌↔◌, ◌+◌, �
 ghost use Rattle.std.specs.Prelude.{IsErrOf, IsSome, OnErr, OnOk, IsTrue, true, false, Ok, Err, Some};
 ghost use Rattle.disk_model.specs.Counts.{Rises};
 ghost use Rattle.disk_model.specs.Crashes.{During};
-ghost use Rattle.obs_journal.specs.Files.{IsFresh, IsRow, Spells, IsDamagedAt, row_length};
+ghost use Rattle.obs_journal.specs.Files.{IsFresh, IsRow, IsRowIn, Spells, HasHead, IsBrokenIn, IsDamagedAt};
+ghost use Rattle.obs_journal.specs.Files.{row_length};
 ghost use Rattle.obs_journal.specs.Parcels.{RawParcel};
+ghost use Rattle.obs_journal.specs.Formats.{head, first_seal, last_seal, front_length, kept};
+ghost use Rattle.obs_journal.specs.Chains.{IsInForce, IsChain, IsBrokenAt, reached_after};
 ghost use Rattle.obs_journal.specs.Journals.{IsUnwritten};
-ghost use Rattle.obs_journal.specs.Opening.{parcels_of, placed_from, SpellsAlike};
+ghost use Rattle.obs_journal.specs.Opening.{parcels_of, placed_in, placed_from, SpellsAlike};
 
+use crate::chain::Reached;
+use crate::format::Format;
 use crate::gates::{Front, read_front};
 use crate::reading::reads_open;
 use crate::writing::write_and_sync;
-use crate::{CLOSED, OpenFault, Parcel};
+use crate::{CLOSED, DIGEST_BYTES, OpenFault, Parcel};
 use disk_model::{Disk, Failed};
 use item_list::ItemList;
 use std::alloc::Global;
@@ -29,15 +34,23 @@ pub struct Placed {
 /// The parcels of a file, in its order.
 pub type Parcels = ItemList<Placed>;
 
-// Reads the row of gates of a file that ends at `end`: its parcels, and the bytes up to and with the closed gate.
-fn read_row<D: Disk>(alloc: Global, disk: &mut D, end: u64) -> Result<(Parcels, u64), OpenFault>
-    requires { 0 < end }
+// Reads the row of gates of a file that ends at `end`: its parcels, and where it stands after them.
+fn read_row<D: Disk>(
+    alloc: Global,
+    disk: &mut D,
+    format: Format,
+    end: u64,
+) -> Result<(Parcels, Reached), OpenFault>
+    requires some { length (head format) < end }
+    requires head { IfSome (D.reads disk.old) (λ file. HasHead format file) }
     ensures row { IfOk result (λ row. IfSome (D.reads disk.old) (λ file. length file ≡ end →
-        IsRow file (parcels_of row.0))) }
-    ensures offsets { IfOk result (λ row. row.0 ≡ placed_from 0 (parcels_of row.0)) }
-    ensures position { IfOk result (λ row. row.1 ≡ row_length (parcels_of row.0) + 1) }
+        IsRowIn format file (parcels_of row.0))) }
+    ensures offsets { IfOk result (λ row. row.0 ≡ placed_in format (length (head format)) (parcels_of row.0)) }
+    ensures position { IfOk result (λ row. row.1.position ≡ front_length format (parcels_of row.0) + 1) }
+    ensures last { IfOk result (λ row.
+        kept format row.1.last ≡ last_seal format (first_seal format) (parcels_of row.0)) }
     ensures damaged { (offset : ℕ) → result ≡ Err (OpenFault.Damaged offset) →
-        IfSome (D.reads disk.old) (λ file. length file ≡ end → file ≢ 1 ∷ [] → IsDamagedAt file offset) }
+        IfSome (D.reads disk.old) (λ file. length file ≡ end → IsBrokenIn format file offset) }
 
     ensures unwritten { IsUnwritten D.reads D.moment D.since disk.old disk.new }
     ensures counts { D.faults disk.old ≤ D.faults disk.new }
@@ -45,18 +58,23 @@ fn read_row<D: Disk>(alloc: Global, disk: &mut D, end: u64) -> Result<(Parcels, 
 {
     let mut bytes = Vec::new(alloc);
     let mut parcels = Parcels::new(alloc);
-    let mut gate = 0u64;
+    let mut gate = format.head_bytes();
+    let mut last = [0; DIGEST_BYTES];
     'gates: loop {
-        match read_front(alloc, disk, gate, end, &mut bytes)? {
-            Front::Closed => return Ok((parcels, gate + 1)),
+        match read_front(alloc, disk, format, &last, gate, end, &mut bytes)? {
+            Front::Closed => {
+                let position = gate + 1;
+                return Ok((parcels, Reached { position, last }));
+            }
             Front::Damaged => return Err(OpenFault::Damaged { offset: gate }),
-            Front::Open(parcel) => {
-                let next = gate + parcel.bytes().len() as u64;
+            Front::Open { parcel, digest } => {
+                let next = gate + format.room(&parcel);
                 parcels.push(Placed {
                     offset: gate,
                     parcel,
                 })?;
                 gate = next;
+                last = digest;
             }
         }
     }
@@ -114,10 +132,36 @@ pub(crate) fn recover<D: Disk>(alloc: Global, disk: &mut D) -> Result<(Parcels, 
 {
     let end = safe_end(disk)?;
     if !is_fresh(disk, end)? {
-        return read_row(alloc, disk, end);
+        let (parcels, reached) = read_row(alloc, disk, Format::Plain, end)?;
+        return Ok((parcels, reached.position));
     }
     write_and_sync(disk, 0, &[CLOSED])?;
     Ok((Parcels::new(alloc), 1))
+}
+
+/// Reads a chained file that is in force: its parcels, and where the chain stands after them. Nothing is written.
+pub(crate) fn recover_chain<D: Disk>(
+    alloc: Global,
+    disk: &mut D,
+) -> Result<(Parcels, Reached), OpenFault>
+    requires { IfSome (D.reads disk.old) IsInForce }
+    ensures spelled { IfOk result (λ row. IfSome (D.reads disk.old) (λ file. IsChain file (parcels_of row.0))) }
+    ensures offsets { IfOk result (λ row. row.0 ≡ placed_in Format.Chained 1 (parcels_of row.0)) }
+    ensures reached { IfOk result (λ row. row.1 ≡ reached_after (parcels_of row.0)) }
+    ensures chains { IfOk result (λ row. (image : List ℕ) → D.leaves disk.new image →
+        IsChain image (parcels_of row.0)) }
+    ensures damaged { (offset : ℕ) → result ≡ Err (OpenFault.Damaged offset) →
+        IfSome (D.reads disk.old) (λ file. IsBrokenAt file offset) }
+
+    ensures unwritten { IsUnwritten D.reads D.moment D.since disk.old disk.new }
+    ensures counts { D.faults disk.old ≤ D.faults disk.new }
+    ensures cause { result ≡ Err OpenFault.DiskFault → Rises (D.faults disk.old) (D.faults disk.new) }
+{
+    let end = safe_end(disk)?;
+    if end < 2 {
+        return Err(OpenFault::Damaged { offset: 1 });
+    }
+    read_row(alloc, disk, Format::Chained, end)
 }
 
 /// Reads the parcels of a plain file, and puts a closed gate into a fresh one: what `Journal::open` does, over a disk

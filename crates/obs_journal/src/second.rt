@@ -1,19 +1,21 @@
 //! The second file: whether it is in force, and how the history of the first is carried into it.
 
 ghost use Rattle.std.specs.Prelude.{◌≡◌, ◌≢◌, ◌↔◌, ◌+◌, ◌<◌, ◌≤◌, ◌^◌, ℕ, List, [], ◌∷◌, ◌++◌, length, slice_index};
-ghost use Rattle.std.specs.Prelude.{IfOk, IfSome, IsSomeAnd, OnOk, OnErr, IsTrue, Ok, Some, false};
+ghost use Rattle.std.specs.Prelude.{IfOk, IfSome, IsNone, IsSomeAnd, OnOk, OnErr, IsTrue, Ok, Some, true, false};
 ghost use Rattle.sha2.specs.Sha256.{sha256};
 ghost use Rattle.disk_model.specs.Counts.{Rises};
 ghost use Rattle.disk_model.specs.Crashes.{During};
 ghost use Rattle.obs_journal.specs.Parcels.{IsParcel, parcel_bytes};
 ghost use Rattle.std.specs.List.{AllByRecursion};
-ghost use Rattle.obs_journal.specs.Formats.{first_seal, room_in, row, row_length_in, file_of, Chained};
+ghost use Rattle.obs_journal.specs.Formats.{first_seal, room_in, row, row_length_in, file_of};
+ghost use Rattle.obs_journal.specs.declared.format.Format.TheVariants.{Chained};
 ghost use Rattle.obs_journal.specs.Opening.{parcels_of};
 ghost use Rattle.obs_journal.specs.Journals.{IsUnwritten};
 ghost use Rattle.obs_journal.specs.Chains.{IsInForce, IsChain, reached_after};
 ghost use Rattle.obs_journal.specs.Moves.{IsIdle, IsOneByte, IsCarried, Adds, StaysShut};
 
 use crate::chain::Reached;
+use crate::format::Format;
 use crate::opening::safe_end;
 use crate::parcel::chain_digest;
 use crate::reading::reads_open;
@@ -31,6 +33,7 @@ pub fn in_force<D: Disk>(disk: &mut D) -> Result<bool, Failed>
         (λ file. IsTrue is_in_force ↔ IsInForce file)) }
     ensures safe { OnOk result ((image : List ℕ) → D.leaves disk.new image → D.reads disk.new ≡ Some image) }
     ensures idle { result ≡ Ok false → IfSome (D.reads disk.new) IsIdle }
+    ensures force { result ≡ Ok true → IfSome (D.reads disk.new) IsInForce }
 
     ensures unwritten { IsUnwritten D.reads D.moment D.since disk.old disk.new }
     ensures counts { D.faults disk.old ≤ D.faults disk.new }
@@ -41,6 +44,23 @@ pub fn in_force<D: Disk>(disk: &mut D) -> Result<bool, Failed>
         return Ok(false);
     }
     reads_open(disk, 0)
+}
+
+/// How many bytes a second file has once these parcels are carried into it: its first byte, a gate, a parcel and a
+/// digest for each, and the closed gate. None where a `u64` doesn't count them.
+pub fn carried_length(parcels: &Parcels) -> Option<u64>
+    ensures length { IfSome result (λ length. length ≡ row_length_in Chained (parcels_of parcels.now) + 2) }
+    ensures too_long { IsNone result → 2 ^ 64 ≤ row_length_in Chained (parcels_of parcels.now) + 2 }
+{
+    let mut length = 2u64;
+    for placed in parcels.as_slice() {
+        let room = Format::Chained.room(&placed.parcel);
+        if room > u64::MAX - length {
+            return None;
+        }
+        length += room;
+    }
+    Some(length)
 }
 
 /// Carries parcels into a second file that isn't in force. A stop at any moment leaves it not in force, or with all of
@@ -134,20 +154,13 @@ fn write_row<D: Disk>(parcels: &[Placed], second: &mut D) -> Result<Reached, Fai
     let mut last = [0; DIGEST_BYTES];
     for placed in parcels {
         last = write_parcel(&placed.parcel, last, second, gate)?;
-        gate += room_of(&placed.parcel);
+        gate += Format::Chained.room(&placed.parcel);
     }
     add(second, gate, &[CLOSED])?;
     Ok(Reached {
         position: gate + 1,
         last,
     })
-}
-
-// The bytes that a parcel, its digest and the gate after it take.
-fn room_of(parcel: &Parcel) -> u64
-    ensures { result ≡ room_in Chained parcel.now }
-{
-    (parcel.bytes().len() + DIGEST_BYTES) as u64
 }
 
 // Writes an open gate and a parcel at the end of the file, with its digest after this one, which it gives.

@@ -11,13 +11,15 @@ use disk_model::{Disk, Failed, MemDisk};
 use obs_journal::{AppendFault, ChainedJournal, Parcel, Parcels, Settled, in_force};
 use std::alloc::Global;
 
-type Appending = Result<(), AppendFault>;
+/// The answer of an append.
+pub(super) type Appending = Result<(), AppendFault>;
 
-type Mending = Result<Settled, Failed>;
+/// The answer of a mending.
+pub(super) type Mending = Result<Settled, Failed>;
 
 // What the append of the one parcel answered, two mendings after it, the append of the other parcel, which isn't tried
 // while the one is in doubt, and the position at last.
-type Answers = (Appending, Mending, Mending, Option<Appending>, u64);
+pub(super) type Answers = (Appending, Mending, Mending, Option<Appending>, u64);
 
 // The journal of a second file into which no parcel was carried; None where that is in force, or its disk fails.
 fn journal_on<D: Disk>(alloc: Global, second: D) -> Option<ChainedJournal<D>>
@@ -33,8 +35,8 @@ fn journal_on<D: Disk>(alloc: Global, second: D) -> Option<ChainedJournal<D>>
     }
 }
 
-// Appends a parcel where none is in doubt after a mending.
-fn next_on<D: Disk>(
+/// Appends a parcel where none is in doubt after a mending.
+pub(super) fn next_on<D: Disk>(
     journal: &mut ChainedJournal<D>,
     parcel: Parcel,
 ) -> (Mending, Option<Appending>) {
@@ -89,13 +91,13 @@ fn written_bytes(rt: HostRuntime) {
     assert!(rt; found);
 }
 
-const DONE: Appending = Ok(());
+pub(super) const DONE: Appending = Ok(());
 
 const UNTOUCHED: Appending = Err(AppendFault::Untouched);
 
 const IN_DOUBT: Appending = Err(AppendFault::InDoubt);
 
-const NOTHING: Mending = Ok(Settled::Nothing);
+pub(super) const NOTHING: Mending = Ok(Settled::Nothing);
 
 const DROPPED: Mending = Ok(Settled::Dropped);
 
@@ -219,7 +221,8 @@ const FAULTS: &[Fault] = &[
     ),
 ];
 
-fn after_appends(alloc: Global, fails: &[u64]) -> Option<(Answers, MemDisk)> {
+/// What appending both parcels to an empty file answers, where these calls fail.
+pub(super) fn after_appends(alloc: Global, fails: &[u64]) -> Option<(Answers, MemDisk)> {
     match (disk_with(alloc, b"", fails), one(alloc), other(alloc)) {
         (Some(disk), Some(one), Some(other)) => appended_on(alloc, disk, one, other),
         _ => None,
@@ -229,7 +232,7 @@ fn after_appends(alloc: Global, fails: &[u64]) -> Option<(Answers, MemDisk)> {
 // The answers, and what is left by this pick.
 fn crashed(alloc: Global, fails: &[u64], pick: u64) -> Option<(Answers, Option<Held>)> {
     match after_appends(alloc, fails) {
-        Some((answers, disk)) => Some((answers, held_on(disk.crash(pick)))),
+        Some((answers, disk)) => Some((answers, held_on(alloc, disk.crash(pick)))),
         None => None,
     }
 }

@@ -2,16 +2,12 @@
 //!
 //! What carries is over any disk: the type of a disk in memory makes each proof that it stands in dear.
 
-ghost use Rattle.std.specs.Prelude.{◌<◌, ◌≤◌, ◌+◌, ◌^◌, length, IsTrue};
-ghost use Rattle.obs_journal.specs.Formats.{row_length_in, Chained};
-ghost use Rattle.obs_journal.specs.Opening.{parcels_of};
-
 use crate::files::{
     BOTH, Held, ONE, PLAIN_BOTH, PLAIN_ONE, disk_with, expect_none_wrong, held_on, is_file,
     may_be_left,
 };
 use disk_model::{Disk, Failed};
-use obs_journal::{BODY_BYTES, Parcels, Placed, carry, in_force, open_first};
+use obs_journal::{Parcels, carried_length, carry, in_force, open_first};
 use std::alloc::Global;
 
 // A second file, and whether it is in force.
@@ -57,24 +53,6 @@ fn files_in_force(rt: HostRuntime) {
     expect_none_wrong(&rt, wrong);
 }
 
-fn is_short(placed: &Placed) -> bool
-    ensures { IsTrue result → length placed.now.parcel.body ≤ 1048576 }
-{
-    placed.parcel.body().len() <= BODY_BYTES
-}
-
-// Whether there are two parcels at most, for which a second file has room.
-fn have_room(parcels: &Parcels) -> bool
-    ensures { IsTrue result → row_length_in Chained (parcels_of parcels.now) + 2 < 2 ^ 64 }
-{
-    match parcels.as_slice() {
-        [] => true,
-        [one] => is_short(one),
-        [one, other] => is_short(one) && is_short(other),
-        _ => false,
-    }
-}
-
 // The parcels of a first file.
 fn parcels_on<D: Disk>(alloc: Global, first: D) -> Option<Parcels> {
     let mut first = first;
@@ -90,15 +68,20 @@ fn parcels_in(alloc: Global, file: &[u8]) -> Option<Parcels> {
 
 // Carries the parcels into a second file, unless that is in force.
 fn carried_on<D: Disk>(parcels: &Parcels, second: &mut D) -> Result<(), Failed> {
-    if in_force(second)? || !have_room(parcels) {
+    if in_force(second)? {
         return Err(Failed);
     }
+    let Some(_length) = carried_length(parcels) else {
+        return Err(Failed);
+    };
     carry(parcels, second)
 }
 
 fn is_carried_on<D: Disk>(parcels: &Parcels, second: D, want: &[u8]) -> bool {
     let mut second = second;
-    carried_on(parcels, &mut second).is_ok() && is_file(&mut second, want)
+    carried_length(parcels) == Some(want.len() as u64)
+        && carried_on(parcels, &mut second).is_ok()
+        && is_file(&mut second, want)
 }
 
 fn is_carried(alloc: Global, first: &[u8], second: &[u8], want: &[u8]) -> bool {
@@ -205,7 +188,7 @@ fn crashed(
     match disk_with(alloc, file, &[call]) {
         Some(second) => {
             let (is_done, second) = after_carry(parcels, second);
-            Some((is_done, held_on(second.crash(pick))?))
+            Some((is_done, held_on(alloc, second.crash(pick))?))
         }
         None => None,
     }

@@ -1,7 +1,10 @@
 //! What the tests have in common: parcels, the bytes of files with them, and what a file holds.
 
+ghost use Rattle.std.specs.Prelude.{IfSome};
+ghost use Rattle.obs_journal.specs.Chains.{IsInForce};
+
 use disk_model::{Disk, MemDisk};
-use obs_journal::Parcel;
+use obs_journal::{ChainedJournal, OpenFault, Parcel, in_force};
 use std::alloc::Global;
 use std::process::Abort;
 
@@ -117,13 +120,70 @@ fn held_in(file: &[u8]) -> Held {
     }
 }
 
-/// What the file on a disk holds, of whose calls none is to fail.
-pub(super) fn held_on<D: Disk>(disk: D) -> Option<Held> {
+/// What opening a second file gives.
+#[derive(Clone, Copy, Debug, PartialEq, Eq)]
+pub(super) enum Opened {
+    /// It isn't in force.
+    Idle,
+    /// The disk failed, or memory was refused.
+    Failed,
+    /// It is damaged at this offset.
+    Damaged(u64),
+    /// So many parcels, and the position after them.
+    Parcels(u64, u64),
+}
+
+/// What opening the file on a disk gives.
+pub(super) fn opened_on<D: Disk>(alloc: Global, disk: D) -> Opened {
     let mut disk = disk;
+    match in_force(&mut disk) {
+        Ok(true) => opened_in_force(alloc, disk),
+        Ok(false) => Opened::Idle,
+        Err(_) => Opened::Failed,
+    }
+}
+
+// What opening a file in force gives.
+fn opened_in_force<D: Disk>(alloc: Global, disk: D) -> Opened
+    requires { IfSome (D.reads disk) IsInForce }
+{
+    match ChainedJournal::open(alloc, disk) {
+        Ok((journal, parcels)) => Opened::Parcels(parcels.len(), journal.position()),
+        Err((OpenFault::Damaged { offset }, _)) => Opened::Damaged(offset),
+        Err(_) => Opened::Failed,
+    }
+}
+
+// What opening a file that holds this is to give.
+fn is_opened(held: Held, opened: Opened) -> bool {
+    let wanted = match held {
+        Held::Idle => Opened::Idle,
+        Held::Nothing => Opened::Parcels(0, 2),
+        Held::One => Opened::Parcels(1, 111),
+        Held::Other => Opened::Parcels(1, 62),
+        Held::Both => Opened::Parcels(2, 171),
+        Held::Damage => return false,
+    };
+    opened == wanted
+}
+
+// What the file holds by its bytes.
+fn read_held<D: Disk>(disk: &mut D) -> Option<Held> {
     let mut file = [0u8; 200];
     let count = disk.read_at(0, &mut file).ok()?;
     let (file, _) = file.split_at(count);
     Some(held_in(file))
+}
+
+/// What the file on a disk holds, of whose calls none is to fail. None where opening it gives anything else.
+pub(super) fn held_on<D: Disk>(alloc: Global, disk: D) -> Option<Held> {
+    let mut disk = disk;
+    let held = read_held(&mut disk)?;
+    if is_opened(held, opened_on(alloc, disk)) {
+        Some(held)
+    } else {
+        None
+    }
 }
 
 /// Whether a crash by this pick may leave this: the least by the pick 0, which leaves nothing that wasn't safe, the

@@ -9,3 +9,5 @@ mod appends;
 mod carries;
 #[cfg(test)]
 mod files;
+#[cfg(test)]
+mod openings;

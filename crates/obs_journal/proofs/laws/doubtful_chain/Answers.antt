@@ -1,4 +1,4 @@
-use Rattle.obs_journal.specs.Formats.{Chained}
+use Rattle.obs_journal.specs.declared.format.Format.TheVariants.{Chained}
 use Rattle.obs_journal.proofs.Appends.{either_row}
 use Rattle.obs_journal.proofs.laws.doubtful_chain.Goals as goal
 

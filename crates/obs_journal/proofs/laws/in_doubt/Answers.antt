@@ -1,4 +1,4 @@
-use Rattle.obs_journal.specs.Formats.{Plain}
+use Rattle.obs_journal.specs.declared.format.Format.TheVariants.{Plain}
 use Rattle.obs_journal.proofs.Appends.{either_row}
 use Rattle.obs_journal.proofs.laws.in_doubt.Goals as goal
 

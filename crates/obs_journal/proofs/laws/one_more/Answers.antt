@@ -1,5 +1,5 @@
 use Rattle.std.proofs.Common.{[], ◌∷◌, arith}
-use Rattle.obs_journal.specs.Formats.{Plain}
+use Rattle.obs_journal.specs.declared.format.Format.TheVariants.{Plain}
 use Rattle.obs_journal.proofs.Rows.{row_length-append}
 use Rattle.obs_journal.proofs.laws.one_more.Goals as goal
 

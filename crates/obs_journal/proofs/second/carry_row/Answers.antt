@@ -1,7 +1,8 @@
 use Rattle.std.proofs.Common.{◌∷◌, [], List, subst}
 use Rattle.std.specs.List.{AllByRecursion}
 use Rattle.obs_journal.specs.Parcels.{IsParcel}
-use Rattle.obs_journal.specs.Formats.{first_seal, row, Chained}
+use Rattle.obs_journal.specs.Formats.{first_seal, row}
+use Rattle.obs_journal.specs.declared.format.Format.TheVariants.{Chained}
 use Rattle.obs_journal.specs.Moves.{Adds}
 use Rattle.obs_journal.specs.Opening.{parcels_of}
 use Rattle.obs_journal.specs.declared.opening.Placed.{Placed}

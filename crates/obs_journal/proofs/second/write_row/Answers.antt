@@ -1,6 +1,7 @@
 use Rattle.std.proofs.Common.{◌+◌, ◌∷◌, [], take, arith, ap, subst}
 use Rattle.std.proofs.lemmas.List.{take_all}
-use Rattle.obs_journal.specs.Formats.{first_seal, row, Chained}
+use Rattle.obs_journal.specs.Formats.{first_seal, row}
+use Rattle.obs_journal.specs.declared.format.Format.TheVariants.{Chained}
 use Rattle.obs_journal.specs.Moves.{Adds}
 use Rattle.obs_journal.specs.Opening.{parcels_of}
 use Rattle.obs_journal.specs.declared.opening.Placed.{Placed}
@@ -14,14 +15,14 @@ write_parcel-requires-clause-space g c =
 
 pub overflow_add-gate : goal.overflow_add-gate
 overflow_add-gate g c = record {
-  fits = omega (arith, c.loop-placed.invariant.written.gate_is, room_left c.args.parcels.now c.loop-placed.placed-index c.placed-item.result c.loop-placed-test.true c.placed-item.is, c.requires, c.room_of-gate.ensures);
+  fits = omega (arith, c.loop-placed.invariant.written.gate_is, room_left c.args.parcels.now c.loop-placed.placed-index c.placed-item.result c.loop-placed-test.true c.placed-item.is, c.requires, c.room-gate.ensures);
 }
 
 pub loop-placed-preserved : goal.loop-placed-preserved
 loop-placed-preserved g c =
     let h = c.loop-placed.invariant in
     record {
-      written = more_written g.D.Disk.reads g.D.Disk.leaves c.args.parcels.now c.loop-placed.placed-index c.loop-placed.gate _ c.loop-placed.last c.in_ok-last.last c.placed-item.result c.loop-placed-test.true c.placed-item.is h.written (ap (λ n. c.loop-placed.gate + n) c.room_of-gate.ensures)
+      written = more_written g.D.Disk.reads g.D.Disk.leaves c.args.parcels.now c.loop-placed.placed-index c.loop-placed.gate _ c.loop-placed.last c.in_ok-last.last c.placed-item.result c.loop-placed-test.true c.placed-item.is h.written (ap (λ n. c.loop-placed.gate + n) c.room-gate.ensures)
           c.in_ok-last.ensures.fits c.in_ok-last.ensures.digest c.in_ok-last.ensures.adds;
       shut = stays_joined h.written.adds h.shut c.write_parcel.ensures.shut;
       counts = omega (arith, h.counts, c.write_parcel.ensures.counts);

@@ -1,5 +1,6 @@
 use Rattle.std.proofs.Common.{◌≡◌, ◌∙◌, ◌-◌, length, Some, ap, arith, sym}
-use Rattle.obs_journal.specs.Formats.{front_length, Chained}
+use Rattle.obs_journal.specs.Formats.{front_length}
+use Rattle.obs_journal.specs.declared.format.Format.TheVariants.{Chained}
 use Rattle.obs_journal.specs.Chains.{IsChain}
 use Rattle.obs_journal.specs.Journals.{IsDoubtfulIn}
 use Rattle.obs_journal.proofs.Steps.{each_now, rows_stay, are_staged, are_doubtful, are_more, during_stage, during_gate}

@@ -1,7 +1,7 @@
 use Rattle.std.proofs.Common.{◌≡◌, ◌-◌, ◌↔◌, get_or, Some, refl, sym, ◌∙◌}
 use Rattle.std.specs.Prelude.{IsTrue, Bool, true, false}
 use Rattle.obs_journal.specs.declared.chain.Reached.{Reached}
-use Rattle.obs_journal.specs.Formats.{Chained}
+use Rattle.obs_journal.specs.declared.format.Format.TheVariants.{Chained}
 use Rattle.obs_journal.proofs.Appends.{gate_is, left_out_where_closed, added_where_open}
 use Rattle.obs_journal.proofs.Steps.{at_known}
 use Rattle.obs_journal.proofs.Chains.{at_gate}

@@ -1,5 +1,6 @@
 use Rattle.std.proofs.Common.{◌≡◌, ◌+◌, ◌-◌, length, Some, ap, arith}
-use Rattle.obs_journal.specs.Formats.{front_length, Plain}
+use Rattle.obs_journal.specs.Formats.{front_length}
+use Rattle.obs_journal.specs.declared.format.Format.TheVariants.{Plain}
 use Rattle.obs_journal.specs.Files.{IsRow}
 use Rattle.obs_journal.specs.Journals.{IsDoubtful}
 use Rattle.obs_journal.proofs.Steps.{each_now, rows_stay, are_staged, are_doubtful, are_more, during_stage, during_gate, position_more}

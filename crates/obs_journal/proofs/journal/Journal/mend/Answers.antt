@@ -1,7 +1,7 @@
 use Rattle.std.proofs.Common.{◌≡◌, ◌+◌, ◌-◌, ◌↔◌, ℕ, get_or, Some, refl, sym, ◌∙◌, arith}
 use Rattle.std.specs.Prelude.{IsTrue, Bool, true, false}
 use Rattle.obs_journal.specs.Parcels.{room}
-use Rattle.obs_journal.specs.Formats.{Plain}
+use Rattle.obs_journal.specs.declared.format.Format.TheVariants.{Plain}
 use Rattle.obs_journal.proofs.Appends.{gate_is, left_out_where_closed, added_where_open}
 use Rattle.obs_journal.proofs.Steps.{at_known, position_more}
 use Rattle.obs_journal.proofs.journal.Journal.mend.Goals as goal
