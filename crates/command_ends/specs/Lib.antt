@@ -1,5 +1,6 @@
 pub mod Statuses
 pub mod Disks
+pub mod Courses
 pub mod Opening
 pub mod Closing
 pub mod Left

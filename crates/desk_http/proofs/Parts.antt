@@ -1,5 +1,5 @@
 -- What the parameters of a route take from a path.
-use Rattle.std.proofs.Common.{◌≡◌, ℕ, zero, suc, ◌+◌, ◌-◌, ◌<◌, ◌≤◌, List, [], ◌∷◌, ◌++◌, length, take, drop, get_or, Option, Some, None, Bool, true, false, cond, ◌==◌, ◌&&◌, ltb, leb, refl, sym, ap, ◌∙◌, subst, inl, inr, arith, codes, IsUtf8, true≢false, ltb-true, lt-ltb, le-leb, length-append, append_assoc}
+use Rattle.std.proofs.Common.{◌≡◌, ℕ, suc, ◌+◌, ◌-◌, ◌<◌, ◌≤◌, List, [], ◌∷◌, ◌++◌, length, take, drop, Option, Some, None, Bool, true, false, cond, ◌==◌, ◌&&◌, ltb, leb, refl, sym, ap, ◌∙◌, subst, inl, inr, arith, codes, IsUtf8, true≢false, lt-ltb, le-leb, length-append, append_assoc}
 use Rattle.std.proofs.Math.Seq.{take-append_seam, drop-append_seam, drop-append-add, get_or-append_seam}
 use Rattle.std.proofs.lemmas.List.{take_rest}
 use Rattle.std.proofs.lemmas.Option.{none-some}

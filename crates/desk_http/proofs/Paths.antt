@@ -1,5 +1,5 @@
 -- What a path is that has a route.
-use Rattle.std.proofs.Common.{◌≡◌, ℕ, zero, suc, ◌+◌, ◌-◌, ◌<◌, List, [], ◌∷◌, ◌++◌, length, take, drop, Option, Some, None, Bool, true, false, cond, ◌==◌, ◌&&◌, ltb, ◌⊎◌, inl, inr, refl, sym, ap, ◌∙◌, arith, codes, true≢false, eqb-true, ltb-true, ne_eqb, take-append-drop, nat_eq}
+use Rattle.std.proofs.Common.{◌≡◌, ℕ, zero, suc, ◌-◌, ◌<◌, List, [], ◌∷◌, ◌++◌, length, take, drop, Option, Some, None, Bool, true, false, cond, ◌==◌, ◌&&◌, ltb, ◌⊎◌, inl, inr, refl, sym, ap, ◌∙◌, arith, codes, true≢false, eqb-true, ltb-true, ne_eqb, take-append-drop, nat_eq}
 use Rattle.std.specs.List.{ends_with}
 use Rattle.std.proofs.lemmas.Option.{none-some}
 use Rattle.matchit.specs.Rows.{RowsOf, param_token, catch_all_token}

@@ -1,20 +1,14 @@
 -- Pieces that come out of a source after what was read ahead, until a head stands at the front.
-use Rattle.std.proofs.Common.{◌≡◌, ℕ, ◌+◌, List, ◌++◌, length, take, drop, Option, sym, ap, ◌∙◌, subst, inr, ◌<◌, ◌≤◌, arith}
+use Rattle.std.proofs.Common.{◌≡◌, ℕ, List, ◌++◌, length, take, drop, sym, ap, ◌∙◌, subst, inr, ◌<◌, ◌≤◌, arith}
 use Rattle.std.proofs.lemmas.List.{length-append, take-append-drop, take_at}
-use Rattle.std.specs.Io.KnownBytes.{IsAtEnd}
-use Rattle.desk_io.specs.Reads.{Passes, Comes}
 use Rattle.httparse.specs.Grammar.{HasNoRequest}
-use Rattle.read_ahead.specs.Reading.{ReadsOnce}
-use Rattle.read_ahead.specs.Growing.{nothing_more, Grows, of_last}
 use Rattle.desk_http.specs.declared.TheConstants.{HEAD_BYTES}
 use Rattle.desk_http.specs.declared.head.HeadParts.{HeadParts}
-use Rattle.desk_http.specs.declared.heard.Ending.{Ending}
 use Rattle.desk_http.specs.declared.scan.Looked.{Looked}
 use Rattle.desk_http.specs.declared.scan.Scan.{Scan}
 use Rattle.desk_http.specs.Scans.{scanned}
-use Rattle.desk_http.specs.Heads.{IsHead, NoMessage}
-use Rattle.desk_http.specs.Reading.{IsLooked, IsAwaited, AwaitsMessage}
-use Rattle.desk_http.specs.Answers.{Ends}
+use Rattle.desk_http.specs.Heads.{IsHead}
+use Rattle.desk_http.specs.Reading.{IsLooked, IsAwaited}
 use Rattle.desk_http.proofs.Messages.{no_request_no_head, no_head_no_message}
 
 -- a head that stands at the front of what is read ahead, and is used
@@ -40,20 +34,3 @@ looked_front pending ahead grown piece looked is same behind =
     let long : looked.seen ≡ length ahead = is.seen ∙ ap length same in
     let front : take looked.seen grown ≡ pending = ap (take looked.seen) behind ∙ take_at ahead piece looked.seen (sym long) ∙ sym same in
     (omega (arith, long, ap length behind, length-append ahead piece), subst (λ (t : List ℕ). IsLooked t looked) (sym front) is)
-
-module _ {S : Type 0} (left : S → Option (List ℕ)) (gives : Passes S) (a b c : S) (start pending ahead last : List ℕ) (grows : Grows left gives IsAwaited a b start ahead)
-    (once : ReadsOnce left gives b c ahead last) (same : pending ≡ ahead) (awaited : IsAwaited pending) where
-  here : IsAwaited ahead
-  here = subst IsAwaited same awaited
-
-  -- the source is at its end
-  pub ended : (ending : Ending) → length last ≡ length ahead + 0 → IsAtEnd (left c) → ((rest : Option (List ℕ)) → IsAtEnd rest → NoMessage last → Ends last last rest ending)
-      → (piece : List ℕ) × Comes left gives (AwaitsMessage start) a c piece × Ends (start ++ piece) last (left c) ending
-  ended ending none end why =
-      let unchanged : last ≡ ahead = nothing_more left gives b c ahead last once none in
-      of_last left gives IsAwaited (λ front. Ends front last (left c) ending) a b c start ahead last grows here once unchanged
-      (subst (λ (t : List ℕ). Ends t last (left c) ending) unchanged (why (left c) end (subst NoMessage (sym unchanged) here.0)))
-
-  -- the source failed
-  pub failed : last ≡ ahead → (piece : List ℕ) × Comes left gives (AwaitsMessage start) a c piece × NoMessage (start ++ piece)
-  failed unchanged = of_last left gives IsAwaited NoMessage a b c start ahead last grows here once unchanged here.0

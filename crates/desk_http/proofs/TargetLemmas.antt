@@ -1,5 +1,5 @@
 -- What is asked of a target that has a route.
-use Rattle.std.proofs.Common.{◌≡◌, List, [], ◌∷◌, ◌++◌, ℕ, Option, Some, None, Bool, true, false, cond, ◌==◌, refl, ap, ◌∙◌, codes, bytes_eq, if◌then◌else◌, true≢false}
+use Rattle.std.proofs.Common.{◌≡◌, List, [], ◌∷◌, ◌++◌, ℕ, Option, Some, Bool, true, false, cond, ◌==◌, refl, ap, ◌∙◌, codes, bytes_eq, if◌then◌else◌, true≢false}
 use Rattle.ascii_text.specs.Reading.{◌>>=◌}
 use Rattle.matchit.specs.Seek.{has_slash, slash}
 use Rattle.desk_http.specs.declared.route.Asked.{Asked}

@@ -1,17 +1,16 @@
 -- A message whose head is read first, and then its body.
-use Rattle.std.proofs.Common.{◌≡◌, ℕ, ◌<◌, inl, inr, List, ◌++◌, length, Option, sym, ap, subst, append_assoc, arith}
+use Rattle.std.proofs.Common.{ℕ, ◌<◌, inl, List, ◌++◌, length, Option, ap, subst, append_assoc, arith}
 use Rattle.std.proofs.lemmas.List.{length-append}
-use Rattle.desk_io.specs.Reads.{Passes, Comes, Comes-weaker, Comes-trans}
+use Rattle.desk_io.specs.Reads.{Passes, Comes}
 use Rattle.act_model.specs.declared.request.Body.{Body}
 use Rattle.httparse.specs.Grammar.{print_request}
 use Rattle.desk_http.specs.declared.head.HeadParts.{HeadParts}
-use Rattle.desk_http.specs.declared.heard.Ending.{Ending}
 use Rattle.desk_http.specs.Heads.{IsHead, NoMessage}
-use Rattle.desk_http.specs.Reading.{AwaitsMessage, LacksText}
-use Rattle.read_ahead.specs.declared.cut.Cut.{Cut}
-use Rattle.read_ahead.specs.declared.cut.Cut.TheVariants as cuts
-use Rattle.read_ahead.specs.Reading.{IsTextRead, IsCut}
-use Rattle.desk_http.specs.Answers.{Ends, IfKept, IsWholeRead, ending_of}
+use Rattle.desk_http.specs.Reading.{AwaitsMessage}
+use Rattle.read_ahead.specs.declared.halt.Halt.{Halt}
+use Rattle.read_ahead.specs.Reading.{LacksText, IsTextRead, IsCut, Halts}
+use Rattle.read_ahead.specs.Growing.{none_cut, both_come}
+use Rattle.desk_http.specs.Answers.{IfKept, IsWholeRead}
 use Rattle.desk_http.proofs.Messages.{head_grows, body_missing}
 use Rattle.desk_http.proofs.Fronts.{some_bytes}
 
@@ -32,13 +31,6 @@ begun bytes h rest a =
     omega (arith, some, ap length a.reads.1, length-append (print_request a.head) rest)
 
 module _ {S : Type 0} (left : S → Option (List ℕ)) (gives : Passes S) where
-  -- the reads of a head, and those of its body
-  both_come : (a b c : S) (start first middle second : List ℕ) (h : HeadParts) → IsHead (start ++ first) h middle → Comes left gives (AwaitsMessage start) a b first
-      → Comes left gives (LacksText middle h.length) b c second → Comes left gives (AwaitsMessage start) a c (first ++ second)
-  both_come a b c start first middle second h stands head body =
-      Comes-trans left gives (AwaitsMessage start) a b c first second head
-      (Comes-weaker left gives (LacksText middle h.length) (λ came. AwaitsMessage start (first ++ came)) (λ came lacks. awaited start first middle came h stands lacks) b c second body)
-
   pub whole_read : (a b c : S) (start middle rest : List ℕ) (parts : HeadParts) (body : Body)
       → (first : List ℕ) × Comes left gives (AwaitsMessage start) a b first × IsHead (start ++ first) parts middle
       → (second : List ℕ) × Comes left gives (LacksText middle parts.length) b c second × IsTextRead (middle ++ second) parts.length (IfKept body) rest
@@ -47,7 +39,7 @@ module _ {S : Type 0} (left : S → Option (List ℕ)) (gives : Passes S) where
       let front : List ℕ = start ++ (first.0 ++ second.0) in
       let read = second.2 in (
         first.0 ++ second.0,
-        both_come a b c start first.0 middle second.0 parts first.2 first.1 second.1,
+        both_come left gives (AwaitsMessage start) a b c middle first.0 second.0 parts.length (λ came. awaited start first.0 middle came parts first.2) first.1 second.1,
         record {
           text = read.text;
           stands = record { head = subst (IsHead front parts) read.stands (behind_head start first.0 second.0 middle parts first.2); long = read.long };
@@ -55,19 +47,14 @@ module _ {S : Type 0} (left : S → Option (List ℕ)) (gives : Passes S) where
         },
       )
 
-  why_none : (front rest : List ℕ) (at : Option (List ℕ)) (cut : Cut) → NoMessage front → 0 < length front → IsCut at cut → Ends front rest at (ending_of cut)
-  why_none front rest at cuts.Ended none begun is = inr (none, begun, is)
-  why_none front rest at cuts.Failed none begun is = none
-
-  pub whole_cut : (a b c : S) (start middle rest : List ℕ) (parts : HeadParts) (ending : Ending)
+  pub whole_cut : (a b c : S) (start middle rest : List ℕ) (parts : HeadParts) (halt : Halt)
       → (first : List ℕ) × Comes left gives (AwaitsMessage start) a b first × IsHead (start ++ first) parts middle
-      → (second : List ℕ) × Comes left gives (LacksText middle parts.length) b c second × ((length (middle ++ second) < parts.length) × ((cut : Cut) × (ending ≡ ending_of cut) × IsCut (left c) cut))
-      → (piece : List ℕ) × Comes left gives (AwaitsMessage start) a c piece × Ends (start ++ piece) rest (left c) ending
-  whole_cut a b c start middle rest parts ending first second =
+      → (second : List ℕ) × Comes left gives (LacksText middle parts.length) b c second × ((length (middle ++ second) < parts.length) × IsCut (left c) halt)
+      → (piece : List ℕ) × Comes left gives (AwaitsMessage start) a c piece × Halts NoMessage (start ++ piece) rest (left c) halt
+  whole_cut a b c start middle rest parts halt first second =
       let front : List ℕ = start ++ (first.0 ++ second.0) in
       let is : IsHead front parts (middle ++ second.0) = behind_head start first.0 second.0 middle parts first.2 in (
         first.0 ++ second.0,
-        both_come a b c start first.0 middle second.0 parts first.2 first.1 second.1,
-        subst (Ends front rest (left c)) (sym second.2.1.1)
-            (why_none front rest (left c) second.2.1.0 (body_missing front parts (middle ++ second.0) is second.2.0) (begun front parts (middle ++ second.0) is) second.2.1.2),
+        both_come left gives (AwaitsMessage start) a b c middle first.0 second.0 parts.length (λ came. awaited start first.0 middle came parts first.2) first.1 second.1,
+        none_cut NoMessage front rest (left c) halt (body_missing front parts (middle ++ second.0) is second.2.0) (begun front parts (middle ++ second.0) is) second.2.1,
       )

@@ -6,7 +6,6 @@ use Rattle.desk_http.specs.Scans.{scanned}
 use Rattle.desk_http.specs.declared.TheConstants.{HEAD_BYTES}
 use Rattle.desk_http.specs.declared.scan.Looked.{Looked}
 use Rattle.desk_http.specs.declared.scan.Scan.TheVariants.{Blank}
-pub use Rattle.read_ahead.specs.Reading.{LacksText, work}
 
 -- So many of the bytes were parsed, and can still become a head or end inside its target. No more have come since than
 -- they are, and no line feed but those of empty lines in front. So a fault that settles the head is found where the

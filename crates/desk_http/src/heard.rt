@@ -1,8 +1,7 @@
-//! Requests that were heard, and why none was.
+//! Requests that were heard.
 
 use crate::head::HeadParts;
 use act_model::{Body, Request};
-use read_ahead::Cut;
 
 /// What a wire hears next.
 #[derive(Debug, Drop)]
@@ -21,31 +20,6 @@ pub enum Heard {
     Unread,
     /// The source failed before a request had come.
     ReadFault,
-}
-
-/// Why no request was heard. The variants are those of `Heard`.
-#[derive(Clone, Copy, Debug, PartialEq, Eq)]
-pub enum Ending {
-    /// The source ended, and no byte of a further request had come.
-    End,
-    /// What comes next is no request.
-    Unread,
-    /// The source failed.
-    ReadFault,
-}
-
-impl From<Cut> for Ending {
-    ghost use Rattle.std.specs.Prelude.{◌≡◌};
-    ghost use Rattle.desk_http.specs.Answers.{ending_of};
-
-    ghost from_gives = { λ cut ending. ending ≡ ending_of cut };
-
-    fn from(cut: Cut) -> Ending {
-        match cut {
-            Cut::Ended => Ending::Unread,
-            Cut::Failed => Ending::ReadFault,
-        }
-    }
 }
 
 /// A head and its body.

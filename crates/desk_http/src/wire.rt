@@ -1,20 +1,18 @@
 //! The wire.
 
-ghost use Rattle.std.specs.Prelude.{◌≡◌, ◌≢◌, ℕ, ◌<◌, ◌≤◌, List, [], ◌++◌, Option, IfOk, OnOk};
-ghost use Rattle.std.specs.Io.KnownBytes.{IsAtEnd};
+ghost use Rattle.std.specs.Prelude.{◌≡◌, ℕ, ◌<◌, ◌≤◌, List, [], ◌++◌, IfOk, OnOk};
 ghost use Rattle.desk_io.specs.Reads.{Comes};
-ghost use Rattle.desk_http.specs.Heads.{NoMessage};
-ghost use Rattle.desk_http.specs.Reading.{AwaitsMessage, LacksText, work};
-ghost use Rattle.desk_http.specs.Answers.{ReadsMessage, OnRequest, Counts, Ends, Counted, IfKept, ReadsHead};
-ghost use Rattle.desk_http.specs.Answers.{ReadsBody, ReadsWhole};
+ghost use Rattle.read_ahead.specs.Reading.{LacksText, ReadsText, Counted, work};
+ghost use Rattle.desk_http.specs.Reading.{AwaitsMessage};
+ghost use Rattle.desk_http.specs.Answers.{ReadsMessage, OnRequest, Counts, IfKept, ReadsHead, ReadsWhole};
 
 use crate::head::{Front, HeadParts, next_front};
-use crate::heard::{Ending, Heard, Whole};
+use crate::heard::{Heard, Whole};
 use crate::routes::Routes;
 use crate::scan::Looked;
 use act_model::{BODY_BYTES, Body, Request};
 use desk_io::{Failed, NoMemory, Source};
-use read_ahead::ReadAhead;
+use read_ahead::{Halt, ReadAhead};
 use std::alloc::Global;
 use std::marker::Model;
 
@@ -72,9 +70,9 @@ impl Wire {
 }
 
 // Reads a body of this length to its end. No memory is taken for one that is too long to be kept.
-fn read_body<S: Source>(ahead: &mut ReadAhead, source: &mut S, size: u64) -> Result<Body, Ending>
+fn read_body<S: Source>(ahead: &mut ReadAhead, source: &mut S, size: u64) -> Result<Body, Halt>
     ensures came { (piece : List ℕ) × Comes S.left S.gives (LacksText ahead.old size) source.old source.new piece
-        × ReadsBody (ahead.old ++ piece) size ahead.new (S.left source.new) result }
+        × ReadsText IfKept (ahead.old ++ piece) size ahead.new (S.left source.new) result }
     ensures counts { S.faults source.old ≤ S.faults source.new }
     ensures faults { Counted result (S.faults source.old) (S.faults source.new) }
     ensures stays { S.is_open source.new ≡ S.is_open source.old }
@@ -96,7 +94,7 @@ fn read_head<S: Source>(
     ahead: &mut ReadAhead,
     routes: &Routes,
     source: &mut S,
-) -> Result<HeadParts, Ending>
+) -> Result<HeadParts, Halt>
     ensures came { (piece : List ℕ) × Comes S.left S.gives (AwaitsMessage ahead.old) source.old source.new piece
         × ReadsHead (ahead.old ++ piece) ahead.new (S.left source.new) result }
     ensures counts { S.faults source.old ≤ S.faults source.new }
@@ -115,27 +113,14 @@ fn read_head<S: Source>(
                 ahead.skip(size);
                 return Ok(parts);
             }
-            Front::Bad => return Err(Ending::Unread),
+            Front::Bad => return Err(Halt::Bad),
             Front::Part => {}
         }
         match ahead.refill(source) {
-            Ok(0) => return Err(ending(ahead)),
+            Ok(0) => return Err(ahead.halt_at_end()),
             Ok(_) => {}
-            Err(Failed) => return Err(Ending::ReadFault),
+            Err(Failed) => return Err(Halt::Failed),
         }
-    }
-}
-
-// Why no message comes at the end of the source, where no head stands at the front.
-fn ending(ahead: &ReadAhead) -> Ending
-    ensures why { (left : Option (List ℕ)) → IsAtEnd left → NoMessage ahead.now
-        → Ends ahead.now ahead.now left result }
-    ensures other { result ≢ Ending.ReadFault }
-{
-    if ahead.bytes().is_empty() {
-        Ending::End
-    } else {
-        Ending::Unread
     }
 }
 
@@ -144,7 +129,7 @@ fn read_whole<S: Source>(
     ahead: &mut ReadAhead,
     routes: &Routes,
     source: &mut S,
-) -> Result<Whole, Ending>
+) -> Result<Whole, Halt>
     ensures came { (piece : List ℕ) × Comes S.left S.gives (AwaitsMessage ahead.old) source.old source.new piece
         × ReadsWhole (ahead.old ++ piece) ahead.new (S.left source.new) result }
     ensures counts { S.faults source.old ≤ S.faults source.new }
@@ -181,8 +166,8 @@ fn next_request<S: Source>(ahead: &mut ReadAhead, routes: &Routes, source: &mut 
                 last: whole.parts.closes,
             }
         }
-        Err(Ending::End) => Heard::End,
-        Err(Ending::Unread) => Heard::Unread,
-        Err(Ending::ReadFault) => Heard::ReadFault,
+        Err(Halt::End) => Heard::End,
+        Err(Halt::Bad) => Heard::Unread,
+        Err(Halt::Failed) => Heard::ReadFault,
     }
 }

@@ -1,7 +1,6 @@
 -- Bytes of which a frame is awaited.
 use Rattle.std.specs.Prelude.{ℕ, List, ◌++◌}
 use Rattle.frame_grammar.specs.Frames.{NoFrame, NeverFrame}
-pub use Rattle.read_ahead.specs.Reading.{LacksText, work}
 
 -- no frame stands at the front of the bytes yet, and one still may
 abbrev pub IsAwaited : List ℕ → Type 0

@@ -9,9 +9,7 @@ mod head;
 mod reader;
 mod replies;
 
-pub use frame::{FrameBody, NextFrame, ReadFrame};
+pub use frame::ReadFrame;
+pub use read_ahead::{Body, Halt};
 pub use reader::FrameReader;
 pub use replies::write_reply_frame;
-
-/// The longest body that is kept, in bytes. A longer one is read to its end and thrown away.
-pub const BODY_BYTES: u64 = 1_048_576;

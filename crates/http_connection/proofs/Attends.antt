@@ -9,8 +9,8 @@ use Rattle.act_model.specs.declared.request.Body.{Body}
 use Rattle.act_model.specs.declared.request.Request.{Request}
 use Rattle.intake_lock.specs.declared.view.Item.{Item}
 use Rattle.intake_lock.specs.declared.view.View.{View}
-use Rattle.intake_lock.specs.declared.clerk.Stamps.{Stamps}
-use Rattle.intake_lock.specs.Clerks.{StampsOn}
+use Rattle.act_model.specs.declared.keeper.Stamps.{Stamps}
+use Rattle.intake_lock.specs.Stamps.{StampsOn}
 use Rattle.intake_lock.specs.Items.{IsTrue, AreTrue, AreStamped}
 use Rattle.intake_lock.specs.Views.{seen}
 use Rattle.desk_http.specs.Answers.{IfKept, IsRequestRead}

@@ -12,7 +12,7 @@ use Rattle.act_model.specs.Conducts.{Extends}
 use Rattle.act_model.specs.Step.{Outcome, Adds, outcome, after, step}
 use Rattle.act_model.specs.Turns.{Answers}
 use Rattle.intake_lock.specs.declared.view.Item.{Item}
-use Rattle.intake_lock.specs.declared.clerk.Stamp.{Stamp}
+use Rattle.act_model.specs.declared.keeper.Stamp.{Stamp}
 use Rattle.intake_lock.specs.Items.{reading_of, StampTells, IsTrue, AreTrue, Failed}
 use Rattle.http_connection.specs.Calls.{HasCause, IsAdded, StandsBehind, AreInOrder, HadNoRise, IsStepped}
 use Rattle.http_connection.specs.Laws.{CallLaws}

@@ -1,8 +1,8 @@
 -- How far a connection has come, step by step, and what its ends leave.
 use Rattle.std.proofs.Common.{◌≡◌, ℕ, ◌+◌, ◌≤◌, ◌<◌, Bool, true, false, List, [], ◌∷◌, ◌++◌, length, take, Option, Some, None, refl, sym, ap, subst, ◌∙◌, inl, inr, arith}
 use Rattle.std.specs.Prelude.{IfSome}
-use Rattle.std.specs.Io.KnownBytes.{Consumes, Appends, IsAtEnd}
-use Rattle.std.proofs.KnownBytes.{Consumes-nil, Appends-nil, Appends-trans}
+use Rattle.std.specs.Io.KnownBytes.{Appends}
+use Rattle.std.proofs.KnownBytes.{Appends-nil, Appends-trans}
 use Rattle.std.proofs.lemmas.List.{append-nil, length-append, length-map}
 use Rattle.desk_io.specs.Outside.{Rises, AppendsPart}
 use Rattle.desk_io.specs.Reads.{Passes, Comes, Comes-nil, Comes-trans, Comes-weaker}
@@ -15,7 +15,10 @@ use Rattle.intake_lock.specs.declared.view.Item.{Item}
 use Rattle.intake_lock.specs.declared.view.View.{View}
 use Rattle.desk_http.specs.declared.heard.Heard.{Heard}
 use Rattle.desk_http.specs.declared.heard.Heard.TheVariants as heard
-use Rattle.desk_http.specs.Answers.{IsRequestRead, IsOver, NoMessageComes, ReadsMessage, Counts}
+use Rattle.desk_http.specs.Answers.{IsRequestRead, NoMessageComes, ReadsMessage, Counts}
+use Rattle.read_ahead.specs.declared.halt.Halt.TheVariants.{End}
+use Rattle.read_ahead.specs.Reading.{Halts, Supplies}
+use Rattle.read_ahead.specs.Supplied.{remaining, none_left, none_before, supplies, supplies_nothing}
 use Rattle.desk_http.specs.Heads.{Message, NoMessage, IsStream}
 use Rattle.desk_http.specs.Reading.{AwaitsMessage}
 use Rattle.desk_http.specs.ReplyTexts.{answer_of, unread_answer}
@@ -25,30 +28,12 @@ use Rattle.http_connection.specs.declared.TheConstants.{ANSWERS}
 use Rattle.act_model.specs.Clocks.{ClockState}
 use Rattle.http_connection.specs.Calls.{TakesCall}
 use Rattle.http_connection.specs.Streams.{IsOpen, HasNoHeadFault, AwaitsNext}
-use Rattle.http_connection.specs.Attending.{Exchange, messages_of, items_of, Attends, is_last, answer_to, answers, Link, Remains, Supplies, IsUnread, IsPartly, Ends, Standing, IsAttended, ReadCounts, WriteCounts, IsEndedOrWanting}
+use Rattle.http_connection.specs.Attending.{Exchange, messages_of, items_of, Attends, is_last, answer_to, answers, Link, IsUnread, IsPartly, Ends, Standing, IsAttended, ReadCounts, WriteCounts, IsEndedOrWanting}
 use Rattle.http_connection.specs.Laws.{CallLaws, StreamLaws}
 use Rattle.http_connection.specs.Steps.{Answering, IsAnswered, IsRefused, IsUntouched, Becomes, GoesOn}
 use Rattle.http_connection.proofs.Streams.{open_grows, open_more, open_stream, closed_stream, open_whole}
 use Rattle.http_connection.proofs.Calls.{all_stepped}
 use Rattle.http_connection.proofs.Attends.{asks_for, messages_more, answers_more, attends_none, attends_more}
-
--- ---- what is left in a source
-
--- what is left, and nothing where that isn't known
-remaining : (left : Option (List ℕ)) → (more : List ℕ) × Remains left more
-remaining None = ([], refl)
-remaining (Some left) = (left, refl)
-
--- the bytes that a source held are those that came and those that are left
-all_of : (before after : Option (List ℕ)) (came more : List ℕ) → Consumes before after came → Remains after more → IfSome before (λ bytes. bytes ≡ came ++ more)
-all_of None after came more consumed rest = tt
-all_of (Some bytes) None came more consumed rest = absurd consumed
-all_of (Some bytes) (Some left) came more consumed rest = consumed ∙ ap (λ (l : List ℕ). came ++ l) rest
-
--- at its end nothing is left
-none_left : (after : Option (List ℕ)) (more : List ℕ) → IsAtEnd after → Remains after more → more ≡ []
-none_left None more end rest = rest
-none_left (Some left) more end rest = sym rest ∙ end
 
 -- ---- a head fault
 
@@ -56,12 +41,6 @@ module _ (laws : StreamLaws) where
   fault_some : (front more : List ℕ) (left : Option (List ℕ)) → NoMessageComes front left → 0 < length (front ++ more)
   fault_some front more left (inl never) = let l = length-append front more in let some = laws.some front never in omega arith
   fault_some front more left (inr (none, some, end)) = let l = length-append front more in omega arith
-
-  -- no message stands before what is left, where none comes
-  none_before : (front more : List ℕ) (left : Option (List ℕ)) → NoMessageComes front left → Remains left more → NoMessage (front ++ more)
-  none_before front more left (inl never) rest = never more
-  none_before front more left (inr (none, some, end)) rest =
-      subst NoMessage (sym (ap (λ (r : List ℕ). front ++ r) (none_left left more end rest) ∙ append-nil front)) none
 
 -- ---- how far a connection has come
 
@@ -104,10 +83,9 @@ module _ {S : Type 0} (left : S → Option (List ℕ)) (gives : Passes S) (start
   -- memory was refused before anything was read
   pub ends_unbegun : IsAttended left gives start start NoMemory
   ends_unbegun =
-      let r = remaining (left start.source) in
       record {
-        link = record { came = []; more = r.0; exchanges = []; texts = [] };
-        supplied = record { whole = all_of (left start.source) (left start.source) [] r.0 (Consumes-nil (left start.source)) r.1; rest = r.1; comes = Comes-nil left gives (AwaitsNext 0) start.source };
+        link = record { came = []; more = (remaining (left start.source)).0; exchanges = []; texts = [] };
+        supplied = supplies_nothing left gives (AwaitsNext 0) start.source;
         appended = Appends-nil start.taken;
         attends = attends_none start.view start.clock;
         most = omega arith;
@@ -119,15 +97,10 @@ module _ {S : Type 0} (left : S → Option (List ℕ)) (gives : Passes S) (start
     -- 1,000 messages were answered
     pub ends_enough : answered ≡ ANSWERS → IsAttended left gives start now Enough
     ends_enough many =
-        let r = remaining (left now.source) in
         let count = p.count in
         record {
-          link = record { came = p.came; more = r.0; exchanges = p.exchanges; texts = answers 0 p.exchanges };
-          supplied = record {
-            whole = all_of (left start.source) (left now.source) p.came r.0 p.comes.consumed r.1;
-            rest = r.1;
-            comes = subst (λ (n : ℕ). Comes left gives (AwaitsNext n) start.source now.source p.came) (sym count) p.comes;
-          };
+          link = record { came = p.came; more = (remaining (left now.source)).0; exchanges = p.exchanges; texts = answers 0 p.exchanges };
+          supplied = supplies left gives (AwaitsNext (length p.exchanges)) start.source now.source p.came (subst (λ (n : ℕ). Comes left gives (AwaitsNext n) start.source now.source p.came) (sym count) p.comes);
           appended = p.appended;
           attends = p.attends;
           most = omega arith;
@@ -165,15 +138,10 @@ module _ {S : Type 0} (left : S → Option (List ℕ)) (gives : Passes S) (start
       abbrev link_with : List Exchange → List ℕ → Link
       link_with exchanges texts = record { came = p.came ++ piece; more = more; exchanges = exchanges; texts = texts }
 
-      supplied_with : (exchanges : List Exchange) (texts : List ℕ) → answered ≤ length exchanges → Supplies left gives start.source then (link_with exchanges texts)
-      supplied_with exchanges texts enough =
-          let r = remaining (left then) in
-          let all = all_come in
-          record {
-            whole = all_of (left start.source) (left then) (p.came ++ piece) r.0 all.consumed r.1;
-            rest = r.1;
-            comes = Comes-weaker left gives (AwaitsNext answered) (AwaitsNext (length exchanges)) (awaits_more answered (length exchanges) enough) start.source then (p.came ++ piece) all;
-          }
+      supplied_with : (exchanges : List Exchange) → answered ≤ length exchanges → Supplies left gives (AwaitsNext (length exchanges)) start.source then (p.came ++ piece) more
+      supplied_with exchanges enough =
+          supplies left gives (AwaitsNext (length exchanges)) start.source then (p.came ++ piece)
+          (Comes-weaker left gives (AwaitsNext answered) (AwaitsNext (length exchanges)) (awaits_more answered (length exchanges) enough) start.source then (p.came ++ piece) all_come)
 
       -- the messages that were answered, in all bytes
       front_all : IsOpen ((p.came ++ piece) ++ more) (messages_of p.exchanges) ((ahead ++ piece) ++ more)
@@ -188,7 +156,7 @@ module _ {S : Type 0} (left : S → Option (List ℕ)) (gives : Passes S) (start
             let count = p.count in
             record {
               link = link_with p.exchanges texts;
-              supplied = supplied_with p.exchanges texts (omega arith);
+              supplied = supplied_with p.exchanges (omega arith);
               appended = appended;
               attends = p.attends;
               most = omega arith;
@@ -197,7 +165,7 @@ module _ {S : Type 0} (left : S → Option (List ℕ)) (gives : Passes S) (start
             }
 
         -- the source ended
-        ends_over : IsOver (ahead ++ piece) rest (left then) → IsAttended left gives start (at now.view now.clock now.taken then) Ended
+        ends_over : Halts NoMessage (ahead ++ piece) rest (left then) End → IsAttended left gives start (at now.view now.clock now.taken then) Ended
         ends_over over =
             let count = p.count in
             let nothing : (ahead ++ piece) ++ more ≡ [] = ap (λ (l : List ℕ). l ++ more) over.0 ∙ none_left (left then) more over.2 (remaining (left then)).1 in
@@ -231,7 +199,7 @@ module _ {S : Type 0} (left : S → Option (List ℕ)) (gives : Passes S) (start
             record {
               rest = (ahead ++ piece) ++ more;
               stream = open_stream ((p.came ++ piece) ++ more) (messages_of p.exchanges) ((ahead ++ piece) ++ more) front_all
-                  (none_before laws (ahead ++ piece) more (left then) none (remaining (left then)).1);
+                  (none_before NoMessage (ahead ++ piece) more (left then) none (remaining (left then)).1);
               goes_on = front_all;
               fault = fault_some laws (ahead ++ piece) more (left then) none;
               few = omega arith;
@@ -284,7 +252,7 @@ module _ {S : Type 0} (left : S → Option (List ℕ)) (gives : Passes S) (start
             let count = count_all in
             record {
               link = link_with exchanges_all texts;
-              supplied = supplied_with exchanges_all texts (omega arith);
+              supplied = supplied_with exchanges_all (omega arith);
               appended = appended;
               attends = attends_all;
               most = omega arith;

@@ -1,5 +1,5 @@
 -- Readings of a clock.
-use Rattle.std.proofs.Common.{◌≡◌, ℕ, ◌+◌, ℤ, [], ◌∷◌, refl, sym, ap, add-zero}
+use Rattle.std.proofs.Common.{[], refl, sym, ap, add-zero}
 use Rattle.act_model.specs.Clocks.{ClockState, Gives}
 
 -- no reading was taken

@@ -1,10 +1,11 @@
 -- A connection that was attended: what was read of it, asked and written.
 use Rattle.std.specs.Prelude.{◌≡◌, ◌⊎◌, ℕ, ◌+◌, ◌<◌, ◌≤◌, ℤ, Bool, ◌||◌, ◌==◌, List, [], ◌∷◌, ◌++◌, length, map}
-use Rattle.std.specs.Prelude.{filter_map, reverse, take, Option, Some, None, IfSome}
+use Rattle.std.specs.Prelude.{filter_map, reverse, take, Option}
 use Rattle.std.specs.List.{AllByRecursion}
 use Rattle.std.specs.Io.KnownBytes.{Appends}
 use Rattle.desk_io.specs.Outside.{Rises}
-use Rattle.desk_io.specs.Reads.{Passes, Comes}
+use Rattle.desk_io.specs.Reads.{Passes}
+use Rattle.read_ahead.specs.Reading.{Supplies}
 use Rattle.act_model.specs.declared.reply.Fault.{Fault}
 use Rattle.act_model.specs.declared.reply.Reply.TheVariants.{Refused}
 use Rattle.act_model.specs.declared.reply.Refusal.TheVariants.{NoLine}
@@ -13,7 +14,7 @@ use Rattle.act_model.specs.Conducts.{Extends}
 use Rattle.act_model.specs.Turns.{TakesReading}
 use Rattle.intake_lock.specs.declared.view.Item.{Item}
 use Rattle.intake_lock.specs.declared.view.View.{View}
-use Rattle.intake_lock.specs.Clerks.{StampsOn}
+use Rattle.intake_lock.specs.Stamps.{StampsOn}
 use Rattle.intake_lock.specs.Items.{AreTrue, AreStamped}
 use Rattle.intake_lock.specs.Views.{seen}
 use Rattle.desk_http.specs.Answers.{IfKept}
@@ -100,19 +101,6 @@ pub record Link : Type 0 where
   pub exchanges : List Exchange
   pub texts : List ℕ
 
--- these are the bytes that are left in a source, as far as they are known
-abbrev pub Remains : Option (List ℕ) → List ℕ → Type 0
-Remains None more = more ≡ []
-Remains (Some left) more = left ≡ more
-
--- The connection's bytes came out of the source, and all bytes that the source held, where they are known, are those
--- and what is left. No read was made but while a further message was awaited.
-pub record Supplies {S : Type 0} (left : S → Option (List ℕ)) (gives : Passes S) (before after : S)
-    (link : Link) : Type 0 where
-  pub whole : IfSome (left before) (λ bytes. bytes ≡ link.came ++ link.more)
-  pub rest : Remains (left after) link.more
-  pub comes : Comes left gives (AwaitsNext (length link.exchanges)) before after link.came
-
 -- all messages of the stream were answered, and no head fault ends it: the last one asks to close, or they are fewer
 -- than 1,000 and nothing is left behind them
 pub record IsEnded (link : Link) : Type 0 where
@@ -186,12 +174,12 @@ pub record Standing (S : Type 0) : Type 0 where
   pub source : S
 
 -- A connection was attended and left: what came from the source, which calls the pass made for it, which bytes the sink
--- took, and why it was left. No more than 1,000 messages were asked. Where the disk's count of faults rose in no call,
--- each was answered by the step, or as out of memory.
+-- took, and why it was left. No read was made but while a further message was awaited. No more than 1,000 messages were
+-- asked. Where the disk's count of faults rose in no call, each was answered by the step, or as out of memory.
 pub record IsAttended {S : Type 0} (left : S → Option (List ℕ)) (gives : Passes S) (before after : Standing S)
     (ended : Left) : Type 0 where
   pub link : Link
-  pub supplied : Supplies left gives before.source after.source link
+  pub supplied : Supplies left gives (AwaitsNext (length link.exchanges)) before.source after.source link.came link.more
   pub appended : Appends before.taken after.taken link.texts
   pub attends : Attends before.view after.view before.clock after.clock link.exchanges
   pub most : length link.exchanges ≤ ANSWERS

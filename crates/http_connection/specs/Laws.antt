@@ -2,12 +2,12 @@
 use Rattle.std.specs.Prelude.{◌≡◌, ℕ, ℤ, ◌≤◌, ◌<◌, List, [], ◌++◌, length, Option}
 use Rattle.act_bodies.specs.declared.key.Key.{Key}
 use Rattle.act_model.specs.declared.entry.Entry.{Entry}
-use Rattle.intake_lock.specs.declared.clerk.Office.{Office}
+use Rattle.act_model.specs.declared.keeper.Office.{Office}
 use Rattle.act_model.specs.Clocks.{ClockState, Gives}
 use Rattle.act_model.specs.Conducts.{Extends}
 use Rattle.intake_lock.specs.declared.view.Item.{Item}
-use Rattle.intake_lock.specs.declared.clerk.Stamps.{Stamps}
-use Rattle.intake_lock.specs.Clerks.{StampsOn}
+use Rattle.act_model.specs.declared.keeper.Stamps.{Stamps}
+use Rattle.intake_lock.specs.Stamps.{StampsOn}
 use Rattle.intake_lock.specs.Items.{IsTrue, Calls, HasStamp, AreStamped}
 use Rattle.desk_http.specs.Heads.{Message, IsMessage, NoMessage, NeverMessage}
 

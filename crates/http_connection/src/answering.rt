@@ -6,9 +6,9 @@ ghost use Rattle.act_model.specs.Clocks.{clock_of};
 ghost use Rattle.http_connection.specs.Calls.{Asks, TakesCall};
 
 use crate::laws::call_laws;
-use act_model::{Reply, Request, laws as office_laws};
+use act_model::{Keeper, Reply, Request, laws as office_laws};
 use desk_io::Clock;
-use intake_lock::{Clerk, Pass, Turn, TurnLock};
+use intake_lock::{Pass, Turn, TurnLock};
 use std::alloc::Global;
 use std::marker::Model;
 use std::sync::Wait;
@@ -16,11 +16,11 @@ use std::sync::Wait;
 /// A lock for whoever answers one request after another. It offers that and nothing else, so that no turn can be held
 /// while a connection is read or written to.
 #[derive(Drop)]
-pub(crate) struct OneByOne<'a, V: Clerk> {
+pub(crate) struct OneByOne<'a, V: Keeper> {
     lock: &'a TurnLock<V>,
 }
 
-impl<'a, V: Clerk> Model for OneByOne<'a, V> {
+impl<'a, V: Keeper> Model for OneByOne<'a, V> {
     ghost use Rattle.intake_lock.specs.Passes.{LockState};
 
     ghost Value = { LockState };
@@ -28,7 +28,7 @@ impl<'a, V: Clerk> Model for OneByOne<'a, V> {
     ghost view = { λ o. o.lock.now };
 }
 
-impl<'a, V: Clerk> OneByOne<'a, V> {
+impl<'a, V: Keeper> OneByOne<'a, V> {
     /// The lock, of which no more than this can be used.
     pub(crate) fn new(lock: &'a TurnLock<V>) -> OneByOne<'a, V>
         ensures { result ≡ lock.now }
@@ -57,7 +57,7 @@ impl<'a, V: Clerk> OneByOne<'a, V> {
 
 // Asks the keeper of the turn. A request whose verb is an act takes one reading of the clock, whatever its answer, and
 // any other takes none.
-fn take_turn<V: Clerk, C: Clock>(turn: &mut Turn<V>, request: &Request, clock: &mut C) -> Reply
+fn take_turn<V: Keeper, C: Clock>(turn: &mut Turn<V>, request: &Request, clock: &mut C) -> Reply
     ensures call { Asks
         (record { office = turn.old.office; items = turn.old.items; clock = clock_of C.reading C.last clock.old })
         (record { office = turn.new.office; items = turn.new.items; clock = clock_of C.reading C.last clock.new })
@@ -77,7 +77,7 @@ fn take_turn<V: Clerk, C: Clock>(turn: &mut Turn<V>, request: &Request, clock: &
 ///
 /// The pass that comes back is the same root or branch, and has one call more: the request's, with the reply that is
 /// given. A request whose verb is an act takes one reading of the clock, whatever its answer, and any other takes none.
-pub fn answer_one<V: Clerk, C: Clock, R: Wait>(
+pub fn answer_one<V: Keeper, C: Clock, R: Wait>(
     rt: &R,
     _alloc: Global,
     lock: &TurnLock<V>,

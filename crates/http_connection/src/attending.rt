@@ -11,9 +11,10 @@ use crate::ANSWERS;
 use crate::answering::OneByOne;
 use crate::laws::{call_laws, stream_laws};
 use crate::left::Left;
+use act_model::Keeper;
 use desk_http::{Heard, SendFault, Wire, laws as http_laws, write_reply, write_unread};
 use desk_io::{Clock, Failed, Sink, Source};
-use intake_lock::{Clerk, Pass, TurnLock};
+use intake_lock::{Pass, TurnLock};
 use std::alloc::Global;
 use std::sync::Wait;
 
@@ -38,7 +39,7 @@ fn refuse_head<K: Sink>(sink: &mut K) -> Left
 }
 
 // Answers what was heard. Says why the connection is left, and None where it goes on.
-fn answer_heard<V: Clerk, K: Sink, C: Clock, R: Wait>(
+fn answer_heard<V: Keeper, K: Sink, C: Clock, R: Wait>(
     rt: &R,
     alloc: Global,
     lock: &OneByOne<V>,
@@ -84,7 +85,7 @@ fn answer_heard<V: Clerk, K: Sink, C: Clock, R: Wait>(
 /// The pass that comes back is the same root or branch, and has the calls of the connection, each with the reply that
 /// was written. The calls stand at places of the one history that rise: none is before what the pass had seen or before
 /// an earlier call, and each is after the entry that an earlier call added.
-pub fn attend<V: Clerk, S: Source, K: Sink, C: Clock, R: Wait>(
+pub fn attend<V: Keeper, S: Source, K: Sink, C: Clock, R: Wait>(
     rt: &R,
     alloc: Global,
     lock: &TurnLock<V>,

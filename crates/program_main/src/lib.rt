@@ -1,8 +1,9 @@
-//! All that `main` does: it reads the words of the command line, makes the real source, sink, disk, clock and door, hands
-//! them to `top` of program_top, says on standard error what the operator must know, and ends with the status's number.
+//! All that `main` does: it reads the words of the command line, makes the real source, sink, disk, clock and door,
+//! hands them to `top` of program_top, says on standard error what the operator must know, and ends with the status's
+//! number.
 //!
-//! It stands in a library, so that more than one program can be tried with it. What starts threads and opens sockets comes
-//! from `main`, which alone has it.
+//! It stands in a library, so that more than one program can be tried with it. What starts threads and opens sockets
+//! comes from `main`, which alone has it.
 #![tactic(auto)]
 
 ghost use Rattle.std.specs.Prelude.{◌≡◌, ℕ, List, map, IfOk, string_bytes, Some};

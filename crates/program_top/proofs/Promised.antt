@@ -1,73 +1,72 @@
 -- The promises of a command, by the command that the words name.
 use Rattle.std.proofs.Common.{◌≡◌, ℕ, List, false, Option, Some, None, refl, sym, ap, subst, inl, inr}
-use Rattle.std.specs.Prelude.{◌≤◌}
+use Rattle.std.specs.Prelude.{◌≤◌, Bool}
 use Rattle.std.proofs.Math.Nat.{le_refl}
-use Rattle.desk_io.specs.Outside.{Rises}
 use Rattle.act_bodies.specs.declared.key.Key.{Key}
 use Rattle.command_line.specs.declared.command.Command.{Command}
 use Rattle.command_line.specs.declared.command.Command.TheVariants.{Run, Serve, Export, Workload}
-use Rattle.command_ends.specs.Disks.{DiskWords}
+use Rattle.command_ends.specs.Courses.{SourceWords, OutsideWords, Change, IsUncalled, Course, HasCause, StaysOpen, SinkCause, DiskCause}
 use Rattle.command_ends.specs.declared.status.Status.{Status}
-use Rattle.command_ends.specs.declared.status.Status.TheVariants.{Usage, DiskFault, ReadFault, WriteFault, DoorFault}
-use Rattle.run_command.specs.Runs.{Ends, Course as RunCourse}
-use Rattle.export_command.specs.Exports.{Exports, IsWritten, Course as ExportCourse}
+use Rattle.command_ends.specs.declared.status.Status.TheVariants.{Usage, DiskFault, ReadFault, DoorFault}
+use Rattle.export_command.specs.Exports.{IsOwn, Exports, IsWritten, Course as ExportCourse}
+use Rattle.workload_command.specs.Ends.{IsOwn as IsOwnOfWorkload}
+use Rattle.run_command.specs.Promises.{KeepsRun}
+use Rattle.serve_command.specs.Promises.{DoorWords, KeepsServe}
 use Rattle.program_top.specs.Jobs.{is_done_alone}
-use Rattle.program_top.specs.Promises.{OutsideWords, DoorWords, Course, DoorCourse, IsDoorUncalled, KeepsRun, KeepsExport, KeepsWorkload, KeepsServe, IsUsage, HasCauses, HasDoorCause, PromisesAlone, Promises}
+use Rattle.program_top.specs.Promises.{DoorCourse, IsDoorUncalled, IsUsage, ExportsAlone, WorksAlone, HasCauses, PromisesAlone, Promises}
 
--- ---- no end is one of the door's
+-- ---- what wasn't called
 
--- no command that is done alone ends with a fault of the door
-run_no_door : {D : Type 0} (on : DiskWords D) (course : RunCourse D) (U : Type 0) (status : Status) → Ends on course U status → status ≡ DoorFault → ⊥
-run_no_door on course U status ends is = subst (Ends on course U) is ends
+-- it didn't fail, and the end is none of its faults
+quiet : {X : Type 0} (faults : X → ℕ) (x : Change X) (fault status : Status) → IsUncalled x → (status ≡ fault → ⊥) → HasCause faults x fault status
+quiet faults x fault status same other = record { cause = λ is. absurd (other is); faultless = λ _. ap faults same }
 
-written_no_door : (old new : Option (List ℕ)) (text : List ℕ) (status : Status) → IsWritten old new text status → status ≡ DoorFault → ⊥
-written_no_door old new text status written is = subst (IsWritten old new text) is written
-
-export_no_door : {D : Type 0} (on : DiskWords D) (course : ExportCourse D) (U : Type 0) (status : Status) → Exports on course U status → status ≡ DoorFault → ⊥
-export_no_door on course U status exports is = by (subst (Exports on course U) is exports)
-  where
-    by : Exports on course U DoorFault → ⊥
-    by (inl unopened) = unopened.1
-    by (inr writes) = writes.written
+stays_open : {X : Type 0} (faults : X → ℕ) (is_open : X → Bool) (x : Change X) → IsUncalled x → StaysOpen faults is_open x
+stays_open {X = X} faults is_open x same =
+    record { counts = subst (λ (n : X). faults x.old ≤ faults n) (sym same) (le_refl (faults x.old)); stays = ap is_open same }
 
 -- ---- what is promised without threads
 
-module _ {S K D C : Type 0} (on : OutsideWords S K D C) (course : Course S K D C) where
+module _ {S K D C : Type 0} (read : SourceWords S) (on : OutsideWords K D C) (source : Change S) (course : Course K D C) where
   -- where the source wasn't called, and the end is none of its faults
-  pub source_quiet : course.source_after ≡ course.source → (course.status ≡ ReadFault → ⊥)
-      → (course.status ≡ DiskFault → Rises (on.disk.faults course.disk) (on.disk.faults course.disk_after))
-      → (course.status ≡ WriteFault → Rises (on.write_faults course.sink) (on.write_faults course.sink_after))
-      → ((course.status ≡ WriteFault → ⊥) → on.write_faults course.sink_after ≡ on.write_faults course.sink)
-      → on.write_faults course.sink ≤ on.write_faults course.sink_after → on.has_sink course.sink_after ≡ on.has_sink course.sink → HasCauses on course
-  source_quiet same own disk write write_faultless counts stays = record {
-    disk = disk;
-    read = λ is. absurd (own is);
-    read_faultless = λ _. ap on.read_faults same;
-    write = write;
-    write_faultless = write_faultless;
-    source_counts = subst (λ (s : S). on.read_faults course.source ≤ on.read_faults s) (sym same) (le_refl (on.read_faults course.source));
-    sink_counts = counts;
-    source_stays = ap on.has_source same;
-    sink_stays = stays;
+  sourceless : IsUncalled source → (course.status ≡ ReadFault → ⊥) → SinkCause on.sink course.sink course.status → DiskCause on.disk course.disk course.status → HasCauses read on source course
+  sourceless same other write disk = record {
+    read_cause = (quiet read.faults source ReadFault course.status same other, stays_open read.faults read.is_open source same);
+    write_cause = write;
+    disk_cause = disk;
   }
 
   -- where nothing was called
-  usage_quiet : IsUsage course → HasCauses on course
+  usage_quiet : IsUsage source course → HasCauses read on source course
   usage_quiet is =
       let status = is.status in
-      source_quiet is.uncalled.0 (λ other. absurd cc) (λ other. absurd cc) (λ other. absurd cc) (λ _. ap on.write_faults is.uncalled.1)
-      (subst (λ (k : K). on.write_faults course.sink ≤ on.write_faults k) (sym is.uncalled.1) (le_refl (on.write_faults course.sink))) (ap on.has_sink is.uncalled.1)
+      sourceless is.uncalled.0 (λ other. absurd cc)
+      (quiet on.sink.faults course.sink _ course.status is.uncalled.1 (λ other. absurd cc), stays_open on.sink.faults on.sink.is_open course.sink is.uncalled.1) (λ other. absurd cc)
 
-  pub by_run : (key : Key) (command : Option Command) → Some (Run key) ≡ command → KeepsRun on course key → (course.status ≡ Usage → ⊥) → HasCauses on course → PromisesAlone on course command
-  by_run key command is keeps own causes = subst (λ (c : Option Command). PromisesAlone on course c) is (record { keeps = keeps; usage = (λ usage. absurd (own usage), λ never. absurd cc); causes = causes })
+  -- the promises of a command that is done
+  module _ (command : Option Command) where
+    pub by_run : (key : Key) → Some (Run key) ≡ command → KeepsRun read on source course key → PromisesAlone read on source course command
+    by_run key is keeps = subst (λ (c : Option Command). PromisesAlone read on source course c) is (record {
+      keeps = keeps;
+      usage = (λ usage. absurd (keeps.own.0 usage), λ never. absurd cc);
+      causes = record { read_cause = keeps.read_cause; write_cause = keeps.write_cause; disk_cause = keeps.disk_cause };
+    })
 
-  pub by_export : (command : Option Command) → Some Export ≡ command → KeepsExport on course → (course.status ≡ Usage → ⊥) → HasCauses on course → PromisesAlone on course command
-  by_export command is keeps own causes = subst (λ (c : Option Command). PromisesAlone on course c) is (record { keeps = keeps; usage = (λ usage. absurd (own usage), λ never. absurd cc); causes = causes })
+    pub by_export : Some Export ≡ command → ExportsAlone on source course → PromisesAlone read on source course command
+    by_export is alone = subst (λ (c : Option Command). PromisesAlone read on source course c) is (record {
+      keeps = alone;
+      usage = (λ usage. absurd (subst IsOwn usage alone.keeps.own), λ never. absurd cc);
+      causes = sourceless alone.source_rests (λ other. subst IsOwn other alone.keeps.own) alone.keeps.write_cause alone.keeps.disk_cause;
+    })
 
-  pub by_workload : (seed count : ℕ) (command : Option Command) → Some (Workload seed count) ≡ command → KeepsWorkload on course seed count → (course.status ≡ Usage → ⊥) → HasCauses on course → PromisesAlone on course command
-  by_workload seed count command is keeps own causes = subst (λ (c : Option Command). PromisesAlone on course c) is (record { keeps = keeps; usage = (λ usage. absurd (own usage), λ never. absurd cc); causes = causes })
+    pub by_workload : (seed count : ℕ) → Some (Workload seed count) ≡ command → WorksAlone on source course seed count → PromisesAlone read on source course command
+    by_workload seed count is alone = subst (λ (c : Option Command). PromisesAlone read on source course c) is (record {
+      keeps = alone;
+      usage = (λ usage. absurd (subst IsOwnOfWorkload usage alone.keeps.own), λ never. absurd cc);
+      causes = sourceless alone.source_rests (λ other. subst IsOwnOfWorkload other alone.keeps.own) alone.keeps.write_cause (λ disk. absurd (subst IsOwnOfWorkload disk alone.keeps.own));
+    })
 
-  pub by_usage : (command : Option Command) → is_done_alone command ≡ false → IsUsage course → PromisesAlone on course command
+  pub by_usage : (command : Option Command) → is_done_alone command ≡ false → IsUsage source course → PromisesAlone read on source course command
   by_usage None none is = record { keeps = is; usage = (λ _. none, λ _. is.status); causes = usage_quiet is }
   by_usage (Some (Serve key connections)) none is = record { keeps = is; usage = (λ _. none, λ _. is.status); causes = usage_quiet is }
   by_usage (Some (Run key)) none is = absurd cc
@@ -76,25 +75,31 @@ module _ {S K D C : Type 0} (on : OutsideWords S K D C) (course : Course S K D C
 
   -- ---- what is promised with them
 
-  no_door : (command : Option Command) → PromisesAlone on course command → course.status ≡ DoorFault → ⊥
+  -- no command that is done alone ends with a fault of the door
+  no_door : (command : Option Command) → PromisesAlone read on source course command → course.status ≡ DoorFault → ⊥
   no_door None p door = (let status = p.keeps.status in absurd cc)
   no_door (Some (Serve key connections)) p door = (let status = p.keeps.status in absurd cc)
-  no_door (Some (Run key)) p door = run_no_door on.disk _ _ course.status p.keeps.ends door
-  no_door (Some Export) p door = export_no_door on.disk _ _ course.status p.keeps.exports door
-  no_door (Some (Workload seed count)) p door = written_no_door _ _ _ course.status p.keeps.written door
+  no_door (Some (Run key)) p door = p.keeps.own.1 door
+  no_door (Some Export) p door = subst IsOwn door p.keeps.keeps.own
+  no_door (Some (Workload seed count)) p door = subst IsOwnOfWorkload door p.keeps.keeps.own
 
   module _ {G I O : Type 0} (doors : DoorWords G I O) (at : DoorCourse G I O) where
-    uncalled_door : (command : Option Command) → PromisesAlone on course command → IsDoorUncalled at → HasDoorCause doors course at
-    uncalled_door command p door = record { cause = λ is. absurd (no_door command p is); faultless = λ _. ap doors.faults door.0 }
+    uncalled_door : (command : Option Command) → PromisesAlone read on source course command → IsDoorUncalled at → HasCause doors.faults at.door DoorFault course.status
+    uncalled_door command p door = quiet doors.faults at.door DoorFault course.status door.0 (no_door command p)
 
-    pub by_alone : (command : Option Command) → ((key : Key) (connections : ℕ) → command ≡ Some (Serve key connections) → ⊥) → PromisesAlone on course command → IsDoorUncalled at → Promises on doors course at command
-    by_alone None other p door = record { keeps = (p.keeps, door); usage = p.usage; causes = p.causes; door_causes = uncalled_door None p door }
-    by_alone (Some (Run key)) other p door = record { keeps = (p.keeps, door); usage = p.usage; causes = p.causes; door_causes = uncalled_door (Some (Run key)) p door }
-    by_alone (Some Export) other p door = record { keeps = (p.keeps, door); usage = p.usage; causes = p.causes; door_causes = uncalled_door (Some Export) p door }
-    by_alone (Some (Workload seed count)) other p door = record { keeps = (p.keeps, door); usage = p.usage; causes = p.causes; door_causes = uncalled_door (Some (Workload seed count)) p door }
+    pub by_alone : (command : Option Command) → ((key : Key) (connections : ℕ) → command ≡ Some (Serve key connections) → ⊥) → PromisesAlone read on source course command → IsDoorUncalled at
+        → Promises read on doors source course at command
+    by_alone None other p door = record { keeps = (p.keeps, door); usage = p.usage; causes = p.causes; door_cause = uncalled_door None p door }
+    by_alone (Some (Run key)) other p door = record { keeps = (p.keeps, door); usage = p.usage; causes = p.causes; door_cause = uncalled_door (Some (Run key)) p door }
+    by_alone (Some Export) other p door = record { keeps = (p.keeps, door); usage = p.usage; causes = p.causes; door_cause = uncalled_door (Some Export) p door }
+    by_alone (Some (Workload seed count)) other p door = record { keeps = (p.keeps, door); usage = p.usage; causes = p.causes; door_cause = uncalled_door (Some (Workload seed count)) p door }
     by_alone (Some (Serve key connections)) other p door = absurd (other key connections refl)
 
-    pub by_serve : (key : Key) (connections : ℕ) (command : Option Command) → Some (Serve key connections) ≡ command → KeepsServe on doors course at key connections → (course.status ≡ Usage → ⊥) → HasCauses on course → HasDoorCause doors course at
-        → Promises on doors course at command
-    by_serve key connections command is keeps own causes door_causes =
-        subst (λ (c : Option Command). Promises on doors course at c) is (record { keeps = keeps; usage = (λ usage. absurd (own usage), λ never. absurd cc); causes = causes; door_causes = door_causes })
+    pub by_serve : (key : Key) (connections : ℕ) (command : Option Command) → Some (Serve key connections) ≡ command → IsUncalled source → KeepsServe on doors course at.door at.ends key connections
+        → Promises read on doors source course at command
+    by_serve key connections command is same keeps = subst (λ (c : Option Command). Promises read on doors source course at c) is (record {
+      keeps = (same, keeps);
+      usage = (λ usage. absurd (keeps.own.0 usage), λ never. absurd cc);
+      causes = sourceless same keeps.own.1 keeps.write_cause keeps.disk_cause;
+      door_cause = keeps.door_cause;
+    })

@@ -2,9 +2,11 @@
 
 ghost use Rattle.act_model.specs.Clocks.{clock_of};
 ghost use Rattle.command_line.specs.Commands.{command_of};
+ghost use Rattle.command_ends.specs.Courses.{source_words, sink_words, outside_words, change};
 ghost use Rattle.command_ends.specs.Disks.{disk_words};
 ghost use Rattle.serve_command.specs.Links.{link_words};
-ghost use Rattle.program_top.specs.Promises.{PromisesAlone, Promises, outside_words, door_words};
+ghost use Rattle.serve_command.specs.Promises.{door_words};
+ghost use Rattle.program_top.specs.Promises.{PromisesAlone, Promises};
 
 use crate::ends::LinkEnds;
 use command_ends::{Ended, Status, not_begun};
@@ -37,18 +39,14 @@ pub fn single<S: Source, K: Sink, D: Disk, C: Clock>(
     disk: D,
     clock: &mut C,
 ) -> Ended<D>
-    ensures promises { PromisesAlone
-        (outside_words S.left S.gives S.faults S.is_open K.taken K.faults K.is_open
+    ensures promises { PromisesAlone (source_words S.left S.gives S.faults S.is_open)
+        (outside_words (sink_words K.taken K.faults K.is_open)
         (disk_words D.reads D.leaves D.moment D.since D.faults) (clock_of C.reading C.last))
+        (change source.old source.new)
         (record {
-          source = source.old;
-          source_after = source.new;
-          sink = sink.old;
-          sink_after = sink.new;
-          disk = disk;
-          disk_after = result.disk;
-          clock = clock.old;
-          clock_after = clock.new;
+          sink = change sink.old sink.new;
+          disk = change disk result.disk;
+          clock = change clock.old clock.new;
           added = result.added;
           status = result.status;
         })
@@ -89,24 +87,20 @@ pub fn top<
     clock: &mut C,
     door: &mut G,
 ) -> (Ended<D>, LinkEnds<G::In, G::Out>)
-    ensures promises { Promises
-        (outside_words S.left S.gives S.faults S.is_open K.taken K.faults K.is_open
+    ensures promises { Promises (source_words S.left S.gives S.faults S.is_open)
+        (outside_words (sink_words K.taken K.faults K.is_open)
         (disk_words D.reads D.leaves D.moment D.since D.faults) (clock_of C.reading C.last))
         (door_words G.links G.faults
         (link_words G.In.left G.In.gives G.In.faults G.In.is_open G.Out.taken G.Out.faults G.Out.is_open))
+        (change source.old source.new)
         (record {
-          source = source.old;
-          source_after = source.new;
-          sink = sink.old;
-          sink_after = sink.new;
-          disk = disk;
-          disk_after = result.0.disk;
-          clock = clock.old;
-          clock_after = clock.new;
+          sink = change sink.old sink.new;
+          disk = change disk result.0.disk;
+          clock = change clock.old clock.new;
           added = result.0.added;
           status = result.0.status;
         })
-        (record { door = door.old; door_after = door.new; ends = result.1 })
+        (record { door = change door.old door.new; ends = result.1 })
         (command_of words.now) }
 {
     match command_of(words) {

@@ -3,7 +3,7 @@ use Rattle.std.proofs.Common.{◌≡◌, ℕ, ◌+◌, ◌-◌, ◌≤◌, List,
 use Rattle.std.specs.Prelude.{IsSomeAnd}
 use Rattle.std.proofs.lemmas.List.{append-nil, take-append-drop, length-append, length-take-le}
 use Rattle.desk_io.specs.Reads.{Passes, Comes, Comes-nil, Comes-more}
-use Rattle.read_ahead.specs.declared.cut.Cut.{Cut}
+use Rattle.read_ahead.specs.declared.halt.Halt.{Halt}
 use Rattle.read_ahead.specs.Reading.{LacksText, ReadsAhead, IsCut}
 
 kept_longer : (old new : Option (List ℕ)) (text piece : List ℕ) → IfSome old (λ bytes. bytes ≡ text) → IfSome new (λ longer. IsSomeAnd old (λ bytes. longer ≡ bytes ++ piece))
@@ -45,8 +45,8 @@ module _ {S : Type 0} (left : S → Option (List ℕ)) (gives : Passes S) where
 
   -- the source stopped while bytes were missing
   pub text_cut : (a b c : S) (ahead rest more : List ℕ) (size missing : ℕ) (kept : Option (List ℕ)) → 0 < missing → IsTaken a b ahead rest size missing kept → ReadsAhead left gives b c rest more → more ≡ []
-      → (cut : Cut) → IsCut (left c) cut → (piece : List ℕ) × Comes left gives (LacksText ahead size) a c piece × ((length (ahead ++ piece) < size) × IsCut (left c) cut)
-  text_cut a b c ahead rest more size missing kept some taken came none cut is =
+      → (halt : Halt) → IsCut (left c) halt → (piece : List ℕ) × Comes left gives (LacksText ahead size) a c piece × ((length (ahead ++ piece) < size) × IsCut (left c) halt)
+  text_cut a b c ahead rest more size missing kept some taken came none halt is =
       let all = taken_grows a b c ahead rest more size missing kept some taken came in
       let lacks : length (ahead ++ all.piece) < size = omega (arith, ap length all.stands, length-append all.text more, ap length none, all.long) in
       (all.piece, all.came, (lacks, is))

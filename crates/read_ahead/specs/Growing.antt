@@ -1,9 +1,31 @@
 -- What is read ahead grows piece by piece, while something is awaited of all that came. The lemmas range over every
 -- source and over what is awaited, so that no clause can hold them.
-use Rattle.std.proofs.Common.{◌≡◌, ℕ, ◌+◌, List, [], ◌++◌, length, Option, sym, ap, ◌∙◌, subst, append_assoc, arith}
+use Rattle.std.proofs.Common.{◌≡◌, ℕ, ◌+◌, ◌<◌, List, [], ◌∷◌, ◌++◌, length, Option, refl, sym, ap, ◌∙◌, subst}
+use Rattle.std.proofs.Common.{append_assoc, arith, inr}
+use Rattle.std.specs.Io.KnownBytes.{IsAtEnd}
 use Rattle.std.proofs.lemmas.List.{append-nil, length-append, nil_from_length}
-use Rattle.desk_io.specs.Reads.{Passes, Comes, Comes-nil, Comes-more}
-use Rattle.read_ahead.specs.Reading.{ReadsOnce}
+use Rattle.desk_io.specs.Reads.{Passes, Comes, Comes-nil, Comes-more, Comes-trans, Comes-weaker}
+use Rattle.read_ahead.specs.declared.halt.Halt.{Halt}
+use Rattle.read_ahead.specs.declared.halt.Halt.TheVariants.{End, Bad, Failed}
+use Rattle.read_ahead.specs.Reading.{LacksText, ReadsOnce, IsCut, Halts, halt_at_end}
+
+-- ---- why no message comes
+
+module _ (IsNone : List ℕ → Type 0) where
+  -- at the source's end, where none stands at the front
+  pub none_at_end : (bytes : List ℕ) (left : Option (List ℕ)) → IsAtEnd left → IsNone bytes
+      → Halts IsNone bytes bytes left (halt_at_end bytes)
+  none_at_end [] left end none = (refl, refl, end)
+  none_at_end (byte ∷ bytes) left end none = inr (none, omega arith, end)
+
+  -- where the text behind its head isn't read whole
+  pub none_cut : (front rest : List ℕ) (left : Option (List ℕ)) (halt : Halt) → IsNone front → 0 < length front
+      → IsCut left halt → Halts IsNone front rest left halt
+  none_cut front rest left End none begun is = absurd is
+  none_cut front rest left Bad none begun is = inr (none, begun, is)
+  none_cut front rest left Failed none begun is = none
+
+-- ---- pieces that come
 
 module _ {S : Type 0} (left : S → Option (List ℕ)) (gives : Passes S) where
   -- a read that gave no byte leaves what was read ahead
@@ -48,3 +70,33 @@ module _ {S : Type 0} (left : S → Option (List ℕ)) (gives : Passes S) where
         → (piece : List ℕ) × Comes left gives (λ came. IsAwaited (start ++ came)) a c piece × P (start ++ piece)
     of_last P a b c start ahead last grows awaited once same holds =
         of_all P a c start last (grows_more a b c start ahead last grows awaited once) (subst P (sym same) holds)
+
+    module _ (IsNone : List ℕ → Type 0) (none : (bytes : List ℕ) → IsAwaited bytes → IsNone bytes) (a b c : S)
+        (start pending ahead last : List ℕ) (grows : Grows a b start ahead) (once : ReadsOnce left gives b c ahead last)
+        (same : pending ≡ ahead) (awaited : IsAwaited pending) where
+      here : IsAwaited ahead
+      here = subst IsAwaited same awaited
+
+      -- the source is at its end where no message stands at the front
+      pub ended : (halt : Halt) → length last ≡ length ahead + 0 → IsAtEnd (left c) → halt ≡ halt_at_end last
+          → (piece : List ℕ) × Comes left gives (λ came. IsAwaited (start ++ came)) a c piece
+          × Halts IsNone (start ++ piece) last (left c) halt
+      ended halt nothing end is =
+          let unchanged : last ≡ ahead = nothing_more b c ahead last once nothing in
+          let why = none_at_end IsNone last (left c) end (subst IsNone (sym unchanged) (none ahead here)) in
+          of_last (λ front. Halts IsNone front last (left c) halt) a b c start ahead last grows here once unchanged
+          (subst (λ (t : List ℕ). Halts IsNone t last (left c) halt) unchanged
+          (subst (Halts IsNone last last (left c)) (sym is) why))
+
+      -- the source failed where no message stands at the front
+      pub failed : last ≡ ahead → (piece : List ℕ) × Comes left gives (λ came. IsAwaited (start ++ came)) a c piece
+          × IsNone (start ++ piece)
+      failed unchanged = of_last IsNone a b c start ahead last grows here once unchanged (none ahead here)
+
+  -- the reads of a head, and those of the text behind it
+  pub both_come : (Asks : List ℕ → Type 0) (a b c : S) (middle first second : List ℕ) (size : ℕ)
+      → ((came : List ℕ) → LacksText middle size came → Asks (first ++ came)) → Comes left gives Asks a b first
+      → Comes left gives (LacksText middle size) b c second → Comes left gives Asks a c (first ++ second)
+  both_come Asks a b c middle first second size asks head text =
+      Comes-trans left gives Asks a b c first second head
+      (Comes-weaker left gives (LacksText middle size) (λ came. Asks (first ++ came)) asks b c second text)

@@ -1,12 +1,15 @@
 -- Bytes that come out of a source, after those that were read ahead, and a text that is read out of both.
-use Rattle.std.specs.Prelude.{◌≡◌, ℕ, ◌+◌, ◌*◌, ◌<◌, ◌⊎◌, List, [], ◌++◌, length, Result, Ok, Err, IfSome}
-use Rattle.std.specs.declared.option.Option.{Option}
+use Rattle.std.specs.Prelude.{◌≡◌, ℕ, ◌+◌, ◌*◌, ◌<◌, ◌≤◌, ◌⊎◌, List, [], ◌∷◌, ◌++◌, length, Option, Some, None}
+use Rattle.std.specs.Prelude.{Result, Ok, Err, IfSome}
 use Rattle.std.specs.Io.KnownBytes.{Consumes, IsAtEnd}
 use Rattle.desk_io.specs.Outside.{Rises}
-use Rattle.desk_io.specs.Reads.{Passes}
+use Rattle.desk_io.specs.Reads.{Passes, Comes}
 use Rattle.read_ahead.specs.declared.TheConstants.{BUFFER_BYTES}
-use Rattle.read_ahead.specs.declared.cut.Cut.{Cut}
-use Rattle.read_ahead.specs.declared.cut.Cut.TheVariants as cuts
+use Rattle.read_ahead.specs.declared.body.TheConstants.{BODY_BYTES}
+use Rattle.read_ahead.specs.declared.body.Body.{Body}
+use Rattle.read_ahead.specs.declared.body.Body.TheVariants as bodies
+use Rattle.read_ahead.specs.declared.halt.Halt.{Halt}
+use Rattle.read_ahead.specs.declared.halt.Halt.TheVariants as halts
 
 -- one read gave a piece of the source's bytes, or none, after those that were read ahead
 pub record ReadsOnce {S : Type 0} (left : S → Option (List ℕ)) (gives : Passes S) (before after : S)
@@ -43,19 +46,62 @@ pub record IsTextRead (front : List ℕ) (size : ℕ) (IsTold : List ℕ → Typ
 abbrev pub IsAllOf : Option (List ℕ) → List ℕ → Type 0
 IsAllOf kept text = IfSome kept (λ bytes. bytes ≡ text)
 
--- why a text isn't read whole
-abbrev pub IsCut : Option (List ℕ) → Cut → Type 0
-IsCut left cuts.Ended = IsAtEnd left
-IsCut left cuts.Failed = Unit {0}
+-- What is told of a body is true of its text: what was kept is all of it, what is too long to be kept has this length,
+-- and memory was refused only for what isn't too long.
+abbrev pub IsBody : Body → List ℕ → Type 0
+IsBody (bodies.Whole bytes) text = (bytes ≡ text) × (length text ≤ BODY_BYTES)
+IsBody (bodies.TooLong size) text = (size ≡ length text) × (BODY_BYTES < size)
+IsBody bodies.NoRoom text = length text ≤ BODY_BYTES
+
+-- why a text isn't read whole: the source ended inside it, or failed
+abbrev pub IsCut : Option (List ℕ) → Halt → Type 0
+IsCut left halts.End = ⊥
+IsCut left halts.Bad = IsAtEnd left
+IsCut left halts.Failed = Unit {0}
 
 -- a text was read, of which an answer tells something, or fewer bytes have come than it has
-abbrev pub ReadsText : {X : Type 0} → (X → List ℕ → Type 0) → List ℕ → ℕ → List ℕ → Option (List ℕ) → Result X Cut
+abbrev pub ReadsText : {X : Type 0} → (X → List ℕ → Type 0) → List ℕ → ℕ → List ℕ → Option (List ℕ) → Result X Halt
     → Type 0
 ReadsText IsTold front size rest left (Ok x) = IsTextRead front size (IsTold x) rest
-ReadsText IsTold front size rest left (Err cut) = (length front < size) × IsCut left cut
+ReadsText IsTold front size rest left (Err halt) = (length front < size) × IsCut left halt
 
 -- the count of faults rose where it is said that the source failed, and stayed in any other call
-abbrev pub Counted : {X : Type 0} → Result X Cut → ℕ → ℕ → Type 0
+abbrev pub Counted : {X : Type 0} → Result X Halt → ℕ → ℕ → Type 0
 Counted (Ok x) before now = now ≡ before
-Counted (Err cuts.Ended) before now = now ≡ before
-Counted (Err cuts.Failed) before now = Rises before now
+Counted (Err halts.End) before now = now ≡ before
+Counted (Err halts.Bad) before now = now ≡ before
+Counted (Err halts.Failed) before now = Rises before now
+
+-- ---- messages of a kind, of which `IsNone` says that none stands at the front of the bytes
+
+-- no message comes: none can stand at the front any more, whatever may follow, or the source is at its end inside one
+abbrev pub NoneComes : (List ℕ → Type 0) → List ℕ → Option (List ℕ) → Type 0
+NoneComes IsNone front left =
+    ((more : List ℕ) → IsNone (front ++ more)) ⊎ (IsNone front × (0 < length front) × IsAtEnd left)
+
+-- why no message was read: nothing came, nothing is left, and the source is at its end; none comes; or the source
+-- failed where none stood at the front
+abbrev pub Halts : (List ℕ → Type 0) → List ℕ → List ℕ → Option (List ℕ) → Halt → Type 0
+Halts IsNone front rest left halts.End = (front ≡ []) × (rest ≡ []) × IsAtEnd left
+Halts IsNone front rest left halts.Bad = NoneComes IsNone front left
+Halts IsNone front rest left halts.Failed = IsNone front
+
+-- why none comes where the source is at its end, and none stands at the front of the bytes that it gave
+abbrev pub halt_at_end : List ℕ → Halt
+halt_at_end [] = halts.End
+halt_at_end (byte ∷ bytes) = halts.Bad
+
+-- ---- all that a source supplied
+
+-- these are the bytes that are left in a source, as far as they are known
+abbrev pub Remains : Option (List ℕ) → List ℕ → Type 0
+Remains None more = more ≡ []
+Remains (Some left) more = left ≡ more
+
+-- These bytes came out of a source, and all bytes that it held, where they are known, are those and what is left. No
+-- read was made but where the bytes before it asked for more, so that no byte was taken without need.
+pub record Supplies {S : Type 0} (left : S → Option (List ℕ)) (gives : Passes S) (Asks : List ℕ → Type 0)
+    (before after : S) (came more : List ℕ) : Type 0 where
+  pub whole : IfSome (left before) (λ bytes. bytes ≡ came ++ more)
+  pub rest : Remains (left after) more
+  pub comes : Comes left gives Asks before after came

@@ -1,14 +1,16 @@
 //! The buffer.
 
-ghost use Rattle.std.specs.Prelude.{◌≡◌, ℕ, ◌+◌, ◌-◌, ◌<◌, ◌≤◌, List, [], ◌++◌, length, take, drop, slice_range};
+ghost use Rattle.std.specs.Prelude.{◌≡◌, ◌≢◌, ℕ, ◌+◌, ◌-◌, ◌<◌, ◌≤◌, List, [], ◌++◌, length, take, drop, slice_range};
 ghost use Rattle.std.specs.Prelude.{Option, Ok, Err, IfOk, IfErr, OnOk, OnErr, IfSome, IsSomeAnd};
 ghost use Rattle.std.specs.Io.KnownBytes.{IsAtEnd};
 ghost use Rattle.desk_io.specs.Outside.{Rises};
 ghost use Rattle.desk_io.specs.Reads.{Comes};
-ghost use Rattle.read_ahead.specs.Reading.{LacksText, ReadsOnce, ReadsAhead, ReadsText, IsAllOf, IsCut, Counted, work};
+ghost use Rattle.read_ahead.specs.Reading.{LacksText, ReadsOnce, ReadsAhead, ReadsText, IsAllOf, IsBody, IsCut};
+ghost use Rattle.read_ahead.specs.Reading.{Counted, work, halt_at_end};
 
 use crate::BUFFER_BYTES;
-use crate::cut::Cut;
+use crate::body::{BODY_BYTES, Body};
+use crate::halt::Halt;
 use desk_io::{Failed, NoMemory, Source};
 use item_list::Bytes;
 use std::alloc::Global;
@@ -23,7 +25,7 @@ pub struct ReadAhead {
 }
 
 impl Model for ReadAhead {
-    ghost use Rattle.std.specs.Prelude.{◌≡◌, ℕ, ◌≤◌, List, slice_range, vec_len};
+    ghost use Rattle.std.specs.Prelude.{◌≡◌, ◌≢◌, ℕ, ◌≤◌, List, slice_range, vec_len};
     ghost use Rattle.read_ahead.specs.declared.TheConstants.{BUFFER_BYTES};
 
     ghost Value = { List ℕ };
@@ -67,6 +69,18 @@ impl ReadAhead {
         Bytes::with_capacity(*self.buffer.allocator(), size as usize).ok()
     }
 
+    /// Why no message comes where the source is at its end and none stands at the front.
+    pub fn halt_at_end(&self) -> Halt
+        ensures why { result ≡ halt_at_end self.now }
+        ensures other { result ≢ Halt.Failed }
+    {
+        if self.bytes().is_empty() {
+            Halt::End
+        } else {
+            Halt::Bad
+        }
+    }
+
     /// Uses so many bytes from the front; there are as many.
     pub fn skip(&mut self, count: usize)
         requires { count ≤ length self.old }
@@ -105,7 +119,7 @@ impl ReadAhead {
     }
 
     // Reads once where nothing is read ahead.
-    fn fill<S: Source>(&mut self, source: &mut S) -> Result<(), Cut>
+    fn fill<S: Source>(&mut self, source: &mut S) -> Result<(), Halt>
         ensures came { ReadsAhead S.left S.gives source.old source.new self.old self.new }
         ensures some { OnOk result (0 < length self.new) }
         ensures none { OnErr result (self.new ≡ []) }
@@ -119,9 +133,9 @@ impl ReadAhead {
             return Ok(());
         }
         match self.refill(source) {
-            Ok(0) => Err(Cut::Ended),
+            Ok(0) => Err(Halt::Bad),
             Ok(_) => Ok(()),
-            Err(Failed) => Err(Cut::Failed),
+            Err(Failed) => Err(Halt::Failed),
         }
     }
 
@@ -137,7 +151,7 @@ impl ReadAhead {
         source: &mut S,
         size: u64,
         room: Option<Bytes>,
-    ) -> Result<Option<Bytes>, Cut>
+    ) -> Result<Option<Bytes>, Halt>
         requires { IfSome room (λ bytes. bytes ≡ []) }
         ensures came { (piece : List ℕ) × Comes S.left S.gives (LacksText self.old size) source.old source.new piece
             × ReadsText IsAllOf (self.old ++ piece) size self.new (S.left source.new) result }
@@ -158,6 +172,31 @@ impl ReadAhead {
             missing -= count;
         }
         Ok(kept)
+    }
+
+    /// Reads a body of this length to its end. No memory is taken for one that is too long to be kept. The source is
+    /// read only while bytes of the body are missing.
+    ///
+    /// # Errors
+    ///
+    /// `Bad` where the source ended inside the body, `Failed` where it failed there; fewer bytes came than it has.
+    pub fn read_body<S: Source>(&mut self, source: &mut S, size: u64) -> Result<Body, Halt>
+        ensures came { (piece : List ℕ) × Comes S.left S.gives (LacksText self.old size) source.old source.new piece
+            × ReadsText IsBody (self.old ++ piece) size self.new (S.left source.new) result }
+        ensures counts { S.faults source.old ≤ S.faults source.new }
+        ensures faults { Counted result (S.faults source.old) (S.faults source.new) }
+        ensures stays { S.is_open source.new ≡ S.is_open source.old }
+        ensures work { work (S.reads source.new) self.new ≤ work (S.reads source.old) self.old }
+    {
+        if size > BODY_BYTES {
+            self.read_text(source, size, None)?;
+            return Ok(Body::TooLong(size));
+        }
+        let room = self.room_for(size);
+        match self.read_text(source, size, room)? {
+            Some(bytes) => Ok(Body::Whole(bytes)),
+            None => Ok(Body::NoRoom),
+        }
     }
 }
 

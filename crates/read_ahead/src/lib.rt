@@ -6,10 +6,12 @@
 #![tactic(auto)]
 
 mod ahead;
-mod cut;
+mod body;
+mod halt;
 
 pub use ahead::ReadAhead;
-pub use cut::Cut;
+pub use body::{BODY_BYTES, Body};
+pub use halt::Halt;
 
 /// How many bytes are read ahead at most: the size of the buffer.
 pub const BUFFER_BYTES: usize = 65_536;

@@ -6,10 +6,11 @@ use Rattle.std.proofs.lemmas.Bool.Decides.{nat_tests}
 use Rattle.desk_io.specs.Outside.{AppendsPart}
 use Rattle.desk_io.specs.declared.outside.Failed.{Failed}
 use Rattle.frame_grammar.specs.Replies.{reply_frame}
-use Rattle.frame_reader.specs.declared.frame.FrameBody.{FrameBody}
-use Rattle.frame_reader.specs.declared.frame.FrameBody.TheVariants as kept
+use Rattle.read_ahead.specs.declared.body.Body.{Body as FrameBody}
+use Rattle.read_ahead.specs.declared.body.Body.TheVariants as kept
+use Rattle.read_ahead.specs.Reading.{IsBody}
 use Rattle.frame_reader.specs.declared.frame.ReadFrame.{ReadFrame}
-use Rattle.frame_reader.specs.Frames.{IfKept, IsFrameRead}
+use Rattle.frame_reader.specs.Frames.{IsFrameRead}
 use Rattle.act_bodies.specs.Keys.{key_of}
 use Rattle.act_model.specs.declared.request.Body.{Body}
 use Rattle.act_model.specs.declared.request.Body.TheVariants.{Whole, TooLong}
@@ -30,7 +31,7 @@ use Rattle.run_command.proofs.Laws.{WantLaws}
 use Rattle.run_command.proofs.DeskTurns.{turn_wanting, turn_standing}
 
 -- a body that was read is the request's, but for one that had no room
-body_kept : (body : FrameBody) (text : List ℕ) → IfKept body text → (body_read body ≡ body_of text) ⊎ (body ≡ kept.NoRoom)
+body_kept : (body : FrameBody) (text : List ℕ) → IsBody body text → (body_read body ≡ body_of text) ⊎ (body ≡ kept.NoRoom)
 body_kept (kept.Whole bytes) text (is, short) =
     let test : nat_lt BODY_BYTES (length text) ≡ false = grind (arith, nat_tests) in
     inl (ap (λ (b : List ℕ). Whole b) is ∙ sym (ap (λ (b : Bool). cond b (TooLong (length text)) (Whole text)) test))

@@ -7,6 +7,8 @@ use Rattle.std.proofs.lemmas.List.{append-nil, length-append}
 use Rattle.desk_io.specs.Reads.{Passes, Comes, Comes-nil, Comes-trans, Comes-weaker}
 use Rattle.desk_io.specs.declared.outside.Failed.{Failed}
 use Rattle.frame_grammar.specs.Frames.{Frame, IsFrame, framed, NoFrame, NeverFrame, IsSession, reached}
+use Rattle.read_ahead.specs.Reading.{Supplies}
+use Rattle.read_ahead.specs.Supplied.{remaining, none_left, none_before, supplies}
 use Rattle.frame_reader.specs.declared.frame.ReadFrame.{ReadFrame}
 use Rattle.frame_reader.specs.Reading.{AwaitsFrame}
 use Rattle.frame_reader.specs.Frames.{IsFrameRead, NoFrameComes}
@@ -15,12 +17,11 @@ use Rattle.act_model.specs.Turns.{Turn, request_of, written_reply, written}
 use Rattle.mpc_desk.specs.Desks.{DeskState}
 use Rattle.run_command.specs.declared.serving.Stop.{Stop}
 use Rattle.run_command.specs.declared.serving.Stop.TheVariants as stop
-use Rattle.run_command.specs.declared.serving.Turned.TheVariants.{Answered, Over, NoMore, ReadFailed, WriteFailed}
 use Rattle.act_model.specs.Clocks.{ClockState, Gives}
 use Rattle.run_command.specs.Serving.{Serves}
 use Rattle.command_ends.specs.Disks.{DiskWords}
 use Rattle.run_command.specs.Conducted.{TakesTurn, TakesTurns}
-use Rattle.run_command.specs.Runs.{Run, Remains, AwaitsNext, Supplies, offset_at, AnswersFrames, Stops}
+use Rattle.run_command.specs.Runs.{Run, AwaitsNext, offset_at, AnswersFrames, Stops}
 use Rattle.run_command.specs.Steps.{Standing, answering, IsUntouched, AnswersFrame, TakesStep, Progress}
 use Rattle.run_command.proofs.Laws.{FrameLaws}
 use Rattle.run_command.proofs.Readings.{gives_none}
@@ -32,30 +33,6 @@ front_some : (some : (bytes : List ℕ) → NeverFrame bytes → 0 < length byte
 front_some some front left (inl never) = some front never
 front_some some front left (inr (none, begun, end)) = begun
 
--- ---- what is left in a source
-
--- what is left, and nothing where that isn't known
-remaining : (left : Option (List ℕ)) → (more : List ℕ) × Remains left more
-remaining None = ([], refl)
-remaining (Some left) = (left, refl)
-
--- the bytes that a source held are those that came and those that are left
-all_of : (before after : Option (List ℕ)) (came more : List ℕ) → Consumes before after came → Remains after more → IfSome before (λ bytes. bytes ≡ came ++ more)
-all_of None after came more consumed rest = tt
-all_of (Some bytes) None came more consumed rest = absurd consumed
-all_of (Some bytes) (Some left) came more consumed rest = consumed ∙ ap (λ (l : List ℕ). came ++ l) rest
-
--- at its end nothing is left
-none_left : (after : Option (List ℕ)) (more : List ℕ) → IsAtEnd after → Remains after more → more ≡ []
-none_left None more end rest = rest
-none_left (Some left) more end rest = sym rest ∙ end
-
--- no frame stands before what is left, where none comes
-no_frame_before : (front more : List ℕ) (left : Option (List ℕ)) → NoFrameComes front left → Remains left more → NoFrame (front ++ more)
-no_frame_before front more left (inl never) rest = never more
-no_frame_before front more left (inr (none, some, end)) rest =
-    subst NoFrame (sym (ap (λ (r : List ℕ). front ++ r) (none_left left more end rest) ∙ append-nil front)) none
-
 -- what is allowed while some frames are answered is allowed while more are
 awaits_more : (m n : ℕ) → m ≤ n → (came : List ℕ) → AwaitsNext m came → AwaitsNext n came
 awaits_more m n less came (frames, rest, session, few, never) = (frames, rest, session, omega arith, never)
@@ -64,12 +41,6 @@ awaits_more m n less came (frames, rest, session, few, never) = (frames, rest, s
 place_more : (came piece ahead all rest offset size : ℕ) → offset ≡ offset_at (came - ahead) → ahead ≤ came → all ≡ came + piece → ahead + piece ≡ size + rest
     → min (offset + size) (2 ^ 64 - 1) ≡ offset_at (all - rest)
 place_more came piece ahead all rest offset size place within sum front = omega arith
-
--- the bytes of a source that nothing was read of
-pub untaken : {S : Type 0} (left : S → Option (List ℕ)) (gives : Passes S) (source : S) → (more : List ℕ) × Supplies left gives source source (record { came = []; more = more; answered = 0; texts = [] })
-untaken left gives source =
-    let r = remaining (left source) in
-    (r.0, record { whole = all_of (left source) (left source) [] r.0 (Consumes-nil (left source)) r.1; rest = r.1; comes = Comes-nil left gives (AwaitsNext 0) source })
 
 frame_length : (laws : FrameLaws) (frame : Frame) (rest : List ℕ) → length (framed frame rest) ≡ length (framed frame []) + length rest
 frame_length laws frame rest = ap length (sym (laws.frame_goes_on frame [] rest)) ∙ length-append (framed frame []) rest
@@ -128,7 +99,7 @@ module _ {S : Type 0} (left : S → Option (List ℕ)) (gives : Passes S) {D : T
           }
 
       -- a frame more was answered
-      pub progress_more : (size : ℕ) → TakesStep left gives on here then (Answered size) → Progress left gives on start then (min (offset + size) (2 ^ 64 - 1))
+      pub progress_more : (size : ℕ) → TakesStep left gives on here then offset (Ok size) → Progress left gives on start then (min (offset + size) (2 ^ 64 - 1))
       progress_more size step =
           let t = step.turns in
           let came : List ℕ = p.came ++ step.piece in
@@ -156,17 +127,14 @@ module _ {S : Type 0} (left : S → Option (List ℕ)) (gives : Passes S) {D : T
       run_with : (piece texts : List ℕ) → Run
       run_with piece texts = record { came = p.came ++ piece; more = (remaining (left then.source)).0; answered = length p.serves.frames; texts = texts }
 
-      supplied_with : (piece texts : List ℕ) → Comes left gives (AwaitsFrame here.ahead) here.source then.source piece → Supplies left gives start.source then.source (run_with piece texts)
-      unfolding run_with
-      supplied_with piece texts came =
-          let all = all_come then.source piece came in
-          let r = remaining (left then.source) in
-          record { whole = all_of (left start.source) (left then.source) (p.came ++ piece) r.0 all.consumed r.1; rest = r.1; comes = all }
+      supplied_with : (piece : List ℕ) → Comes left gives (AwaitsFrame here.ahead) here.source then.source piece
+          → Supplies left gives (AwaitsNext (length p.serves.frames)) start.source then.source (p.came ++ piece) (remaining (left then.source)).0
+      supplied_with piece came = supplies left gives (AwaitsNext (length p.serves.frames)) start.source then.source (p.came ++ piece) (all_come then.source piece came)
 
       -- no frame more was answered: where the run stands, with all bytes that came
       record Settles (front : List ℕ) : Type 0 where
         run : Run
-        supplied : Supplies left gives start.source then.source run
+        supplied : Supplies left gives (AwaitsNext run.answered) start.source then.source run.came run.more
         appended : Appends start.taken then.taken run.texts
         texts : run.texts ≡ written p.turns
         serves : (s : Serves start.clock then.clock run.came front p.turns) × (run.answered ≡ length s.frames)
@@ -188,7 +156,7 @@ module _ {S : Type 0} (left : S → Option (List ℕ)) (gives : Passes S) {D : T
           let difference : length came_all - length front ≡ length p.came - length here.ahead = omega arith in
           record {
             run = run_with piece (written p.turns);
-            supplied = supplied_with piece (written p.turns) came;
+            supplied = supplied_with piece came;
             appended = Appends-kept start.taken here.taken then.taken (written p.turns) p.appended same.sink;
             texts = refl;
             serves = subst (λ (c : ClockState). (s : Serves start.clock c came_all front p.turns) × (length p.serves.frames ≡ length s.frames)) (sym same.clock) counted;
@@ -204,22 +172,22 @@ module _ {S : Type 0} (left : S → Option (List ℕ)) (gives : Passes S) {D : T
       -- what is said where serving stops
       abbrev pub StopsSo : Stop → Type 0
       StopsSo stopped =
-          (run : Run) × (turns : List Turn) × Supplies left gives start.source then.source run × Appends start.taken then.taken run.texts × Stops start.clock then.clock run turns stopped × TakesTurns on start.desk turns then.desk
+          (run : Run) × (turns : List Turn) × Supplies left gives (AwaitsNext run.answered) start.source then.source run.came run.more × Appends start.taken then.taken run.texts × Stops start.clock then.clock run turns stopped × TakesTurns on start.desk turns then.desk
 
-      pub stops_over : TakesStep left gives on here then Over → StopsSo stop.Over
+      stops_over : TakesStep left gives on here then offset (Err stop.Over) → StopsSo stop.Over
       stops_over step =
           let over = step.turns.0 in
           let s = settles step.piece step.came step.turns.1 in
           let served = subst (λ (f : List ℕ). (x : Serves start.clock then.clock s.run.came f p.turns) × (s.run.answered ≡ length x.frames)) over.0 s.serves in
           (s.run, p.turns, s.supplied, s.appended, (none_left (left then.source) s.run.more over.2 s.supplied.rest, answers_frames s.run.came [] s.run served laws.nothing s.texts), s.takes)
 
-      pub stops_no_more : TakesStep left gives on here then NoMore → StopsSo (stop.NoFrameAt offset)
-      stops_no_more step =
+      stops_no_more : (at : ℕ) → TakesStep left gives on here then offset (Err (stop.NoFrameAt at)) → StopsSo (stop.NoFrameAt at)
+      stops_no_more at step =
           let front : List ℕ = here.ahead ++ step.piece in
-          let s = settles step.piece step.came step.turns.2 in
+          let s = settles step.piece step.came step.turns.3 in
           let more = s.run.more in
           let whole = serves_bytes start.clock laws then.clock s.run.came front p.turns more s.serves.0 in
-          let none = no_frame_before front more (left then.source) step.turns.0 s.supplied.rest in
+          let none = none_before NoFrame front more (left then.source) step.turns.0 s.supplied.rest in
           let bytes_length = length-append s.run.came more in
           let rest_length = length-append front more in
           let some = step.turns.1 in
@@ -233,18 +201,18 @@ module _ {S : Type 0} (left : S → Option (List ℕ)) (gives : Passes S) {D : T
               rest = front ++ more;
               over = answers_frames (s.run.came ++ more) (front ++ more) s.run (whole.0, s.serves.1 ∙ sym (ap length whole.1)) none s.texts;
               some = omega arith;
-              place = s.place ∙ ap offset_at place;
+              place = step.turns.2 ∙ s.place ∙ ap offset_at place;
             },
             s.takes,
           )
 
-      pub stops_reading : TakesStep left gives on here then ReadFailed → StopsSo stop.ReadFailed
+      stops_reading : TakesStep left gives on here then offset (Err stop.ReadFailed) → StopsSo stop.ReadFailed
       stops_reading step =
           let front : List ℕ = here.ahead ++ step.piece in
           let s = settles step.piece step.came step.turns.1 in
           (s.run, p.turns, s.supplied, s.appended, (front, answers_frames s.run.came front s.run s.serves step.turns.0 s.texts), s.takes)
 
-      pub stops_writing : TakesStep left gives on here then WriteFailed → StopsSo stop.WriteFailed
+      stops_writing : TakesStep left gives on here then offset (Err stop.WriteFailed) → StopsSo stop.WriteFailed
       unfolding run_with
       stops_writing step =
           let t = step.turns.2 in
@@ -255,7 +223,7 @@ module _ {S : Type 0} (left : S → Option (List ℕ)) (gives : Passes S) {D : T
           let same : take part.0 (written_reply m.turn.reply) ≡ cut = ap (λ (r : Reply). take part.0 (written_reply r)) m.reply_is in (
             run_with step.piece (written p.turns ++ cut),
             p.turns ++ m.turn ∷ [],
-            supplied_with step.piece (written p.turns ++ cut) step.came,
+            supplied_with step.piece step.came,
             Appends-trans start.taken here.taken then.taken (written p.turns) cut p.appended part.2,
             record {
               whole = p.turns;
@@ -271,11 +239,18 @@ module _ {S : Type 0} (left : S → Option (List ℕ)) (gives : Passes S) {D : T
             m.takes,
           )
 
-module _ {S : Type 0} (left : S → Option (List ℕ)) (gives : Passes S) {D : Type 0} (on : DiskWords D) (old new : Standing S D) where
+      -- the same for each way in which it stops
+      pub stops_so : (stopped : Stop) → TakesStep left gives on here then offset (Err stopped) → StopsSo stopped
+      stops_so stop.Over step = stops_over step
+      stops_so (stop.NoFrameAt at) step = stops_no_more at step
+      stops_so stop.ReadFailed step = stops_reading step
+      stops_so stop.WriteFailed step = stops_writing step
+
+module _ {S : Type 0} (left : S → Option (List ℕ)) (gives : Passes S) {D : Type 0} (on : DiskWords D) (old new : Standing S D) (offset : ℕ) where
   -- the frame that was read was answered
   pub step_answered : (read : ReadFrame) (size : ℕ) → (piece : List ℕ) × Comes left gives (AwaitsFrame old.ahead) old.source new.source piece × IsFrameRead (old.ahead ++ piece) read new.ahead
       → ((front behind : List ℕ) (r : IsFrameRead front read behind) → AnswersFrame on (answering old) (answering new) r.frame (Ok size)) → size ≡ read.size
-      → TakesStep left gives on old new (Answered size)
+      → TakesStep left gives on old new offset (Ok size)
   step_answered read size (piece, came, r) answers size_is =
       record {
         piece = piece;
@@ -286,7 +261,7 @@ module _ {S : Type 0} (left : S → Option (List ℕ)) (gives : Passes S) {D : T
   -- the sink failed inside its reply
   pub step_cut : (read : ReadFrame) (failed : Failed) → (piece : List ℕ) × Comes left gives (AwaitsFrame old.ahead) old.source new.source piece × IsFrameRead (old.ahead ++ piece) read new.ahead
       → ((front behind : List ℕ) (r : IsFrameRead front read behind) → AnswersFrame on (answering old) (answering new) r.frame (Err failed))
-      → TakesStep left gives on old new WriteFailed
+      → TakesStep left gives on old new offset (Err stop.WriteFailed)
   step_cut read failed (piece, came, r) answers =
       record {
         piece = piece;
@@ -296,6 +271,6 @@ module _ {S : Type 0} (left : S → Option (List ℕ)) (gives : Passes S) {D : T
 
   -- no frame comes any more
   pub step_no_more : IsUntouched old new → (some : (bytes : List ℕ) → NeverFrame bytes → 0 < length bytes)
-      → (piece : List ℕ) × Comes left gives (AwaitsFrame old.ahead) old.source new.source piece × NoFrameComes (old.ahead ++ piece) (left new.source) → TakesStep left gives on old new NoMore
+      → (piece : List ℕ) × Comes left gives (AwaitsFrame old.ahead) old.source new.source piece × NoFrameComes (old.ahead ++ piece) (left new.source) → TakesStep left gives on old new offset (Err (stop.NoFrameAt offset))
   step_no_more untouched some (piece, came, none) =
-      record { piece = piece; came = came; turns = (none, front_some some (old.ahead ++ piece) (left new.source) none, untouched) }
+      record { piece = piece; came = came; turns = (none, front_some some (old.ahead ++ piece) (left new.source) none, refl, untouched) }

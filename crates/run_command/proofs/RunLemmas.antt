@@ -22,7 +22,7 @@ use Rattle.command_ends.specs.declared.status.Status.TheVariants.{Done, Usage, B
 use Rattle.act_model.specs.Clocks.{ClockState}
 use Rattle.command_ends.specs.Disks.{DiskWords, DiskRose}
 use Rattle.run_command.specs.Conducted.{LeavesIn, Rests, TurnsOn, KeepsEach, TakesTurns}
-use Rattle.run_command.specs.Runs.{Run, Supplies, Stops, RunsOn, ServesNothing, Course, Ends}
+use Rattle.run_command.specs.Runs.{Run, AwaitsNext, Stops, RunsOn, ServesNothing, Course, Ends}
 use Rattle.command_ends.specs.Opening.{journal_bytes, Opens, EndsUnopened}
 use Rattle.command_ends.specs.Closing.{IsNotMended, IsMended, IsStillInDoubt, IsClosed}
 use Rattle.run_command.specs.Closing.{Finishes}
@@ -30,7 +30,8 @@ use Rattle.run_command.proofs.Laws.{OfficeLaws}
 use Rattle.run_command.proofs.Conducting.{leaves_first, grows, extends_on, rose_more}
 use Rattle.run_command.proofs.Closings.{never_rose, rise_between, nothing_mended, mended_extends, mended_has, mended_none, closed_as_is}
 use Rattle.run_command.proofs.Keeping.{keeps_each}
-use Rattle.run_command.proofs.Progress.{untaken}
+use Rattle.read_ahead.specs.Reading.{Supplies}
+use Rattle.read_ahead.specs.Supplied.{remaining, supplies_nothing}
 
 -- ---- the office
 
@@ -217,8 +218,8 @@ module _ {D : Type 0} (on : DiskWords D) (founder : Key) (disk now : D) (clock :
 -- nothing was served
 pub nothing_served : {S : Type 0} (left : S → Option (List ℕ)) (gives : Passes S) (source : S) (taken : Option (List ℕ)) {D : Type 0} (on : DiskWords D) (founder : Key) (disk now : D) (clock : ClockState)
     (Uncalled : Type 0) (uncalled : Uncalled) (added : ℕ) (status : Status) → EndsUnopened on founder disk now added status
-    → (run : Run) × Supplies left gives source source run × Appends taken taken run.texts × Ends on (record { founder = founder; disk = disk; disk_after = now; clock = clock; clock_after = clock; run = run; added = added }) Uncalled status
+    → (run : Run) × Supplies left gives (AwaitsNext run.answered) source source run.came run.more × Appends taken taken run.texts × Ends on (record { founder = founder; disk = disk; disk_after = now; clock = clock; clock_after = clock; run = run; added = added }) Uncalled status
 nothing_served left gives source taken on founder disk now clock Uncalled uncalled added status ends =
-    let u = untaken left gives source in
-    let run : Run = record { came = []; more = u.0; answered = 0; texts = [] } in
-    (run, u.1, Appends-nil taken, unopened_ends on founder disk now clock Uncalled uncalled added u.0 status ends)
+    let more : List ℕ = (remaining (left source)).0 in
+    let run : Run = record { came = []; more = more; answered = 0; texts = [] } in
+    (run, supplies_nothing left gives (AwaitsNext 0) source, Appends-nil taken, unopened_ends on founder disk now clock Uncalled uncalled added more status ends)

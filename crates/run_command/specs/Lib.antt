@@ -4,3 +4,4 @@ pub mod Spoken
 pub mod Runs
 pub mod Closing
 pub mod Steps
+pub mod Promises

@@ -1,9 +1,8 @@
 -- What a run of the program leaves, by the status with which it ended.
 use Rattle.std.specs.Prelude.{◌≡◌, ◌⊎◌, ℕ, ◌+◌, ◌-◌, ◌^◌, ◌<◌, ◌≤◌, min, List, [], ◌∷◌, ◌++◌, length, take, Option}
-use Rattle.std.specs.Prelude.{Some, None, IfSome}
+use Rattle.std.specs.Prelude.{Some}
 use Rattle.disk_model.specs.Counts.{Rises}
 use Rattle.disk_model.specs.Crashes.{During}
-use Rattle.desk_io.specs.Reads.{Passes, Comes}
 use Rattle.frame_grammar.specs.Frames.{Frame, NoFrame, NeverFrame, IsSession, reached}
 use Rattle.act_bodies.specs.declared.key.Key.{Key}
 use Rattle.act_model.specs.declared.keeper.OfficeState.{OfficeState}
@@ -33,24 +32,11 @@ pub record Run : Type 0 where
   pub answered : ℕ
   pub texts : List ℕ
 
--- these are the bytes that are left in a source, as far as they are known
-abbrev pub Remains : Option (List ℕ) → List ℕ → Type 0
-Remains None more = more ≡ []
-Remains (Some left) more = left ≡ more
-
 -- after the frames that have come, which were all answered, a further frame may still come
 abbrev pub AwaitsNext : ℕ → List ℕ → Type 0
 AwaitsNext answered came =
     (frames : List Frame) × (rest : List ℕ) × IsSession came frames rest × (length frames ≤ answered)
     × ¬ NeverFrame rest
-
--- The run's bytes came out of the source, and all bytes that the source held, where they are known, are those and what
--- is left. No read was made but while the next frame was awaited, so that no byte was taken without need.
-pub record Supplies {S : Type 0} (left : S → Option (List ℕ)) (gives : Passes S) (before after : S) (run : Run)
-    : Type 0 where
-  pub whole : IfSome (left before) (λ bytes. bytes ≡ run.came ++ run.more)
-  pub rest : Remains (left after) run.more
-  pub comes : Comes left gives (AwaitsNext run.answered) before after run.came
 
 -- ---- which frames were answered
 

@@ -5,11 +5,13 @@ use Rattle.desk_io.specs.Outside.{Rises, AppendsPart}
 use Rattle.desk_io.specs.Reads.{Passes, Comes}
 use Rattle.desk_io.specs.declared.outside.Failed.{Failed}
 use Rattle.frame_grammar.specs.Frames.{Frame, IsFrame, framed, NoFrame}
-use Rattle.frame_reader.specs.declared.frame.FrameBody.{FrameBody}
-use Rattle.frame_reader.specs.declared.frame.FrameBody.TheVariants as kept
+use Rattle.read_ahead.specs.declared.body.Body.{Body as FrameBody}
+use Rattle.read_ahead.specs.declared.body.Body.TheVariants as kept
+use Rattle.read_ahead.specs.declared.halt.Halt.TheVariants.{End}
+use Rattle.read_ahead.specs.Reading.{Halts}
 use Rattle.frame_reader.specs.declared.frame.ReadFrame.{ReadFrame}
 use Rattle.frame_reader.specs.Reading.{AwaitsFrame}
-use Rattle.frame_reader.specs.Frames.{IsOver, NoFrameComes}
+use Rattle.frame_reader.specs.Frames.{NoFrameComes}
 use Rattle.act_model.specs.declared.request.Body.{Body}
 use Rattle.act_model.specs.declared.request.Body.TheVariants.{Whole, TooLong, NoRoom}
 use Rattle.act_model.specs.declared.request.Request.{Request}
@@ -18,8 +20,8 @@ use Rattle.act_bodies.specs.Keys.{key_of}
 use Rattle.act_model.specs.Requests.{verb_of}
 use Rattle.act_model.specs.Turns.{Turn, request_of, written_reply, written}
 use Rattle.mpc_desk.specs.Desks.{DeskState}
-use Rattle.run_command.specs.declared.serving.Turned.{Turned}
-use Rattle.run_command.specs.declared.serving.Turned.TheVariants.{Answered, Over, NoMore, ReadFailed, WriteFailed}
+use Rattle.run_command.specs.declared.serving.Stop.{Stop}
+use Rattle.run_command.specs.declared.serving.Stop.TheVariants.{Over, NoFrameAt, ReadFailed, WriteFailed}
 use Rattle.act_model.specs.Clocks.{ClockState}
 use Rattle.run_command.specs.Serving.{Serves}
 use Rattle.command_ends.specs.Disks.{DiskWords}
@@ -88,46 +90,41 @@ pub record IsUntouched {S D : Type 0} (old new : Standing S D) : Type 0 where
   pub clock : new.clock ≡ old.clock
   pub sink : Keeps old.taken new.taken
 
--- what became of the bytes at the front, those that were read ahead and those that came, where the source has `left`
-abbrev pub Turns : {S D : Type 0} → DiskWords D → Standing S D → Standing S D → List ℕ → Option (List ℕ) → Turned
-    → Type 0
-Turns on old new front left (Answered size) = TurnsFrame on old new front size (Ok size)
-Turns on old new front left WriteFailed = (size : ℕ) × (failed : Failed) × TurnsFrame on old new front size (Err failed)
-Turns on old new front left Over = IsOver front new.ahead left × IsUntouched old new
-Turns on old new front left NoMore = NoFrameComes front left × (0 < length front) × IsUntouched old new
-Turns on old new front left ReadFailed = NoFrame front × IsUntouched old new
-
--- a fact where a frame was answered
-abbrev pub OnAnswered : Turned → Type 0 → Type 0
-OnAnswered (Answered size) P = P
-OnAnswered Over P = Unit {0}
-OnAnswered NoMore P = Unit {0}
-OnAnswered ReadFailed P = Unit {0}
-OnAnswered WriteFailed P = Unit {0}
+-- What became of the bytes at the front, those that were read ahead and those that came, where the source has `left`: a
+-- frame of so many bytes was answered, or serving stops, at the offset at which the front begins.
+abbrev pub Turns : {S D : Type 0} → DiskWords D → Standing S D → Standing S D → List ℕ → Option (List ℕ) → (offset : ℕ)
+    → Result ℕ Stop → Type 0
+Turns on old new front left offset (Ok size) = TurnsFrame on old new front size (Ok size)
+Turns on old new front left offset (Err WriteFailed) =
+    (size : ℕ) × (failed : Failed) × TurnsFrame on old new front size (Err failed)
+Turns on old new front left offset (Err Over) = Halts NoFrame front new.ahead left End × IsUntouched old new
+Turns on old new front left offset (Err (NoFrameAt place)) =
+    NoFrameComes front left × (0 < length front) × (place ≡ offset) × IsUntouched old new
+Turns on old new front left offset (Err ReadFailed) = NoFrame front × IsUntouched old new
 
 -- the source's count of faults rose where the source failed, and stayed in any other step
-abbrev pub SourceFaults : Turned → ℕ → ℕ → Type 0
-SourceFaults ReadFailed before now = Rises before now
-SourceFaults (Answered size) before now = now ≡ before
-SourceFaults Over before now = now ≡ before
-SourceFaults NoMore before now = now ≡ before
-SourceFaults WriteFailed before now = now ≡ before
+abbrev pub SourceFaults : Result ℕ Stop → ℕ → ℕ → Type 0
+SourceFaults (Err ReadFailed) before now = Rises before now
+SourceFaults (Ok size) before now = now ≡ before
+SourceFaults (Err Over) before now = now ≡ before
+SourceFaults (Err (NoFrameAt place)) before now = now ≡ before
+SourceFaults (Err WriteFailed) before now = now ≡ before
 
 -- the sink's count of faults rose where the sink failed, and stayed in any other step
-abbrev pub SinkFaults : Turned → ℕ → ℕ → Type 0
-SinkFaults WriteFailed before now = Rises before now
-SinkFaults (Answered size) before now = now ≡ before
-SinkFaults Over before now = now ≡ before
-SinkFaults NoMore before now = now ≡ before
-SinkFaults ReadFailed before now = now ≡ before
+abbrev pub SinkFaults : Result ℕ Stop → ℕ → ℕ → Type 0
+SinkFaults (Err WriteFailed) before now = Rises before now
+SinkFaults (Ok size) before now = now ≡ before
+SinkFaults (Err Over) before now = now ≡ before
+SinkFaults (Err (NoFrameAt place)) before now = now ≡ before
+SinkFaults (Err ReadFailed) before now = now ≡ before
 
 -- a piece of the source's bytes came after those that were read ahead, while a frame was awaited, and this became of
 -- them
 pub record TakesStep {S : Type 0} (left : S → Option (List ℕ)) (gives : Passes S) {D : Type 0} (on : DiskWords D)
-    (old new : Standing S D) (turned : Turned) : Type 0 where
+    (old new : Standing S D) (offset : ℕ) (result : Result ℕ Stop) : Type 0 where
   pub piece : List ℕ
   pub came : Comes left gives (AwaitsFrame old.ahead) old.source new.source piece
-  pub turns : Turns on old new (old.ahead ++ piece) (left new.source) turned
+  pub turns : Turns on old new (old.ahead ++ piece) (left new.source) offset result
 
 -- How far a run has come: over the bytes that came so far, of which those at the end are still read ahead, and with an
 -- offset up to which they are answered.

@@ -1,17 +1,16 @@
 //! A run: the office is opened, the frames of the source are answered, and what is in doubt is mended.
 
-ghost use Rattle.std.specs.Prelude.{◌≡◌, ◌≤◌, ℕ, List, Some};
+ghost use Rattle.std.specs.Prelude.{◌≡◌, ◌≤◌};
 ghost use Rattle.std.specs.Io.KnownBytes.{Appends};
 ghost use Rattle.desk_io.specs.Outside.{Rises};
-ghost use Rattle.act_model.specs.declared.entry.Entry.{Entry};
+ghost use Rattle.read_ahead.specs.Reading.{Supplies};
 ghost use Rattle.act_model.specs.Clocks.{clock_of};
-ghost use Rattle.act_model.specs.Legal.{IsLegal};
 ghost use Rattle.act_model.specs.Roster.{IsFounder};
-ghost use Rattle.mpc_desk.specs.Files.{Stands};
+ghost use Rattle.command_ends.specs.Courses.{source_words, sink_words, outside_words, change};
 ghost use Rattle.command_ends.specs.Disks.{disk_words};
-ghost use Rattle.command_ends.specs.Statuses.{IsDoneOrNoMemory};
 ghost use Rattle.run_command.specs.Closing.{Finishes};
-ghost use Rattle.run_command.specs.Runs.{Run, Supplies, Ends, IsWhole};
+ghost use Rattle.run_command.specs.Promises.{KeepsRun};
+ghost use Rattle.run_command.specs.Runs.{Run, AwaitsNext, Ends};
 
 use crate::serving::{Stop, serve};
 use act_model::{Keeper, Key, laws as office_laws};
@@ -48,7 +47,8 @@ fn run_all<S: Source, K: Sink, D: Disk, C: Clock>(
     requires { IsFounder founder }
     // What was read, answered, written and kept at each end: of the bytes that came, whether the source tells its bytes
     // or not, and of each image that a crash may leave.
-    ensures ends { (run : Run) × Supplies S.left S.gives source.old source.new run
+    ensures ends { (run : Run)
+        × Supplies S.left S.gives (AwaitsNext run.answered) source.old source.new run.came run.more
         × Appends (K.taken sink.old) (K.taken sink.new) run.texts
         × Ends (disk_words D.reads D.leaves D.moment D.since D.faults)
         (record {
@@ -117,46 +117,18 @@ pub fn run<S: Source, K: Sink, D: Disk, C: Clock>(
     clock: &mut C,
 ) -> Ended<D>
     requires { IsFounder founder }
-    // What was read, answered, written and kept at each end: of the bytes that came, whether the source tells its bytes
-    // or not, and of each image that a crash may leave.
-    ensures ends { (run : Run) × Supplies S.left S.gives source.old source.new run
-        × Appends (K.taken sink.old) (K.taken sink.new) run.texts
-        × Ends (disk_words D.reads D.leaves D.moment D.since D.faults)
+    // What is promised at each end stands in `specs/Promises.antt`.
+    ensures promises { KeepsRun (source_words S.left S.gives S.faults S.is_open)
+        (outside_words (sink_words K.taken K.faults K.is_open)
+        (disk_words D.reads D.leaves D.moment D.since D.faults) (clock_of C.reading C.last))
+        (change source.old source.new)
         (record {
-          founder = founder;
-          disk = disk;
-          disk_after = result.disk;
-          clock = clock_of C.reading C.last clock.old;
-          clock_after = clock_of C.reading C.last clock.new;
-          run = run;
+          sink = change sink.old sink.new;
+          disk = change disk result.disk;
+          clock = change clock.old clock.new;
           added = result.added;
-        })
-        ((source.new ≡ source.old) × (sink.new ≡ sink.old) × (clock.new ≡ clock.old)) result.status }
-
-    // A whole session, a file that stands for a legal history, and no fault give `Done`, or `NoMemory`. A fresh file
-    // stands for the history without entries.
-    ensures complete { (bytes file : List ℕ) (history : List Entry) → S.left source.old ≡ Some bytes → IsWhole bytes →
-        D.reads disk ≡ Some file → Stands file history → IsLegal founder history →
-        ¬ Rises (S.faults source.old) (S.faults source.new) → ¬ Rises (K.faults sink.old) (K.faults sink.new) →
-        ¬ Rises (D.faults disk) (D.faults result.disk) → IsDoneOrNoMemory result.status }
-
-    // A file that stands for a legal history isn't damaged.
-    ensures sound { (file : List ℕ) (history : List Entry) (offset : ℕ) → D.reads disk ≡ Some file →
-        Stands file history → IsLegal founder history → result.status ≡ Status.Damaged offset → ⊥ }
-
-    // The disk failed where the end is `DiskFault`.
-    ensures disk_cause { result.status ≡ Status.DiskFault → Rises (D.faults disk) (D.faults result.disk) }
-
-    // The source failed where the end is `ReadFault`, and nowhere else; the sink where it is `WriteFault`.
-    ensures read_cause { result.status ≡ Status.ReadFault → Rises (S.faults source.old) (S.faults source.new) }
-    ensures read_faultless { (result.status ≡ Status.ReadFault → ⊥) → S.faults source.new ≡ S.faults source.old }
-    ensures write_cause { result.status ≡ Status.WriteFault → Rises (K.faults sink.old) (K.faults sink.new) }
-    ensures write_faultless { (result.status ≡ Status.WriteFault → ⊥) → K.faults sink.new ≡ K.faults sink.old }
-    ensures counts { (S.faults source.old ≤ S.faults source.new) × (K.faults sink.old ≤ K.faults sink.new) }
-    ensures stays { (S.is_open source.new ≡ S.is_open source.old) × (K.is_open sink.new ≡ K.is_open sink.old) }
-
-    // It ends neither with `Usage` nor with `DoorFault`.
-    ensures own { (result.status ≡ Status.Usage → ⊥) × (result.status ≡ Status.DoorFault → ⊥) }
+          status = result.status;
+        }) founder }
 {
     frame_laws::one_session();
     desk_laws::damage();

@@ -4,13 +4,13 @@ ghost use Rattle.std.specs.Prelude.{◌≡◌, ◌≤◌, ◌<◌, ℕ, List, []
 ghost use Rattle.std.specs.Io.KnownBytes.{Appends};
 ghost use Rattle.desk_io.specs.Outside.{Rises};
 ghost use Rattle.frame_reader.specs.Frames.{IsFrameRead};
-ghost use Rattle.frame_reader.specs.Reading.{work};
+ghost use Rattle.read_ahead.specs.Reading.{Supplies, work};
 ghost use Rattle.act_model.specs.Turns.{Turn};
 ghost use Rattle.act_model.specs.Clocks.{clock_of};
 ghost use Rattle.command_ends.specs.Disks.{disk_words};
 ghost use Rattle.run_command.specs.Conducted.{TakesTurns};
-ghost use Rattle.run_command.specs.Steps.{request_read, AnswersFrame, TakesStep, OnAnswered, SourceFaults, SinkFaults};
-ghost use Rattle.run_command.specs.Runs.{Run, Supplies, Stops};
+ghost use Rattle.run_command.specs.Steps.{request_read, AnswersFrame, TakesStep, SourceFaults, SinkFaults};
+ghost use Rattle.run_command.specs.Runs.{Run, AwaitsNext, Stops};
 
 use crate::spoken::{speak, write_spoken};
 use crate::turns::take_turn;
@@ -18,7 +18,7 @@ use act_model::{Body, Key, Request, laws as office_laws, read_verb};
 use desk_io::{Clock, Failed, Sink, Source};
 use disk_model::Disk;
 use frame_grammar::laws as frame_laws;
-use frame_reader::{FrameBody, FrameReader, NextFrame, ReadFrame};
+use frame_reader::{Body as FrameBody, FrameReader, Halt, ReadFrame};
 use mpc_desk::Desk;
 use std::alloc::Global;
 
@@ -32,21 +32,6 @@ pub enum Stop {
     /// The source failed.
     ReadFailed,
     /// The sink failed inside a reply.
-    WriteFailed,
-}
-
-/// What became of the next frame.
-#[derive(Debug, Drop)]
-pub enum Turned {
-    /// It was answered; this many bytes it had.
-    Answered(u64),
-    /// The source ended after the frame before.
-    Over,
-    /// From here on the bytes are no frame.
-    NoMore,
-    /// The source failed.
-    ReadFailed,
-    /// The sink failed inside the reply.
     WriteFailed,
 }
 
@@ -96,7 +81,7 @@ fn answer_frame<K: Sink, D: Disk, C: Clock>(
     }
 }
 
-/// Reads the next frame and answers it.
+/// Reads the next frame, at this offset, and answers it. Says how many bytes it has, or why serving stops.
 fn serve_next<S: Source, K: Sink, D: Disk, C: Clock>(
     alloc: Global,
     desk: &mut Desk<D>,
@@ -104,7 +89,8 @@ fn serve_next<S: Source, K: Sink, D: Disk, C: Clock>(
     source: &mut S,
     sink: &mut K,
     clock: &mut C,
-) -> Turned
+    offset: u64,
+) -> Result<u64, Stop>
     ensures step { TakesStep S.left S.gives (disk_words D.reads D.leaves D.moment D.since D.faults)
         (record {
           desk = desk.old;
@@ -119,24 +105,24 @@ fn serve_next<S: Source, K: Sink, D: Disk, C: Clock>(
           taken = K.taken sink.new;
           source = source.new;
           ahead = reader.new;
-        }) result }
+        }) offset result }
     ensures source_counts { S.faults source.old ≤ S.faults source.new }
     ensures sink_counts { K.faults sink.old ≤ K.faults sink.new }
     ensures source_faults { SourceFaults result (S.faults source.old) (S.faults source.new) }
     ensures sink_faults { SinkFaults result (K.faults sink.old) (K.faults sink.new) }
     ensures source_stays { S.is_open source.new ≡ S.is_open source.old }
     ensures sink_stays { K.is_open sink.new ≡ K.is_open sink.old }
-    ensures nearer { OnAnswered result (work (S.reads source.new) reader.new < work (S.reads source.old) reader.old) }
+    ensures nearer { OnOk result (work (S.reads source.new) reader.new < work (S.reads source.old) reader.old) }
 {
     frame_laws::never_a_frame();
     match reader.next_frame(source) {
-        NextFrame::Frame(read) => match answer_frame(alloc, desk, read, sink, clock) {
-            Ok(size) => Turned::Answered(size),
-            Err(Failed) => Turned::WriteFailed,
+        Ok(read) => match answer_frame(alloc, desk, read, sink, clock) {
+            Ok(size) => Ok(size),
+            Err(Failed) => Err(Stop::WriteFailed),
         },
-        NextFrame::End => Turned::Over,
-        NextFrame::Bad => Turned::NoMore,
-        NextFrame::Failed => Turned::ReadFailed,
+        Err(Halt::End) => Err(Stop::Over),
+        Err(Halt::Bad) => Err(Stop::NoFrameAt(offset)),
+        Err(Halt::Failed) => Err(Stop::ReadFailed),
     }
 }
 
@@ -150,7 +136,8 @@ pub fn serve<S: Source, K: Sink, D: Disk, C: Clock>(
     clock: &mut C,
 ) -> Stop
     requires unread { reader.old ≡ [] }
-    ensures stops { (run : Run) × (turns : List Turn) × Supplies S.left S.gives source.old source.new run
+    ensures stops { (run : Run) × (turns : List Turn)
+        × Supplies S.left S.gives (AwaitsNext run.answered) source.old source.new run.came run.more
         × Appends (K.taken sink.old) (K.taken sink.new) run.texts
         × Stops (clock_of C.reading C.last clock.old) (clock_of C.reading C.last clock.new) run turns result
         × TakesTurns (disk_words D.reads D.leaves D.moment D.since D.faults) desk.old turns desk.new }
@@ -167,12 +154,9 @@ pub fn serve<S: Source, K: Sink, D: Disk, C: Clock>(
     frame_laws::no_frame_yet();
     let mut offset = 0u64;
     'frames: loop {
-        match serve_next(alloc, desk, reader, source, sink, clock) {
-            Turned::Answered(size) => offset = offset.saturating_add(size),
-            Turned::Over => return Stop::Over,
-            Turned::NoMore => return Stop::NoFrameAt(offset),
-            Turned::ReadFailed => return Stop::ReadFailed,
-            Turned::WriteFailed => return Stop::WriteFailed,
+        match serve_next(alloc, desk, reader, source, sink, clock, offset) {
+            Ok(size) => offset = offset.saturating_add(size),
+            Err(stop) => return stop,
         }
     }
 }

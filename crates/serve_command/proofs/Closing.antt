@@ -7,12 +7,12 @@ use Rattle.std.specs.List.{AllByRecursion}
 use Rattle.desk_io.specs.Doors.{Gives-nil}
 use Rattle.act_bodies.specs.declared.key.Key.{Key}
 use Rattle.act_model.specs.declared.entry.Entry.{Entry}
-use Rattle.intake_lock.specs.declared.clerk.Office.{Office}
+use Rattle.act_model.specs.declared.keeper.Office.{Office}
 use Rattle.act_model.specs.Conducts.{Extends}
 use Rattle.act_model.specs.Legal.{IsLegal}
 use Rattle.intake_lock.specs.declared.view.Item.{Item}
 use Rattle.intake_lock.specs.declared.view.View.{View}
-use Rattle.intake_lock.specs.declared.clerk.Stamps.{Stamps}
+use Rattle.act_model.specs.declared.keeper.Stamps.{Stamps}
 use Rattle.intake_lock.specs.Items.{IsTrue, AreTrue, HasStamp, AreStamped, RisesBy}
 use Rattle.intake_lock.specs.Rule.{IsCall, IsOrigin, Origins, StampsCome, Closes}
 use Rattle.intake_lock.specs.Views.{seen, first_view}

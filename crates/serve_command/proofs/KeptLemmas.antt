@@ -12,17 +12,17 @@ use Rattle.act_model.specs.declared.reply.Reply.{Reply}
 use Rattle.act_model.specs.declared.reply.Reply.TheVariants.{Done}
 use Rattle.act_model.specs.declared.request.Request.{Request}
 use Rattle.act_model.specs.Conducts.{Extends, EitherWay, IsAcknowledged, Makes}
-use Rattle.act_model.specs.Keepers.{TakesTurn as KeeperTakesTurn}
+use Rattle.act_model.specs.Keepers.{TakesTurn}
 use Rattle.act_model.specs.Legal.{IsLegal}
 use Rattle.act_model.specs.Requests.{is_act}
 use Rattle.act_model.specs.Replies.{entry_answer}
 use Rattle.act_model.specs.Step.{Adds, outcome, step}
 use Rattle.act_model.specs.Turns.{Turn, Conduct, TakesReading, Answers, Mends, Takes, IsTurn, at_rest}
-use Rattle.intake_lock.specs.declared.clerk.Office.{Office}
-use Rattle.intake_lock.specs.declared.clerk.Stamp.{Stamp}
+use Rattle.act_model.specs.declared.keeper.Office.{Office}
+use Rattle.act_model.specs.declared.keeper.Stamp.{Stamp}
 use Rattle.intake_lock.specs.declared.view.Item.{Item}
-use Rattle.intake_lock.specs.Clerks.{Gave}
-use Rattle.intake_lock.specs.Items.{reading_of, IsStampOf, HasStamp, StampTells, IsTrue, AreTrue, AreStamped, Failed, TakesAt, TakesTurn}
+use Rattle.intake_lock.specs.Stamps.{Gave}
+use Rattle.intake_lock.specs.Items.{reading_of, IsStampOf, HasStamp, StampTells, IsTrue, AreTrue, AreStamped, Failed}
 use Rattle.http_connection.specs.Calls.{IsAdded}
 use Rattle.mpc_desk.specs.Desks.{DeskState, IsAtRest, FailsOn, ActsOn, ActsInTurn, turn_of, office_of}
 use Rattle.act_model.specs.Clocks.{ClockState}
@@ -47,60 +47,31 @@ module _ {D : Type 0} (moment : D → ℕ) (since : D → ℕ → List ℕ → T
       by (inr acts) = acts.images.later
 
   pub stamped_act : (old new : DeskState D) (answered more : Answered D) (reading : ℤ) (noted : Asked) → request_in noted.items ≡ request → reading_in noted.items ≡ reading → more ≡ answered ++ (new, noted) ∷ []
-      → KeeperTakesTurn (office_of faults old) request (Some reading) reply (office_of faults new)
+      → TakesTurn (office_of faults old) request (Some reading) reply (office_of faults new)
       → ActsInTurn moment since faults (record { old = old; request = request; reading = reading; reply = reply; new = new })
       → TakesTurn (stamping moment faults old answered) request (Some reading) reply (stamping moment faults new more)
-  stamped_act old new answered more reading noted request_is reading_is is turn inside = by turn.turn.takes
-    where
-      stamp : DeskState D × Asked → Stamp
-      stamp then = stamp_of moment then.0 then.1
+  stamped_act old new answered more reading noted request_is reading_is is turn inside = record {
+    rise = turn.rise;
+    turn = turn.turn;
+    counts = turn.counts;
+    founder = turn.founder;
+    limit = turn.limit;
+    stamps = record {
+      given = stamp_of moment new noted;
+      asked = sym request_is;
+      read = sym reading_is;
+      entries = refl;
+      later = act_later old new reading inside;
+      now = ap (λ (l : List Stamp). Some (record { moment = moment new.disk; given = l }))
+          (ap (λ (l : Answered D). map (λ then. stamp_of moment then.0 then.1) l) is
+          ∙ map-append (λ (then : DeskState D × Asked). stamp_of moment then.0 then.1) answered ((new, noted) ∷ []));
+    };
+  }
 
-      item : ℕ → Item
-      item position = record { position = position; request = request; reading = Some reading; reply = reply; rise = turn.rise; stamp = Some (stamp_of moment new noted) }
-
-      made : (position : ℕ) → TakesAt old.founder (Some old.limit) old.state (item position) (Some reading) new.state
-          → TakesTurn (stamping moment faults old answered) request (Some reading) reply (stamping moment faults new more)
-      made position takes = (
-        item position,
-        record {
-          asked = refl;
-          read = refl;
-          answered = refl;
-          calls = record {
-            reads = turn.turn.reads;
-            takes = takes;
-            counts = turn.counts;
-            founder = turn.founder;
-            limit = turn.limit;
-            stamps = record {
-              given = stamp_of moment new noted;
-              of_call = record { stamp = refl; request = sym request_is; reading = ap (λ (t : ℤ). Some t) (sym reading_is) };
-              entries = refl;
-              later = act_later old new reading inside;
-              now = ap (λ (l : List Stamp). Some (record { moment = moment new.disk; given = l }))
-                  (ap (λ (l : Answered D). map (λ then. stamp_of moment then.0 then.1) l) is
-                  ∙ map-append (λ (then : DeskState D × Asked). stamp_of moment then.0 then.1) answered ((new, noted) ∷ []));
-            };
-          };
-        },
-      )
-
-      by : Takes old.founder (Some old.limit) old.state (record { request = request; reading = Some reading; reply = reply; rise = turn.rise }) (Some reading) new.state
-          → TakesTurn (stamping moment faults old answered) request (Some reading) reply (stamping moment faults new more)
-      by (inl fails) = made (length old.state.settled) (inl (fails, refl))
-      by (inr acts) = made (length acts.mended) (inr (acts, refl))
-
-  pub stamped_query : (desk : DeskState D) (answered : Answered D) → KeeperTakesTurn (office_of faults desk) request None reply (office_of faults desk)
+  pub stamped_query : (desk : DeskState D) (answered : Answered D) → TakesTurn (office_of faults desk) request None reply (office_of faults desk)
       → TakesTurn (stamping moment faults desk answered) request None reply (stamping moment faults desk answered)
-  stamped_query desk answered turn = (
-    record { position = length desk.state.settled; request = request; reading = None; reply = reply; rise = turn.rise; stamp = None },
-    record {
-      asked = refl;
-      read = refl;
-      answered = refl;
-      calls = record { reads = turn.turn.reads; takes = (turn.turn.takes, refl); counts = turn.counts; founder = turn.founder; limit = turn.limit; stamps = (refl, refl) };
-    },
-  )
+  stamped_query desk answered turn =
+      record { rise = turn.rise; turn = turn.turn; counts = turn.counts; founder = turn.founder; limit = turn.limit; stamps = refl }
 
 -- ---- what is kept over an act
 
@@ -126,7 +97,7 @@ module _ {D : Type 0} (laws : GrowthLaws) (moment : D → ℕ) (since : D → �
   -- what was kept before an act is kept after it
   keeps_on : (first : List Entry) (from : ℕ) (images : ℕ → List ℕ → Type 0) (then old new : DeskState D) (request : Request) (reading : ℤ) (reply : Reply) → asked new.state.settled request reading
       → IsWatched moment since first from images asked old
-      → KeeperTakesTurn (office_of faults old) request (Some reading) reply (office_of faults new) → ActsInTurn moment since faults (record { old = old; request = request; reading = reading; reply = reply; new = new })
+      → TakesTurn (office_of faults old) request (Some reading) reply (office_of faults new) → ActsInTurn moment since faults (record { old = old; request = request; reading = reading; reply = reply; new = new })
       → new.founder ≡ old.founder → new.limit ≡ old.limit → Keeps moment since old.founder (Some old.limit) asked then old → Keeps moment since new.founder (Some new.limit) asked then new
   keeps_on first from images then old new request reading reply asks was turn inside same limit k =
       let taken : Turn = record { request = request; reading = Some reading; reply = reply; rise = turn.rise } in
@@ -161,7 +132,7 @@ pub passed_on : {D : Type 0} (laws : GrowthLaws) (moment : D → ℕ) (since : D
     (images : ℕ → List ℕ → Type 0) (old new : DeskState D) (answered more : Answered D) (noted : Asked) (request : Request) (reading : ℤ) (reply : Reply)
     → request_in noted.items ≡ request → reading_in noted.items ≡ reading
     → IsWatched moment since first from images (WasAsked more) old → IsWatched moment since first from images (WasAsked more) new
-    → KeeperTakesTurn (office_of faults old) request (Some reading) reply (office_of faults new) → ActsInTurn moment since faults (record { old = old; request = request; reading = reading; reply = reply; new = new })
+    → TakesTurn (office_of faults old) request (Some reading) reply (office_of faults new) → ActsInTurn moment since faults (record { old = old; request = request; reading = reading; reply = reply; new = new })
     → IsAtRest leaves new → new.founder ≡ old.founder → new.limit ≡ old.limit → more ≡ answered ++ (new, noted) ∷ []
     → AllByRecursion (λ then. HasPassed moment since first from images (WasAsked answered) old then.0) answered
     → AllByRecursion (λ then. HasPassed moment since first from images (WasAsked more) new then.0) more

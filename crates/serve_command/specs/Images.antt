@@ -11,10 +11,9 @@ use Rattle.act_model.specs.declared.request.Verb.TheVariants.{Unknown}
 use Rattle.act_model.specs.Conducts.{Extends, EitherWay, IsAcknowledged}
 use Rattle.act_model.specs.Legal.{IsLegal}
 use Rattle.act_model.specs.Step.{Adds, outcome, step}
-use Rattle.intake_lock.specs.declared.clerk.Office.{Office}
-use Rattle.intake_lock.specs.declared.clerk.Stamp.{Stamp}
+use Rattle.act_model.specs.declared.keeper.Office.{Office}
+use Rattle.act_model.specs.declared.keeper.Stamp.{Stamp}
 use Rattle.intake_lock.specs.declared.view.Item.{Item}
-use Rattle.intake_lock.specs.Clerks.{with_stamps}
 use Rattle.intake_lock.specs.Items.{reading_of}
 use Rattle.http_connection.specs.Calls.{IsAdded}
 use Rattle.mpc_desk.specs.Desks.{DeskState, office_of}
@@ -110,9 +109,12 @@ pub record WatchedState (D : Type 0) : Type 0 where
 -- the office of a desk that stamps its acts
 abbrev pub stamping : {D : Type 0} (moment : D → ℕ) (faults : D → ℕ) → DeskState D → Answered D → Office
 stamping moment faults desk answered =
-    with_stamps
-    (Some (record { moment = moment desk.disk; given = map (λ then. stamp_of moment then.0 then.1) answered }))
-    (office_of faults desk)
+    record (office_of faults desk) {
+      stamps = Some (record {
+        moment = moment desk.disk;
+        given = map (λ then. stamp_of moment then.0 then.1) answered;
+      });
+    }
 
 -- What was settled in a desk then is in each image of its disk since: its history has gone on from there, and each
 -- image since that moment stands for a history to which the office came from there on, or for one entry more.

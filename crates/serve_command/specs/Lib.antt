@@ -4,3 +4,4 @@ pub mod Gathering
 pub mod Serving
 pub mod Summaries
 pub mod Runs
+pub mod Promises

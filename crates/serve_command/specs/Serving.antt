@@ -4,12 +4,12 @@ use Rattle.std.specs.Prelude.{Option, Some, None, IfSome, Contains}
 use Rattle.std.specs.List.{AllByRecursion}
 use Rattle.desk_io.specs.Doors.{Gives}
 use Rattle.act_model.specs.declared.entry.Entry.{Entry}
-use Rattle.intake_lock.specs.declared.clerk.Office.{Office}
-use Rattle.intake_lock.specs.declared.clerk.Stamp.{Stamp}
+use Rattle.act_model.specs.declared.keeper.Office.{Office}
+use Rattle.act_model.specs.declared.keeper.Stamp.{Stamp}
 use Rattle.act_model.specs.declared.reply.Refusal.TheVariants.{DiskFault}
 use Rattle.act_model.specs.declared.reply.Reply.TheVariants.{Refused}
 use Rattle.intake_lock.specs.declared.view.Item.{Item}
-use Rattle.intake_lock.specs.Clerks.{Gave}
+use Rattle.intake_lock.specs.Stamps.{Gave}
 use Rattle.intake_lock.specs.Items.{AddsEntry, AreTrue, AreStamped, IsStampOf, RisesBy, rises}
 use Rattle.intake_lock.specs.Rule.{StaysLegal}
 use Rattle.act_model.specs.Clocks.{ClockState}

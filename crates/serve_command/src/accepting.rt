@@ -11,8 +11,9 @@ ghost use Rattle.serve_command.specs.Gathering.{door_of, Stops, IsRootFor, IsSam
 use crate::attending::attend_link;
 use crate::ends::LinkEnd;
 use crate::gates::Gate;
+use act_model::Keeper;
 use desk_io::{Clock, Next};
-use intake_lock::{Clerk, Pass, TurnLock, laws as lock_laws};
+use intake_lock::{Pass, TurnLock, laws as lock_laws};
 use std::alloc::Global;
 use std::sync::Wait;
 use std::thread::{Threads, join};
@@ -85,7 +86,7 @@ fn next_link<T: Gate>(gate: &mut T, left: u64) -> Result<(T::In, T::Out), Stop>
 }
 
 // Splits a branch off the root, where as many more may be split as links are left.
-fn split_root<V: Clerk>(lock: &TurnLock<V>, root: Pass, left: u64) -> Result<(Pass, Pass), Pass>
+fn split_root<V: Keeper>(lock: &TurnLock<V>, root: Pass, left: u64) -> Result<(Pass, Pass), Pass>
     requires lock { root.lock ≡ lock.now.id }
     requires some { 0 < left }
     requires root { IsRootFor left root.view.role }
@@ -102,7 +103,7 @@ fn split_root<V: Clerk>(lock: &TurnLock<V>, root: Pass, left: u64) -> Result<(Pa
 ///
 /// Where a thread can't be started, the link is attended at once, and the next one is awaited after it.
 pub(crate) fn attend_links<
-    V: Clerk + Send,
+    V: Keeper + Send,
     T: Gate + Send,
     C: Clock + Send,
     R: Threads + Wait + Sync,

@@ -5,14 +5,15 @@ ghost use Rattle.act_model.specs.Clocks.{clock_of};
 ghost use Rattle.serve_command.specs.Links.{link_words, IsLinkAttended};
 
 use crate::ends::LinkEnd;
+use act_model::Keeper;
 use desk_io::{Clock, Sink, Source};
 use http_connection::attend;
-use intake_lock::{Clerk, Pass, TurnLock};
+use intake_lock::{Pass, TurnLock};
 use std::alloc::Global;
 use std::sync::Wait;
 
 /// Attends a link, and then ends its source and its sink.
-pub(crate) fn attend_link<V: Clerk, S: Source, K: Sink, C: Clock, R: Wait>(
+pub(crate) fn attend_link<V: Keeper, S: Source, K: Sink, C: Clock, R: Wait>(
     rt: &R,
     alloc: Global,
     lock: &TurnLock<V>,

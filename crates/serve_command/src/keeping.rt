@@ -10,9 +10,10 @@ ghost use Rattle.serve_command.specs.Serving.{Serves};
 use crate::accepting::{Gathered, Stop, attend_links};
 use crate::ends::{LinkEnd, no_ends, turned_round};
 use crate::gates::{Lent, take_back};
+use act_model::Keeper;
 use desk_io::{Clock, Door};
 use http_connection::laws as link_laws;
-use intake_lock::{Clerk, TurnLock, laws as lock_laws};
+use intake_lock::{TurnLock, laws as lock_laws};
 use std::alloc::Global;
 use std::sync::Wait;
 use std::thread::Threads;
@@ -34,7 +35,7 @@ pub struct Attended<V, I, O> {
 ///
 /// Where memory for the links is refused, none is awaited, and door, clock and keeper are as they were. It returns when
 /// all links were left.
-pub fn attend_door<V: Clerk + Send, C: Clock + Send, G: Door + Send, R: Threads + Wait + Sync>(
+pub fn attend_door<V: Keeper + Send, C: Clock + Send, G: Door + Send, R: Threads + Wait + Sync>(
     rt: &R,
     alloc: Global,
     keeper: V,

@@ -1,17 +1,15 @@
 //! The whole service of a door, over one journal.
 
-ghost use Rattle.std.specs.Prelude.{◌≡◌, ◌≤◌, ℕ, List, [], Some};
+ghost use Rattle.std.specs.Prelude.{◌≡◌, ◌≤◌, []};
 ghost use Rattle.desk_io.specs.Outside.{Rises};
-ghost use Rattle.act_model.specs.declared.entry.Entry.{Entry};
 ghost use Rattle.act_model.specs.Clocks.{clock_of};
-ghost use Rattle.act_model.specs.Legal.{IsLegal};
 ghost use Rattle.act_model.specs.Roster.{IsFounder};
 ghost use Rattle.intake_lock.specs.Rule.{MOST};
-ghost use Rattle.mpc_desk.specs.Files.{Stands};
+ghost use Rattle.command_ends.specs.Courses.{sink_words, outside_words, change};
 ghost use Rattle.command_ends.specs.Disks.{disk_words};
-ghost use Rattle.command_ends.specs.Statuses.{IsDoneOrNoMemory};
 ghost use Rattle.serve_command.specs.Links.{link_words};
 ghost use Rattle.serve_command.specs.Gathering.{door_of};
+ghost use Rattle.serve_command.specs.Promises.{KeepsServe, door_words};
 ghost use Rattle.serve_command.specs.Runs.{first_fault, Writes, Ends};
 ghost use Rattle.serve_command.specs.Summaries.{summary};
 
@@ -163,57 +161,19 @@ pub fn serve<D: Disk + Send, K: Sink, C: Clock + Send, G: Door + Send, R: Thread
 ) -> (Ended<D>, Vec<LinkEnd<G::In, G::Out>>)
     requires founder { IsFounder founder }
     requires most { connections ≤ MOST }
-    // What was attended, added, kept, mended and written at each end, and what a crash at any moment leaves.
-    ensures ends { Ends (disk_words D.reads D.leaves D.moment D.since D.faults)
-        (link_words G.In.left G.In.gives G.In.faults G.In.is_open G.Out.taken G.Out.faults G.Out.is_open)
+    // What is promised at each end stands in `specs/Promises.antt`.
+    ensures promises { KeepsServe
+        (outside_words (sink_words K.taken K.faults K.is_open)
+        (disk_words D.reads D.leaves D.moment D.since D.faults) (clock_of C.reading C.last))
+        (door_words G.links G.faults
+        (link_words G.In.left G.In.gives G.In.faults G.In.is_open G.Out.taken G.Out.faults G.Out.is_open))
         (record {
-          founder = founder;
-          disk = disk;
-          clock = clock_of C.reading C.last clock.old;
-          door = door_of G.links G.faults door.old;
-          most = connections;
-          taken = K.taken sink.old;
-        })
-        (record {
-          disk = result.0.disk;
-          door = door_of G.links G.faults door.new;
-          ends = result.1.items;
-          taken = K.taken sink.new;
+          sink = change sink.old sink.new;
+          disk = change disk result.0.disk;
+          clock = change clock.old clock.new;
           added = result.0.added;
           status = result.0.status;
-        })
-        ((sink.new ≡ sink.old) × (clock.new ≡ clock.old) × (door.new ≡ door.old) × (result.1.items ≡ []))
-        ((clock.new ≡ clock.old) × (door.new ≡ door.old)) (sink.new ≡ sink.old) }
-
-    // A file that stands for a legal history, and no fault of the disk, the door or the sink, give `Done`, or
-    // `NoMemory`. A fresh file stands for the history without entries; faults of links play no part.
-    ensures complete { (file : List ℕ) (history : List Entry) →
-        D.reads disk ≡ Some file → Stands file history → IsLegal founder history →
-        ¬ Rises (D.faults disk) (D.faults result.0.disk) → ¬ Rises (G.faults door.old) (G.faults door.new) →
-        ¬ Rises (K.faults sink.old) (K.faults sink.new) → IsDoneOrNoMemory result.0.status }
-
-    // A file that stands for a legal history isn't damaged.
-    ensures sound { (file : List ℕ) (history : List Entry) (offset : ℕ) → D.reads disk ≡ Some file →
-        Stands file history → IsLegal founder history → result.0.status ≡ Status.Damaged offset → ⊥ }
-
-    // The disk failed where the end is `DiskFault`.
-    ensures disk_cause { result.0.status ≡ Status.DiskFault → Rises (D.faults disk) (D.faults result.0.disk) }
-
-    // The door failed where the end is `DoorFault`, and nowhere else.
-    ensures door_cause { result.0.status ≡ Status.DoorFault → Rises (G.faults door.old) (G.faults door.new) }
-    ensures door_faultless { (result.0.status ≡ Status.DoorFault → ⊥) → G.faults door.new ≡ G.faults door.old }
-
-    // The sink failed where the end is `WriteFault`, and nowhere else.
-    ensures write_cause { result.0.status ≡ Status.WriteFault → Rises (K.faults sink.old) (K.faults sink.new) }
-    ensures write_faultless { (result.0.status ≡ Status.WriteFault → ⊥) → K.faults sink.new ≡ K.faults sink.old }
-    ensures counts { K.faults sink.old ≤ K.faults sink.new }
-
-    // What was open is open.
-    ensures stays { K.is_open sink.new ≡ K.is_open sink.old }
-
-    // It ends neither with `Usage`, nor with `BadFrame`, nor with `ReadFault`.
-    ensures own { (result.0.status ≡ Status.Usage → ⊥) × (result.0.status ≡ Status.ReadFault → ⊥)
-        × ((offset : ℕ) → result.0.status ≡ Status.BadFrame offset → ⊥) }
+        }) (change door.old door.new) result.1.items founder connections }
 {
     desk_laws::damage();
     run(rt, alloc, founder, connections, sink, disk, clock, door)

@@ -18,7 +18,6 @@ use act_model::{Keeper, Reply, Request, laws as office_laws};
 use desk_io::{Clock, Door};
 use disk_model::Disk;
 use http_server::Log;
-use intake_lock::Clerk;
 use mpc_desk::Desk;
 use obs_time::Instant;
 use std::alloc::Global;
@@ -105,7 +104,7 @@ impl<D: Disk, W: Opening> Watched<D, W> {
     }
 }
 
-impl<D: Disk, W: Opening> Clerk for Watched<D, W> {
+impl<D: Disk, W: Opening> Keeper for Watched<D, W> {
     ghost office = { λ w. stamping D.moment D.faults w.desk w.answered };
 
     fn act(&mut self, request: &Request, reading: Instant) -> Reply {

@@ -5,7 +5,7 @@ ghost use Rattle.std.specs.Prelude.{◌≡◌, None};
 use act_model::{Keeper, Key, Refusal, Reply, Request};
 use desk_io::{Clock, MemSink, MemSource, Sink, Source, TickClock};
 use http_connection::{Left, attend};
-use intake_lock::{Clerk, TurnLock};
+use intake_lock::TurnLock;
 use obs_time::Instant;
 use std::alloc::Global;
 use std::sync::Wait;
@@ -25,6 +25,7 @@ impl Keeper for Forgetful {
       limit = None;
       state = record { settled = []; doubt = None };
       faults = 0;
+      stamps = None;
     } };
 
     fn act(&mut self, _request: &Request, _reading: Instant) -> Reply {
@@ -160,7 +161,7 @@ const ROWS: &[Row] = &[
 ];
 
 // Attends a connection with this keeper. Why it is left; None where memory was refused, here and below.
-fn left_of<V: Clerk, S: Source, K: Sink, C: Clock, R: Wait>(
+fn left_of<V: Keeper, S: Source, K: Sink, C: Clock, R: Wait>(
     rt: &R,
     alloc: Global,
     keeper: V,

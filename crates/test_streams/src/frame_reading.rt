@@ -2,7 +2,7 @@
 
 use crate::tables::expect_none_wrong;
 use desk_io::{Failed, MemSink, MemSource, NoMemory, Sink, Source};
-use frame_reader::{FrameBody, FrameReader, NextFrame, ReadFrame, write_reply_frame};
+use frame_reader::{Body, FrameReader, Halt, ReadFrame, write_reply_frame};
 use std::alloc::Global;
 use std::test::Fail;
 
@@ -30,11 +30,11 @@ enum Found {
     Failed,
 }
 
-fn has_body(body: &FrameBody, want: &str) -> bool {
+fn has_body(body: &Body, want: &str) -> bool {
     match body {
-        FrameBody::Whole(bytes) => bytes.as_slice() == want.as_bytes(),
-        FrameBody::TooLong(_) => false,
-        FrameBody::NoRoom => false,
+        Body::Whole(bytes) => bytes.as_slice() == want.as_bytes(),
+        Body::TooLong(_) => false,
+        Body::NoRoom => false,
     }
 }
 
@@ -48,16 +48,16 @@ fn is_read(read: &ReadFrame, want: Parts) -> bool {
 // Looks for this frame.
 fn look_for<S: Source>(source: &mut S, reader: &mut FrameReader, want: Parts) -> Found {
     match reader.next_frame(source) {
-        NextFrame::Frame(read) => {
+        Ok(read) => {
             if is_read(&read, want) {
                 Found::Wanted
             } else {
                 Found::OtherFrame
             }
         }
-        NextFrame::End => Found::End,
-        NextFrame::Bad => Found::Bad,
-        NextFrame::Failed => Found::Failed,
+        Err(Halt::End) => Found::End,
+        Err(Halt::Bad) => Found::Bad,
+        Err(Halt::Failed) => Found::Failed,
     }
 }
 
@@ -147,20 +147,18 @@ enum Told {
     NoFrame,
 }
 
-fn body_told(body: &FrameBody) -> Told {
+fn body_told(body: &Body) -> Told {
     match body {
-        FrameBody::Whole(bytes) => Told::Whole(bytes.len()),
-        FrameBody::TooLong(size) => Told::TooLong(*size),
-        FrameBody::NoRoom => Told::NoRoom,
+        Body::Whole(bytes) => Told::Whole(bytes.len()),
+        Body::TooLong(size) => Told::TooLong(*size),
+        Body::NoRoom => Told::NoRoom,
     }
 }
 
 fn next_body<S: Source>(source: &mut S, reader: &mut FrameReader) -> Told {
     match reader.next_frame(source) {
-        NextFrame::Frame(read) => body_told(&read.body),
-        NextFrame::End => Told::NoFrame,
-        NextFrame::Bad => Told::NoFrame,
-        NextFrame::Failed => Told::NoFrame,
+        Ok(read) => body_told(&read.body),
+        Err(_) => Told::NoFrame,
     }
 }
 

@@ -1,12 +1,8 @@
 //! Writing out the summary.
 
-ghost use Rattle.std.specs.Prelude.{◌≡◌, ◌≤◌};
-ghost use Rattle.desk_io.specs.Outside.{Rises};
-ghost use Rattle.command_ends.specs.Statuses.{IsDoneOrNoMemory};
-ghost use Rattle.command_ends.specs.declared.status.Status.{Status};
-ghost use Rattle.export_command.specs.Exports.{IsWritten};
-ghost use Rattle.office_workload.specs.Summaries.{summary};
-ghost use Rattle.workload_command.specs.Ends.{IsOwn};
+ghost use Rattle.std.specs.Prelude.{◌≤◌};
+ghost use Rattle.command_ends.specs.Courses.{sink_words, change};
+ghost use Rattle.workload_command.specs.Promises.{KeepsWorkload};
 
 use command_ends::Status;
 use desk_io::{Sink, write_all};
@@ -19,21 +15,9 @@ use std::alloc::Global;
 /// Ends with `Done`, `WriteFault` or `NoMemory`.
 pub fn workload<K: Sink>(alloc: Global, seed: u64, count: u32, sink: &mut K) -> Status
     requires { count ≤ 20000 }
-
-    // The sink took the summary, so far as the status says.
-    ensures written { IsWritten (K.taken sink.old) (K.taken sink.new) (summary seed count) result }
-
-    // It ends with none of the statuses of other commands.
-    ensures own { IsOwn result }
-
-    // No fault gives `Done`, or `NoMemory`.
-    ensures complete { ¬ Rises (K.faults sink.old) (K.faults sink.new) → IsDoneOrNoMemory result }
-
-    // The sink failed where the end is `WriteFault`, and nowhere else.
-    ensures write_cause { result ≡ Status.WriteFault → Rises (K.faults sink.old) (K.faults sink.new) }
-    ensures write_faultless { (result ≡ Status.WriteFault → ⊥) → K.faults sink.new ≡ K.faults sink.old }
-    ensures counts { K.faults sink.old ≤ K.faults sink.new }
-    ensures stays { K.is_open sink.new ≡ K.is_open sink.old }
+    // What is promised at each end stands in `specs/Promises.antt`.
+    ensures promises { KeepsWorkload (sink_words K.taken K.faults K.is_open) (change sink.old sink.new) result
+        seed count }
 {
     let text = match summary(alloc, seed, u64::from(count)) {
         Ok(text) => text,

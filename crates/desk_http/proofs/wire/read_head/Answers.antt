@@ -1,9 +1,9 @@
 use Rattle.std.proofs.Common.{refl, subst, ◌∙◌, arith, inl}
-use Rattle.desk_http.specs.Heads.{IsHead, NeverMessage}
+use Rattle.desk_http.specs.Heads.{IsHead, NoMessage, NeverMessage}
 use Rattle.desk_http.specs.Reading.{IsAwaited}
 use Rattle.desk_http.specs.Answers.{NoMessageComes}
-use Rattle.read_ahead.specs.Growing.{grows_none, grows_more, of_all}
-use Rattle.desk_http.proofs.Pieces.{head_used, ended, failed, awaited_part, looked_front}
+use Rattle.read_ahead.specs.Growing.{grows_none, grows_more, of_all, ended, failed}
+use Rattle.desk_http.proofs.Pieces.{head_used, awaited_part, looked_front}
 use Rattle.desk_http.proofs.Looks.{none_yet}
 use Rattle.desk_http.proofs.wire.read_head.Goals as goal
 
@@ -18,8 +18,8 @@ returns-in-Bad-clause-came g c =
 
 pub returns-in-Ok-eq0-clause-came : goal.returns-in-Ok-eq0-clause-came
 returns-in-Ok-eq0-clause-came g c =
-    ended _ _ _ _ _ _ _ _ _ c.pieces.invariant.came c.in-Ok-eq0.ensures.came c.bytes-pending.ensures
-    (awaited_part _ _ (rw c.in-Part.is at c.next_front-front.ensures.front) (c.next_front-front.ensures.looked c.in-Part.is)) _ (rw c.in-Ok-eq0.field-0-test at c.in-Ok-eq0.ensures.amount) (c.in-Ok-eq0.ensures.end cc) c.ending.ensures.why
+    ended _ _ IsAwaited NoMessage (λ bytes is. is.0) _ _ _ _ _ _ _ c.pieces.invariant.came c.in-Ok-eq0.ensures.came c.bytes-pending.ensures
+    (awaited_part _ _ (rw c.in-Part.is at c.next_front-front.ensures.front) (c.next_front-front.ensures.looked c.in-Part.is)) _ (rw c.in-Ok-eq0.field-0-test at c.in-Ok-eq0.ensures.amount) (c.in-Ok-eq0.ensures.end cc) c.halt_at_end.ensures.why
 
 pub pieces-init : goal.pieces-init
 pieces-init g c = record { came = grows_none _ _ IsAwaited _ _; looked = none_yet _ _ c.nothing-looked.ensures; faultless = refl; stays = refl; work = omega arith }
@@ -37,4 +37,4 @@ pieces-preserved g c =
 
 pub returns-in-Err-clause-came : goal.returns-in-Err-clause-came
 returns-in-Err-clause-came g c =
-    failed _ _ _ _ _ _ _ _ _ c.pieces.invariant.came c.in-Err.ensures.came c.bytes-pending.ensures (awaited_part _ _ (rw c.in-Part.is at c.next_front-front.ensures.front) (c.next_front-front.ensures.looked c.in-Part.is)) c.in-Err.ensures.failed
+    failed _ _ IsAwaited NoMessage (λ bytes is. is.0) _ _ _ _ _ _ _ c.pieces.invariant.came c.in-Err.ensures.came c.bytes-pending.ensures (awaited_part _ _ (rw c.in-Part.is at c.next_front-front.ensures.front) (c.next_front-front.ensures.looked c.in-Part.is)) c.in-Err.ensures.failed

@@ -1,5 +1,6 @@
 use Rattle.std.proofs.Common.{◌≡◌, ◌≤◌, length, take}
-use Rattle.desk_http.specs.Reading.{IsLooked, IsAwaited, work}
+use Rattle.read_ahead.specs.Reading.{work}
+use Rattle.desk_http.specs.Reading.{IsLooked, IsAwaited}
 use Rattle.read_ahead.specs.Growing.{Grows}
 use Rattle.desk_http.proofs.wire.read_head.Given as goal
 

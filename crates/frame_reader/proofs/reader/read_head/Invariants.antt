@@ -1,6 +1,7 @@
 use Rattle.std.proofs.Common.{◌≡◌, ◌≤◌}
 use Rattle.read_ahead.specs.Growing.{Grows}
-use Rattle.frame_reader.specs.Reading.{IsAwaited, work}
+use Rattle.read_ahead.specs.Reading.{work}
+use Rattle.frame_reader.specs.Reading.{IsAwaited}
 use Rattle.frame_reader.proofs.reader.read_head.Given as goal
 
 abbrev pub invariant-loop-head : goal.invariant-loop-head

@@ -1,5 +1,5 @@
 use Rattle.std.proofs.Common.{◌≡◌}
-use Rattle.frame_reader.specs.Reading.{work}
+use Rattle.read_ahead.specs.Reading.{work}
 use Rattle.act_model.specs.Clocks.{clock_of}
 use Rattle.command_ends.specs.Disks.{disk_words}
 use Rattle.run_command.specs.Steps.{Progress}

@@ -6,14 +6,14 @@ use Rattle.serve_command.proofs.keeping.attend_door.Goals as goal
 pub returns-in_default : goal.returns-in_default
 returns-in_default g c =
     record {
-      serves = serves_none_from _ g.V.Clerk.office _ c.args.keeper c.args.keeper _ _ _ refl c.no_ends.ensures c.requires.settled;
+      serves = serves_none_from _ g.V.Keeper.office _ c.args.keeper c.args.keeper _ _ _ refl c.no_ends.ensures c.requires.settled;
       unasked = λ is. (refl, refl, refl, c.no_ends.ensures);
     }
 
 pub returns-in-Err : goal.returns-in-Err
 returns-in-Err g c =
     record {
-      serves = serves_none_from _ g.V.Clerk.office _ c.args.keeper c.in-Err.keeper _ _ _ c.in-Err.ensures.back c.no_ends-in-Err.ensures c.requires.settled;
+      serves = serves_none_from _ g.V.Keeper.office _ c.args.keeper c.in-Err.keeper _ _ _ c.in-Err.ensures.back c.no_ends-in-Err.ensures c.requires.settled;
       unasked = λ is. (refl, refl, c.in-Err.ensures.back, c.no_ends-in-Err.ensures);
     }
 

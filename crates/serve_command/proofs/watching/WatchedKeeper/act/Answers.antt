@@ -3,7 +3,7 @@ use Rattle.act_model.specs.declared.request.Request.{Request}
 use Rattle.serve_command.specs.Images.{WasAsked, request_in, reading_in}
 use Rattle.serve_command.proofs.KeptLemmas.{stamped_act, asked_before, asked_now, passed_on}
 use Rattle.serve_command.proofs.WatchLemmas.{GrowthLaws, watched_more, watched_on}
-use Rattle.serve_command.proofs.watching.WatchedClerk.act.Goals as goal
+use Rattle.serve_command.proofs.watching.WatchedKeeper.act.Goals as goal
 
 pub invariant_of-self : goal.invariant_of-self
 invariant_of-self g c =

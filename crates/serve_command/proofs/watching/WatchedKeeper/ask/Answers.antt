@@ -1,5 +1,5 @@
 use Rattle.serve_command.proofs.KeptLemmas.{stamped_query}
-use Rattle.serve_command.proofs.watching.WatchedClerk.ask.Goals as goal
+use Rattle.serve_command.proofs.watching.WatchedKeeper.ask.Goals as goal
 
 pub returns : goal.returns
 returns g c = record {

@@ -1,0 +1,46 @@
+-- What `run` promises, over every source, sink, disk and clock.
+use Rattle.std.specs.Prelude.{◌≡◌, ℕ, List, Some}
+use Rattle.std.specs.Io.KnownBytes.{Appends}
+use Rattle.read_ahead.specs.Reading.{Supplies}
+use Rattle.act_bodies.specs.declared.key.Key.{Key}
+use Rattle.act_model.specs.declared.entry.Entry.{Entry}
+use Rattle.act_model.specs.Legal.{IsLegal}
+use Rattle.mpc_desk.specs.Files.{Stands}
+use Rattle.command_ends.specs.declared.status.Status.TheVariants.{Usage, Damaged, DoorFault}
+use Rattle.command_ends.specs.Courses.{SourceWords, OutsideWords, Change, IsUncalled, Course, SourceCause, SinkCause}
+use Rattle.command_ends.specs.Courses.{DiskCause, IsFaultless}
+use Rattle.command_ends.specs.Statuses.{IsDoneOrNoMemory}
+use Rattle.run_command.specs.Runs.{Run, AwaitsNext, Ends, IsWhole}
+
+-- What was read, answered, written and kept at each end: of the bytes that came, whether the source tells its bytes or
+-- not, and of each image that a crash may leave. No read was made but while the next frame was awaited.
+--
+-- A whole session, a file that stands for a legal history, and no fault give `Done`, or `NoMemory`; and such a file
+-- isn't damaged. A fresh file stands for the history without entries. Each fault has its cause. It ends neither with
+-- `Usage` nor with `DoorFault`.
+pub record KeepsRun {S K D C : Type 0} (read : SourceWords S) (on : OutsideWords K D C) (source : Change S)
+    (course : Course K D C) (founder : Key) : Type 0 where
+  pub run : Run
+  pub supplies : Supplies read.left read.gives (AwaitsNext run.answered) source.old source.new run.came run.more
+  pub texts : Appends (on.sink.taken course.sink.old) (on.sink.taken course.sink.new) run.texts
+  pub ends : Ends on.disk
+      (record {
+        founder = founder;
+        disk = course.disk.old;
+        disk_after = course.disk.new;
+        clock = on.clock course.clock.old;
+        clock_after = on.clock course.clock.new;
+        run = run;
+        added = course.added;
+      })
+      (IsUncalled source × IsUncalled course.sink × IsUncalled course.clock) course.status
+  pub complete : (bytes file : List ℕ) (history : List Entry) → read.left source.old ≡ Some bytes → IsWhole bytes
+      → on.disk.reads course.disk.old ≡ Some file → Stands file history → IsLegal founder history
+      → IsFaultless read.faults source → IsFaultless on.sink.faults course.sink → IsFaultless on.disk.faults course.disk
+      → IsDoneOrNoMemory course.status
+  pub sound : (file : List ℕ) (history : List Entry) (offset : ℕ) → on.disk.reads course.disk.old ≡ Some file
+      → Stands file history → IsLegal founder history → course.status ≡ Damaged offset → ⊥
+  pub read_cause : SourceCause read source course.status
+  pub write_cause : SinkCause on.sink course.sink course.status
+  pub disk_cause : DiskCause on.disk course.disk course.status
+  pub own : (course.status ≡ Usage → ⊥) × (course.status ≡ DoorFault → ⊥)
