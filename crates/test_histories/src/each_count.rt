@@ -4,7 +4,10 @@
 
 use super::half_months::{ORDER_LETTERS, at};
 use std::alloc::Global;
-use testkit_sessions::{FOUNDER, NoMemory, OBSERVER, Script, Wrong, call_days, put};
+use testkit_sessions::Part::{Digits, Number, Text};
+use testkit_sessions::{
+    FOUNDER, NoMemory, OBSERVER, Part, Script, Wrong, call_days, put, put_parts, text_of,
+};
 
 const MOST: u64 = 12;
 
@@ -22,28 +25,28 @@ impl Acts {
     fn add(&mut self, who: &str, verb: &str, body: &[u8], more: &[u8]) -> Result<(), NoMemory> {
         self.entries = self.entries.saturating_add(1);
         let number = self.entries;
-        let asked = format!(in self.alloc; "{number}")?;
-        let mut text = Vec::new(self.alloc);
-        let head = format!(in self.alloc; "receipt {number}\n")?;
-        put(&mut text, head.as_str())?;
+        let asked = text_of(self.alloc, &[Number(number)])?;
+        let mut text = text_of(self.alloc, &[Text("receipt "), Number(number), Text("\n")])?;
         text.extend_from_slice(more)?;
         self.script.add(who, number, verb, body, "200 ", &text)?;
-        let asked = asked.as_bytes();
-        self.script.add(who, 0, "receipt", asked, "200 ", &text)
+        self.script.add(who, 0, "receipt", &asked, "200 ", &text)
     }
 
-    fn tell(&mut self, verb: &str, body: &str, text: &[u8]) -> Result<(), NoMemory> {
-        let body = body.as_bytes();
+    fn tell(&mut self, verb: &str, body: &[u8], text: &[u8]) -> Result<(), NoMemory> {
         self.script.add(OBSERVER, 0, verb, body, "200 ", text)
     }
 
     /// The same of what later acts change.
-    fn tell_now(&mut self, verb: &str, body: &str, text: &[u8]) -> Result<(), NoMemory> {
+    fn tell_now(&mut self, verb: &str, body: &[u8], text: &[u8]) -> Result<(), NoMemory> {
         if self.is_again {
             return Ok(());
         }
         self.tell(verb, body, text)
     }
+}
+
+fn year(count: u64) -> u64 {
+    count.saturating_add(2_000)
 }
 
 /// How many tracklets come before those of a count, which has twice as many and one; how many observations, of which it
@@ -72,32 +75,87 @@ fn letter(order: u64) -> &'static str {
     at(ORDER_LETTERS, order.saturating_sub(1))
 }
 
-/// A designation of the count's year, as it is printed.
-fn printed(alloc: Global, count: u64, half: &str, order: u64) -> Result<String, NoMemory> {
-    let (year, letter) = (count.saturating_add(2_000), letter(order));
-    format!(in alloc; "{year} {half}{letter}")
+/// The parts of a designation of the count's year, as it is printed.
+fn name(count: u64, half: &'static str, order: u64) -> [Part<'static>; 4] {
+    [
+        Number(year(count)),
+        Text(" "),
+        Text(half),
+        Text(letter(order)),
+    ]
+}
+
+/// A body of an act on it: what stands before it and behind it.
+fn act_on(
+    alloc: Global,
+    before: &str,
+    name: [Part<'static>; 4],
+    behind: &str,
+) -> Result<Vec<u8>, NoMemory> {
+    let mut body = text_of(alloc, &[Text(before)])?;
+    put_parts(alloc, &mut body, &name)?;
+    put(&mut body, behind)?;
+    Ok(body)
 }
 
 /// What is answered where it becomes an object.
-fn object_line(alloc: Global, count: u64, half: &str, order: u64) -> Result<String, NoMemory> {
-    let (year, letter) = (count.saturating_add(2_000), letter(order));
-    format!(in alloc; "object {year} {half}{letter} K{count:02}{half}00{letter}\n")
+fn put_object(
+    alloc: Global,
+    text: &mut Vec<u8>,
+    count: u64,
+    half: &'static str,
+    order: u64,
+) -> Result<(), NoMemory> {
+    put(text, "object ")?;
+    put_parts(alloc, text, &name(count, half, order))?;
+    let packed = [
+        Text(" K"),
+        Digits(count, 2),
+        Text(half),
+        Text("00"),
+        Text(letter(order)),
+        Text("\n"),
+    ];
+    put_parts(alloc, text, &packed)
+}
+
+/// What stands behind a moment, up to a line's end.
+const PLACE: &str = "06 12 34.56 +23 45 01.2                      703\n";
+
+/// A line of a tracklet at a millionth of a day.
+fn put_track_line(
+    alloc: Global,
+    body: &mut Vec<u8>,
+    count: u64,
+    track: u64,
+    moment: u64,
+) -> Result<(), NoMemory> {
+    put_parts(
+        alloc,
+        body,
+        &[
+            Text("     V"),
+            Digits(count, 2),
+            Digits(track, 2),
+            Text("     "),
+        ],
+    )?;
+    put_parts(
+        alloc,
+        body,
+        &[
+            Number(year(count)),
+            Text(" 01 02."),
+            Digits(moment, 6),
+            Text(PLACE),
+        ],
+    )
 }
 
 /// Two lines of a tracklet, which are 12 hours apart.
 fn put_track(alloc: Global, body: &mut Vec<u8>, count: u64, track: u64) -> Result<(), NoMemory> {
-    let (year, later) = (count.saturating_add(2_000), track.saturating_add(500_000));
-    let text = format!(in alloc;
-        concat!(
-            "     V{count:02}{track:02}     {year} 01 02.{track:06}06 12 34.56 +23 45 01.2                      703\n",
-            "     V{count:02}{track:02}     {year} 01 02.{later:06}06 12 34.56 +23 45 01.2                      703\n",
-        ),
-        count = count,
-        track = track,
-        year = year,
-        later = later
-    )?;
-    put(body, text.as_str())
+    put_track_line(alloc, body, count, track, track)?;
+    put_track_line(alloc, body, count, track, track.saturating_add(500_000))
 }
 
 fn put_taken(
@@ -107,8 +165,27 @@ fn put_taken(
     observation: u64,
     track: u64,
 ) -> Result<(), NoMemory> {
-    let next = format!(in alloc; "line {line} obs {observation} track {track}\n")?;
-    put(text, next.as_str())
+    put_parts(alloc, text, &[Text("line "), Number(line), Text(" ")])?;
+    put_observation(alloc, text, observation, track)
+}
+
+fn put_observation(
+    alloc: Global,
+    text: &mut Vec<u8>,
+    observation: u64,
+    track: u64,
+) -> Result<(), NoMemory> {
+    put_parts(
+        alloc,
+        text,
+        &[
+            Text("obs "),
+            Number(observation),
+            Text(" track "),
+            Number(track),
+            Text("\n"),
+        ],
+    )
 }
 
 /// What is told of both lines of a tracklet, whose lines come in a row from this tracklet of the count on.
@@ -135,14 +212,19 @@ fn put_track_taken(
     put_taken(alloc, text, last, observation, number)
 }
 
+/// What is told first of a batch of which all lines are taken.
+fn accepted(alloc: Global, lines: u64) -> Result<Vec<u8>, NoMemory> {
+    text_of(
+        alloc,
+        &[Text("accepted "), Number(lines), Text(" refused 0\n")],
+    )
+}
+
 /// A batch of so many tracklets.
 fn add_first(acts: &mut Acts, count: u64) -> Result<(), NoMemory> {
     let alloc = acts.alloc;
-    let lines = count.saturating_mul(2);
     let mut body = Vec::new(alloc);
-    let mut text = Vec::new(alloc);
-    let head = format!(in alloc; "accepted {lines} refused 0\n")?;
-    put(&mut text, head.as_str())?;
+    let mut text = accepted(alloc, count.saturating_mul(2))?;
     for track in 1..=count {
         put_track(alloc, &mut body, count, track)?;
         put_track_taken(alloc, &mut text, count, track, 1)?;
@@ -157,16 +239,32 @@ fn put_last(
     text: &mut Vec<u8>,
     count: u64,
 ) -> Result<(), NoMemory> {
-    let (year, before) = (count.saturating_add(2_000), count.saturating_mul(2));
+    let before = count.saturating_mul(2);
     let observations = observations_before(count).saturating_add(before);
     for line in 1..=count.saturating_add(1) {
-        let next = format!(in alloc;
-            "     S{count:02}       {year} 01 03.{line:06}06 12 34.56 +23 45 01.2                      703\n"
+        put_parts(
+            alloc,
+            body,
+            &[Text("     S"), Digits(count, 2), Text("       ")],
         )?;
-        put(body, next.as_str())?;
+        put_parts(
+            alloc,
+            body,
+            &[
+                Number(year(count)),
+                Text(" 01 03."),
+                Digits(line, 6),
+                Text(PLACE),
+            ],
+        )?;
         let place = before.saturating_add(line);
-        let observation = observations.saturating_add(place);
-        put_taken(alloc, text, place, observation, last_track(count))?;
+        put_taken(
+            alloc,
+            text,
+            place,
+            observations.saturating_add(place),
+            last_track(count),
+        )?;
     }
     Ok(())
 }
@@ -174,11 +272,8 @@ fn put_last(
 /// A batch of so many tracklets and of one, which has so many lines and one.
 fn add_second(acts: &mut Acts, count: u64) -> Result<(), NoMemory> {
     let alloc = acts.alloc;
-    let lines = count.saturating_mul(3).saturating_add(1);
     let mut body = Vec::new(alloc);
-    let mut text = Vec::new(alloc);
-    let head = format!(in alloc; "accepted {lines} refused 0\n")?;
-    put(&mut text, head.as_str())?;
+    let mut text = accepted(alloc, count.saturating_mul(3).saturating_add(1))?;
     let from = count.saturating_add(1);
     for track in from..=count.saturating_mul(2) {
         put_track(alloc, &mut body, count, track)?;
@@ -188,28 +283,39 @@ fn add_second(acts: &mut Acts, count: u64) -> Result<(), NoMemory> {
     acts.add(OBSERVER, "submit80", &body, &text)
 }
 
+/// These numbers as a list, one after the other up to the last one.
+fn put_list(alloc: Global, body: &mut Vec<u8>, first: u64, last: u64) -> Result<(), NoMemory> {
+    put_parts(alloc, body, &[Number(first)])?;
+    for number in first.saturating_add(1)..=last {
+        put_parts(alloc, body, &[Text(","), Number(number)])?;
+    }
+    put(body, "]}")
+}
+
+/// A designation of the tracklets with these numbers, one after the other.
+fn add_designation(
+    acts: &mut Acts,
+    count: u64,
+    first: u64,
+    last: u64,
+    order: u64,
+) -> Result<(), NoMemory> {
+    let alloc = acts.alloc;
+    let mut body = text_of(alloc, &[Text("{\"tracklets\":[")])?;
+    put_list(alloc, &mut body, first, last)?;
+    let mut text = Vec::new(alloc);
+    put_object(alloc, &mut text, count, "A", order)?;
+    acts.add(FOUNDER, "designate", &body, &text)
+}
+
 /// The first tracklets become one object, of the order 1; each other one an object of its own.
 fn add_objects(acts: &mut Acts, count: u64) -> Result<(), NoMemory> {
-    let alloc = acts.alloc;
-    let first = tracks_before(count).saturating_add(1);
-    let head = format!(in alloc; "{{\"tracklets\":[{first}")?;
-    let mut body = Vec::new(alloc);
-    put(&mut body, head.as_str())?;
-    for more in 1..count {
-        let track = first.saturating_add(more);
-        let next = format!(in alloc; ",{track}")?;
-        put(&mut body, next.as_str())?;
-    }
-    put(&mut body, "]}")?;
-    let line = object_line(alloc, count, "A", 1)?;
-    acts.add(FOUNDER, "designate", &body, line.as_bytes())?;
+    let before = tracks_before(count);
+    let last = before.saturating_add(count);
+    add_designation(acts, count, before.saturating_add(1), last, 1)?;
     for order in 1..=count {
-        let track = tracks_before(count)
-            .saturating_add(count)
-            .saturating_add(order);
-        let body = format!(in alloc; "{{\"tracklets\":[{track}]}}")?;
-        let line = object_line(alloc, count, "A", order.saturating_add(1))?;
-        acts.add(FOUNDER, "designate", body.as_bytes(), line.as_bytes())?;
+        let track = last.saturating_add(order);
+        add_designation(acts, count, track, track, order.saturating_add(1))?;
     }
     Ok(())
 }
@@ -220,50 +326,83 @@ fn add_numbers(acts: &mut Acts, count: u64) -> Result<(), NoMemory> {
     let first = numbers_before(count).saturating_add(1);
     let mut text = Vec::new(alloc);
     for place in 0..count {
-        let name = printed(alloc, count, "A", place.saturating_add(2))?;
-        let body = format!(in alloc; "{{\"object\":\"{name}\",\"u\":2,\"oppositions\":4}}")?;
-        acts.add(FOUNDER, "verdict", body.as_bytes(), b"")?;
-        let number = first.saturating_add(place);
-        let next = format!(in alloc; "number {number} {name}\n")?;
-        put(&mut text, next.as_str())?;
+        let object = name(count, "A", place.saturating_add(2));
+        let body = act_on(
+            alloc,
+            "{\"object\":\"",
+            object,
+            "\",\"u\":2,\"oppositions\":4}",
+        )?;
+        acts.add(FOUNDER, "verdict", &body, b"")?;
+        put_parts(
+            alloc,
+            &mut text,
+            &[
+                Text("number "),
+                Number(first.saturating_add(place)),
+                Text(" "),
+            ],
+        )?;
+        put_parts(alloc, &mut text, &object)?;
+        put(&mut text, "\n")?;
     }
-    let body = format!(in alloc; "{{\"first\":{first},\"most\":{count}}}")?;
-    acts.add(FOUNDER, "number", body.as_bytes(), &text)
+    let body = text_of(
+        alloc,
+        &[
+            Text("{\"first\":"),
+            Number(first),
+            Text(",\"most\":"),
+            Number(count),
+            Text("}"),
+        ],
+    )?;
+    acts.add(FOUNDER, "number", &body, &text)
 }
 
 /// So many designations of the half-month after are carried, and become members of the first of them.
 fn add_carried(acts: &mut Acts, count: u64) -> Result<(), NoMemory> {
     let alloc = acts.alloc;
-    let year = count.saturating_add(2_000);
-    let head = format!(in alloc; "{{\"half\":\"{year} B\",\"given\":{count},\"carried\":[1")?;
-    let mut body = Vec::new(alloc);
-    put(&mut body, head.as_str())?;
+    let mut body = text_of(
+        alloc,
+        &[
+            Text("{\"half\":\""),
+            Number(year(count)),
+            Text(" B\",\"given\":"),
+            Number(count),
+        ],
+    )?;
+    put(&mut body, ",\"carried\":[")?;
+    put_list(alloc, &mut body, 1, count)?;
     let mut text = Vec::new(alloc);
-    let line = object_line(alloc, count, "B", 1)?;
-    put(&mut text, line.as_str())?;
-    for order in 2..=count {
-        let next = format!(in alloc; ",{order}")?;
-        put(&mut body, next.as_str())?;
-        let line = object_line(alloc, count, "B", order)?;
-        put(&mut text, line.as_str())?;
+    for order in 1..=count {
+        put_object(alloc, &mut text, count, "B", order)?;
     }
-    put(&mut body, "]}")?;
     acts.add(FOUNDER, "opening", &body, &text)
+}
+
+/// What is told first of an object without a number.
+fn principal(alloc: Global, object: [Part<'static>; 4]) -> Result<Vec<u8>, NoMemory> {
+    let mut text = act_on(alloc, "principal ", object, "\nnumber none\nname ")?;
+    put_parts(alloc, &mut text, &object)?;
+    put(&mut text, "\n")?;
+    Ok(text)
 }
 
 fn add_members(acts: &mut Acts, count: u64) -> Result<(), NoMemory> {
     let alloc = acts.alloc;
-    let mut text = Vec::new(alloc);
-    let first = printed(alloc, count, "B", 1)?;
-    let head = format!(in alloc; "principal {first}\nnumber none\nname {first}\n")?;
-    put(&mut text, head.as_str())?;
+    let first = name(count, "B", 1);
+    let mut text = principal(alloc, first)?;
     for order in 2..=count {
-        let name = printed(alloc, count, "B", order)?;
-        let body = format!(in alloc; "{{\"principal\":\"{first}\",\"secondary\":\"{name}\"}}")?;
-        acts.add(FOUNDER, "identify", body.as_bytes(), b"")?;
-        let next = format!(in alloc; "name {name}\n")?;
-        put(&mut text, next.as_str())?;
-        acts.tell_now("object", name.as_str(), &text)?;
+        let member = name(count, "B", order);
+        let mut body = act_on(alloc, "{\"principal\":\"", first, "\",\"secondary\":\"")?;
+        put_parts(alloc, &mut body, &member)?;
+        put(&mut body, "\"}")?;
+        acts.add(FOUNDER, "identify", &body, b"")?;
+        put(&mut text, "name ")?;
+        put_parts(alloc, &mut text, &member)?;
+        put(&mut text, "\n")?;
+        let asked = text_of(alloc, &member)?;
+        acts.tell_now("object", &asked, &text)?;
     }
     add_separation(acts, count)
 }
@@ -273,86 +412,146 @@ fn add_separation(acts: &mut Acts, count: u64) -> Result<(), NoMemory> {
     if count < 2 {
         return Ok(());
     }
-    let name = printed(acts.alloc, count, "B", count)?;
-    let body = format!(in acts.alloc; "{{\"secondary\":\"{name}\"}}")?;
-    acts.add(FOUNDER, "separate", body.as_bytes(), b"")
+    let body = act_on(
+        acts.alloc,
+        "{\"secondary\":\"",
+        name(count, "B", count),
+        "\"}",
+    )?;
+    acts.add(FOUNDER, "separate", &body, b"")
 }
 
 /// The isolated tracklet comes into the first object and out of it, and its last line is retracted.
 fn add_moves(acts: &mut Acts, count: u64) -> Result<(), NoMemory> {
     let alloc = acts.alloc;
     let track = last_track(count);
-    let object = printed(alloc, count, "A", 1)?;
-    let body = format!(in alloc; "{{\"tracklet\":{track},\"to\":\"{object}\"}}")?;
-    acts.add(FOUNDER, "attribute", body.as_bytes(), b"")?;
-    let body = format!(in alloc; "{{\"tracklet\":{track}}}")?;
-    acts.add(FOUNDER, "release", body.as_bytes(), b"")?;
+    let mut body = text_of(
+        alloc,
+        &[Text("{\"tracklet\":"), Number(track), Text(",\"to\":\"")],
+    )?;
+    put_parts(alloc, &mut body, &name(count, "A", 1))?;
+    put(&mut body, "\"}")?;
+    acts.add(FOUNDER, "attribute", &body, b"")?;
+    let body = text_of(alloc, &[Text("{\"tracklet\":"), Number(track), Text("}")])?;
+    acts.add(FOUNDER, "release", &body, b"")?;
     let observation = observations_before(count.saturating_add(1));
-    let body = format!(in alloc; "{{\"observation\":{observation}}}")?;
-    acts.add(OBSERVER, "retract", body.as_bytes(), b"")
+    let body = text_of(
+        alloc,
+        &[Text("{\"observation\":"), Number(observation), Text("}")],
+    )?;
+    acts.add(OBSERVER, "retract", &body, b"")
 }
 
 /// The object of the first tracklets: the first line of each, then the second one of each.
 fn tell_object(acts: &mut Acts, count: u64) -> Result<(), NoMemory> {
     let alloc = acts.alloc;
-    let name = printed(alloc, count, "A", 1)?;
-    let head = format!(in alloc; "principal {name}\nnumber none\nname {name}\n")?;
-    let mut text = Vec::new(alloc);
-    put(&mut text, head.as_str())?;
-    for place in 0..count.saturating_mul(2) {
-        let (track, second) = if place < count {
-            (place, 1u64)
-        } else {
-            (place.saturating_sub(count), 2u64)
-        };
-        let observation = observations_before(count)
-            .saturating_add(track.saturating_mul(2))
-            .saturating_add(second);
-        let track = tracks_before(count).saturating_add(track).saturating_add(1);
-        let next = format!(in alloc; "obs {observation} track {track}\n")?;
-        put(&mut text, next.as_str())?;
+    let object = name(count, "A", 1);
+    let mut text = principal(alloc, object)?;
+    for line in [1u64, 2] {
+        for track in 0..count {
+            let observation = observations_before(count)
+                .saturating_add(track.saturating_mul(2))
+                .saturating_add(line);
+            let number = tracks_before(count).saturating_add(track).saturating_add(1);
+            put_observation(alloc, &mut text, observation, number)?;
+        }
     }
-    acts.tell("object", name.as_str(), &text)
+    let asked = text_of(alloc, &object)?;
+    acts.tell("object", &asked, &text)
 }
 
-/// The isolated tracklet: a millionth of a day is 86,400,000 nanoseconds.
+/// What is told of a line of the isolated tracklet: a millionth of a day is 86,400,000 nanoseconds.
+fn put_told(
+    alloc: Global,
+    text: &mut Vec<u8>,
+    count: u64,
+    line: u64,
+    state: &str,
+) -> Result<(), NoMemory> {
+    let before = observations_before(count).saturating_add(count.saturating_mul(4));
+    let time = line.saturating_mul(86_400_000);
+    put_parts(
+        alloc,
+        text,
+        &[
+            Text("obs "),
+            Number(before.saturating_add(line)),
+            Text(state),
+            Number(year(count)),
+        ],
+    )?;
+    put_parts(
+        alloc,
+        text,
+        &[
+            Text("-01-03T00:00:"),
+            Digits(time / 1_000_000_000, 2),
+            Text("."),
+        ],
+    )?;
+    put_parts(
+        alloc,
+        text,
+        &[
+            Digits(time % 1_000_000_000, 9),
+            Text("Z 93.144000000000 +23.750333333333\n"),
+        ],
+    )
+}
+
+/// The isolated tracklet, whose last line is retracted.
 fn tell_track(acts: &mut Acts, count: u64) -> Result<(), NoMemory> {
     let alloc = acts.alloc;
-    let (year, track, lines) = (
-        count.saturating_add(2_000),
-        last_track(count),
-        count.saturating_add(1),
-    );
-    let before = observations_before(count).saturating_add(count.saturating_mul(4));
-    let head = format!(in alloc; "track {track} station 703 name S{count:02}\nhome isolated\n")?;
-    let mut text = Vec::new(alloc);
-    put(&mut text, head.as_str())?;
-    for line in 1..=lines {
-        let observation = before.saturating_add(line);
-        let state = if line < lines { "live" } else { "retracted" };
-        let time = line.saturating_mul(86_400_000);
-        let (second, part) = (time / 1_000_000_000, time % 1_000_000_000);
-        let next = format!(in alloc;
-            "obs {observation} {state} {year}-01-03T00:00:{second:02}.{part:09}Z"
-        )?;
-        put(&mut text, next.as_str())?;
-        put(&mut text, " 93.144000000000 +23.750333333333\n")?;
+    let track = last_track(count);
+    let mut text = text_of(
+        alloc,
+        &[
+            Text("track "),
+            Number(track),
+            Text(" station 703 name S"),
+            Digits(count, 2),
+        ],
+    )?;
+    put(&mut text, "\nhome isolated\n")?;
+    for line in 1..=count {
+        put_told(alloc, &mut text, count, line, " live ")?;
     }
-    let asked = format!(in alloc; "{track}")?;
-    acts.tell("tracklet", asked.as_str(), &text)
+    put_told(
+        alloc,
+        &mut text,
+        count,
+        count.saturating_add(1),
+        " retracted ",
+    )?;
+    let asked = text_of(alloc, &[Number(track)])?;
+    acts.tell("tracklet", &asked, &text)
 }
 
-/// Both half-months, the first of which has an object more.
-fn tell_halves(acts: &mut Acts, count: u64) -> Result<(), NoMemory> {
+/// A half-month in which so many designations were given.
+fn tell_half(acts: &mut Acts, count: u64, half: &'static str, given: u64) -> Result<(), NoMemory> {
     let alloc = acts.alloc;
-    let year = count.saturating_add(2_000);
-    for (half, given) in [("A", count.saturating_add(1)), ("B", count)] {
-        let asked = format!(in alloc; "{year} {half}")?;
-        let next = printed(alloc, count, half, given.saturating_add(1))?;
-        let text = format!(in alloc; "halfmonth {year} {half} given {given} next {next}\n")?;
-        acts.tell("halfmonth", asked.as_str(), text.as_bytes())?;
-    }
-    Ok(())
+    let asked = text_of(alloc, &[Number(year(count)), Text(" "), Text(half)])?;
+    let mut text = text_of(
+        alloc,
+        &[
+            Text("halfmonth "),
+            Number(year(count)),
+            Text(" "),
+            Text(half),
+        ],
+    )?;
+    put_parts(
+        alloc,
+        &mut text,
+        &[Text(" given "), Number(given), Text(" next ")],
+    )?;
+    put_parts(
+        alloc,
+        &mut text,
+        &name(count, half, given.saturating_add(1)),
+    )?;
+    put(&mut text, "\n")?;
+    acts.tell("halfmonth", &asked, &text)
 }
 
 /// The isolated tracklets so far, each with as many live observations as its count says.
@@ -361,10 +560,19 @@ fn tell_isolated(acts: &mut Acts, count: u64) -> Result<(), NoMemory> {
     let mut text = Vec::new(alloc);
     for live in 1..=count {
         let track = last_track(live);
-        let next = format!(in alloc; "track {track} live {live}\n")?;
-        put(&mut text, next.as_str())?;
+        put_parts(
+            alloc,
+            &mut text,
+            &[
+                Text("track "),
+                Number(track),
+                Text(" live "),
+                Number(live),
+                Text("\n"),
+            ],
+        )?;
     }
-    acts.tell_now("isolated", "", &text)
+    acts.tell_now("isolated", b"", &text)
 }
 
 fn add_count(acts: &mut Acts, count: u64) -> Result<(), NoMemory> {
@@ -377,7 +585,8 @@ fn add_count(acts: &mut Acts, count: u64) -> Result<(), NoMemory> {
     add_moves(acts, count)?;
     tell_object(acts, count)?;
     tell_track(acts, count)?;
-    tell_halves(acts, count)?;
+    tell_half(acts, count, "A", count.saturating_add(1))?;
+    tell_half(acts, count, "B", count)?;
     tell_isolated(acts, count)
 }
 

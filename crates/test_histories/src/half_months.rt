@@ -3,7 +3,10 @@
 //! left.
 
 use std::alloc::Global;
-use testkit_sessions::{FOUNDER, NoMemory, OBSERVER, Row, Script, Wrong, call_days, put};
+use testkit_sessions::Part::{Digits, Number, Text};
+use testkit_sessions::{
+    FOUNDER, NoMemory, OBSERVER, Part, Row, Script, Wrong, call_days, put, put_parts, text_of,
+};
 
 /// How many designations the half-month has, and how many tracklets there are.
 const LIMIT: u64 = 15_500;
@@ -18,30 +21,64 @@ const BATCHES: u64 = 4;
 /// How many objects get a verdict.
 const VERDICTS: u64 = 1_001;
 
+/// A line of a tracklet at a millionth of a day.
+fn put_line(alloc: Global, body: &mut Vec<u8>, track: u64, moment: u64) -> Result<(), NoMemory> {
+    let place = Text("06 12 34.56 +23 45 01.2                      703\n");
+    put_parts(
+        alloc,
+        body,
+        &[
+            Text("     W"),
+            Digits(track, 5),
+            Text("a   1998 09 16."),
+            Digits(moment, 6),
+            place,
+        ],
+    )
+}
+
 /// Two lines of a tracklet, which are 12 hours apart, just enough for a designation.
 fn put_track(alloc: Global, body: &mut Vec<u8>, track: u64) -> Result<(), NoMemory> {
-    let later = track.saturating_add(500_000);
-    let text = format!(in alloc;
-        concat!(
-            "     W{track:05}a   1998 09 16.{track:06}06 12 34.56 +23 45 01.2                      703\n",
-            "     W{track:05}a   1998 09 16.{later:06}06 12 34.56 +23 45 01.2                      703\n",
-        ),
-        track = track,
-        later = later
-    )?;
-    put(body, text.as_str())
+    put_line(alloc, body, track, track)?;
+    put_line(alloc, body, track, track.saturating_add(500_000))
 }
 
 /// What is told of it as the lines of a batch with these numbers, counted from 0.
 fn put_taken(alloc: Global, text: &mut Vec<u8>, track: u64, place: u64) -> Result<(), NoMemory> {
-    let line = place.saturating_mul(2);
-    let (first, second) = (line.saturating_add(1), line.saturating_add(2));
-    let last = track.saturating_mul(2);
-    let before = last.saturating_sub(1);
-    let next = format!(in alloc;
-        "line {first} obs {before} track {track}\nline {second} obs {last} track {track}\n"
+    let line = place.saturating_mul(2).saturating_add(1);
+    let observation = track.saturating_mul(2).saturating_sub(1);
+    put_parts(alloc, text, &[Text("line "), Number(line), Text(" ")])?;
+    put_observation(alloc, text, observation, track)?;
+    put_parts(
+        alloc,
+        text,
+        &[Text("line "), Number(line.saturating_add(1)), Text(" ")],
     )?;
-    put(text, next.as_str())
+    put_observation(alloc, text, observation.saturating_add(1), track)
+}
+
+fn put_observation(
+    alloc: Global,
+    text: &mut Vec<u8>,
+    observation: u64,
+    track: u64,
+) -> Result<(), NoMemory> {
+    put_parts(
+        alloc,
+        text,
+        &[
+            Text("obs "),
+            Number(observation),
+            Text(" track "),
+            Number(track),
+            Text("\n"),
+        ],
+    )
+}
+
+/// The receipt of an act.
+fn receipt_of(alloc: Global, receipt: u64) -> Result<Vec<u8>, NoMemory> {
+    text_of(alloc, &[Text("receipt "), Number(receipt), Text("\n")])
 }
 
 /// The batch with this number, counted from 0: the 5,000 tracklets after those of the batches before, or what is left.
@@ -50,9 +87,12 @@ fn add_batch(alloc: Global, script: &mut Script, batch: u64) -> Result<(), NoMem
     let count = TRACKS.saturating_sub(before).min(BATCH_TRACKS);
     let (lines, receipt) = (count.saturating_mul(2), batch.saturating_add(6));
     let mut body = Vec::new(alloc);
-    let mut text = Vec::new(alloc);
-    let head = format!(in alloc; "receipt {receipt}\naccepted {lines} refused 0\n")?;
-    put(&mut text, head.as_str())?;
+    let mut text = receipt_of(alloc, receipt)?;
+    put_parts(
+        alloc,
+        &mut text,
+        &[Text("accepted "), Number(lines), Text(" refused 0\n")],
+    )?;
     for place in 0..count {
         let track = before.saturating_add(place).saturating_add(1);
         put_track(alloc, &mut body, track)?;
@@ -73,33 +113,47 @@ pub(super) fn at(text: &'static str, place: u64) -> &'static str {
         .unwrap_or("")
 }
 
-/// The designation of this order, as it is printed.
-fn printed(alloc: Global, order: u64) -> Result<String, NoMemory> {
+/// The parts of the designation of this order, as it is printed.
+fn printed(order: u64) -> [Part<'static>; 3] {
     let before = order.saturating_sub(1);
-    let (letter, cycle) = (at(ORDER_LETTERS, before % 25), before / 25);
-    if cycle == 0 {
-        return format!(in alloc; "1998 S{letter}");
-    }
-    format!(in alloc; "1998 S{letter}{cycle}")
+    let letter = at(ORDER_LETTERS, before % 25);
+    let cycle = match before / 25 {
+        0 => Text(""),
+        cycle => Number(cycle),
+    };
+    [Text("1998 S"), Text(letter), cycle]
 }
 
 /// The same, packed.
-fn packed(alloc: Global, order: u64) -> Result<String, NoMemory> {
+fn packed(order: u64) -> [Part<'static>; 4] {
     let before = order.saturating_sub(1);
     let (letter, cycle) = (at(ORDER_LETTERS, before % 25), before / 25);
-    let (tens, ones) = (at(DIGITS, cycle / 10), cycle % 10);
-    format!(in alloc; "J98S{tens}{ones}{letter}")
+    let tens = at(DIGITS, cycle / 10);
+    [Text("J98S"), Text(tens), Number(cycle % 10), Text(letter)]
+}
+
+/// What stands before a designation, it, and what stands behind it.
+fn around(alloc: Global, before: &str, order: u64, behind: &str) -> Result<Vec<u8>, NoMemory> {
+    let mut text = text_of(alloc, &[Text(before)])?;
+    put_parts(alloc, &mut text, &printed(order))?;
+    put(&mut text, behind)?;
+    Ok(text)
 }
 
 /// The designation of the tracklet with this number.
 fn add_designation(alloc: Global, script: &mut Script, track: u64) -> Result<(), NoMemory> {
-    let (name, short) = (printed(alloc, track)?, packed(alloc, track)?);
-    let receipt = track.saturating_add(9);
-    let body = format!(in alloc; "{{\"tracklets\":[{track}]}}")?;
-    let text = format!(in alloc; "receipt {receipt}\nobject {name} {short}\n")?;
-    let (body, text) = (body.as_bytes(), text.as_bytes());
+    let body = text_of(
+        alloc,
+        &[Text("{\"tracklets\":["), Number(track), Text("]}")],
+    )?;
+    let mut text = receipt_of(alloc, track.saturating_add(9))?;
+    put(&mut text, "object ")?;
+    put_parts(alloc, &mut text, &printed(track))?;
+    put(&mut text, " ")?;
+    put_parts(alloc, &mut text, &packed(track))?;
+    put(&mut text, "\n")?;
     let number = track.saturating_add(5);
-    script.add(FOUNDER, number, "designate", body, "200 ", text)
+    script.add(FOUNDER, number, "designate", &body, "200 ", &text)
 }
 
 /// The tracklet that is one too many.
@@ -124,23 +178,28 @@ fn add_one_more(script: &mut Script) -> Result<(), NoMemory> {
 
 /// A good verdict on the object of this order.
 fn add_verdict(alloc: Global, script: &mut Script, order: u64) -> Result<(), NoMemory> {
-    let name = printed(alloc, order)?;
-    let receipt = order.saturating_add(15_509);
-    let body = format!(in alloc; "{{\"object\":\"{name}\",\"u\":2,\"oppositions\":4}}")?;
-    let text = format!(in alloc; "receipt {receipt}\n")?;
-    let (body, text) = (body.as_bytes(), text.as_bytes());
+    let body = around(
+        alloc,
+        "{\"object\":\"",
+        order,
+        "\",\"u\":2,\"oppositions\":4}",
+    )?;
+    let text = receipt_of(alloc, order.saturating_add(15_509))?;
     let number = order.saturating_add(15_506);
-    script.add(FOUNDER, number, "verdict", body, "200 ", text)
+    script.add(FOUNDER, number, "verdict", &body, "200 ", &text)
 }
 
 /// The numbers of a thousand objects, and then of the one that is left.
 fn add_numbers(alloc: Global, script: &mut Script) -> Result<(), NoMemory> {
-    let mut text = Vec::new(alloc);
-    put(&mut text, "receipt 16511\n")?;
+    let mut text = receipt_of(alloc, 16_511)?;
     for order in 1..=1_000u64 {
-        let name = printed(alloc, order)?;
-        let next = format!(in alloc; "number {order} {name}\n")?;
-        put(&mut text, next.as_str())?;
+        put_parts(
+            alloc,
+            &mut text,
+            &[Text("number "), Number(order), Text(" ")],
+        )?;
+        put_parts(alloc, &mut text, &printed(order))?;
+        put(&mut text, "\n")?;
     }
     let body = b"{\"first\":1,\"most\":1000}";
     script.add(FOUNDER, 16_508, "number", body, "200 ", &text)?;
@@ -170,51 +229,53 @@ fn add_act(
     script: &mut Script,
     number: u64,
     verb: &str,
-    body: &str,
+    body: &[u8],
 ) -> Result<(), NoMemory> {
-    let receipt = number.saturating_add(3);
-    let text = format!(in alloc; "receipt {receipt}\n")?;
-    script.add(
-        FOUNDER,
-        number,
-        verb,
-        body.as_bytes(),
-        "200 ",
-        text.as_bytes(),
-    )
+    let text = receipt_of(alloc, number.saturating_add(3))?;
+    script.add(FOUNDER, number, verb, body, "200 ", &text)
 }
 
 fn add_members(alloc: Global, script: &mut Script) -> Result<(), NoMemory> {
     for order in FIRST_MEMBER..=LAST_MEMBER {
-        let name = printed(alloc, order)?;
-        let body = format!(in alloc; "{{\"principal\":\"1998 SA\",\"secondary\":\"{name}\"}}")?;
+        let body = around(
+            alloc,
+            "{\"principal\":\"1998 SA\",\"secondary\":\"",
+            order,
+            "\"}",
+        )?;
         let number = order.saturating_add(14_509);
-        add_act(alloc, script, number, "identify", body.as_str())?;
+        add_act(alloc, script, number, "identify", &body)?;
     }
-    let name = printed(alloc, FIRST_MEMBER)?;
-    let body = format!(in alloc; "{{\"secondary\":\"{name}\"}}")?;
-    add_act(alloc, script, 16_610, "separate", body.as_str())
+    let body = around(alloc, "{\"secondary\":\"", FIRST_MEMBER, "\"}")?;
+    add_act(alloc, script, 16_610, "separate", &body)
 }
 
 fn add_moves(alloc: Global, script: &mut Script) -> Result<(), NoMemory> {
     for track in FIRST_MOVED..=LAST_MOVED {
-        let body = format!(in alloc; "{{\"tracklet\":{track}}}")?;
+        let body = text_of(alloc, &[Text("{\"tracklet\":"), Number(track), Text("}")])?;
         let number = track.saturating_add(13_610);
-        add_act(alloc, script, number, "release", body.as_str())?;
+        add_act(alloc, script, number, "release", &body)?;
     }
     for track in FIRST_MOVED..=LAST_MOVED {
-        let body = format!(in alloc; "{{\"tracklet\":{track},\"to\":\"1998 SB\"}}")?;
+        let body = text_of(
+            alloc,
+            &[
+                Text("{\"tracklet\":"),
+                Number(track),
+                Text(",\"to\":\"1998 SB\"}"),
+            ],
+        )?;
         let number = track.saturating_add(13_710);
-        add_act(alloc, script, number, "attribute", body.as_str())?;
+        add_act(alloc, script, number, "attribute", &body)?;
     }
     Ok(())
 }
 
 fn put_names(alloc: Global, text: &mut Vec<u8>, from: u64, to: u64) -> Result<(), NoMemory> {
     for order in from..=to {
-        let name = printed(alloc, order)?;
-        let next = format!(in alloc; "name {name}\n")?;
-        put(text, next.as_str())?;
+        put(text, "name ")?;
+        put_parts(alloc, text, &printed(order))?;
+        put(text, "\n")?;
     }
     Ok(())
 }
@@ -231,8 +292,7 @@ fn put_observations(
         for track in from.saturating_sub(1)..=to {
             let track = if track < from { own } else { track };
             let observation = track.saturating_mul(2).saturating_sub(before);
-            let next = format!(in alloc; "obs {observation} track {track}\n")?;
-            put(text, next.as_str())?;
+            put_observation(alloc, text, observation, track)?;
         }
     }
     Ok(())

@@ -2,7 +2,8 @@
 //! letters as there are, keys of each length, and three rows of one station.
 
 use std::alloc::Global;
-use testkit_sessions::{FOUNDER, NoMemory, Row, Script, Wrong, call_days};
+use testkit_sessions::Part::{Digits, Number, Text};
+use testkit_sessions::{FOUNDER, NoMemory, Row, Script, Wrong, call_days, put_parts, text_of};
 
 /// How many observers there are, one of whom has been enrolled before.
 const CALLERS: u64 = 1_001;
@@ -10,53 +11,100 @@ const CALLERS: u64 = 1_001;
 /// The founder enrols the observer with this number.
 fn add_enrolment(alloc: Global, script: &mut Script, caller: u64) -> Result<(), NoMemory> {
     let entry = caller.saturating_add(4);
-    let body = format!(in alloc;
-        "{{\"key\":\"observer-{caller}\",\"name\":\"Ann\",\"role\":\"observer\"}}"
+    let mut body = text_of(alloc, &[Text("{\"key\":\"observer-"), Number(caller)])?;
+    put_parts(
+        alloc,
+        &mut body,
+        &[Text("\",\"name\":\"Ann\",\"role\":\"observer\"}")],
     )?;
-    let text = format!(in alloc; "receipt {entry}\ncaller {caller}\n")?;
-    let (body, text) = (body.as_bytes(), text.as_bytes());
-    script.add(FOUNDER, entry, "enrol", body, "200 ", text)
+    let text = caller_receipt(alloc, entry, caller)?;
+    script.add(FOUNDER, entry, "enrol", &body, "200 ", &text)
+}
+
+/// The receipt of an enrolment.
+fn caller_receipt(alloc: Global, entry: u64, caller: u64) -> Result<Vec<u8>, NoMemory> {
+    let mut text = receipt(alloc, entry)?;
+    put_parts(
+        alloc,
+        &mut text,
+        &[Text("caller "), Number(caller), Text("\n")],
+    )?;
+    Ok(text)
+}
+
+/// The receipt of an act of which no more is told.
+fn receipt(alloc: Global, entry: u64) -> Result<Vec<u8>, NoMemory> {
+    text_of(alloc, &[Text("receipt "), Number(entry), Text("\n")])
+}
+
+fn key_of(alloc: Global, caller: u64) -> Result<String, NoMemory> {
+    format!(in alloc; "observer-{caller}")
+}
+
+/// A line of an observer's tracklet; the digits of its time go on with these.
+fn put_line(
+    alloc: Global,
+    body: &mut Vec<u8>,
+    caller: u64,
+    digits: &'static str,
+) -> Result<(), NoMemory> {
+    let named = [
+        Text("     C"),
+        Digits(caller, 4),
+        Text("    C2024 03 15."),
+        Digits(caller, 4),
+    ];
+    put_parts(alloc, body, &named)?;
+    let place = Text("06 12 34.56 +23 45 01.2          19.5 V      703\n");
+    put_parts(alloc, body, &[Text(digits), place])
 }
 
 /// The observer's first act is a tracklet of two lines, and its first query is for the receipt.
 fn add_caller(alloc: Global, script: &mut Script, caller: u64) -> Result<(), NoMemory> {
-    let key = format!(in alloc; "observer-{caller}")?;
-    let body = format!(in alloc;
-        concat!(
-            "     C{caller:04}    C2024 03 15.{caller:04}  06 12 34.56 +23 45 01.2          19.5 V      703\n",
-            "     C{caller:04}    C2024 03 15.{caller:04}5 06 12 34.56 +23 45 01.2          19.5 V      703\n",
-        ),
-        caller = caller
-    )?;
-    let receipt = caller.saturating_add(1_005);
+    let key = key_of(alloc, caller)?;
+    let mut body = Vec::new(alloc);
+    put_line(alloc, &mut body, caller, "  ")?;
+    put_line(alloc, &mut body, caller, "5 ")?;
     let second = caller.saturating_mul(2);
     let first = second.saturating_sub(1);
-    let text = format!(in alloc;
-        concat!(
-            "receipt {receipt}\n",
-            "accepted 2 refused 0\n",
-            "line 1 obs {first} track {caller}\n",
-            "line 2 obs {second} track {caller}\n",
-        ),
-        receipt = receipt,
-        first = first,
-        second = second,
-        caller = caller
+    let mut text = receipt(alloc, caller.saturating_add(1_005))?;
+    put_parts(
+        alloc,
+        &mut text,
+        &[Text("accepted 2 refused 0\nline 1 obs "), Number(first)],
     )?;
-    let (key, body, text) = (key.as_str(), body.as_bytes(), text.as_bytes());
-    script.add(key, 1, "submit80", body, "200 ", text)?;
-    script.add(key, 0, "receipt", b"1", "200 ", text)
+    put_parts(
+        alloc,
+        &mut text,
+        &[
+            Text(" track "),
+            Number(caller),
+            Text("\nline 2 obs "),
+            Number(second),
+        ],
+    )?;
+    put_parts(
+        alloc,
+        &mut text,
+        &[Text(" track "), Number(caller), Text("\n")],
+    )?;
+    script.add(key.as_str(), 1, "submit80", &body, "200 ", &text)?;
+    script.add(key.as_str(), 0, "receipt", b"1", "200 ", &text)
 }
 
 /// Its second act takes the tracklet's second line back.
 fn add_retraction(alloc: Global, script: &mut Script, caller: u64) -> Result<(), NoMemory> {
-    let key = format!(in alloc; "observer-{caller}")?;
-    let observation = caller.saturating_mul(2);
-    let body = format!(in alloc; "{{\"observation\":{observation}}}")?;
-    let receipt = caller.saturating_add(2_006);
-    let text = format!(in alloc; "receipt {receipt}\n")?;
-    let (key, body, text) = (key.as_str(), body.as_bytes(), text.as_bytes());
-    script.add(key, 2, "retract", body, "200 ", text)
+    let key = key_of(alloc, caller)?;
+    let body = text_of(
+        alloc,
+        &[
+            Text("{\"observation\":"),
+            Number(caller.saturating_mul(2)),
+            Text("}"),
+        ],
+    )?;
+    let text = receipt(alloc, caller.saturating_add(2_006))?;
+    script.add(key.as_str(), 2, "retract", &body, "200 ", &text)
 }
 
 /// An observer may take back its own observations alone, whoever's number it is.
@@ -123,12 +171,11 @@ fn a_thousand_callers(rt: HostRuntime) {
 /// A station of its own each day, and a letter with a word of its own.
 fn add_station(alloc: Global, script: &mut Script, row: u64) -> Result<(), NoMemory> {
     let number = row.saturating_add(1);
-    let body = format!(in alloc;
-        "{{\"code\":\"S{row:02}\",\"name\":\"x\",\"from\":\"1998-01-01\",\"to\":\"2199-12-31\"}}"
-    )?;
-    let text = format!(in alloc; "receipt {number}\n")?;
-    let (body, text) = (body.as_bytes(), text.as_bytes());
-    script.add(FOUNDER, number, "station", body, "200 ", text)
+    let mut body = text_of(alloc, &[Text("{\"code\":\"S"), Digits(row, 2)])?;
+    let days = Text("\",\"name\":\"x\",\"from\":\"1998-01-01\",\"to\":\"2199-12-31\"}");
+    put_parts(alloc, &mut body, &[days])?;
+    let text = receipt(alloc, number)?;
+    script.add(FOUNDER, number, "station", &body, "200 ", &text)
 }
 
 const LETTERS: &str = "ABCDEFGHIJKLMNOPQRSTUVWXYZabcdefghijklmnopqrstuvwxyz0123456789";
@@ -136,12 +183,21 @@ const LETTERS: &str = "ABCDEFGHIJKLMNOPQRSTUVWXYZabcdefghijklmnopqrstuvwxyz01234
 fn add_letter(alloc: Global, script: &mut Script, row: usize) -> Result<(), NoMemory> {
     let letter = LETTERS.get(row..row.saturating_add(1)).unwrap_or("");
     let number = (row as u64).saturating_add(101);
-    let body = format!(in alloc;
-        "{{\"kind\":\"band\",\"letter\":\"{letter}\",\"word\":\"word-{row:02}\"}}"
+    let mut body = text_of(
+        alloc,
+        &[Text("{\"kind\":\"band\",\"letter\":\""), Text(letter)],
     )?;
-    let text = format!(in alloc; "receipt {number}\n")?;
-    let (body, text) = (body.as_bytes(), text.as_bytes());
-    script.add(FOUNDER, number, "code", body, "200 ", text)
+    put_parts(
+        alloc,
+        &mut body,
+        &[
+            Text("\",\"word\":\"word-"),
+            Digits(row as u64, 2),
+            Text("\"}"),
+        ],
+    )?;
+    let text = receipt(alloc, number)?;
+    script.add(FOUNDER, number, "code", &body, "200 ", &text)
 }
 
 /// Lines of the first and the last station and letter, and of none.
@@ -217,10 +273,14 @@ fn add_key(alloc: Global, script: &mut Script, length: usize) -> Result<(), NoMe
     let key = KEY.get(0..length).unwrap_or("");
     let number = (length as u64).saturating_add(156);
     let caller = (length as u64).saturating_sub(7);
-    let body = format!(in alloc; "{{\"key\":\"{key}\",\"name\":\"x\",\"role\":\"observer\"}}")?;
-    let text = format!(in alloc; "receipt {number}\ncaller {caller}\n")?;
-    let (body, text) = (body.as_bytes(), text.as_bytes());
-    script.add(FOUNDER, number, "enrol", body, "200 ", text)?;
+    let named = [
+        Text("{\"key\":\""),
+        Text(key),
+        Text("\",\"name\":\"x\",\"role\":\"observer\"}"),
+    ];
+    let body = text_of(alloc, &named)?;
+    let text = caller_receipt(alloc, number, caller)?;
+    script.add(FOUNDER, number, "enrol", &body, "200 ", &text)?;
     let text = b"halfmonth 2024 E given 0 next 2024 EA\n";
     script.add(key, 0, "halfmonth", b"2024 E", "200 ", text)
 }

@@ -22,7 +22,9 @@ mod wrong;
 pub use batches::BATCHES;
 pub use calls::{Call, Drive, call_alone, call_in_turn, words_of};
 pub use exchange::{Exchange, Frames};
-pub use pieces::{NoMemory, put, put_lines, put_number, put_reply, put_taken};
+pub use pieces::{
+    NoMemory, Part, put, put_lines, put_number, put_parts, put_reply, put_taken, text_of,
+};
 pub use rows::{FOUNDER, OBSERVER, Row, catalogue_alone, catalogue_of, session};
 pub use scripts::{Script, call_days};
 pub use setup::{BATCH, ENROLMENT, FIRST, FIRST_ANSWER, MODE, SETUP, STATION, begun};

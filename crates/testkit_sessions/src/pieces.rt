@@ -24,6 +24,57 @@ pub fn put_number(alloc: Global, bytes: &mut Vec<u8>, number: u64) -> Result<(),
     put(bytes, text.as_str())
 }
 
+/// What a text is put together from.
+#[derive(Clone, Copy, Drop)]
+pub enum Part<'a> {
+    /// A text as it is.
+    Text(&'a str),
+    /// A number.
+    Number(u64),
+    /// A number with zeros before it, so that it has so many digits.
+    Digits(u64, usize),
+}
+
+/// These parts, one after the other, after other bytes.
+///
+/// # Errors
+///
+/// Memory was refused.
+pub fn put_parts(alloc: Global, bytes: &mut Vec<u8>, parts: &[Part<'_>]) -> Result<(), NoMemory> {
+    for part in parts {
+        match *part {
+            Part::Text(text) => put(bytes, text)?,
+            Part::Number(number) => put_number(alloc, bytes, number)?,
+            Part::Digits(number, digits) => put_digits(alloc, bytes, number, digits)?,
+        }
+    }
+    Ok(())
+}
+
+/// The same, after no other bytes.
+///
+/// # Errors
+///
+/// Memory was refused.
+pub fn text_of(alloc: Global, parts: &[Part<'_>]) -> Result<Vec<u8>, NoMemory> {
+    let mut bytes = Vec::new(alloc);
+    put_parts(alloc, &mut bytes, parts)?;
+    Ok(bytes)
+}
+
+fn put_digits(
+    alloc: Global,
+    bytes: &mut Vec<u8>,
+    number: u64,
+    digits: usize,
+) -> Result<(), NoMemory> {
+    let text = format!(in alloc; "{number}")?;
+    for _ in text.len()..digits {
+        put(bytes, "0")?;
+    }
+    put(bytes, text.as_str())
+}
+
 /// So many lines, of numbers that go up by one from the first: `before`, the number and `behind`.
 ///
 /// # Errors
