@@ -3,17 +3,19 @@
 program's `serve`, and then against a plain server: a few lines of C that read a request, sync its body and a byte more to a
 file where it has one, and write an answer of the same length. Prints requests a second and the median and 99th percentile of
 the latency, and the office's speed beside the plain server's; ends with 1 where an answer was another one than was wanted.
+With a third number it does so many times, each second time with the plain server first, and prints the medians.
 
 A connection sends each request when it has the answer to the one before. Tallies change nothing; each submission is a batch of
 two lines, so that it goes through the journal's two syncs. Each connection has a caller of its own. The clients are processes,
 so that they don't hold one another up; a machine with few processors measures them too.
 
 Build the program first (examples/office | (cd crates/mpc_cli && rt run -- run --key +founder-1)); port 8017 of this machine
-must be free, and cc be there. Then: python3 bench/load.py [TALLIES [SUBMISSIONS]], for each connection; at most 1,000.
+must be free, and cc be there. Then: python3 bench/load.py [TALLIES [SUBMISSIONS [TIMES]]], for each connection; at most 1,000.
 """
 import multiprocessing
 import os
 import socket
+import statistics
 import subprocess
 import sys
 import tempfile
@@ -24,6 +26,7 @@ from session import PROGRAM, SETUP, columns
 COUNTS = [int(word) for word in sys.argv[1:]]
 TALLIES = COUNTS[0] if COUNTS else 1_000
 SUBMISSIONS = COUNTS[1] if len(COUNTS) > 1 else 300
+TIMES = COUNTS[2] if len(COUNTS) > 2 else 1
 CONNECTIONS = 8
 
 PLAIN = r"""
@@ -186,6 +189,31 @@ def set_up():
     return good, len(acts)
 
 
+def measure_office(folder, rows):
+    """The office, from an empty folder on. Says whether all was answered as wanted, and the requests a second."""
+    print("the office:")
+    office = subprocess.Popen([PROGRAM, "serve", "--connections", str(3 + 2 * CONNECTIONS), "--key", "+founder-1"],
+                              cwd=folder, stdout=subprocess.PIPE, text=True)
+    good, acts = set_up()
+    all_good, speeds = measure_all(rows)
+    written, _ = office.communicate(timeout=60)
+    entries = acts + SUBMISSIONS * (1 + CONNECTIONS)
+    wanted = f"connections {3 + 2 * CONNECTIONS}\nentries {entries}\n"
+    if written != wanted:
+        print(f"NOT ok: the office ended with {written!r} in place of {wanted!r}")
+    return good and all_good and written == wanted, speeds
+
+
+def measure_plain(folder, rows):
+    print("the plain server:")
+    plain = plain_server(folder)
+    try:
+        return measure_all(rows)
+    finally:
+        plain.kill()
+        plain.wait()
+
+
 def main():
     if not os.access(PROGRAM, os.X_OK):
         sys.exit("build the program first")
@@ -193,25 +221,20 @@ def main():
     rows = [("tallies", tally, [1], 0, TALLIES), ("tallies", tally, everyone, 0, TALLIES),
             ("submissions", submission, [1], 0, SUBMISSIONS),
             ("submissions", submission, everyone, SUBMISSIONS, SUBMISSIONS)]
-    with tempfile.TemporaryDirectory() as folder:
-        office = subprocess.Popen([PROGRAM, "serve", "--connections", str(3 + 2 * CONNECTIONS), "--key", "+founder-1"],
-                                  cwd=folder, stdout=subprocess.PIPE, text=True)
-        good, acts = set_up()
-        all_good, speeds = measure_all(rows)
-        written, _ = office.communicate(timeout=60)
-        print("the plain server:")
-        plain = plain_server(folder)
-        try:
-            plain_good, plain_speeds = measure_all(rows)
-        finally:
-            plain.kill()
-            plain.wait()
-    for (name, _, callers, _, _), ours, theirs in zip(rows, speeds, plain_speeds):
-        print(f"{name:12} {len(callers)} connection(s): {ours / theirs:.2f} of the plain server's speed")
-    entries = acts + SUBMISSIONS * (1 + CONNECTIONS)
-    wanted = f"connections {3 + 2 * CONNECTIONS}\nentries {entries}\n"
-    if not (good and all_good and plain_good) or written != wanted:
-        print(f"NOT ok: an answer was another than 200, or the office ended with {written!r} in place of {wanted!r}")
+    ours, theirs, all_good = [], [], True
+    for turn in range(TIMES):
+        sides = [(measure_office, ours), (measure_plain, theirs)]
+        with tempfile.TemporaryDirectory() as folder:
+            for measured, speeds in sides if turn % 2 == 0 else reversed(sides):
+                good, found = measured(folder, rows)
+                all_good = all_good and good
+                speeds.append(found)
+    for (name, _, callers, _, _), office, plain in zip(rows, zip(*ours), zip(*theirs)):
+        beside = statistics.median(one / other for one, other in zip(office, plain))
+        print(f"{name:12} {len(callers)} connection(s): medians {statistics.median(office):.0f} and "
+              f"{statistics.median(plain):.0f} requests/s, {beside:.2f} of the plain server's speed")
+    if not all_good:
+        print("NOT ok: an answer was another than 200, or the office ended otherwise")
         return 1
     return 0
 
