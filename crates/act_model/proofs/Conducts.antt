@@ -11,8 +11,8 @@ use Rattle.act_model.specs.declared.reply.Refusal.{Refusal}
 use Rattle.act_model.specs.declared.reply.Refusal.TheVariants.{NoMemory}
 use Rattle.act_model.specs.declared.reply.Reply.{Reply}
 use Rattle.act_model.specs.declared.reply.Reply.TheVariants.{Refused}
-use Rattle.act_model.specs.declared.request.Body.{Body}
-use Rattle.act_model.specs.declared.request.Body.TheVariants.{NoRoom}
+use Rattle.read_ahead.specs.declared.body.Body.{Body}
+use Rattle.read_ahead.specs.declared.body.Body.TheVariants.{NoRoom}
 use Rattle.act_model.specs.declared.request.Request.{Request}
 use Rattle.act_model.specs.Rows.{first_row, unless, ◌>>=◌}
 use Rattle.act_model.specs.Requests.{is_act}

@@ -25,8 +25,8 @@ use Rattle.act_model.specs.declared.reply.Reply.{Reply}
 use Rattle.act_model.specs.declared.reply.Thing.{Thing}
 use Rattle.act_model.specs.declared.reply.Thing.TheVariants as thing
 use Rattle.act_model.specs.declared.reply.Reply.TheVariants.{Done, Refused}
-use Rattle.act_model.specs.declared.request.Body.{Body}
-use Rattle.act_model.specs.declared.request.Body.TheVariants.{Whole, TooLong, NoRoom}
+use Rattle.read_ahead.specs.declared.body.Body.{Body}
+use Rattle.read_ahead.specs.declared.body.Body.TheVariants.{Whole, TooLong, NoRoom}
 use Rattle.act_model.specs.declared.request.Request.{Request}
 use Rattle.act_model.specs.declared.request.Verb.{Verb}
 use Rattle.act_model.specs.declared.roster.Caller.{Caller}

@@ -8,7 +8,7 @@ use Rattle.act_model.specs.declared.reply.Refusal.TheVariants.{DiskFault, NoMemo
 use Rattle.act_model.specs.declared.reply.Reply.{Reply}
 use Rattle.act_model.specs.declared.reply.Reply.TheVariants.{Done, Refused}
 use Rattle.act_model.specs.Replies.{entry_answer}
-use Rattle.act_model.specs.declared.request.Body.TheVariants.{Whole}
+use Rattle.read_ahead.specs.declared.body.Body.TheVariants.{Whole}
 use Rattle.act_model.specs.declared.request.Request.{Request}
 use Rattle.act_model.specs.declared.roster.Caller.{Caller}
 use Rattle.act_model.specs.Roster.{members, caller_of}

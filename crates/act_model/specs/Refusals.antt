@@ -61,11 +61,11 @@ work_out past moment heard =
 
 -- how many bytes of a journal an entry with this body takes
 abbrev pub entry_size : List ℕ → ℕ
-entry_size body = 26 + length body
+entry_size body = 58 + length body
 
 -- how many bytes of a journal these entries take
 abbrev pub used : List Entry → ℕ
-used [] = 1
+used [] = 2
 used (entry ∷ past) = used past + entry_size entry.body
 
 -- the journal has no room for another entry with this body; without a limit there always is

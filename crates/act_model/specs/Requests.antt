@@ -6,8 +6,8 @@ use Rattle.act_model.specs.declared.request.Verb.TheVariants.{Enrol, Station, Co
 use Rattle.act_model.specs.declared.request.Verb.TheVariants.{Attribute, Release, Identify, Separate, Verdict, Number}
 use Rattle.act_model.specs.declared.request.Verb.TheVariants.{Retract, Opening, Receipt, Tally, Object, Tracklet}
 use Rattle.act_model.specs.declared.request.Verb.TheVariants.{Isolated, HalfMonth, Name, Catalogue, Unknown}
-use Rattle.act_model.specs.declared.request.Body.{Body}
-use Rattle.act_model.specs.declared.request.Body.TheVariants.{Whole, TooLong}
+use Rattle.read_ahead.specs.declared.body.Body.{Body}
+use Rattle.read_ahead.specs.declared.body.Body.TheVariants.{Whole, TooLong}
 use Rattle.act_model.specs.declared.request.TheConstants.{BODY_BYTES}
 
 -- the verb that a word names

@@ -15,7 +15,7 @@ ghost use Rattle.act_model.specs.declared.reply.Refusal.{Refusal};
 ghost use Rattle.act_model.specs.declared.reply.Refusal.TheVariants.{DiskFault, NoMemory};
 ghost use Rattle.act_model.specs.declared.reply.Reply.{Reply};
 ghost use Rattle.act_model.specs.declared.reply.Reply.TheVariants.{Done, Refused};
-ghost use Rattle.act_model.specs.declared.request.Body.TheVariants.{NoRoom};
+ghost use Rattle.read_ahead.specs.declared.body.Body.TheVariants.{NoRoom};
 ghost use Rattle.act_model.specs.declared.request.Request.{Request};
 ghost use Rattle.act_model.specs.declared.roster.Caller.{Caller};
 ghost use Rattle.act_model.specs.Requests.{is_act};
@@ -337,8 +337,8 @@ pub fn unbroken_rows()
     identify_core::laws::given_ascend();
 }
 
-/// A designation that an opening carried has no discovery, since no act of this office gave it: no line of the catalogue
-/// has an asterisk for it.
+/// A designation that an opening carried has no discovery, since no act of this office gave it: no line of the
+/// catalogue has an asterisk for it.
 pub fn carried_have_no_discovery()
     ensures none { (history : List Entry) (p : Provisional) → Contains (carried_by (deeds history)) p →
         discovery_of (ByHalf p) (row_acts_of (deeds history)) ≡ None }

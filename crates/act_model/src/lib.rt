@@ -32,11 +32,12 @@ pub use heard::{Asked, Heard, read_asked};
 pub use keeper::{Keeper, Office, OfficeState, Stamp, Stamps};
 pub use known::Known;
 pub use query::{Query, read_query};
+pub use read_ahead::Body;
 pub use reply::{
     Excess, Fault, Faults, Part, REFUSAL_BYTES, Refusal, Reply, Text, Thing, no_line_text,
     refusal_line, refusal_status, reply_text, status,
 };
-pub use request::{BODY_BYTES, BODY_LINES, Body, Request, Verb, is_resend, line_feeds, read_verb};
+pub use request::{BODY_BYTES, BODY_LINES, Request, Verb, is_resend, line_feeds, read_verb};
 pub use roster::{CALLERS, Caller, Member};
 pub use ruling::Ruling;
 pub use seen::{Seen, is_sooner};

@@ -6,7 +6,7 @@ ghost use Rattle.act_model.specs.Step.{is_resend};
 
 use crate::entry::Entry;
 use act_bodies::Key;
-use item_list::Bytes;
+use read_ahead::Body;
 
 /// The most bytes that the body of a request may have.
 pub const BODY_BYTES: u64 = 1_048_576;
@@ -195,17 +195,6 @@ pub fn read_verb(word: &[u8]) -> Verb
     } else {
         Verb::Unknown
     }
-}
-
-/// The text that belongs to a request.
-#[derive(Debug, Drop)]
-pub enum Body {
-    /// All of it.
-    Whole(Bytes),
-    /// It has this many bytes, more than 1,048,576, and was read and thrown away.
-    TooLong(u64),
-    /// There was no memory for it, so it was read and thrown away.
-    NoRoom,
 }
 
 /// How many bytes are counted in one go: few enough that their count fits in a byte, so that many are compared at a

@@ -30,8 +30,8 @@ use Rattle.station_tables.specs.Rows.{TableRows}
 
 -- ---- the office
 
--- for how many more entries, callers, observations, tracklets, acts on the rows, links and entries of the register there
--- is room
+-- for how many more entries, callers, observations, tracklets, acts on the rows, links and entries of the register
+-- there is room
 pub record Room : Type 0 where
   pub entries : ℕ
   pub callers : ℕ

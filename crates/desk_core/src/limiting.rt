@@ -12,7 +12,7 @@ use act_model::Refusal;
 pub fn entry_size(body: &[u8]) -> u64
     ensures { result ≡ entry_size body.now }
 {
-    body.len() as u64 + 26
+    body.len() as u64 + 58
 }
 
 impl Core {

@@ -109,7 +109,7 @@ impl Core {
             tables: Tables::new(alloc)?,
             file: TrackletFile::new(alloc)?,
             objects: Objects::new(alloc)?,
-            used: 1,
+            used: 2,
         })
     }
 

@@ -2,7 +2,7 @@
 use Rattle.std.proofs.Common.{ℕ, ◌<◌, inl, List, ◌++◌, length, Option, ap, subst, append_assoc, arith}
 use Rattle.std.proofs.lemmas.List.{length-append}
 use Rattle.desk_io.specs.Reads.{Passes, Comes}
-use Rattle.act_model.specs.declared.request.Body.{Body}
+use Rattle.read_ahead.specs.declared.body.Body.{Body}
 use Rattle.httparse.specs.Grammar.{print_request}
 use Rattle.desk_http.specs.declared.head.HeadParts.{HeadParts}
 use Rattle.desk_http.specs.Heads.{IsHead, NoMessage}

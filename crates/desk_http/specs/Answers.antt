@@ -3,8 +3,8 @@
 use Rattle.std.specs.Prelude.{◌≡◌, ℕ, Bool, ◌<◌, ◌≤◌, List, length, Result, Ok, Err}
 use Rattle.std.specs.declared.option.Option.{Option}
 use Rattle.desk_io.specs.Outside.{Rises}
-use Rattle.act_model.specs.declared.request.Body.{Body}
-use Rattle.act_model.specs.declared.request.Body.TheVariants as bodies
+use Rattle.read_ahead.specs.declared.body.Body.{Body}
+use Rattle.read_ahead.specs.declared.body.Body.TheVariants as bodies
 use Rattle.act_model.specs.declared.request.Request.{Request}
 use Rattle.act_model.specs.declared.request.TheConstants.{BODY_BYTES}
 use Rattle.desk_http.specs.declared.heard.Heard.{Heard}

@@ -5,7 +5,7 @@ ghost use Rattle.act_model.specs.declared.keeper.Office.{Office};
 ghost use Rattle.act_model.specs.declared.reply.Reply.{Reply};
 ghost use Rattle.act_model.specs.declared.reply.Reply.TheVariants.{Done};
 ghost use Rattle.act_model.specs.declared.request.Request.{Request};
-ghost use Rattle.act_model.specs.declared.request.Body.TheVariants.{NoRoom};
+ghost use Rattle.read_ahead.specs.declared.body.Body.TheVariants.{NoRoom};
 ghost use Rattle.act_model.specs.declared.request.Verb.TheVariants.{Unknown};
 ghost use Rattle.act_model.specs.Requests.{is_act};
 ghost use Rattle.intake_lock.specs.Items.{TakesTurn, Noted};
