@@ -21,9 +21,9 @@ use std::rt::Files;
 /// beside the disk, at the next write and the next sync. After a write, a cut or a sync that failed, the next sync
 /// writes again what was written since the last one that succeeded.
 ///
-/// It tells nothing of its content, and counts each error as a fault. It keeps the last one, for people to read: that it
-/// is the last is no clause, since nothing is known of what a system says. An offset past 2^63 - 1 is an error of the
-/// system.
+/// It tells nothing of its content, and counts each error as a fault. It keeps the last one, for people to read: that
+/// it is the last is no clause, since nothing is known of what a system says. An offset past 2^63 - 1 is an error of
+/// the system.
 #[derive(Debug, Drop)]
 pub struct FileDisk<F: NamedFile> {
     file: F,

@@ -8,7 +8,7 @@ use Rattle.obs_journal.specs.Parcels.{RawParcel, parcel_bytes}
 use Rattle.obs_journal.specs.Formats.{first_seal, last_seal, next_seal, row_length_in, front_length}
 use Rattle.obs_journal.specs.declared.format.Format.TheVariants.{Chained}
 use Rattle.obs_journal.specs.Chains.{IsInForce, IsChain, IsBrokenAt, reached_after}
-use Rattle.obs_journal.specs.declared.chain.Reached.{Reached}
+use Rattle.obs_journal.specs.declared.journal.Reached.{Reached}
 use Rattle.obs_journal.proofs.Quiet.{never_both}
 use Rattle.obs_journal.proofs.Rows.{length-file_of, row_length-append, last_seal-append, row_or_damage, one_damage, behind_head}
 

@@ -1,5 +1,5 @@
 -- How parcels are carried into a second file.
-use Rattle.std.proofs.Common.{◌≡◌, inl, inr, ℕ, ◌+◌, ◌<◌, ◌≤◌, min, List, [], ◌∷◌, ◌++◌, length, get_or, take, drop, refl, sym, ◌∙◌, ap, subst, arith, append_assoc, length-append, take-append-drop}
+use Rattle.std.proofs.Common.{◌≡◌, inl, inr, ⊎_elim, ℕ, ◌+◌, ◌<◌, ◌≤◌, min, List, [], ◌∷◌, ◌++◌, length, get_or, take, drop, refl, sym, ◌∙◌, ap, subst, arith, append_assoc, length-append, take-append-drop}
 use Rattle.std.proofs.lemmas.List.{get_or-take, append-nil, drop_all, take_more, map-append}
 use Rattle.std.proofs.lemmas.Bool.{cases_eq}
 use Rattle.std.specs.Prelude.{IfSome, IsSome, IsSomeAnd}
@@ -8,7 +8,7 @@ use Rattle.std.specs.declared.option.Option.TheVariants.{None, Some}
 use Rattle.std.specs.List.{AllByRecursion}
 use Rattle.disk_model.specs.Files.{written}
 use Rattle.disk_model.specs.Crashes.{Torn, After, Passes, EachSince, During}
-use Rattle.disk_model.specs.Moments.{during_call, during_joined, during_one_more, during_weaker}
+use Rattle.disk_model.specs.Moments.{during_call, during_joined, during_one_more, during_weaker, images_after}
 use Rattle.obs_journal.specs.Parcels.{RawParcel, IsParcel, parcel_bytes}
 use Rattle.sha2.specs.Sha256.{sha256}
 use Rattle.obs_journal.specs.Formats.{first_seal, seal, last_seal, room_in, row, row_length_in}
@@ -18,7 +18,7 @@ use Rattle.obs_journal.specs.declared.opening.Placed.{Placed}
 use Rattle.obs_journal.proofs.Rows.{length-row, row-append, row_behind, row_length-append, last_seal-append}
 use Rattle.obs_journal.specs.Writing.{IsSafe}
 use Rattle.obs_journal.specs.Chains.{IsChain}
-use Rattle.obs_journal.specs.Moves.{IsIdle, IsShut, IsOneByte, IsCarried, Adds, StaysShut}
+use Rattle.obs_journal.specs.Moves.{IsIdle, IsShut, IsOneByte, IsCarried, IsCarriedInto, IsKnownAnd, Adds, StaysShut}
 use Rattle.obs_journal.proofs.Steps.{at_known}
 use Rattle.obs_journal.proofs.Appends.{written_between, torn_back, each_more}
 
@@ -68,7 +68,8 @@ module _ {D : Type 0} (reads : D → Option (List ℕ)) (leaves : D → List ℕ
       }
 
   pub stays_written : {old new : D} (at n : ℕ) → 0 < at → Passes moment since old new → EachSince moment since old new (After (Torn at n) (leaves old)) → StaysShut leaves moment since old new
-  stays_written at n behind passes torn = λ before. during_call IsShut passes (λ image was. let from = torn image was in torn_shut at n from.0 image behind (before from.0 from.1) from.2)
+  stays_written at n behind passes torn = λ known before.
+      during_call (IsKnownAnd known IsShut) passes (λ image was. let from = torn image was in let shut = before from.0 from.1 in (shut.0, torn_shut at n from.0 image behind shut.1 from.2))
 
 -- one after the other
 pub adds_joined : {D : Type 0} {reads : D → Option (List ℕ)} {leaves : D → List ℕ → Type 0} {old mid new : D} {at : ℕ} {x : List ℕ} (next : ℕ) (y : List ℕ) → next ≡ at + length x → Adds reads leaves at x old mid → Adds reads leaves next y mid new
@@ -81,7 +82,8 @@ adds_joined {reads = reads} {old = old} {mid = mid} {new = new} {at = at} {x = x
 
 pub stays_joined : {D : Type 0} {reads : D → Option (List ℕ)} {leaves : D → List ℕ → Type 0} {moment : D → ℕ} {since : D → ℕ → List ℕ → Type 0} {old mid new : D} {at : ℕ} {x : List ℕ} → Adds reads leaves at x old mid → StaysShut leaves moment since old mid
     → StaysShut leaves moment since mid new → StaysShut leaves moment since old new
-stays_joined adds first second = λ before. during_joined (first before) (second (adds.shut before))
+stays_joined adds first second = λ known before.
+    during_joined (first known before) (second known (λ image now. let from = adds.from image now in ((before from.0 from.1).0, adds.shut (λ i was. (before i was).1) image now)))
 
 -- ---- the row behind that byte, and the byte that puts it in force
 
@@ -106,7 +108,9 @@ opened_row ps file laid = ap (λ l. written 0 (1 ∷ []) l) laid.image_is
 
 module _ {D : Type 0} (reads : D → Option (List ℕ)) (leaves : D → List ℕ → Type 0) (moment : D → ℕ) (since : D → ℕ → List ℕ → Type 0)
     (as_read : (disk : D) (file : List ℕ) → reads disk ≡ Some file → leaves disk file)
+    (known : (disk : D) (image : List ℕ) → leaves disk image → IsSome (reads disk))
     (counts_now : (disk : D) (t : ℕ) (image : List ℕ) → t ≤ moment disk → leaves disk image → since disk t image)
+    (only_now : (disk : D) (image : List ℕ) → since disk (moment disk) image → leaves disk image)
     (ps : List RawParcel) where
   pub laid : {old mid new : D} → ((image : List ℕ) → leaves old image → (reads old ≡ Some image) × IsOneByte image) → Adds reads leaves 1 (row Chained (first_seal Chained) ps (0 ∷ [])) old mid → reads new ≡ reads mid → Passes moment since mid new → EachSince moment since mid new (leaves mid)
       → ((image : List ℕ) → leaves new image → reads new ≡ Some image) → (image : List ℕ) → leaves new image → IsLaid ps image
@@ -121,21 +125,30 @@ module _ {D : Type 0} (reads : D → Option (List ℕ)) (leaves : D → List ℕ
   pub all_shut : {old : D} → ((image : List ℕ) → leaves old image → (reads old ≡ Some image) × IsOneByte image) → (image : List ℕ) → leaves old image → IsShut image
   all_shut one image now = one_byte_is_shut image (one image now).1
 
+  -- an image at the end says that the file was known at the start
+  known_first : {first mid : D} {P : List ℕ → Type 0} → During moment since first mid (IsKnownAnd (reads first) P) → (image : List ℕ) → leaves mid image → IsSome (reads first)
+  known_first {first = first} run image now = ⊎_elim (λ was. known first image was) (λ has. has.0) (images_after leaves counts_now only_now run image now)
+
   -- until the row is safe
-  pub during_row : {first old mid : D} → During moment since first old IsIdle → ((image : List ℕ) → leaves old image → (reads old ≡ Some image) × IsOneByte image) → StaysShut leaves moment since old mid → During moment since first mid IsIdle
-  during_row run one stays = during_joined run (during_weaker IsIdle shut_is_idle (stays (all_shut one)))
+  pub during_row : {first old mid : D} → During moment since first old (IsKnownAnd (reads first) IsIdle) → ((image : List ℕ) → leaves old image → (reads old ≡ Some image) × IsOneByte image) → StaysShut leaves moment since old mid → During moment since first mid (IsKnownAnd (reads first) IsIdle)
+  during_row {first = first} run one stays =
+      during_joined run (during_weaker (IsKnownAnd (reads first) IsIdle) (λ image shut. (shut.0, shut_is_idle image shut.1)) (stays (reads first) (λ image now. (known_first run image now, all_shut one image now))))
 
-  pub during_sync : {first old mid new : D} {bytes : List ℕ} → During moment since first old IsIdle → ((image : List ℕ) → leaves old image → (reads old ≡ Some image) × IsOneByte image) → Adds reads leaves 1 bytes old mid → StaysShut leaves moment since old mid
-      → Passes moment since mid new → EachSince moment since mid new (leaves mid) → During moment since first new IsIdle
-  during_sync run one adds stays passes kept = during_one_more (during_row run one stays) passes (λ image was. shut_is_idle image (adds.shut (all_shut one) image (kept image was)))
+  pub during_sync : {first old mid new : D} {bytes : List ℕ} → During moment since first old (IsKnownAnd (reads first) IsIdle) → ((image : List ℕ) → leaves old image → (reads old ≡ Some image) × IsOneByte image) → Adds reads leaves 1 bytes old mid → StaysShut leaves moment since old mid
+      → Passes moment since mid new → EachSince moment since mid new (leaves mid) → During moment since first new (IsKnownAnd (reads first) IsIdle)
+  during_sync run one adds stays passes kept =
+      let so_far = during_row run one stays in
+      during_one_more so_far passes (λ image was. (known_first so_far image (kept image was), shut_is_idle image (adds.shut (all_shut one) image (kept image was))))
 
-  pub idle_carried : {old new : D} → During moment since old new IsIdle → During moment since old new (IsCarried ps)
-  idle_carried run = during_weaker (IsCarried ps) (λ image idle. inl idle) run
+  pub idle_carried : {old new : D} {r : Option (List ℕ)} → During moment since old new (IsKnownAnd r IsIdle) → During moment since old new (IsCarriedInto r ps)
+  idle_carried {r = r} run = during_weaker (IsCarriedInto r ps) (λ image idle. record { known = idle.0; now = inl idle.1 }) run
 
   -- while the byte is written, and then
-  pub during_byte : {first mid new : D} → AllByRecursion IsParcel ps → During moment since first mid IsIdle → ((image : List ℕ) → leaves mid image → IsLaid ps image) → Passes moment since mid new → EachSince moment since mid new (After (Torn 0 1) (leaves mid))
-      → During moment since first new (IsCarried ps)
-  during_byte each run laid_out passes torn = during_one_more (idle_carried run) passes (λ image was. let from = torn image was in opening_byte ps from.0 image each (laid_out from.0 from.1) from.2)
+  pub during_byte : {first mid new : D} → AllByRecursion IsParcel ps → During moment since first mid (IsKnownAnd (reads first) IsIdle) → ((image : List ℕ) → leaves mid image → IsLaid ps image) → Passes moment since mid new → EachSince moment since mid new (After (Torn 0 1) (leaves mid))
+      → During moment since first new (IsCarriedInto (reads first) ps)
+  during_byte each run laid_out passes torn = during_one_more (idle_carried run) passes (λ image was.
+      let from = torn image was in
+      record { known = known_first run from.0 from.1; now = opening_byte ps from.0 image each (laid_out from.0 from.1) from.2 })
 
   pub chained : {mid new : D} → AllByRecursion IsParcel ps → ((image : List ℕ) → leaves mid image → IsLaid ps image) → IsSafe reads leaves 0 (1 ∷ []) mid new → (image : List ℕ) → leaves new image → IsChain image ps
   chained {mid = mid} each laid_out safe image now =

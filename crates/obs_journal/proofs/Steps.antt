@@ -1,18 +1,16 @@
 -- The images over the calls of an append.
-use Rattle.std.proofs.Common.{◌≡◌, ◌⊎◌, inl, ℕ, ◌+◌, ◌≤◌, List, [], ◌∷◌, ◌++◌, subst, arith}
+use Rattle.std.proofs.Common.{◌≡◌, ◌⊎◌, inl, ℕ, ◌+◌, ◌≤◌, List, [], ◌∷◌, ◌++◌, subst}
 use Rattle.std.specs.Prelude.{IfSome}
 use Rattle.std.specs.declared.option.Option.{Option}
 use Rattle.std.specs.declared.option.Option.TheVariants.{Some}
 use Rattle.disk_model.specs.Crashes.{Torn, After, Passes, EachSince, During}
 use Rattle.disk_model.specs.Moments.{during_call, during_one_more}
-use Rattle.obs_journal.specs.Parcels.{RawParcel, IsParcel, parcel_bytes, room}
+use Rattle.obs_journal.specs.Parcels.{RawParcel, IsParcel, parcel_bytes}
 use Rattle.obs_journal.specs.Formats.{next_seal, front_length}
 use Rattle.obs_journal.specs.declared.format.Format.{Format}
-use Rattle.obs_journal.specs.declared.format.Format.TheVariants.{Plain}
-use Rattle.obs_journal.specs.Files.{row_length, IsRowIn}
+use Rattle.obs_journal.specs.Files.{IsRowIn}
 use Rattle.obs_journal.specs.Journals.{IsDoubtfulIn}
 use Rattle.obs_journal.specs.Writing.{IsSafe}
-use Rattle.obs_journal.proofs.Rows.{row_length-append}
 use Rattle.obs_journal.proofs.Appends.{torn_behind, IsStaged, staged, torn_gate, either_row, opened_gate}
 
 module _ {D : Type 0} (reads : D → Option (List ℕ)) (leaves : D → List ℕ → Type 0) (moment : D → ℕ) (since : D → ℕ → List ℕ → Type 0)
@@ -50,10 +48,6 @@ module _ {D : Type 0} (reads : D → Option (List ℕ)) (leaves : D → List ℕ
 
     pub during_gate : {old mid new : D} → During moment since old mid Either → Passes moment since mid new → EachSince moment since mid new (λ image. IsDoubtfulIn f image ps p) → During moment since old new Either
     during_gate first passes doubtful = during_one_more first passes (λ image was. either_row f ps p image (doubtful image was))
-
--- the position with one parcel more
-pub position_more : (ps : List RawParcel) (p : RawParcel) (position n : ℕ) → position ≡ row_length ps + 1 → n ≡ room p → position + n ≡ row_length (ps ++ p ∷ []) + 1
-position_more ps p position n is long = omega (arith, row_length-append Plain ps (p ∷ []))
 
 -- what is said of known reads, at what they are
 pub at_known : (known : Option (List ℕ)) (P : List ℕ → Type 0) (file : List ℕ) → IfSome known P → known ≡ Some file → P file

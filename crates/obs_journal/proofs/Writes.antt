@@ -1,12 +1,11 @@
 -- A write that a sync follows.
-use Rattle.std.proofs.Common.{◌≡◌, ℕ, ◌-◌, ◌≤◌, List, [], ◌∷◌, ◌++◌, length, refl, sym, ◌∙◌, subst}
+use Rattle.std.proofs.Common.{◌≡◌, ℕ, ◌≤◌, List, length, refl, sym, ◌∙◌, subst}
 use Rattle.std.specs.Prelude.{IsSome, IfSome}
 use Rattle.std.specs.declared.option.Option.{Option}
 use Rattle.std.specs.declared.option.Option.TheVariants.{None, Some}
 use Rattle.disk_model.specs.Files.{written}
 use Rattle.disk_model.specs.Crashes.{Torn, After, Passes, EachSince}
-use Rattle.obs_journal.specs.Parcels.{RawParcel, parcel_bytes}
-use Rattle.obs_journal.specs.Writing.{IsSafe, appended}
+use Rattle.obs_journal.specs.Writing.{IsSafe}
 
 is_known : (image : List ℕ) (at : ℕ) (bytes : List ℕ) (before after now : Option (List ℕ)) → IsSome before → IfSome before (λ file. after ≡ Some (written at bytes file)) → now ≡ after → now ≡ Some image
     → (file : List ℕ) × (before ≡ Some file) × (image ≡ written at bytes file)
@@ -16,13 +15,6 @@ is_known image at bytes (Some file) after now some wrote same is = let e : Some 
 -- the sync after a write leaves what it wrote
 pub wrote_still : (at : ℕ) (bytes : List ℕ) (before after now : Option (List ℕ)) → IfSome before (λ file. after ≡ Some (written at bytes file)) → now ≡ after → IfSome before (λ file. now ≡ Some (written at bytes file))
 wrote_still at bytes before after now wrote same = subst (λ r. IfSome before (λ file. r ≡ Some (written at bytes file))) (sym same) wrote
-
--- the parcel, and then its gate
-pub wrote_both : (parcel : RawParcel) (position : ℕ) (bytes : List ℕ) (before staged now : Option (List ℕ)) → bytes ≡ parcel_bytes parcel ++ 0 ∷ [] → IfSome before (λ file. staged ≡ Some (written position bytes file))
-    → IfSome staged (λ file. now ≡ Some (written (position - 1) (1 ∷ []) file)) → IfSome before (λ file. now ≡ Some (appended parcel position file))
-wrote_both parcel position bytes None staged now are first second = tt
-wrote_both parcel position bytes (Some file) staged now are first second =
-    subst (λ b. now ≡ Some (written (position - 1) (1 ∷ []) (written position b file))) are (subst (λ r. IfSome r (λ file. now ≡ Some (written (position - 1) (1 ∷ []) file))) first second)
 
 module _ {D : Type 0} (reads : D → Option (List ℕ)) (leaves : D → List ℕ → Type 0) (moment : D → ℕ) (since : D → ℕ → List ℕ → Type 0)
     (known : (disk : D) (image : List ℕ) → leaves disk image → IsSome (reads disk))

@@ -6,6 +6,11 @@ use Rattle.obs_journal.specs.Parcels.{RawParcel, parcel_bytes, room}
 use Rattle.obs_journal.specs.declared.format.Format.{Format}
 use Rattle.obs_journal.specs.declared.format.Format.TheVariants.{Plain, Chained}
 
+-- the number of the file that has this format: the first one is plain, the second one is chained
+abbrev pub file_number : Format → ℕ
+file_number Plain = 1
+file_number Chained = 2
+
 -- what stands before the row: nothing in a plain file, the byte 1 in a chained one
 abbrev pub head : Format → List ℕ
 head Plain = []

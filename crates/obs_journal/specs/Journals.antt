@@ -1,22 +1,24 @@
 -- What an open journal stands for.
-use Rattle.std.specs.Prelude.{◌≡◌, ◌≢◌, ℕ, ◌+◌, List, ◌∷◌, ◌++◌}
+use Rattle.std.specs.Prelude.{◌≡◌, ◌≢◌, ℕ, List, [], ◌∷◌, ◌++◌, Result, Ok, Err}
 use Rattle.std.specs.declared.option.Option.{Option}
 use Rattle.std.specs.declared.option.Option.TheVariants.{None, Some}
 use Rattle.std.specs.Option.{option_map}
 use Rattle.std.specs.List.{AllByRecursion}
 use Rattle.disk_model.specs.Crashes.{During}
-use Rattle.obs_journal.specs.Parcels.{RawParcel, IsParcel, parcel_bytes, room}
+use Rattle.obs_journal.specs.Parcels.{RawParcel, IsParcel, parcel_bytes}
 use Rattle.obs_journal.specs.Formats.{file_of, next_seal}
 use Rattle.obs_journal.specs.declared.format.Format.{Format}
-use Rattle.obs_journal.specs.declared.format.Format.TheVariants.{Plain}
-use Rattle.obs_journal.specs.Files.{row_length, IsRow}
+use Rattle.obs_journal.specs.declared.format.Format.TheVariants.{Chained}
+use Rattle.obs_journal.specs.Chains.{IsChain, reached_after}
+use Rattle.obs_journal.specs.declared.journal.Reached.{Reached}
+use Rattle.obs_journal.specs.declared.fault.OpenFault.{OpenFault}
+use Rattle.obs_journal.specs.declared.opening.Placed.{Placed}
 
--- A journal: its disk, the bytes of the file up to and with the closed gate, and, while a parcel is in doubt, what they
--- are once it is added.
+-- a journal: its disk, where its chain stands, and, while a parcel is in doubt, where it stands once that is added
 pub record JournalState (D : Type 0) : Type 0 where
   pub disk : D
-  pub position : ℕ
-  pub in_doubt : Option ℕ
+  pub reached : Reached
+  pub in_doubt : Option Reached
 
 -- An image while one more parcel is in doubt: after the others any byte stands as its gate, and after that it stands
 -- whole, with its seal and a closed gate after it.
@@ -30,22 +32,27 @@ pub record IsDoubtfulIn (format : Format) (image : List ℕ) (parcels : List Raw
   pub each : AllByRecursion IsParcel parcels
   pub fits : IsParcel doubt
 
--- of a plain file
-abbrev pub IsDoubtful : List ℕ → List RawParcel → RawParcel → Type 0
-IsDoubtful image parcels doubt = IsDoubtfulIn Plain image parcels doubt
-
 -- an image holds these parcels, and perhaps the one in doubt
 abbrev pub Holds : List RawParcel → Option RawParcel → List ℕ → Type 0
-Holds parcels None image = IsRow image parcels
-Holds parcels (Some doubt) image = IsDoubtful image parcels doubt
+Holds parcels None image = IsChain image parcels
+Holds parcels (Some doubt) image = IsDoubtfulIn Chained image parcels doubt
 
--- the journal stands for these parcels, with this one in doubt: each image holds them, and the position is after their
--- closed gate
+-- the journal stands for these parcels, with this one in doubt: each image holds them, and the chain stands after them
 pub record StandsFor {D : Type 0} (leaves : D → List ℕ → Type 0) (journal : JournalState D) (parcels : List RawParcel)
     (doubt : Option RawParcel) : Type 0 where
   pub images : (image : List ℕ) → leaves journal.disk image → Holds parcels doubt image
-  pub position : journal.position ≡ row_length parcels + 1
-  pub in_doubt : journal.in_doubt ≡ option_map (λ parcel. journal.position + room parcel) doubt
+  pub reached : journal.reached ≡ reached_after parcels
+  pub in_doubt : journal.in_doubt ≡ option_map (λ parcel. reached_after (parcels ++ parcel ∷ [])) doubt
+
+-- the disk after opening: the journal's, or the one that was handed back
+abbrev pub opened_disk : {D : Type 0} → Result (JournalState D × List Placed) (OpenFault × D) → D
+opened_disk (Ok opened) = opened.0.disk
+opened_disk (Err failed) = failed.1
+
+-- the disk after carrying: the journal's, or the one that was handed back
+abbrev pub carried_disk : {D : Type 0} → Result (JournalState D) D → D
+carried_disk (Ok journal) = journal.disk
+carried_disk (Err disk) = disk
 
 -- the disk was not written: what reads give stays the same, and no image came
 pub record IsUnwritten {D : Type 0} (reads : D → Option (List ℕ)) (moment : D → ℕ) (since : D → ℕ → List ℕ → Type 0)

@@ -3,8 +3,8 @@ pub mod Stored
 pub mod Formats
 pub mod Files
 pub mod Fronts
+pub mod Chains
 pub mod Journals
 pub mod Opening
 pub mod Writing
-pub mod Chains
 pub mod Moves

@@ -1,12 +1,10 @@
--- What opening a journal gives.
-use Rattle.std.specs.Prelude.{◌≡◌, ℕ, ◌+◌, List, [], ◌∷◌, map, Result, Ok, Err}
+-- What opening a file gives.
+use Rattle.std.specs.Prelude.{◌≡◌, ℕ, ◌+◌, List, [], ◌∷◌, map}
 use Rattle.std.specs.declared.option.Option.{Option}
 use Rattle.std.specs.declared.option.Option.TheVariants.{Some}
 use Rattle.obs_journal.specs.Parcels.{RawParcel}
 use Rattle.obs_journal.specs.Formats.{room_in}
 use Rattle.obs_journal.specs.Files.{Spells}
-use Rattle.obs_journal.specs.Journals.{JournalState}
-use Rattle.obs_journal.specs.declared.fault.OpenFault.{OpenFault}
 use Rattle.obs_journal.specs.declared.opening.Placed.{Placed}
 use Rattle.obs_journal.specs.declared.format.Format.{Format}
 use Rattle.obs_journal.specs.declared.format.Format.TheVariants.{Plain}
@@ -32,8 +30,3 @@ pub record SpellsAlike (reads : Option (List ℕ)) (image : List ℕ) : Type 0 w
   pub file_is : reads ≡ Some file
   pub before : Spells file parcels
   pub now : Spells image parcels
-
--- the disk after opening: the journal's, or the one that was handed back
-abbrev pub disk_after : {D : Type 0} → Result (JournalState D × List Placed) (OpenFault × D) → D
-disk_after (Ok opened) = opened.0.disk
-disk_after (Err failed) = failed.1

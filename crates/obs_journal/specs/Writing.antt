@@ -6,7 +6,6 @@ use Rattle.disk_model.specs.Files.{written}
 use Rattle.obs_journal.specs.Parcels.{RawParcel, parcel_bytes}
 use Rattle.obs_journal.specs.Formats.{seal}
 use Rattle.obs_journal.specs.declared.format.Format.{Format}
-use Rattle.obs_journal.specs.declared.format.Format.TheVariants.{Plain}
 
 -- the file with these bytes at this offset is safe: each image is what was read before, with the bytes
 abbrev pub IsSafe : {D : Type 0} (reads : D → Option (List ℕ)) (leaves : D → List ℕ → Type 0) (at : ℕ)
@@ -19,7 +18,3 @@ IsSafe reads leaves at bytes old new =
 abbrev pub appended_in : Format → List ℕ → RawParcel → ℕ → List ℕ → List ℕ
 appended_in format last parcel position file = written (position - 1) (1 ∷ [])
     (written position (parcel_bytes parcel ++ (seal format last (parcel_bytes parcel) ++ 0 ∷ [])) file)
-
--- in a plain file
-abbrev pub appended : RawParcel → ℕ → List ℕ → List ℕ
-appended parcel position file = appended_in Plain [] parcel position file

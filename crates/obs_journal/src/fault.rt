@@ -14,8 +14,10 @@ use std::fmt::{Display, Formatter};
 pub enum OpenFault {
     /// The disk failed.
     DiskFault,
-    /// The file spells no list of parcels.
+    /// A file spells no list of parcels.
     Damaged {
+        /// 1 for the first file, 2 for the second one.
+        file: u8,
         /// The offset of the gate where it stops.
         offset: u64,
     },
@@ -27,7 +29,12 @@ impl Display for OpenFault {
     fn fmt<W: fmt::Write>(&self, f: &mut Formatter<W>) -> fmt::Result {
         match self {
             OpenFault::DiskFault => f.pad("the disk failed"),
-            OpenFault::Damaged { offset } => write!(f, "the journal is damaged at offset {offset}"),
+            OpenFault::Damaged { file, offset } => {
+                write!(
+                    f,
+                    "the journal is damaged in file {file} at offset {offset}"
+                )
+            }
             OpenFault::NoMemory => f.pad("out of memory"),
         }
     }

@@ -2,7 +2,7 @@
 
 ghost use Rattle.std.specs.Prelude.{◌≡◌, ◌↔◌, length, IsTrue};
 ghost use Rattle.obs_journal.specs.Parcels.{parcel_bytes};
-ghost use Rattle.obs_journal.specs.Formats.{head, seal, seal_length, room_in, kept};
+ghost use Rattle.obs_journal.specs.Formats.{file_number, head, seal, seal_length, room_in, kept};
 
 use crate::parcel::chain_digest;
 use crate::{DIGEST_BYTES, Parcel};
@@ -17,6 +17,16 @@ pub(crate) enum Format {
 }
 
 impl Format {
+    /// The number of the file that has this format.
+    pub(crate) fn file_number(self) -> u8
+        ensures { result ≡ file_number self }
+    {
+        match self {
+            Format::Plain => 1,
+            Format::Chained => 2,
+        }
+    }
+
     /// The bytes before the row.
     pub(crate) fn head_bytes(self) -> u64
         ensures { result ≡ length (head self) }

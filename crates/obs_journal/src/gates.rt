@@ -142,7 +142,7 @@ fn read_parcel<D: Disk>(
     ensures unwritten { IsUnwritten D.reads D.moment D.since disk.old disk.new }
     ensures counts { D.faults disk.old ≤ D.faults disk.new }
     ensures cause { IsErrOf result OpenFault.DiskFault → Rises (D.faults disk.old) (D.faults disk.new) }
-    ensures not_damaged { (offset : ℕ) → result ≢ Err (OpenFault.Damaged offset) }
+    ensures not_damaged { (file offset : ℕ) → result ≢ Err (OpenFault.Damaged file offset) }
 {
     bytes.clear();
     let body_bytes = head.counted as usize - FIELD_BYTES;
@@ -185,7 +185,7 @@ pub(crate) fn read_front<D: Disk>(
     ensures unwritten { IsUnwritten D.reads D.moment D.since disk.old disk.new }
     ensures counts { D.faults disk.old ≤ D.faults disk.new }
     ensures cause { IsErrOf result OpenFault.DiskFault → Rises (D.faults disk.old) (D.faults disk.new) }
-    ensures not_damaged { (offset : ℕ) → result ≢ Err (OpenFault.Damaged offset) }
+    ensures not_damaged { (file offset : ℕ) → result ≢ Err (OpenFault.Damaged file offset) }
 {
     bytes.clear();
     let left = end - gate;

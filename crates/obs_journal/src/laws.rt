@@ -2,19 +2,19 @@
 //! it.
 
 ghost use Rattle.std.specs.Prelude.{◌≡◌, ◌⊎◌, ◌+◌, ℕ, List, [], ◌++◌, ◌∷◌};
-ghost use Rattle.obs_journal.specs.Parcels.{RawParcel, IsParcel, parcel_bytes, room};
-ghost use Rattle.obs_journal.specs.Files.{row_length, IsRow, Spells, IsDamagedAt};
-ghost use Rattle.obs_journal.specs.Journals.{IsDoubtful, IsDoubtfulIn};
+ghost use Rattle.obs_journal.specs.Parcels.{RawParcel, IsParcel, parcel_bytes};
+ghost use Rattle.obs_journal.specs.Files.{Spells, IsDamagedAt};
+ghost use Rattle.obs_journal.specs.Journals.{IsDoubtfulIn};
 ghost use Rattle.obs_journal.specs.Formats.{room_in, row_length_in};
 ghost use Rattle.obs_journal.specs.declared.format.Format.TheVariants.{Chained};
 ghost use Rattle.obs_journal.specs.Chains.{IsInForce, IsChain, IsBrokenAt};
 
-/// A file spells at most one list of parcels.
+/// A first file spells at most one list of parcels.
 pub fn one_list()
     ensures { (file : List ℕ) (ps qs : List RawParcel) → Spells file ps → Spells file qs → ps ≡ qs }
 {}
 
-/// A damaged file spells no list, and is damaged at one offset alone.
+/// A damaged first file spells no list, and is damaged at one offset alone.
 pub fn damage()
     ensures no_list { (file : List ℕ) (offset : ℕ) (ps : List RawParcel) →
         IsDamagedAt file offset → Spells file ps → ⊥ }
@@ -25,18 +25,6 @@ pub fn damage()
 pub fn one_parcel()
     ensures { (p q : RawParcel) (x y : List ℕ) → IsParcel p → IsParcel q →
         parcel_bytes p ++ x ≡ parcel_bytes q ++ y → (p ≡ q) × (x ≡ y) }
-{}
-
-/// A file that holds parcels, and one in doubt after them, spells those parcels, without that one or with it.
-pub fn in_doubt()
-    ensures { (file : List ℕ) (parcels : List RawParcel) (doubt : RawParcel) → IsDoubtful file parcels doubt →
-        IsRow file parcels ⊎ IsRow file (parcels ++ doubt ∷ []) }
-{}
-
-/// One parcel more takes its room.
-pub fn one_more()
-    ensures { (parcels : List RawParcel) (parcel : RawParcel) →
-        row_length (parcels ++ parcel ∷ []) ≡ row_length parcels + room parcel }
 {}
 
 /// A chained file spells at most one list of parcels, and is in force.

@@ -53,7 +53,7 @@ pub(crate) fn read_bytes<D: Disk>(
     ensures unwritten { IsUnwritten D.reads D.moment D.since disk.old disk.new }
     ensures counts { D.faults disk.old ≤ D.faults disk.new }
     ensures cause { IsErrOf result OpenFault.DiskFault → Rises (D.faults disk.old) (D.faults disk.new) }
-    ensures not_damaged { (offset : ℕ) → result ≢ Err (OpenFault.Damaged offset) }
+    ensures not_damaged { (file offset : ℕ) → result ≢ Err (OpenFault.Damaged file offset) }
 {
     let mut piece = [0; PIECE_BYTES];
     let mut from = at;

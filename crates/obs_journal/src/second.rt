@@ -12,10 +12,10 @@ ghost use Rattle.obs_journal.specs.declared.format.Format.TheVariants.{Chained};
 ghost use Rattle.obs_journal.specs.Opening.{parcels_of};
 ghost use Rattle.obs_journal.specs.Journals.{IsUnwritten};
 ghost use Rattle.obs_journal.specs.Chains.{IsInForce, IsChain, reached_after};
-ghost use Rattle.obs_journal.specs.Moves.{IsIdle, IsOneByte, IsCarried, Adds, StaysShut};
+ghost use Rattle.obs_journal.specs.Moves.{IsIdle, IsOneByte, IsKnownAnd, IsCarriedInto, Adds, StaysShut};
 
-use crate::chain::Reached;
 use crate::format::Format;
+use crate::journal::Reached;
 use crate::opening::safe_end;
 use crate::parcel::chain_digest;
 use crate::reading::reads_open;
@@ -77,7 +77,8 @@ pub fn carry<D: Disk>(parcels: &Parcels, second: &mut D) -> Result<(), Failed>
         IsChain image (parcels_of parcels.now)) }
     ensures file { OnOk result (IfSome (D.reads second.old) (λ _.
         D.reads second.new ≡ Some (file_of Chained (parcels_of parcels.now) (0 ∷ [])))) }
-    ensures any_moment { During D.moment D.since second.old second.new (IsCarried (parcels_of parcels.now)) }
+    ensures any_moment { During D.moment D.since second.old second.new
+        (IsCarriedInto (D.reads second.old) (parcels_of parcels.now)) }
     ensures counts { D.faults second.old ≤ D.faults second.new }
     ensures cause { OnErr result (Rises (D.faults second.old) (D.faults second.new)) }
 {
@@ -96,7 +97,8 @@ pub(crate) fn carry_row<D: Disk>(parcels: &Parcels, second: &mut D) -> Result<Re
     ensures file { OnOk result (IfSome (D.reads second.old) (λ _.
         D.reads second.new ≡ Some (file_of Chained (parcels_of parcels.now) (0 ∷ [])))) }
     ensures reached { IfOk result (λ reached. reached ≡ reached_after (parcels_of parcels.now)) }
-    ensures any_moment { During D.moment D.since second.old second.new (IsCarried (parcels_of parcels.now)) }
+    ensures any_moment { During D.moment D.since second.old second.new
+        (IsCarriedInto (D.reads second.old) (parcels_of parcels.now)) }
     ensures counts { D.faults second.old ≤ D.faults second.new }
     ensures cause { OnErr result (Rises (D.faults second.old) (D.faults second.new)) }
 {
@@ -113,7 +115,7 @@ fn shut<D: Disk>(second: &mut D) -> Result<(), Failed>
     requires idle { IfSome (D.reads second.old) IsIdle }
     ensures shut { OnOk result ((image : List ℕ) → D.leaves second.new image →
         (D.reads second.new ≡ Some image) × IsOneByte image) }
-    ensures any_moment { During D.moment D.since second.old second.new IsIdle }
+    ensures any_moment { During D.moment D.since second.old second.new (IsKnownAnd (D.reads second.old) IsIdle) }
     ensures wrote { OnOk result (IfSome (D.reads second.old) (λ _. IsSomeAnd (D.reads second.new) IsOneByte)) }
     ensures counts { D.faults second.old ≤ D.faults second.new }
     ensures cause { OnErr result (Rises (D.faults second.old) (D.faults second.new)) }
@@ -128,7 +130,7 @@ fn shorten<D: Disk>(second: &mut D) -> Result<(), Failed>
     requires idle { IfSome (D.reads second.old) IsIdle }
     ensures wrote { OnOk result (IfSome (D.reads second.old) (λ _. IsSomeAnd (D.reads second.new) IsOneByte)) }
     ensures from { (image : List ℕ) → D.leaves second.new image → (before : List ℕ) × D.leaves second.old before }
-    ensures any_moment { During D.moment D.since second.old second.new IsIdle }
+    ensures any_moment { During D.moment D.since second.old second.new (IsKnownAnd (D.reads second.old) IsIdle) }
     ensures counts { D.faults second.old ≤ D.faults second.new }
     ensures cause { OnErr result (Rises (D.faults second.old) (D.faults second.new)) }
 {

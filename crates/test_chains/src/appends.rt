@@ -8,7 +8,7 @@ use crate::files::{
     BOTH, Held, disk_with, expect_none_wrong, held_on, is_file, may_be_left, one, other,
 };
 use disk_model::{Disk, Failed, MemDisk};
-use obs_journal::{AppendFault, ChainedJournal, Parcel, Parcels, Settled, in_force};
+use obs_journal::{AppendFault, Journal, Parcel, Parcels, Settled, in_force};
 use std::alloc::Global;
 
 /// The answer of an append.
@@ -21,15 +21,15 @@ pub(super) type Mending = Result<Settled, Failed>;
 // while the one is in doubt, and the position at last.
 pub(super) type Answers = (Appending, Mending, Mending, Option<Appending>, u64);
 
-// The journal of a second file into which no parcel was carried; None where that is in force, or its disk fails.
-fn journal_on<D: Disk>(alloc: Global, second: D) -> Option<ChainedJournal<D>>
+/// The journal of a second file into which no parcel was carried; None where that is in force, or its disk fails.
+pub(super) fn journal_on<D: Disk>(alloc: Global, second: D) -> Option<Journal<D>>
     ensures { IfSome result (λ journal. (journal.in_doubt ≡ None) × (journal.reached.position ≤ 4096)) }
 {
     let mut second = second;
     let Ok(false) = in_force(&mut second) else {
         return None;
     };
-    match ChainedJournal::carried(&Parcels::new(alloc), second) {
+    match Journal::carried(&Parcels::new(alloc), second) {
         Ok(journal) => Some(journal),
         Err(_) => None,
     }
@@ -37,7 +37,7 @@ fn journal_on<D: Disk>(alloc: Global, second: D) -> Option<ChainedJournal<D>>
 
 /// Appends a parcel where none is in doubt after a mending.
 pub(super) fn next_on<D: Disk>(
-    journal: &mut ChainedJournal<D>,
+    journal: &mut Journal<D>,
     parcel: Parcel,
 ) -> (Mending, Option<Appending>) {
     let mended = journal.mend();
@@ -93,17 +93,17 @@ fn written_bytes(rt: HostRuntime) {
 
 pub(super) const DONE: Appending = Ok(());
 
-const UNTOUCHED: Appending = Err(AppendFault::Untouched);
+pub(super) const UNTOUCHED: Appending = Err(AppendFault::Untouched);
 
-const IN_DOUBT: Appending = Err(AppendFault::InDoubt);
+pub(super) const IN_DOUBT: Appending = Err(AppendFault::InDoubt);
 
 pub(super) const NOTHING: Mending = Ok(Settled::Nothing);
 
-const DROPPED: Mending = Ok(Settled::Dropped);
+pub(super) const DROPPED: Mending = Ok(Settled::Dropped);
 
-const ADDED: Mending = Ok(Settled::Added);
+pub(super) const ADDED: Mending = Ok(Settled::Added);
 
-const STAYS: Mending = Err(Failed);
+pub(super) const STAYS: Mending = Err(Failed);
 
 // Calls that fail, the answers, and what a crash then leaves: where nothing is left that wasn't safe, and where all is
 // left of the first write since the last sync.

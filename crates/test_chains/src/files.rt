@@ -4,7 +4,7 @@ ghost use Rattle.std.specs.Prelude.{IfSome};
 ghost use Rattle.obs_journal.specs.Chains.{IsInForce};
 
 use disk_model::{Disk, MemDisk};
-use obs_journal::{ChainedJournal, OpenFault, Parcel, in_force};
+use obs_journal::{Journal, OpenFault, Parcel, in_force};
 use std::alloc::Global;
 use std::process::Abort;
 
@@ -127,8 +127,8 @@ pub(super) enum Opened {
     Idle,
     /// The disk failed, or memory was refused.
     Failed,
-    /// It is damaged at this offset.
-    Damaged(u64),
+    /// The file of this number is damaged at this offset.
+    Damaged(u8, u64),
     /// So many parcels, and the position after them.
     Parcels(u64, u64),
 }
@@ -147,9 +147,9 @@ pub(super) fn opened_on<D: Disk>(alloc: Global, disk: D) -> Opened {
 fn opened_in_force<D: Disk>(alloc: Global, disk: D) -> Opened
     requires { IfSome (D.reads disk) IsInForce }
 {
-    match ChainedJournal::open(alloc, disk) {
+    match Journal::open(alloc, disk) {
         Ok((journal, parcels)) => Opened::Parcels(parcels.len(), journal.position()),
-        Err((OpenFault::Damaged { offset }, _)) => Opened::Damaged(offset),
+        Err((OpenFault::Damaged { file, offset }, _)) => Opened::Damaged(file, offset),
         Err(_) => Opened::Failed,
     }
 }

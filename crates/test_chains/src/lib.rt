@@ -10,4 +10,6 @@ mod carries;
 #[cfg(test)]
 mod files;
 #[cfg(test)]
+mod mendings;
+#[cfg(test)]
 mod openings;

@@ -10,7 +10,7 @@ use crate::files::{
     opened_on, other,
 };
 use disk_model::Disk;
-use obs_journal::{ChainedJournal, Parcel, Parcels, Placed, in_force};
+use obs_journal::{Journal, Parcel, Parcels, Placed, in_force};
 use std::alloc::Global;
 
 // The one parcel, the other and the one again.
@@ -82,16 +82,16 @@ const OPENINGS: &[(&[u8], Opened)] = &[
     (b"\x01\0", Opened::Parcels(0, 2)),
     (b"\x01\x02", Opened::Parcels(0, 2)),
     (b"\x01\0\x01", Opened::Parcels(0, 2)),
-    (b"\x01\x01", Opened::Damaged(1)),
+    (b"\x01\x01", Opened::Damaged(2, 1)),
     (&ONE, Opened::Parcels(1, 111)),
     (&OTHER, Opened::Parcels(1, 62)),
     (&BOTH, Opened::Parcels(2, 171)),
     (&THREE, Opened::Parcels(3, 280)),
-    (&WRONG_MIDDLE, Opened::Damaged(110)),
-    (&BEGUN_ANEW, Opened::Damaged(110)),
-    (&BODY_ALONE, Opened::Damaged(1)),
-    (&NO_ZEROS, Opened::Damaged(1)),
-    (&NO_DIGEST, Opened::Damaged(1)),
+    (&WRONG_MIDDLE, Opened::Damaged(2, 110)),
+    (&BEGUN_ANEW, Opened::Damaged(2, 110)),
+    (&BODY_ALONE, Opened::Damaged(2, 1)),
+    (&NO_ZEROS, Opened::Damaged(2, 1)),
+    (&NO_DIGEST, Opened::Damaged(2, 1)),
 ];
 
 fn opened(alloc: Global, file: &[u8], fails: &[u64]) -> Option<Opened> {
@@ -121,9 +121,9 @@ fn changed(place: usize, value: u8) -> Opened {
     match (place, value) {
         (0, _) => Opened::Idle,
         (1, _) => Opened::Parcels(0, 2),
-        (110, 1) => Opened::Damaged(110),
+        (110, 1) => Opened::Damaged(2, 110),
         (110, _) => Opened::Parcels(1, 111),
-        _ => Opened::Damaged(1),
+        _ => Opened::Damaged(2, 1),
     }
 }
 
@@ -162,8 +162,8 @@ fn changed_bytes(rt: HostRuntime) {
 fn cut_short(length: usize) -> Opened {
     match length {
         0 | 1 => Opened::Idle,
-        2..=110 => Opened::Damaged(1),
-        111..=170 => Opened::Damaged(110),
+        2..=110 => Opened::Damaged(2, 1),
+        111..=170 => Opened::Damaged(2, 110),
         _ => Opened::Parcels(2, 171),
     }
 }
@@ -204,14 +204,14 @@ fn failing_openings(rt: HostRuntime) {
 }
 
 // The journal of a second file in force, and its parcels; None where it isn't, or opening fails.
-fn journal_on<D: Disk>(alloc: Global, disk: D) -> Option<(ChainedJournal<D>, Parcels)>
+fn journal_on<D: Disk>(alloc: Global, disk: D) -> Option<(Journal<D>, Parcels)>
     ensures { IfSome result (λ opened. opened.0.in_doubt ≡ None) }
 {
     let mut disk = disk;
     let Ok(true) = in_force(&mut disk) else {
         return None;
     };
-    match ChainedJournal::open(alloc, disk) {
+    match Journal::open(alloc, disk) {
         Ok(opened) => Some(opened),
         Err(_) => None,
     }

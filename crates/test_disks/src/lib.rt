@@ -1,4 +1,4 @@
-//! Tests of disks in memory and on a real file, and of the journal on them.
+//! Tests of disks in memory and on a real file, and of a first file on them.
 //!
 //! A crate with tests is proved twice, with and without them, so they stand in a crate above those that they test.
 #![tactic(auto)]
@@ -12,7 +12,7 @@ mod disks;
 #[cfg(test)]
 mod failures;
 #[cfg(test)]
-mod journals;
+mod first_files;
 #[cfg(test)]
 mod names;
 #[cfg(test)]

@@ -5,6 +5,9 @@ use Rattle.obs_journal.proofs.Quiet.{if_both}
 use Rattle.obs_journal.proofs.opening.recover_chain.Goals as goal
 
 pub returns-clause-damaged : goal.returns-clause-damaged
-returns-clause-damaged g c = λ offset is.
-    if_both (λ file. length file ≡ c.in_ok-end.end) (λ file. length file ≡ c.in_ok-end.end → IsBrokenAt file offset) (λ file. IsBrokenAt file offset) (g.D.Disk.reads c.args.disk.now) (λ file at_end said. said at_end) c.in_ok-end.ensures.end
-    (subst (λ r. IfSome r (λ file. length file ≡ c.in_ok-end.end → IsBrokenAt file offset)) c.safe_end.ensures.unwritten.same (c.read_row.ensures.damaged offset is))
+returns-clause-damaged g c = λ file offset is.
+    let damaged = c.read_row.ensures.damaged file offset is in (
+      damaged.0,
+      if_both (λ bytes. length bytes ≡ c.in_ok-end.end) (λ bytes. length bytes ≡ c.in_ok-end.end → IsBrokenAt bytes offset) (λ bytes. IsBrokenAt bytes offset) (g.D.Disk.reads c.args.disk.now) (λ bytes at_end said. said at_end) c.in_ok-end.ensures.end
+          (subst (λ r. IfSome r (λ bytes. length bytes ≡ c.in_ok-end.end → IsBrokenAt bytes offset)) c.safe_end.ensures.unwritten.same damaged.1),
+    )

@@ -32,3 +32,12 @@ pub returns-clause-adds : goal.returns-clause-adds
 returns-clause-adds g c =
     subst (λ (l : List Placed). Adds g.D.Disk.reads g.D.Disk.leaves 1 (row Chained (first_seal Chained) (parcels_of l) (0 ∷ [])) c.args.second.now c.add.new.second) (take_all c.loop-placed.placed-index c.args.parcels.now (omega (arith, c.loop-placed-test.false)))
     (all_written g.D.Disk.reads g.D.Disk.leaves (parcels_of (take c.loop-placed.placed-index c.args.parcels.now)) c.loop-placed.gate c.loop-placed.last c.loop-placed.invariant.written c.in_ok-add.ensures.adds)
+
+pub returns-in_err-last-clause-shut : goal.returns-in_err-last-clause-shut
+returns-in_err-last-clause-shut g c = stays_joined c.loop-placed.invariant.written.adds c.loop-placed.invariant.shut c.write_parcel.ensures.shut
+
+pub returns-in_err-add-clause-shut : goal.returns-in_err-add-clause-shut
+returns-in_err-add-clause-shut g c = stays_joined c.loop-placed.invariant.written.adds c.loop-placed.invariant.shut c.add.ensures.shut
+
+pub returns-clause-shut : goal.returns-clause-shut
+returns-clause-shut g c = stays_joined c.loop-placed.invariant.written.adds c.loop-placed.invariant.shut c.add.ensures.shut
