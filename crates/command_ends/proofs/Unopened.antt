@@ -1,53 +1,101 @@
 -- An office that couldn't be opened.
-use Rattle.std.proofs.Common.{◌≡◌, ℕ, ◌-◌, ◌≤◌, List, Option, Some, refl, sym, subst, ◌∙◌}
-use Rattle.std.specs.Prelude.{◌≢◌, IfSome, IsSome}
+use Rattle.std.proofs.Common.{◌≡◌, ◌⊎◌, ℕ, ◌+◌, ◌-◌, ◌<◌, ◌≤◌, List, Option, Some, None, refl, sym, subst, ◌∙◌, inl, inr, ⊎_elim, arith}
+use Rattle.std.specs.Prelude.{◌≢◌, IfSome}
 use Rattle.disk_model.specs.Counts.{Rises}
-use Rattle.disk_model.specs.Crashes.{During}
 use Rattle.obs_journal.specs.declared.fault.OpenFault.{OpenFault}
 use Rattle.obs_journal.specs.declared.fault.OpenFault.TheVariants as opening
-use Rattle.obs_journal.specs.Journals.{IsUnwritten}
-use Rattle.obs_journal.specs.Opening.{SpellsAlike}
+use Rattle.disk_model.specs.Moments.{during_nothing}
+use Rattle.obs_journal.specs.Chains.{IsInForce}
 use Rattle.act_bodies.specs.declared.key.Key.{Key}
 use Rattle.act_model.specs.declared.entry.Entry.{Entry}
 use Rattle.act_model.specs.Legal.{IsLegal}
 use Rattle.mpc_desk.specs.Desks.{count_of}
-use Rattle.mpc_desk.specs.Files.{Stands}
-use Rattle.mpc_desk.specs.Opening.{IsDamagedDesk}
+use Rattle.mpc_desk.specs.Pairs.{FilePair, StandBoth, DiskPair, AreRead, HaveRisen, NeitherFell, EitherRises}
+use Rattle.mpc_desk.specs.PairLaws.{both_nothing, never_damaged}
+use Rattle.mpc_desk.specs.Opening.{SpellAlike, IsDamagedFirst, IsDamagedSecond, IsUnopened}
+use Rattle.mpc_desk.specs.Files.{Stands, StandsFirst}
 use Rattle.command_ends.specs.declared.status.Status.{Status}
-use Rattle.command_ends.specs.declared.status.Status.TheVariants.{Damaged, NoMemory}
-use Rattle.command_ends.specs.Disks.{DiskWords, DiskRose}
-use Rattle.command_ends.specs.Opening.{status_of, IsUnopened, EndsUnopened}
-use Rattle.command_ends.proofs.Counts.{rose_any, rose_fault}
+use Rattle.command_ends.specs.declared.status.Status.TheVariants.{Damaged}
+use Rattle.command_ends.specs.Disks.{DiskWords}
+use Rattle.command_ends.specs.Opening.{status_of, IsNotOpened, AreAsTheyWere, EndsUnopened}
+use Rattle.command_ends.proofs.Counts.{rose_any, rose_fault, rose_none}
 
-module _ {D : Type 0} (on : DiskWords D) (founder : Key) (disk now : D) (added : ℕ) (none : added ≡ 0)
-    (later : on.faults disk ≤ on.faults now) (images : During on.moment on.since disk now (SpellsAlike (on.reads disk))) where
-  shut : (rise : ℕ) → DiskRose on rise disk now → IsUnopened on disk now added rise
-  shut rise counts = record { added_is = none; counts = counts; images = images }
+if_each : (reads : Option (List ℕ)) (P : List ℕ → Type 0) → ((file : List ℕ) → P file) → IfSome reads P
+if_each None P each = tt
+if_each (Some file) P each = each file
 
-  any : IsUnopened on disk now added (count_of (on.faults now) - count_of (on.faults disk))
-  any = shut _ (rose_any (on.faults disk) (on.faults now) later)
+module _ {D : Type 0} (on : DiskWords D) (founder : Key) (disks now : DiskPair D) (added : ℕ) (none : added ≡ 0) where
+  -- both counts rose by their differences
+  any_rise : NeitherFell on disks now → (rise : ℕ) × HaveRisen on rise disks now
+  any_rise later = (
+    (count_of (on.faults now.first) - count_of (on.faults disks.first)) + (count_of (on.faults now.second) - count_of (on.faults disks.second)),
+    record {
+      first = count_of (on.faults now.first) - count_of (on.faults disks.first);
+      second = count_of (on.faults now.second) - count_of (on.faults disks.second);
+      sum = refl;
+      rose_first = rose_any (on.faults disks.first) (on.faults now.first) later.first;
+      rose_second = rose_any (on.faults disks.second) (on.faults now.second) later.second;
+    },
+  )
 
-  pub unopened_ends : (fault : OpenFault) → (fault ≡ opening.DiskFault → Rises (on.faults disk) (on.faults now))
-      → ((offset : ℕ) → fault ≡ opening.Damaged offset → IfSome (on.reads disk) (λ file. IsDamagedDesk founder file offset))
-      → (fault ≢ opening.DiskFault → IsSome (on.reads disk) → IsUnwritten on.reads on.moment on.since disk now)
-      → EndsUnopened on founder disk now added (status_of fault)
-  unopened_ends opening.DiskFault cause damaged unwritten =
-      let (rise, some, rose) = rose_fault (on.faults disk) (on.faults now) later (cause refl) in
-      (rise, some, shut rise rose)
-  unopened_ends (opening.Damaged offset) cause damaged unwritten = (damaged offset refl, (_, any, unwritten (λ is. absurd cc)))
-  unopened_ends opening.NoMemory cause damaged unwritten = (_, any, unwritten (λ is. absurd cc))
+  -- or one of them by something
+  some_rise : NeitherFell on disks now → EitherRises on disks now → (rise : ℕ) × (0 < rise) × HaveRisen on rise disks now
+  some_rise later (inl rises) =
+      let (rise, some, rose) = rose_fault (on.faults disks.first) (on.faults now.first) later.first rises in
+      let other = count_of (on.faults now.second) - count_of (on.faults disks.second) in (
+        rise + other,
+        omega (arith, some),
+        record { first = rise; second = other; sum = refl; rose_first = rose; rose_second = rose_any (on.faults disks.second) (on.faults now.second) later.second },
+      )
+  some_rise later (inr rises) =
+      let (rise, some, rose) = rose_fault (on.faults disks.second) (on.faults now.second) later.second rises in
+      let other = count_of (on.faults now.first) - count_of (on.faults disks.first) in (
+        other + rise,
+        omega (arith, some),
+        record { first = other; second = rise; sum = refl; rose_first = rose_any (on.faults disks.first) (on.faults now.first) later.first; rose_second = rose },
+      )
+
+  module _ (fault : OpenFault) (left : IsUnopened on founder disks fault now) where
+    shut : (rise : ℕ) → HaveRisen on rise disks now → IsNotOpened on disks now added rise
+    shut rise counts = record { added_is = none; counts = counts; images = left.images; uncalled = left.uncalled }
+
+    as_they_were : fault ≢ opening.DiskFault → AreAsTheyWere on disks now added
+    as_they_were other =
+        let (rise, rose) = any_rise left.counts in
+        record { rise = rise; shut = shut rise rose; second_unwritten = left.second_unwritten other; first_unwritten = left.first_unwritten other }
+
+  pub unopened_ends : (fault : OpenFault) → IsUnopened on founder disks fault now → EndsUnopened on founder disks now added (status_of fault)
+  unopened_ends opening.DiskFault left =
+      let (rise, some, rose) = some_rise left.counts (left.cause refl) in
+      (rise, some, shut opening.DiskFault left rise rose)
+  unopened_ends (opening.Damaged file offset) left = (left.damaged file offset refl, as_they_were (opening.Damaged file offset) left (λ is. absurd cc))
+  unopened_ends opening.NoMemory left = as_they_were opening.NoMemory left (λ is. absurd cc)
+
+  -- where no device was called
+  pub nothing_called : ((disk : D) (image : List ℕ) → on.since disk (on.moment disk) image → on.leaves disk image) → now ≡ disks → AreAsTheyWere on disks now added
+  nothing_called only_now same = subst (λ (n : DiskPair D). AreAsTheyWere on disks n added) (sym same) (record {
+    rise = 0;
+    shut = record {
+      added_is = none;
+      counts = record { first = 0; second = 0; sum = refl; rose_first = rose_none (on.faults disks.first); rose_second = rose_none (on.faults disks.second) };
+      images = both_nothing on only_now disks (SpellAlike on disks);
+      uncalled = if_each (on.reads disks.second) (λ file. IsInForce file → disks.first ≡ disks.first) (λ file force. refl);
+    };
+    second_unwritten = record { same = refl; no_image = during_nothing disks.second (λ _. ⊥) };
+    first_unwritten = λ known. record { same = refl; no_image = during_nothing disks.first (λ _. ⊥) };
+  })
 
 -- the status tells of what damage it is
-status_damaged : (fault : OpenFault) (offset : ℕ) → status_of fault ≡ Damaged offset → fault ≡ opening.Damaged offset
-status_damaged opening.DiskFault offset is = absurd cc
-status_damaged (opening.Damaged place) offset is = cc
-status_damaged opening.NoMemory offset is = absurd cc
+status_damaged : (fault : OpenFault) (file offset : ℕ) → status_of fault ≡ Damaged file offset → fault ≡ opening.Damaged file offset
+status_damaged opening.DiskFault file offset is = absurd cc
+status_damaged (opening.Damaged number place) file offset is = cc
+status_damaged opening.NoMemory file offset is = absurd cc
 
--- a file that stands for a legal history isn't damaged
-pub undamaged : (damage : (founder : Key) (file : List ℕ) (offset : ℕ) (history : List Entry) → IsDamagedDesk founder file offset → IsLegal founder history → Stands file history → ⊥)
-    → {D : Type 0} (on : DiskWords D) (founder : Key) (disk : D) (fault : OpenFault) (status : Status) → status ≡ status_of fault
-    → ((offset : ℕ) → fault ≡ opening.Damaged offset → IfSome (on.reads disk) (λ file. IsDamagedDesk founder file offset))
-    → (file : List ℕ) (history : List Entry) (offset : ℕ) → on.reads disk ≡ Some file → Stands file history → IsLegal founder history → status ≡ Damaged offset → ⊥
-undamaged damage on founder disk fault status is damaged file history offset reads stands legal at =
-    let found = damaged offset (status_damaged fault offset (sym is ∙ at)) in
-    damage founder file offset history (subst (λ (o : Option (List ℕ)). IfSome o (λ known. IsDamagedDesk founder known offset)) reads found) legal stands
+-- files that stand for a legal history aren't damaged
+pub undamaged : (first : (founder : Key) (file : List ℕ) (offset : ℕ) (history : List Entry) → IsDamagedFirst founder file offset → IsLegal founder history → StandsFirst file history → ⊥)
+    → (second : (founder : Key) (file : List ℕ) (offset : ℕ) (history : List Entry) → IsDamagedSecond founder file offset → IsLegal founder history → Stands file history → ⊥)
+    → (force : (founder : Key) (file : List ℕ) (offset : ℕ) → IsDamagedSecond founder file offset → IsInForce file)
+    → {D : Type 0} (on : DiskWords D) (founder : Key) (disks now : DiskPair D) (fault : OpenFault) (status : Status) → status ≡ status_of fault → IsUnopened on founder disks fault now
+    → (files : FilePair) (history : List Entry) (file offset : ℕ) → AreRead on disks files → StandBoth files history → IsLegal founder history → status ≡ Damaged file offset → ⊥
+undamaged first second force on founder disks now fault status is left files history file offset read stood legal at =
+    never_damaged first second force on founder disks files history file offset read stood legal (left.damaged file offset (status_damaged fault file offset (sym is ∙ at)))

@@ -4,6 +4,7 @@ use Rattle.std.specs.Prelude.{◌≡◌, ◌≤◌, ℕ, List, Option, Bool}
 use Rattle.desk_io.specs.Outside.{Rises}
 use Rattle.desk_io.specs.Reads.{Passes}
 use Rattle.act_model.specs.Clocks.{ClockState}
+use Rattle.mpc_desk.specs.Pairs.{DiskPair, EitherRises}
 use Rattle.command_ends.specs.Disks.{DiskWords}
 use Rattle.command_ends.specs.declared.status.Status.{Status}
 use Rattle.command_ends.specs.declared.status.Status.TheVariants.{DiskFault, ReadFault, WriteFault}
@@ -27,7 +28,7 @@ pub record SinkWords (K : Type 0) : Type 1 where
 abbrev pub sink_words : {K : Type 0} → (K → Option (List ℕ)) → (K → ℕ) → (K → Bool) → SinkWords K
 sink_words taken faults is_open = record { taken = taken; faults = faults; is_open = is_open }
 
--- a sink, a disk and a clock
+-- a sink, disks and a clock
 pub record OutsideWords (K D C : Type 0) : Type 1 where
   pub sink : SinkWords K
   pub disk : DiskWords D
@@ -50,11 +51,11 @@ change old new = record { old = old; new = new }
 abbrev pub IsUncalled : {X : Type 0} → Change X → Type 0
 IsUncalled x = x.new ≡ x.old
 
--- the course of a command: its sink, its disk and its clock, by how many entries the history grew, and the status with
--- which it ended
+-- the course of a command: its sink, its two disks and its clock, by how many entries the history grew, and the status
+-- with which it ended
 pub record Course (K D C : Type 0) : Type 0 where
   pub sink : Change K
-  pub disk : Change D
+  pub disks : Change (DiskPair D)
   pub clock : Change C
   pub added : ℕ
   pub status : Status
@@ -80,12 +81,16 @@ SourceCause on source status =
 abbrev pub SinkCause : {K : Type 0} → SinkWords K → Change K → Status → Type 0
 SinkCause on sink status = HasCause on.faults sink WriteFault status × StaysOpen on.faults on.is_open sink
 
--- the disk failed where the end is `DiskFault`
-abbrev pub DiskCause : {D : Type 0} → DiskWords D → Change D → Status → Type 0
-DiskCause on disk status = status ≡ DiskFault → Rises (on.faults disk.old) (on.faults disk.new)
+-- one of the disks failed where the end is `DiskFault`
+abbrev pub DiskCause : {D : Type 0} → DiskWords D → Change (DiskPair D) → Status → Type 0
+DiskCause on disks status = status ≡ DiskFault → EitherRises on disks.old disks.new
 
 -- ---- no fault
 
 -- no fault of a thing was counted
 abbrev pub IsFaultless : {X : Type 0} → (X → ℕ) → Change X → Type 0
 IsFaultless faults x = ¬ Rises (faults x.old) (faults x.new)
+
+-- and none of either disk
+abbrev pub AreFaultless : {D : Type 0} → DiskWords D → Change (DiskPair D) → Type 0
+AreFaultless on disks = ¬ EitherRises on disks.old disks.new

@@ -18,12 +18,12 @@ pub enum Status {
     /// From this offset on the bytes are no frame.
     #[error("BadFrame at {offset}")]
     BadFrame { offset: u64 },
-    /// The disk failed while the journal was opened, or at the end, when an act in doubt was mended.
+    /// A disk failed while the office was opened, or the second one at the end, when an act in doubt was mended.
     #[error("DiskFault")]
     DiskFault,
-    /// The journal is damaged at this offset.
-    #[error("Damaged at {offset}")]
-    Damaged { offset: u64 },
+    /// The file of this number, 1 or 2, is damaged at this offset.
+    #[error("Damaged in {file} at {offset}")]
+    Damaged { file: u8, offset: u64 },
     /// The source failed.
     #[error("ReadFault")]
     ReadFault,
@@ -57,10 +57,13 @@ impl Status {
     }
 }
 
-/// How a call ended, the disk, and by how many entries the office's history grew.
+/// How a call ended, the two disks, and by how many entries the office's history grew.
 #[derive(Debug, Drop)]
 pub struct Ended<D: Disk> {
     pub status: Status,
+    /// The first disk, whose file is only read and moved from.
     pub disk: D,
+    /// The second disk, with the file that counts.
+    pub second: D,
     pub added: u64,
 }

@@ -2,8 +2,8 @@
 //! and writes reply frames to standard output, `serve --key K --connections N` attends connections at port 8017,
 //! `export` writes the catalogue. The office stands on the journal in the current folder.
 //!
-//! `top` of program_top does all that the program does, over any source, sink, disk, clock and door, and carries the
-//! theorem. program_main hands it the real ones.
+//! `top` of program_top does all that the program does, over any source, sink, two disks, clock and door, and carries
+//! the theorem. program_main hands it the real ones.
 #![tactic(auto)]
 
 use program_main::program;

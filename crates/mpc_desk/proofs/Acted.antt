@@ -7,7 +7,7 @@ use Rattle.disk_model.specs.Counts.{Rises}
 use Rattle.disk_model.specs.Crashes.{During}
 use Rattle.disk_model.specs.Moments.{during_nothing, during_weaker}
 use Rattle.obs_journal.specs.Parcels.{RawParcel}
-use Rattle.obs_journal.specs.Files.{IsRow}
+use Rattle.obs_journal.specs.Chains.{IsChain}
 use Rattle.obs_journal.specs.Journals.{JournalState, StandsFor}
 use Rattle.act_model.specs.declared.entry.Entry.{Entry}
 use Rattle.act_model.specs.declared.keeper.OfficeState.{OfficeState}
@@ -129,14 +129,14 @@ module _ {D : Type 0} (leaves : D → List ℕ → Type 0) (core now : CoreState
         }
 
     module _ (e : Entry) (adds : outcome core.founder (Some limit) core.history q t ≡ Adds e) (act : IsOfAct e) (parcel : RawParcel) (same : parcel ≡ parcel_of e) (after : JournalState D)
-        (inside : (parcels : List RawParcel) → StandsFor leaves journal parcels None → During moment since journal.disk after.disk (λ image. IsRow image parcels ⊎ IsRow image (parcels ++ parcel ∷ []))) where
+        (inside : (parcels : List RawParcel) → StandsFor leaves journal parcels None → During moment since journal.disk after.disk (λ image. IsChain image parcels ⊎ IsChain image (parcels ++ parcel ∷ []))) where
       images_are : During moment since journal.disk after.disk (MayLeave before core.history q t)
       images_are =
           during_weaker (MayLeave before core.history q t)
           (λ image row.
           ⊎_elim
           (λ without. inl (inl (row_stands image core.history here.acts without)))
-          (λ with. inr (e, adds, row_stands image (e ∷ core.history) (act.0, here.acts) (subst (λ (p : RawParcel). IsRow image (parcels_in core.history ++ p ∷ [])) same with)))
+          (λ with. inr (e, adds, row_stands image (e ∷ core.history) (act.0, here.acts) (subst (λ (p : RawParcel). IsChain image (parcels_in core.history ++ p ∷ [])) same with)))
           row)
           (inside (parcels_in core.history) here.stands)
 

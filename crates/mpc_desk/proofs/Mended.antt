@@ -1,5 +1,5 @@
 -- A desk after mending.
-use Rattle.std.proofs.Common.{◌≡◌, ℕ, ◌-◌, ◌<◌, List, [], ◌∷◌, ◌++◌, Option, Some, None, refl, sym, subst, ◌∙◌}
+use Rattle.std.proofs.Common.{◌≡◌, ℕ, ◌-◌, ◌<◌, List, [], ◌∷◌, ◌++◌, Option, Some, None, refl, sym, ap, subst, ◌∙◌}
 use Rattle.std.specs.Prelude.{◌^◌, IfSome, slice_index}
 use Rattle.act_bodies.specs.declared.key.Key.{Key}
 use Rattle.obs_journal.specs.declared.journal.Settled.{Settled}
@@ -20,8 +20,8 @@ gate_is reads P position used is read = subst (λ (n : ℕ). IfSome reads (λ fi
 
 module _ {D : Type 0} (leaves : D → List ℕ → Type 0) where
   -- the gate of what comes next stands where the bytes of the history end
-  pub position_is : (core : Office) (journal : JournalState D) (doubt : Option Ready) → IsDesk leaves core journal doubt → journal.position ≡ used core.history
-  position_is core journal doubt desk = desk.stands.position ∙ sym (used_is core.history)
+  pub position_is : (core : Office) (journal : JournalState D) (doubt : Option Ready) → IsDesk leaves core journal doubt → journal.reached.position ≡ used core.history
+  position_is core journal doubt desk = ap (λ r. r.position) desk.stands.reached ∙ sym (used_is core.history)
 
   -- a desk with nothing in doubt
   pub at_history : (core : Office) (journal : JournalState D) (history : List Entry) → core.history ≡ history → StandsFor leaves journal (parcels_in history) None → used history < 2 ^ 64 → IsLegal core.founder history → AreActs history

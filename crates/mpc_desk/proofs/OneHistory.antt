@@ -1,8 +1,9 @@
 -- A file stands for one history, and one that stands for a legal history isn't damaged.
 use Rattle.std.proofs.Common.{◌≡◌, ◌⊎◌, ℕ, List, [], ◌∷◌, ◌++◌, true, Option, Some, None, refl, sym, ap, subst, ◌∙◌, inl, inr, append_assoc}
-use Rattle.std.specs.Prelude.{IfSome, IsSome, option_map}
+use Rattle.std.specs.Prelude.{option_map}
 use Rattle.obs_journal.specs.Parcels.{RawParcel}
 use Rattle.obs_journal.specs.Files.{Spells}
+use Rattle.obs_journal.specs.Chains.{IsChain}
 use Rattle.act_bodies.specs.declared.key.Key.{Key}
 use Rattle.act_model.specs.declared.entry.Entry.{Entry}
 use Rattle.act_model.specs.declared.request.Verb.{Verb}
@@ -10,7 +11,7 @@ use Rattle.act_model.specs.declared.request.Verb.TheVariants.{Enrol, Station, Co
 use Rattle.act_model.specs.Legal.{IsAdded, IsLegal}
 use Rattle.act_model.specs.Requests.{is_act, verb_code}
 use Rattle.desk_core.specs.Replaying.{act_with}
-use Rattle.mpc_desk.specs.Files.{parcel_of, parcels_in, AreActs, Stands}
+use Rattle.mpc_desk.specs.Files.{parcel_of, parcels_in, AreActs, Stands, StandsFirst}
 use Rattle.mpc_desk.specs.Opening.{entry_in, StopsAt}
 
 -- ---- the entry of a parcel
@@ -82,8 +83,11 @@ same_history (e ∷ h) (f ∷ k) (act, first) (act', second) is =
     let ends = ends_alike (parcels_in h) (parcels_in k) (parcel_of e) (parcel_of f) is in
     ap (λ (x : Entry). x ∷ h) (same_entry e f act act' ends.1) ∙ ap (λ (l : List Entry). f ∷ l) (same_history h k first second ends.0)
 
-pub one_history : (one_list : (file : List ℕ) (ps qs : List RawParcel) → Spells file ps → Spells file qs → ps ≡ qs) (file : List ℕ) (h k : List Entry) → Stands file h → Stands file k → h ≡ k
-one_history one_list file h k first second = same_history h k first.acts second.acts (one_list file (parcels_in h) (parcels_in k) first.spelled second.spelled)
+pub one_first : (one_list : (file : List ℕ) (ps qs : List RawParcel) → Spells file ps → Spells file qs → ps ≡ qs) (file : List ℕ) (h k : List Entry) → StandsFirst file h → StandsFirst file k → h ≡ k
+one_first one_list file h k first second = same_history h k first.acts second.acts (one_list file (parcels_in h) (parcels_in k) first.spelled second.spelled)
+
+pub one_second : (one_chain : (file : List ℕ) (ps qs : List RawParcel) → IsChain file ps → IsChain file qs → ps ≡ qs) (file : List ℕ) (h k : List Entry) → Stands file h → Stands file k → h ≡ k
+one_second one_chain file h k first second = same_history h k first.acts second.acts (one_chain file (parcels_in h) (parcels_in k) first.chained second.chained)
 
 -- ---- no damage in a legal history
 
@@ -105,15 +109,10 @@ module _ (founder : Key) (before : List Entry) (p : RawParcel) (acts : AreActs b
           let all : parcels_in past ++ parcel_of e ∷ [] ≡ (parcels_in before ++ p ∷ front) ++ last ∷ [] = is ∙ ap (λ (l : List RawParcel). parcels_in before ++ p ∷ l) ends ∙ sym (append_assoc (parcels_in before) (p ∷ front) (last ∷ [])) in
           earlier front past_acts legal (ends_alike (parcels_in past) (parcels_in before ++ p ∷ front) (parcel_of e) last all).0
 
-pub sound_file : (one_list : (file : List ℕ) (ps qs : List RawParcel) → Spells file ps → Spells file qs → ps ≡ qs) (founder : Key) (file : List ℕ) (parcels : List RawParcel) (offset : ℕ) (history : List Entry)
-    → Spells file parcels → StopsAt founder parcels offset → IsLegal founder history → Stands file history → ⊥
-sound_file one_list founder file parcels offset history spelled stops legal stands =
+-- so opening doesn't stop at an entry of a legal history
+pub never_stops : (gate_after : List RawParcel → ℕ) (founder : Key) (parcels : List RawParcel) (offset : ℕ) (history : List Entry)
+    → StopsAt gate_after founder parcels offset → IsLegal founder history → AreActs history → parcels_in history ≡ parcels → ⊥
+never_stops gate_after founder parcels offset history stops legal acts is =
     none_stops founder stops.before stops.parcel stops.acts
     (λ e act same added. stops.not_next e (ap entry_in (sym same) ∙ entry_again e act) added)
-    history stops.rest stands.acts legal (one_list file (parcels_in history) parcels stands.spelled spelled ∙ stops.parcels_are)
-
-pub sound_reads : (one_list : (file : List ℕ) (ps qs : List RawParcel) → Spells file ps → Spells file qs → ps ≡ qs) (founder : Key) (reads : Option (List ℕ)) (leaves : List ℕ → Type 0) (as_read : (file : List ℕ) → reads ≡ Some file → leaves file) (parcels : List RawParcel) (offset : ℕ)
-    → StopsAt founder parcels offset → IfSome reads (λ file. Spells file parcels) → IsSome reads → ((image : List ℕ) → leaves image → (history : List Entry) × IsLegal founder history × Stands image history) → ⊥
-sound_reads one_list founder None leaves as_read parcels offset stops spelled known each = absurd cc
-sound_reads one_list founder (Some file) leaves as_read parcels offset stops spelled known each =
-    let (history, legal, stands) = each file (as_read file refl) in sound_file one_list founder file parcels offset history spelled stops legal stands
+    history stops.rest acts legal (is ∙ stops.parcels_are)

@@ -6,9 +6,8 @@ use Rattle.std.proofs.lemmas.List.{take_more, take-append-drop, map-append}
 use Rattle.std.proofs.Math.Seq.{drop-cons}
 use Rattle.std.proofs.Math.Numerals.{add-one}
 use Rattle.obs_journal.specs.declared.opening.Placed.{Placed}
-use Rattle.obs_journal.specs.Parcels.{RawParcel, room}
-use Rattle.obs_journal.specs.Files.{row_length}
-use Rattle.obs_journal.specs.Opening.{parcels_of, placed_from}
+use Rattle.obs_journal.specs.Parcels.{RawParcel}
+use Rattle.obs_journal.specs.Opening.{parcels_of}
 use Rattle.act_bodies.specs.declared.key.Key.{Key}
 use Rattle.act_model.specs.declared.entry.Entry.{Entry}
 use Rattle.act_model.specs.declared.request.Verb.{Verb}
@@ -17,7 +16,7 @@ use Rattle.act_model.specs.Legal.{IsAdded, IsLegal}
 use Rattle.act_model.specs.Requests.{is_act, verb_code}
 use Rattle.desk_core.specs.Replaying.{act_with, entry_of}
 use Rattle.mpc_desk.specs.Files.{parcel_of, parcels_in, AreActs}
-use Rattle.mpc_desk.specs.Opening.{entry_in, ComesNext, IsNotNext, StopsAt}
+use Rattle.mpc_desk.specs.Opening.{entry_in, ComesNext, IsNotNext, StopsIn}
 
 -- ---- the verb of a number
 
@@ -85,36 +84,26 @@ pub taken_more : (founder : Key) (past now : List Entry) (places : List Placed) 
 taken_more founder past now places i p within here next before =
     ap parcels_in next.now_is ∙ ap (λ (ps : List RawParcel). ps ++ parcel_of next.entry ∷ []) before ∙ ap (λ (r : RawParcel). parcels_of (take i places) ++ r ∷ []) (next.parcel_is ∙ ap (λ (x : Placed). x.parcel) here) ∙ sym (parcels_of-more places i p within)
 
-offset_at : (front : List Placed) (p : Placed) (back : List Placed) (o : ℕ) → front ++ p ∷ back ≡ placed_from o (parcels_of (front ++ p ∷ back)) → p.offset ≡ o + row_length (parcels_of front)
-offset_at [] p back o is =
-    let first : p ≡ record { offset = o; parcel = p.parcel } = cc in
-    let same = ap (λ (x : Placed). x.offset) first in omega (arith, same)
-offset_at (f ∷ front) p back o is =
-    let rest : front ++ p ∷ back ≡ placed_from (o + room f.parcel) (parcels_of (front ++ p ∷ back)) = cc in
-    let next = offset_at front p back (o + room f.parcel) rest in omega (arith, next)
-
 places_split : (places : List Placed) (i : ℕ) (p : Placed) → i < length places → p ≡ get_or places i p → places ≡ take i places ++ (p ∷ drop (i + 1) places)
 places_split places i p within here =
     let next : drop i places ≡ p ∷ drop (i + 1) places = drop-cons places i p within ∙ rw add-one (ap (λ (g : Placed). g ∷ drop (suc i) places) (sym here)) in
     sym (take-append-drop i places) ∙ ap (λ (rest : List Placed). take i places ++ rest) next
 
 -- an entry that isn't legal
-pub stops_at : (founder : Key) (past : List Entry) (places : List Placed) (i : ℕ) (p : Placed) → i < length places → p ≡ get_or places i p → places ≡ placed_from 0 (parcels_of places) → parcels_in past ≡ parcels_of (take i places) → IsLegal founder past → AreActs past
-    → IsNotNext founder past p.parcel → StopsAt founder (parcels_of places) p.offset
-stops_at founder past places i p within here placed taken legal acts not_next =
-    let split = places_split places i p within here in
-    let all : parcels_of places ≡ parcels_of (take i places) ++ p.parcel ∷ parcels_of (drop (i + 1) places) = ap parcels_of split ∙ map-append (λ (x : Placed). x.parcel) (take i places) (p ∷ drop (i + 1) places) in
-    let at = offset_at (take i places) p (drop (i + 1) places) 0 (subst (λ (x : List Placed). x ≡ placed_from 0 (parcels_of x)) split placed) in
-    record {
-      before = past;
-      parcel = p.parcel;
-      rest = parcels_of (drop (i + 1) places);
-      parcels_are = all ∙ ap (λ (ps : List RawParcel). ps ++ p.parcel ∷ parcels_of (drop (i + 1) places)) (sym taken);
-      legal = legal;
-      acts = acts;
-      not_next = not_next;
-      offset_is = let is : p.offset ≡ row_length (parcels_of (take i places)) = omega (arith, at) in is ∙ ap row_length (sym taken);
-    }
+pub stops_in : (founder : Key) (past : List Entry) (places : List Placed) (i : ℕ) (p : Placed) → i < length places → p ≡ get_or places i p → parcels_in past ≡ parcels_of (take i places) → IsLegal founder past → AreActs past
+    → IsNotNext founder past p.parcel → StopsIn founder places p.offset
+stops_in founder past places i p within here taken legal acts not_next = record {
+  before = past;
+  front = take i places;
+  placed = p;
+  rest = drop (i + 1) places;
+  places_are = places_split places i p within here;
+  front_is = sym taken;
+  legal = legal;
+  acts = acts;
+  not_next = not_next;
+  offset_is = refl;
+}
 
 pub legal_more : (founder founder' : Key) (past : List Entry) (p : RawParcel) (now : List Entry) → founder' ≡ founder → ComesNext founder past p now → IsLegal founder past → IsLegal founder' now
 legal_more founder founder' past p now same next legal =

@@ -1,6 +1,6 @@
 -- The calls of one office on disks are a world.
 use Rattle.std.proofs.Common.{◌≡◌, ◌⊎◌, ℕ, ℤ, true, false, List, [], ◌∷◌, map, Option, Some, None, Result, Ok, Err, refl, sym, ap, subst, ◌∙◌, inl, inr, ⊎_elim}
-use Rattle.std.specs.Prelude.{IfSome, IsSome, IsSomeAnd, ◌≤◌}
+use Rattle.std.specs.Prelude.{IsSome, IsSomeAnd, ◌≤◌}
 use Rattle.obs_time.specs.Instants.{IsInstantNs}
 use Rattle.disk_model.specs.declared.disk.Failed.{Failed}
 use Rattle.disk_model.specs.Moments.{images_during}
@@ -8,6 +8,7 @@ use Rattle.obs_journal.specs.declared.fault.OpenFault.{OpenFault}
 use Rattle.obs_journal.specs.declared.journal.Settled.{Settled}
 use Rattle.obs_journal.specs.Parcels.{RawParcel}
 use Rattle.obs_journal.specs.Files.{Spells}
+use Rattle.obs_journal.specs.Chains.{IsInForce, IsChain}
 use Rattle.act_bodies.specs.declared.key.Key.{Key}
 use Rattle.act_model.specs.declared.entry.Entry.{Entry}
 use Rattle.act_model.specs.declared.keeper.OfficeState.{OfficeState}
@@ -17,17 +18,21 @@ use Rattle.act_model.specs.Requests.{is_act}
 use Rattle.act_model.specs.Turns.{Turn, at_rest, Mends, IsTurn}
 use Rattle.act_model.specs.Worlds.{WorldState, running, new_office, Event, Received, Lost, ComesToRest, LeavesInside, Happens, World, AreStillAcknowledged}
 use Rattle.act_model.specs.Worlds as worlds
-use Rattle.mpc_desk.specs.Files.{parcels_in, Stands}
-use Rattle.mpc_desk.specs.Opening.{disk_after}
+use Rattle.mpc_desk.specs.Files.{Stands}
 use Rattle.mpc_desk.specs.Desks.{DeskState, DeskAct, RestsAt, IsAtRest, MayLeave, FailsOn, ActsOn, turn_in}
 use Rattle.mpc_desk.specs.Disks.{DiskWords}
-use Rattle.mpc_desk.specs.Events.{IsAct, IsMending, IsOpening, IsOpeningAlong}
-use Rattle.mpc_desk.specs.Worlds.{Place, AtDesk, InImage, OnDisks, Call, Acted, Asked, Mended, Stopped, StoppedInside, Closed, Opened, Unopened, IsBack, IsCalled, Calls, IsPlacedIn, reply_in, IsIn, IsKeptAt, AreAcknowledged}
-use Rattle.mpc_desk.proofs.OneHistory.{one_history}
+use Rattle.mpc_desk.specs.Events.{IsAct, IsMending}
+use Rattle.mpc_desk.specs.Opening.{IsOpened, EndsOpening, disks_after}
+use Rattle.mpc_desk.specs.Pairs.{FilePair, StandBoth, SpellBoth, DiskPair, pair, AreRead, AreSince, PairState}
+use Rattle.mpc_desk.specs.Worlds.{Place, AtDesk, InFiles, OnDisks, Call, Acted, Asked, Mended, Stopped, StoppedInside, Closed, Opened, Unopened, AreBack, beside, IsCalled, Calls, IsPlacedIn, reply_in, IsIn, IsKeptAt, AreAcknowledged}
+use Rattle.mpc_desk.proofs.Pairing.{decides, alike_stand, one_both, spelled_stand}
 use Rattle.mpc_desk.proofs.Turned.{some_is}
 
 same_some : (file image : List ℕ) → Some file ≡ Some image → file ≡ image
 same_some file image is = cc
+
+same_files : (one other : FilePair) → one.first ≡ other.first → one.second ≡ other.second → one ≡ other
+same_files one other first second = ap (λ (f : List ℕ). record { first = f; second = one.second }) first ∙ ap (λ (g : List ℕ). record { first = other.first; second = g }) second
 
 -- ---- the history that a stop leaves
 
@@ -51,7 +56,11 @@ left_at state image (inr with) = with_doubt state.settled state.doubt image with
 
 -- ---- one call
 
-module _ {D : Type 0} (on : DiskWords D) (founder : Key) (limit : ℕ) where
+module _ {D : Type 0} (on : DiskWords D) (founder : Key) (limit : ℕ) (in_force : (file : List ℕ) (ps : List RawParcel) → IsChain file ps → IsInForce file) where
+  read_same : (disks : DiskPair D) (one other : FilePair) → AreRead on disks one → AreRead on disks other → one ≡ other
+  read_same disks one other read again =
+      same_files one other (same_some one.first other.first (sym read.first ∙ again.first)) (same_some one.second other.second (sym read.second ∙ again.second))
+
   -- one event takes the world along
   record Reaches (world : WorldState) (after : OnDisks D) : Type 0 where
     event : Event
@@ -73,53 +82,53 @@ module _ {D : Type 0} (on : DiskWords D) (founder : Key) (limit : ℕ) where
     reached_in to received reached place replies placed same = record { place = subst (λ (p : Place D). IsPlacedIn on founder limit p reached) (sym place) placed; received = replies ∙ same }
 
     -- at a desk
-    module _ (old : DeskState D) (from : before.place ≡ AtDesk old) where
+    module _ (old : PairState D) (from : before.place ≡ AtDesk old) where
       here : IsPlacedIn on founder limit (AtDesk old) world
       here = placed_at (AtDesk old) from
 
       -- what holds of the desk holds of the world
-      in_world : (P : Key → ℕ → OfficeState → Type 0) → P old.founder old.limit old.state → P founder limit world.office
+      in_world : (P : Key → ℕ → OfficeState → Type 0) → P old.chained.founder old.chained.limit old.chained.state → P founder limit world.office
       in_world P holds =
-          subst (λ (s : OfficeState). P founder limit s) (sym here.1) (subst (λ (n : ℕ). P founder n old.state) here.3 (subst (λ (k : Key). P k old.limit old.state) here.2 holds))
+          subst (λ (s : OfficeState). P founder limit s) (sym here.1) (subst (λ (n : ℕ). P founder n old.chained.state) here.3 (subst (λ (k : Key). P k old.chained.limit old.chained.state) here.2 holds))
 
       -- a turn whose reply was received, or lost
-      turn_received : (turn : Turn) (new : DeskState D) → IsTurn old.founder (Some old.limit) old.state turn new.state → after.place ≡ AtDesk new → after.received ≡ reply_in turn ∷ before.received
-          → new.founder ≡ old.founder → new.limit ≡ old.limit → IsAtRest on.leaves new → Reaches world after
+      turn_received : (turn : Turn) (new : PairState D) → IsTurn old.chained.founder (Some old.chained.limit) old.chained.state turn new.chained.state → after.place ≡ AtDesk new → after.received ≡ reply_in turn ∷ before.received
+          → new.chained.founder ≡ old.chained.founder → new.chained.limit ≡ old.chained.limit → IsAtRest on.leaves new.chained → Reaches world after
       turn_received turn new takes place replies same_founder same_limit rests =
-          let reached : WorldState = running new.state (turn ∷ world.received) in
+          let reached : WorldState = running new.chained.state (turn ∷ world.received) in
           record {
             event = Received turn;
             reached = reached;
-            happens = ((here.0, refl, refl), in_world (λ k n s. IsTurn k (Some n) s turn new.state) takes);
+            happens = ((here.0, refl, refl), in_world (λ k n s. IsTurn k (Some n) s turn new.chained.state) takes);
             is_in =
                 reached_in (AtDesk new) (reply_in turn ∷ before.received) reached place replies (refl, refl, same_founder ∙ here.2, same_limit ∙ here.3, rests)
                 (ap (λ (rs : List (Request × Reply)). reply_in turn ∷ rs) is.received);
           }
 
-      turn_lost : (turn : Turn) (new : DeskState D) → IsTurn old.founder (Some old.limit) old.state turn new.state → after.place ≡ AtDesk new → after.received ≡ before.received
-          → new.founder ≡ old.founder → new.limit ≡ old.limit → IsAtRest on.leaves new → Reaches world after
+      turn_lost : (turn : Turn) (new : PairState D) → IsTurn old.chained.founder (Some old.chained.limit) old.chained.state turn new.chained.state → after.place ≡ AtDesk new → after.received ≡ before.received
+          → new.chained.founder ≡ old.chained.founder → new.chained.limit ≡ old.chained.limit → IsAtRest on.leaves new.chained → Reaches world after
       turn_lost turn new takes place replies same_founder same_limit rests =
-          let reached : WorldState = running new.state world.received in
+          let reached : WorldState = running new.chained.state world.received in
           record {
             event = Lost turn;
             reached = reached;
-            happens = ((here.0, refl, refl), in_world (λ k n s. IsTurn k (Some n) s turn new.state) takes);
+            happens = ((here.0, refl, refl), in_world (λ k n s. IsTurn k (Some n) s turn new.chained.state) takes);
             is_in = reached_in (AtDesk new) before.received reached place replies (refl, refl, same_founder ∙ here.2, same_limit ∙ here.3, rests) is.received;
           }
 
       -- a mending
-      mended : (result : Result Settled Failed) (new : DeskState D) → IsMending on old result new → after.place ≡ AtDesk new → after.received ≡ before.received → Reaches world after
+      mended : (result : Result Settled Failed) (new : PairState D) → IsMending on old.chained result new.chained → after.place ≡ AtDesk new → after.received ≡ before.received → Reaches world after
       mended (Ok settled) new m place replies =
-          let reached : WorldState = running new.state world.received in
+          let reached : WorldState = running new.chained.state world.received in
           record {
             event = worlds.Mended;
             reached = reached;
-            happens = ((here.0, refl, refl), in_world (λ k n s. ComesToRest s new.state) (m.mends, m.settled));
+            happens = ((here.0, refl, refl), in_world (λ k n s. ComesToRest s new.chained.state) (m.mends, m.settled));
             is_in = reached_in (AtDesk new) before.received reached place replies (refl, refl, m.founder ∙ here.2, m.limit ∙ here.3, m.at_rest) is.received;
           }
       mended (Err failed) new m place replies =
-          let reached : WorldState = running new.state world.received in
-          let doubted : IsSome old.state.doubt = some_is old.state.doubt (λ none. let fails = m.nothing.1 none in absurd cc) in
+          let reached : WorldState = running new.chained.state world.received in
+          let doubted : IsSome old.chained.state.doubt = some_is old.chained.state.doubt (λ none. let fails = m.nothing.1 none in absurd cc) in
           record {
             event = worlds.Unmended;
             reached = reached;
@@ -131,33 +140,33 @@ module _ {D : Type 0} (on : DiskWords D) (founder : Key) (limit : ℕ) where
       abbrev left : List Entry → WorldState
       left history = record { office = at_rest history; stopped = true; received = world.received }
 
-      left_in : (image : List ℕ) (history : List Entry) → after.place ≡ InImage image → after.received ≡ before.received → Stands image history → IsIn on founder limit after (left history)
-      left_in image history place replies stands = reached_in (InImage image) before.received (left history) place replies (refl, refl, stands) is.received
+      left_in : (files : FilePair) (history : List Entry) → after.place ≡ InFiles files → after.received ≡ before.received → Stands files.second history → IsIn on founder limit after (left history)
+      left_in files history place replies stands = reached_in (InFiles files) before.received (left history) place replies (refl, refl, decides in_force files history stands) is.received
 
-      stopped : (image : List ℕ) → after.place ≡ InImage image → after.received ≡ before.received → on.leaves old.disk image → Reaches world after
-      stopped image place replies leaves =
-          let l = left_at old.state image (here.4 image leaves) in
+      stopped : (files : FilePair) → after.place ≡ InFiles files → after.received ≡ before.received → on.leaves old.chained.disk files.second → Reaches world after
+      stopped files place replies leaves =
+          let l = left_at old.chained.state files.second (here.4 files.second leaves) in
           record {
             event = worlds.Stopped;
             reached = left l.history;
             happens = ((here.0, refl, refl), in_world (λ k n s. ComesToRest s (at_rest l.history)) (l.mends, refl));
-            is_in = left_in image l.history place replies l.stands;
+            is_in = left_in files l.history place replies l.stands;
           }
 
       -- a stop inside an act
-      module _ (q : Request) (t : ℤ) (act : is_act q.verb ≡ true) (instant : IsInstantNs t) (image : List ℕ) (place : after.place ≡ InImage image) (replies : after.received ≡ before.received) where
-        inside_at : (history : List Entry) → LeavesInside old.founder (Some old.limit) old.state q t (at_rest history) → Stands image history → Reaches world after
+      module _ (q : Request) (t : ℤ) (act : is_act q.verb ≡ true) (instant : IsInstantNs t) (files : FilePair) (place : after.place ≡ InFiles files) (replies : after.received ≡ before.received) where
+        inside_at : (history : List Entry) → LeavesInside old.chained.founder (Some old.chained.limit) old.chained.state q t (at_rest history) → Stands files.second history → Reaches world after
         inside_at history leaves stands = record {
           event = worlds.StoppedInside q t;
           reached = left history;
           happens = ((here.0, refl, refl), act, instant, in_world (λ k n s. LeavesInside k (Some n) s q t (at_rest history)) leaves);
-          is_in = left_in image history place replies stands;
+          is_in = left_in files history place replies stands;
         }
 
-        inside_rest : RestsAt old.state image → Reaches world after
-        inside_rest rests = (let l = left_at old.state image rests in inside_at l.history (inl (l.mends, refl)) l.stands)
+        inside_rest : RestsAt old.chained.state files.second → Reaches world after
+        inside_rest rests = (let l = left_at old.chained.state files.second rests in inside_at l.history (inl (l.mends, refl)) l.stands)
 
-        inside_mended : (mended : List Entry) → Mends old.state.settled old.state.doubt mended → MayLeave old mended q t image → Reaches world after
+        inside_mended : (mended : List Entry) → Mends old.chained.state.settled old.chained.state.doubt mended → MayLeave old.chained mended q t files.second → Reaches world after
         inside_mended mended mends (inl rests) = inside_rest rests
         inside_mended mended mends (inr (entry, adds, stands)) =
             inside_at (entry ∷ mended) (inr (record { mended = mended; mends = mends; entry = entry; adds = adds; leaves = refl })) stands
@@ -166,30 +175,34 @@ module _ {D : Type 0} (on : DiskWords D) (founder : Key) (limit : ℕ) where
 
     module _ (counts_now : (disk : D) (t : ℕ) (image : List ℕ) → t ≤ on.moment disk → on.leaves disk image → on.since disk t image)
         (only_now : (disk : D) (image : List ℕ) → on.since disk (on.moment disk) image → on.leaves disk image)
-        (one_list : (file : List ℕ) (ps qs : List RawParcel) → Spells file ps → Spells file qs → ps ≡ qs) where
-      stopped_inside : (act : DeskAct D) (image : List ℕ) → before.place ≡ AtDesk act.old → after.place ≡ InImage image → after.received ≡ before.received → IsAct on act → on.since act.new.disk (on.moment act.old.disk) image → Reaches world after
-      stopped_inside act image from place replies a was = by a.inside.acts
+        (one_list : (file : List ℕ) (ps qs : List RawParcel) → Spells file ps → Spells file qs → ps ≡ qs)
+        (one_chain : (file : List ℕ) (ps qs : List RawParcel) → IsChain file ps → IsChain file qs → ps ≡ qs) where
+      stopped_inside : (first : D) (act : DeskAct D) (files : FilePair) → before.place ≡ AtDesk (beside first act.old) → after.place ≡ InFiles files → after.received ≡ before.received → IsAct on act → AreSince on (pair first act.new.disk) (pair first act.old.disk) files → Reaches world after
+      stopped_inside first act files from place replies a was = by a.inside.acts
         where
-          rests : on.leaves act.old.disk image → RestsAt act.old.state image
-          rests leaves = (here act.old from).4 image leaves
+          office : PairState D
+          office = beside first act.old
+
+          rests : on.leaves act.old.disk files.second → RestsAt act.old.state files.second
+          rests leaves = (here office from).4 files.second leaves
 
           by : FailsOn on.moment on.since act.old (turn_in act a.inside.rise) act.new ⊎ ActsOn on.moment on.since act.old (turn_in act a.inside.rise) act.reading act.new → Reaches world after
           by (inl fails) =
               ⊎_elim
-              (λ leaves. inside_rest act.old from act.request act.reading a.act a.turn.turn.reads.1 image place replies (rests leaves))
+              (λ leaves. inside_rest office from act.request act.reading a.act a.turn.turn.reads.1 files place replies (rests leaves))
               (λ never. absurd never)
-              (images_during on.leaves counts_now only_now fails.no_image image was)
+              (images_during on.leaves counts_now only_now fails.no_image files.second was.1)
           by (inr acts) =
               ⊎_elim
-              (λ leaves. inside_rest act.old from act.request act.reading a.act a.turn.turn.reads.1 image place replies (rests leaves))
-              (λ may. inside_mended act.old from act.request act.reading a.act a.turn.turn.reads.1 image place replies acts.mended acts.mends may)
-              (images_during on.leaves counts_now only_now acts.images image was)
+              (λ leaves. inside_rest office from act.request act.reading a.act a.turn.turn.reads.1 files place replies (rests leaves))
+              (λ may. inside_mended office from act.request act.reading a.act a.turn.turn.reads.1 files place replies acts.mended acts.mends may)
+              (images_during on.leaves counts_now only_now acts.images files.second was.1)
 
-      opened : (image : List ℕ) (disk : D) (desk : DeskState D) → before.place ≡ InImage image → after.place ≡ AtDesk desk → after.received ≡ before.received → on.reads disk ≡ Some image → IsOpening on founder limit disk desk → Reaches world after
-      opened image disk desk from place replies reads o =
-          let at = placed_at (InImage image) from in
-          let stands : Stands image desk.state.settled = subst (λ (r : Option (List ℕ)). IfSome r (λ file. Stands file desk.state.settled)) reads o.stands in
-          let same : world.office.settled ≡ desk.state.settled = one_history one_list image world.office.settled desk.state.settled at.2 stands in
+      opened : (files : FilePair) (disks : DiskPair D) (office : PairState D) → before.place ≡ InFiles files → after.place ≡ AtDesk office → after.received ≡ before.received → AreRead on disks files → IsOpened on founder limit disks office → Reaches world after
+      opened files disks office from place replies reads o =
+          let at = placed_at (InFiles files) from in
+          let desk = office.chained in
+          let same : world.office.settled ≡ desk.state.settled = one_both one_list one_chain files world.office.settled desk.state.settled at.2 (o.stood files reads) in
           let rests : at_rest desk.state.settled ≡ desk.state = ap (λ (d : Option Entry). record { settled = desk.state.settled; doubt = d }) (sym o.settled) in
           let reached : WorldState = running world.office world.received in
           record {
@@ -197,56 +210,58 @@ module _ {D : Type 0} (on : DiskWords D) (founder : Key) (limit : ℕ) where
             reached = reached;
             happens = ((at.0, refl, refl), refl);
             is_in =
-                reached_in (AtDesk desk) before.received reached place replies
+                reached_in (AtDesk office) before.received reached place replies
                 (refl, at.1 ∙ ap (λ (h : List Entry). at_rest h) same ∙ rests, o.founder_is, o.limit_is, o.at_rest) is.received;
           }
 
-      -- an image that an opening left stands for the same history
-      still : (image : List ℕ) (disk : D) (result : Result (DeskState D) (OpenFault × D)) (left : List ℕ) (history : List Entry)
-          → IsBack on disk image → IsOpeningAlong on disk result → on.since (disk_after result) (on.moment disk) left → Stands image history → Stands left history
-      still image disk (Ok desk) left history back along was stands =
+      -- files that an opening left stand for the same history
+      still : (files : FilePair) (disks : DiskPair D) (result : Result (PairState D) (OpenFault × D × D)) (left : FilePair) (history : List Entry)
+          → AreBack on disks files → EndsOpening on founder limit disks result → AreSince on (disks_after result) disks left → StandBoth files history → StandBoth left history
+      still files disks (Ok office) left history back ends was stands =
           ⊎_elim
-          (λ leaves. subst (λ (file : List ℕ). Stands file history) (sym (back.1 left leaves)) stands)
+          (λ like. alike_stand like.before left history like.alike (subst (λ (f : FilePair). StandBoth f history) (sym (back.1 like.before like.left)) stands))
           (λ alike.
-          let before : Stands image desk.state.settled = subst (λ (file : List ℕ). Stands file desk.state.settled) (same_some alike.file image (sym alike.file_is ∙ back.0)) alike.before in
-          subst (Stands left) (one_history one_list image desk.state.settled history before stands) alike.now)
-          (images_during on.leaves counts_now only_now along left was)
-      still image disk (Err failed) left history back along was stands =
+          let same : alike.before ≡ files = read_same disks alike.before files alike.read back.0 in
+          let before : StandBoth files office.chained.state.settled = subst (λ (f : FilePair). StandBoth f office.chained.state.settled) same alike.stood in
+          subst (StandBoth left) (one_both one_list one_chain files office.chained.state.settled history before stands) alike.now)
+          (ends.images.either left was)
+      still files disks (Err failed) left history back ends was stands =
           ⊎_elim
-          (λ leaves. subst (λ (file : List ℕ). Stands file history) (sym (back.1 left leaves)) stands)
+          (λ like. alike_stand like.before left history like.alike (subst (λ (f : FilePair). StandBoth f history) (sym (back.1 like.before like.left)) stands))
           (λ alike.
-          let before : Spells image alike.parcels = subst (λ (file : List ℕ). Spells file alike.parcels) (same_some alike.file image (sym alike.file_is ∙ back.0)) alike.before in
-          record { spelled = subst (Spells left) (one_list image alike.parcels (parcels_in history) before stands.spelled) alike.now; acts = stands.acts })
-          (images_during on.leaves counts_now only_now along left was)
+          let same : alike.before ≡ files = read_same disks alike.before files alike.read back.0 in
+          spelled_stand one_list one_chain files left alike.parcels history (subst (λ (f : FilePair). SpellBoth f alike.parcels) same alike.spelled) alike.now stands)
+          (ends.images.either left was)
 
-      unopened : (image : List ℕ) (disk : D) (result : Result (DeskState D) (OpenFault × D)) (left : List ℕ) → before.place ≡ InImage image → after.place ≡ InImage left → after.received ≡ before.received
-          → IsBack on disk image → IsOpeningAlong on disk result → on.since (disk_after result) (on.moment disk) left → IsIn on founder limit after world
-      unopened image disk result left from place replies back along was =
-          let at = placed_at (InImage image) from in
-          reached_in (InImage left) before.received world place replies (at.0, at.1, still image disk result left world.office.settled back along was at.2) is.received
+      unopened : (files : FilePair) (disks : DiskPair D) (result : Result (PairState D) (OpenFault × D × D)) (left : FilePair) → before.place ≡ InFiles files → after.place ≡ InFiles left → after.received ≡ before.received
+          → AreBack on disks files → EndsOpening on founder limit disks result → AreSince on (disks_after result) disks left → IsIn on founder limit after world
+      unopened files disks result left from place replies back ends was =
+          let at = placed_at (InFiles files) from in
+          reached_in (InFiles left) before.received world place replies (at.0, at.1, still files disks result left world.office.settled back ends was at.2) is.received
 
       called : (call : Call D) → IsCalled on founder limit before call after → GoesAlong world after
-      called (Acted act true) (goes, a) =
-          inl (turn_received act.old goes.0 (turn_in act a.turn.rise) act.new a.turn.turn goes.1 goes.2 a.founder a.limit a.at_rest)
-      called (Acted act false) (goes, a) =
-          inl (turn_lost act.old goes.0 (turn_in act a.turn.rise) act.new a.turn.turn goes.1 goes.2 a.founder a.limit a.at_rest)
-      called (Asked desk q reply true) (goes, a) =
-          inl (turn_received desk goes.0 (record { request = q; reading = None; reply = reply; rise = a.turn.rise }) desk a.turn.turn goes.1 goes.2 refl refl (here desk goes.0).4)
-      called (Asked desk q reply false) (goes, a) =
-          inl (turn_lost desk goes.0 (record { request = q; reading = None; reply = reply; rise = a.turn.rise }) desk a.turn.turn goes.1 goes.2 refl refl (here desk goes.0).4)
-      called (Mended old result new) (goes, m) = inl (mended old goes.0 result new m goes.1 goes.2)
-      called (Stopped desk image) (goes, leaves) = inl (stopped desk goes.0 image goes.1 goes.2 leaves)
-      called (StoppedInside act image) (goes, a, was) = inl (stopped_inside act image goes.0 goes.1 goes.2 a was)
-      called (Closed desk disk image) (goes, closed, leaves) =
-          inl (stopped desk goes.0 image goes.1 goes.2 (subst (λ (d : D). on.leaves d image) closed leaves))
-      called (Opened image disk desk) (goes, reads, o) = inl (opened image disk desk goes.0 goes.1 goes.2 reads o)
-      called (Unopened image disk result left) (goes, back, along, was) = inr (unopened image disk result left goes.0 goes.1 goes.2 back along was)
+      called (Acted first act true) (goes, a) =
+          inl (turn_received (beside first act.old) goes.0 (turn_in act a.turn.rise) (beside first act.new) a.turn.turn goes.1 goes.2 a.founder a.limit a.at_rest)
+      called (Acted first act false) (goes, a) =
+          inl (turn_lost (beside first act.old) goes.0 (turn_in act a.turn.rise) (beside first act.new) a.turn.turn goes.1 goes.2 a.founder a.limit a.at_rest)
+      called (Asked first desk q reply true) (goes, a) =
+          inl (turn_received (beside first desk) goes.0 (record { request = q; reading = None; reply = reply; rise = a.turn.rise }) (beside first desk) a.turn.turn goes.1 goes.2 refl refl (here (beside first desk) goes.0).4)
+      called (Asked first desk q reply false) (goes, a) =
+          inl (turn_lost (beside first desk) goes.0 (record { request = q; reading = None; reply = reply; rise = a.turn.rise }) (beside first desk) a.turn.turn goes.1 goes.2 refl refl (here (beside first desk) goes.0).4)
+      called (Mended first old result new) (goes, m) = inl (mended (beside first old) goes.0 result (beside first new) m goes.1 goes.2)
+      called (Stopped office files) (goes, leaves) = inl (stopped office goes.0 files goes.1 goes.2 leaves.1)
+      called (StoppedInside first act files) (goes, a, was) = inl (stopped_inside first act files goes.0 goes.1 goes.2 a was)
+      called (Closed office disks files) (goes, closed, leaves) =
+          inl (stopped office goes.0 files goes.1 goes.2 (subst (λ (d : D). on.leaves d files.second) closed.1 leaves.1))
+      called (Opened files disks office) (goes, reads, o) = inl (opened files disks office goes.0 goes.1 goes.2 reads o)
+      called (Unopened files disks result left) (goes, back, ends, was) = inr (unopened files disks result left goes.0 goes.1 goes.2 back ends was)
 
   -- ---- calls
 
   module _ (counts_now : (disk : D) (t : ℕ) (image : List ℕ) → t ≤ on.moment disk → on.leaves disk image → on.since disk t image)
       (only_now : (disk : D) (image : List ℕ) → on.since disk (on.moment disk) image → on.leaves disk image)
-      (one_list : (file : List ℕ) (ps qs : List RawParcel) → Spells file ps → Spells file qs → ps ≡ qs) where
+      (one_list : (file : List ℕ) (ps qs : List RawParcel) → Spells file ps → Spells file qs → ps ≡ qs)
+      (one_chain : (file : List ℕ) (ps qs : List RawParcel) → IsChain file ps → IsChain file qs → ps ≡ qs) where
     pub calls_world : (before : OnDisks D) (calls : List (Call D)) (after : OnDisks D) (world : WorldState) → IsIn on founder limit before world → Calls on founder limit before calls after
         → (events : List Event) × (reached : WorldState) × World founder (Some limit) world events reached × IsIn on founder limit after reached
     calls_world before [] after world is same = ([], world, refl, subst (λ (o : OnDisks D). IsIn on founder limit o world) (sym same) is)
@@ -256,7 +271,7 @@ module _ {D : Type 0} (on : DiskWords D) (founder : Key) (limit : ℕ) where
         let (events, reached, goes_on, is_in) = calls_world between calls after r.reached r.is_in others in
         (r.event ∷ events, reached, (r.reached, r.happens, goes_on), is_in))
         (λ same. calls_world between calls after world same others)
-        (called before between world is counts_now only_now one_list call first)
+        (called before between world is counts_now only_now one_list one_chain call first)
 
     -- ---- what was answered
 
@@ -265,16 +280,16 @@ module _ {D : Type 0} (on : DiskWords D) (founder : Key) (limit : ℕ) where
     acknowledged_in now (turn ∷ received) all = (all.0, acknowledged_in now received all.1)
 
     kept_in : (place : Place D) (reached : WorldState) (history : List Entry) → IsPlacedIn on founder limit place reached → IsKeptAt place history → reached.office.settled ≡ history
-    kept_in (AtDesk desk) reached history placed is = ap (λ (s : OfficeState). s.settled) placed.1 ∙ sym is
-    kept_in (InImage image) reached history placed is = one_history one_list image reached.office.settled history placed.2 is
+    kept_in (AtDesk office) reached history placed is = ap (λ (s : OfficeState). s.settled) placed.1 ∙ sym is
+    kept_in (InFiles files) reached history placed is = one_both one_list one_chain files reached.office.settled history placed.2 is
 
     module _ (acknowledged : (founder : Key) (limit : Option ℕ) (events : List Event) (after : WorldState) → World founder limit new_office events after → AreStillAcknowledged founder after.office.settled after.received) where
-      pub calls_acknowledged : (image : List ℕ) (calls : List (Call D)) (after : OnDisks D) (history : List Entry) → Stands image [] → Calls on founder limit (record { place = InImage image; received = [] }) calls after
+      pub calls_acknowledged : (files : FilePair) (calls : List (Call D)) (after : OnDisks D) (history : List Entry) → StandBoth files [] → Calls on founder limit (record { place = InFiles files; received = [] }) calls after
           → IsKeptAt after.place history → AreAcknowledged founder history after.received
-      calls_acknowledged image calls after history empty called kept =
+      calls_acknowledged files calls after history empty called kept =
           let world : WorldState = record { office = at_rest []; stopped = true; received = [] } in
-          let is : IsIn on founder limit (record { place = InImage image; received = [] }) world = record { place = (refl, refl, empty); received = refl } in
-          let (events, reached, goes_on, is_in) = calls_world (record { place = InImage image; received = [] }) calls after world is called in
+          let is : IsIn on founder limit (record { place = InFiles files; received = [] }) world = record { place = (refl, refl, empty); received = refl } in
+          let (events, reached, goes_on, is_in) = calls_world (record { place = InFiles files; received = [] }) calls after world is called in
           let all = acknowledged founder (Some limit) (worlds.Stopped ∷ events) reached (world, ((refl, refl, refl), (refl, refl)), goes_on) in
           subst (λ (h : List Entry). AreAcknowledged founder h after.received) (kept_in after.place reached history is_in.place kept)
           (subst (AreAcknowledged founder reached.office.settled) (sym is_in.received) (acknowledged_in reached.office.settled reached.received all))

@@ -1,4 +1,4 @@
--- The desk: the office on a disk.
+-- The desk: the office on the second disk.
 use Rattle.std.specs.Prelude.{◌≡◌, ◌⊎◌, ℕ, ◌+◌, ◌-◌, ◌^◌, ◌<◌, min, ℤ, List, ◌∷◌, Option, Some, option_map, IfSome}
 use Rattle.std.specs.Prelude.{IsSomeAnd, None}
 use Rattle.disk_model.specs.Counts.{Rises}

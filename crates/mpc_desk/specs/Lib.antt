@@ -1,7 +1,9 @@
 pub mod Files
 pub mod Accepted
 pub mod Desks
-pub mod Opening
 pub mod Disks
+pub mod Pairs
+pub mod Opening
+pub mod PairLaws
 pub mod Events
 pub mod Worlds

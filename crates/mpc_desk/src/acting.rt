@@ -18,7 +18,7 @@ ghost use Rattle.mpc_desk.specs.Desks.{IsAtRest, ActsInTurn, TakesAct, office_of
 ghost use Rattle.mpc_desk.specs.Disks.{disk_words};
 ghost use Rattle.mpc_desk.specs.Events.{IsAct, IsQuery};
 
-use crate::desk::Desk;
+use crate::chained::ChainedDesk;
 use crate::laws::lines_are_added;
 use crate::parcels::parcel_of;
 use act_model::{Refusal, Reply, Request};
@@ -27,7 +27,7 @@ use disk_model::Disk;
 use obs_journal::AppendFault;
 use obs_time::Instant;
 
-impl<D: Disk> Desk<D> {
+impl<D: Disk> ChainedDesk<D> {
     /// Takes the turn of an act at this reading of the clock. An act in doubt is mended first; then the request is
     /// worked out at the history that mending left, and its entry is kept in the journal and added. It takes memory,
     /// but none once anything was written.
@@ -149,7 +149,7 @@ impl<D: Disk> Desk<D> {
         ensures counts { D.faults self.old.disk ≤ D.faults self.new.disk }
     {
         act_model::laws::histories_are_legal();
-        obs_journal::laws::in_doubt();
+        obs_journal::laws::doubtful_chain();
         let prepared = match self.core.prepare(request, reading, Some(self.limit)) {
             Prep::Kept(reply) => return reply,
             Prep::Refused(refusal) => return Reply::Refused(refusal),

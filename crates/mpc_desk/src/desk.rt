@@ -1,121 +1,100 @@
-//! The office on a disk.
+//! The office on its two disks.
 
-ghost use Rattle.std.specs.Prelude.{◌≡◌, ◌≢◌, ◌↔◌, ◌-◌, ◌≤◌, ◌∷◌, length, slice_index, Ok, Some, None, IfOk, IfSome};
-ghost use Rattle.std.specs.Prelude.{IsSome, IsSomeAnd, OnErr, option_map};
-ghost use Rattle.disk_model.specs.Counts.{Rises};
-ghost use Rattle.obs_journal.specs.Journals.{IsUnwritten};
-ghost use Rattle.act_model.specs.declared.entry.Entry.{Entry};
-ghost use Rattle.act_model.specs.Refusals.{used};
-ghost use Rattle.act_model.specs.Turns.{Mends};
-ghost use Rattle.desk_core.specs.Office.{Office};
-ghost use Rattle.mpc_desk.specs.Desks.{IsNext, IsDesk, IsAtRest, settled_by};
+ghost use Rattle.std.specs.Prelude.{◌≡◌, true, false};
+ghost use Rattle.act_model.specs.Requests.{is_act};
 ghost use Rattle.mpc_desk.specs.Disks.{disk_words};
-ghost use Rattle.mpc_desk.specs.Events.{IsMending, IsClosed};
+ghost use Rattle.mpc_desk.specs.Events.{IsAct, IsQuery, IsMending, IsClosed};
+ghost use Rattle.mpc_desk.specs.Pairs.{FilePair, AreLeft, RestBoth, disks_of};
 
-use desk_core::{Core, Prepared};
+use crate::chained::ChainedDesk;
+use act_model::{Reply, Request};
+use desk_core::Core;
 use disk_model::{Disk, Failed};
-use obs_journal::{Journal, Settled};
-use std::alloc::Global;
+use obs_journal::Settled;
+use obs_time::Instant;
 use std::marker::Model;
 
-/// The office on a disk, with its journal.
+/// The office on its two disks: the desk on the second one, and the first one, which opening alone calls.
 ///
-/// Contracts see the founding officer's key, how many bytes the journal may have, the settled history with the newest
-/// entry first, the act in doubt, and the disk.
+/// Contracts see the first disk, and the desk.
 #[derive(Debug, Drop)]
 pub struct Desk<D: Disk> {
-    pub(crate) alloc: Global,
-    pub(crate) core: Core,
-    pub(crate) journal: Journal<D>,
-    pub(crate) limit: u64,
-    // the act whose parcel is in doubt
-    pub(crate) doubt: Option<Prepared>,
+    pub(crate) first: D,
+    pub(crate) chained: ChainedDesk<D>,
 }
 
 impl<D: Disk> Model for Desk<D> {
-    ghost use Rattle.mpc_desk.specs.Desks.{DeskState, state_of, IsDesk};
+    ghost use Rattle.mpc_desk.specs.Pairs.{PairState};
 
-    ghost Value = { DeskState D };
+    ghost Value = { PairState D };
 
-    ghost view = { λ d. record {
-      founder = d.core.founder;
-      limit = d.limit;
-      state = state_of d.core d.doubt;
-      disk = d.journal.disk;
-    } };
-
-    ghost invariant = { λ d. IsDesk D.leaves d.core d.journal d.doubt };
-}
-
-/// Adds the entry of the act in doubt, where its parcel was kept.
-fn settle(core: &mut Core, doubt: Option<Prepared>, settled: Settled)
-    requires next { IfSome doubt (IsNext core.old) }
-    ensures history { core.new.history ≡ settled_by settled doubt core.old.history }
-    ensures founder { core.new.founder ≡ core.old.founder }
-{
-    match settled {
-        Settled::Dropped | Settled::Nothing => return,
-        Settled::Added => {}
-    }
-    if let Some(prepared) = doubt {
-        core.commit(prepared);
-    }
+    ghost view = { λ d. record { first = d.first; chained = d.chained } };
 }
 
 impl<D: Disk> Desk<D> {
-    /// Settles the act in doubt: waits until the journal's file is safe, and reads the gate of the act's parcel. Where
-    /// the gate is open the act is added to the history, else it is dropped. With nothing in doubt no device is called.
-    /// Nothing is written, and no memory is taken.
+    /// The first disk, and the desk on the second one, which goes on without it.
+    pub fn apart(self) -> (D, ChainedDesk<D>)
+        ensures first { result.0 ≡ self.first }
+        ensures chained { result.1 ≡ self.chained }
+    {
+        let Desk { first, chained } = self;
+        (first, chained)
+    }
+
+    /// Takes the turn of an act, as [`ChainedDesk::act`] does. The first disk isn't called. It takes memory.
+    pub fn act(&mut self, request: &Request, reading: Instant) -> Reply
+        requires act { is_act request.now.verb ≡ true }
+        ensures acts { IsAct (disk_words D.reads D.leaves D.moment D.since D.faults) (record {
+          old = self.old.chained;
+          request = request.now;
+          reading = reading;
+          reply = result;
+          new = self.new.chained;
+        }) }
+        ensures first { self.new.first ≡ self.old.first }
+        // Whatever the first file is, the two stand for the settled history, or for that with the act in doubt.
+        ensures at_rest { (files : FilePair) →
+            AreLeft (disk_words D.reads D.leaves D.moment D.since D.faults) (disks_of self.new) files →
+            RestBoth self.new.chained.state files }
+    {
+        obs_journal::laws::one_chain();
+        self.chained.act(request, reading)
+    }
+
+    /// Answers a query from the settled history, as [`ChainedDesk::ask`] does. No device is called. It takes memory.
+    pub fn ask(&self, request: &Request) -> Reply
+        requires query { is_act request.now.verb ≡ false }
+        ensures asks { IsQuery (disk_words D.reads D.leaves D.moment D.since D.faults) self.now.chained request.now
+            result }
+    {
+        self.chained.ask(request)
+    }
+
+    /// Settles the act in doubt, as [`ChainedDesk::mend`] does. The first disk isn't called.
     ///
     /// # Errors
-    /// `Failed` where the disk failed. The doubt stays.
+    /// `Failed` where the second disk failed. The doubt stays.
     pub fn mend(&mut self) -> Result<Settled, Failed>
-        ensures nothing { (result ≡ Ok Settled.Nothing) ↔ (self.old.state.doubt ≡ None) }
-        ensures no_call { self.old.state.doubt ≡ None → self.new ≡ self.old }
-
-        ensures added { result ≡ Ok Settled.Added → IsSomeAnd self.old.state.doubt (λ entry.
-            self.new.state.settled ≡ entry ∷ self.old.state.settled) }
-        ensures dropped { result ≡ Ok Settled.Dropped → self.new.state.settled ≡ self.old.state.settled }
-        ensures settled { IfOk result (λ _. self.new.state.doubt ≡ None) }
-        ensures mends { IfOk result (λ _.
-            Mends self.old.state.settled self.old.state.doubt self.new.state.settled) }
-        ensures added_where_open { result ≡ Ok Settled.Added →
-            IfSome (D.reads self.old.disk) (λ file. slice_index file (used self.old.state.settled - 1) ≡ 1) }
-        ensures dropped_where_closed { result ≡ Ok Settled.Dropped →
-            IfSome (D.reads self.old.disk) (λ file. slice_index file (used self.old.state.settled - 1) ≢ 1) }
-
-        ensures still_in_doubt { OnErr result (self.new.state ≡ self.old.state) }
-        ensures founder { self.new.founder ≡ self.old.founder }
-        ensures limit { self.new.limit ≡ self.old.limit }
-        ensures at_rest { IsAtRest D.leaves self.new }
-        ensures unwritten { IsUnwritten D.reads D.moment D.since self.old.disk self.new.disk }
-        ensures counts { D.faults self.old.disk ≤ D.faults self.new.disk }
-        ensures cause { OnErr result (Rises (D.faults self.old.disk) (D.faults self.new.disk)) }
-        ensures event { IsMending (disk_words D.reads D.leaves D.moment D.since D.faults) self.old result self.new }
+        ensures mends { IsMending (disk_words D.reads D.leaves D.moment D.since D.faults) self.old.chained result
+            self.new.chained }
+        ensures first { self.new.first ≡ self.old.first }
     {
-        obs_journal::laws::in_doubt();
-        let settled = match self.journal.mend() {
-            Ok(settled) => settled,
-            Err(failed) => return Err(failed),
-        };
-        let doubt = self.doubt.take();
-        settle(&mut self.core, doubt, settled);
-        Ok(settled)
+        self.chained.mend()
     }
 
     /// The office, with its settled history.
     pub fn core(&self) -> &Core
-        ensures history { result.now.history ≡ self.now.state.settled }
-        ensures founder { result.now.founder ≡ self.now.founder }
+        ensures history { result.now.history ≡ self.now.chained.state.settled }
+        ensures founder { result.now.founder ≡ self.now.chained.founder }
     {
-        &self.core
+        self.chained.core()
     }
 
-    /// Gives the disk back, also with an act in doubt. No device is called.
-    pub fn close(self) -> D
-        ensures { IsClosed self result }
+    /// Gives the two disks back, also with an act in doubt. No device is called.
+    pub fn close(self) -> (D, D)
+        ensures { IsClosed self result.0 result.1 }
     {
-        let Desk { journal, .. } = self;
-        journal.close()
+        let (first, chained) = self.apart();
+        (first, chained.close())
     }
 }

@@ -1,26 +1,35 @@
-//! Opening a desk: the journal's parcels are taken in one after the other, each as the entry that it was.
+//! Opening a desk: the second file's parcels are taken in one after the other, each as the entry that it was; where it
+//! isn't in force, those of the first file are, and are then carried into it.
 
-ghost use Rattle.std.specs.Prelude.{◌≡◌, ◌≢◌, ◌≤◌, ℕ, List, [], IfOk, IfErr, IfSome, IsErr, IsErrOf, IsSome, OnOk, Err};
-ghost use Rattle.std.specs.Prelude.{None};
+ghost use Rattle.std.specs.Prelude.{◌≡◌, ◌≢◌, ◌+◌, ◌<◌, ◌≤◌, ◌^◌, ℕ, List, [], IfOk, IfErr, IfSome, IsErr, IsErrOf};
+ghost use Rattle.std.specs.Prelude.{IsSome, OnOk, Err};
+ghost use Rattle.std.specs.Prelude.{None, Some};
 ghost use Rattle.disk_model.specs.Counts.{Rises};
 ghost use Rattle.disk_model.specs.Crashes.{During};
-ghost use Rattle.obs_journal.specs.Files.{IsFresh};
+ghost use Rattle.obs_journal.specs.Chains.{IsInForce, chained};
+ghost use Rattle.obs_journal.specs.Files.{Spells};
+ghost use Rattle.obs_journal.specs.Formats.{row_length_in};
 ghost use Rattle.obs_journal.specs.Journals.{IsUnwritten};
-ghost use Rattle.obs_journal.specs.Opening.{parcels_of, placed_from, SpellsAlike};
-ghost use Rattle.act_model.specs.declared.entry.Entry.{Entry};
+ghost use Rattle.obs_journal.specs.Moves.{IsIdle};
+ghost use Rattle.obs_journal.specs.Opening.{parcels_of, SpellsAlike};
 ghost use Rattle.act_model.specs.Legal.{IsLegal};
 ghost use Rattle.act_model.specs.Roster.{IsFounder};
 ghost use Rattle.mpc_desk.specs.Files.{parcels_in, AreActs, Stands};
 ghost use Rattle.mpc_desk.specs.Desks.{IsAtRest};
 ghost use Rattle.mpc_desk.specs.Disks.{disk_words};
-ghost use Rattle.mpc_desk.specs.Events.{IsOpening, IsOpeningAlong};
-ghost use Rattle.mpc_desk.specs.Opening.{ComesNext, IsNotNext, StopsAt, IsDamagedDesk, StandsAlike, disk_after};
+ghost use Rattle.mpc_desk.specs.Pairs.{pair};
+ghost use Rattle.mpc_desk.specs.Opening.{ComesNext, IsNotNext, StopsIn, IsDamagedFirst, IsDamagedSecond, second_after};
+ghost use Rattle.mpc_desk.specs.Opening.{EndsMove, EndsOpening};
 
+use crate::chained::ChainedDesk;
 use crate::desk::Desk;
+use crate::laws as desk_laws;
 use act_model::Key;
 use desk_core::{Core, ReplayFault};
 use disk_model::Disk;
-use obs_journal::{Journal, OpenFault, Parcel, Placed};
+use obs_journal::{
+    Journal, OpenFault, Parcel, Parcels, Placed, carried_length, in_force, open_first,
+};
 use std::alloc::Global;
 
 /// Takes in the entry of a parcel.
@@ -39,14 +48,13 @@ fn replay(core: &mut Core, parcel: &Parcel) -> Result<(), ReplayFault>
 }
 
 /// Takes in the entries of these parcels, the first of a journal's.
-fn replay_all(core: &mut Core, parcels: &[Placed]) -> Result<(), OpenFault>
+fn replay_all(core: &mut Core, file: u8, parcels: &[Placed]) -> Result<(), OpenFault>
     requires empty { core.old.history ≡ [] }
-    requires placed { parcels.now ≡ placed_from 0 (parcels_of parcels.now) }
     ensures taken { OnOk result (parcels_in core.new.history ≡ parcels_of parcels.now) }
     ensures legal { OnOk result (IsLegal core.new.founder core.new.history) }
     ensures acts { OnOk result (AreActs core.new.history) }
-    ensures damaged { (offset : ℕ) → result ≡ Err (OpenFault.Damaged offset) →
-        StopsAt core.old.founder (parcels_of parcels.now) offset }
+    ensures damaged { (number offset : ℕ) → result ≡ Err (OpenFault.Damaged number offset) →
+        (number ≡ file) × StopsIn core.old.founder parcels.now offset }
     ensures some { IsErr result → parcels.now ≢ [] }
     ensures no_disk { result ≢ Err OpenFault.DiskFault }
     ensures founder { core.new.founder ≡ core.old.founder }
@@ -56,6 +64,7 @@ fn replay_all(core: &mut Core, parcels: &[Placed]) -> Result<(), OpenFault>
             Ok(()) => {}
             Err(ReplayFault::NotLegal) => {
                 return Err(OpenFault::Damaged {
+                    file,
                     offset: placed.offset,
                 });
             }
@@ -65,65 +74,162 @@ fn replay_all(core: &mut Core, parcels: &[Placed]) -> Result<(), OpenFault>
     Ok(())
 }
 
-impl<D: Disk> Desk<D> {
-    /// Opens the office of the founding officer with this key on a disk, where the journal may have so many bytes. It
-    /// waits until the journal's file is safe, reads its parcels, and takes in the entry of each, by all rules of the
-    /// office; a fresh file gets its first gate. The key begins with a plus and has at most 33 bytes. It takes memory.
-    ///
-    /// # Errors
-    /// The disk comes back beside the fault: `DiskFault` where the disk failed; `Damaged` where the file spells no list
-    /// of parcels, with the offset of the gate where it stops, and else where an entry isn't legal after those before
-    /// it, with the offset of its gate; `NoMemory` where memory was refused.
-    pub fn open(alloc: Global, founder: Key, limit: u64, disk: D) -> Result<Desk<D>, (OpenFault, D)>
-        requires founder { IsFounder founder }
-        ensures stands { IfOk result (λ desk. IfSome (D.reads disk) (λ file. Stands file desk.state.settled)) }
-        ensures legal { IfOk result (λ desk. IsLegal founder desk.state.settled) }
-        ensures settled { IfOk result (λ desk. desk.state.doubt ≡ None) }
-        ensures at_rest { IfOk result (λ desk. IsAtRest D.leaves desk) }
-        ensures founder { IfOk result (λ desk. desk.founder ≡ founder) }
-        ensures limit { IfOk result (λ desk. desk.limit ≡ limit) }
+/// Opens the office on a second disk, which is in force. Nothing is written.
+fn open_second<D: Disk>(
+    alloc: Global,
+    mut core: Core,
+    limit: u64,
+    second: D,
+) -> Result<ChainedDesk<D>, (OpenFault, D)>
+    requires empty { core.history ≡ [] }
+    requires in_force { IfSome (D.reads second) IsInForce }
+    ensures stands { IfOk result (λ desk. IfSome (D.reads second) (λ file. Stands file desk.state.settled)) }
+    ensures legal { IfOk result (λ desk. IsLegal core.founder desk.state.settled) }
+    ensures settled { IfOk result (λ desk. desk.state.doubt ≡ None) }
+    ensures at_rest { IfOk result (λ desk. IsAtRest D.leaves desk) }
+    ensures founder { IfOk result (λ desk. desk.founder ≡ core.founder) }
+    ensures limit { IfOk result (λ desk. desk.limit ≡ limit) }
+    ensures damaged { IfErr result (λ failed. (file offset : ℕ) → failed.0 ≡ OpenFault.Damaged file offset →
+        (file ≡ 2) × IfSome (D.reads second) (λ bytes. IsDamagedSecond core.founder bytes offset)) }
+    ensures unwritten { IsUnwritten D.reads D.moment D.since second (second_after result) }
+    ensures counts { D.faults second ≤ D.faults (second_after result) }
+    ensures cause { IfErr result (λ failed. failed.0 ≡ OpenFault.DiskFault →
+        Rises (D.faults second) (D.faults failed.1)) }
+{
+    obs_journal::laws::one_chain();
+    let (journal, parcels) = match Journal::open(alloc, second) {
+        Ok(opened) => opened,
+        Err(failed) => return Err(failed),
+    };
+    // A position is fewer than 2 ^ 64 bytes.
+    let _ = journal.position();
+    match replay_all(&mut core, 2, parcels.as_slice()) {
+        Ok(()) => Ok(ChainedDesk {
+            alloc,
+            core,
+            journal,
+            limit,
+            doubt: None,
+        }),
+        Err(fault) => Err((fault, journal.close())),
+    }
+}
 
-        ensures damaged { IfErr result (λ failed. (offset : ℕ) → failed.0 ≡ OpenFault.Damaged offset →
-            IfSome (D.reads disk) (λ file. IsDamagedDesk founder file offset)) }
+/// Reads the parcels of a first disk, and takes in the entry of each: they are those that are carried over.
+fn take_first<D: Disk>(alloc: Global, core: &mut Core, first: &mut D) -> Result<Parcels, OpenFault>
+    requires empty { core.old.history ≡ [] }
+    ensures taken { IfOk result (λ parcels. parcels_in core.new.history ≡ parcels_of parcels) }
+    ensures legal { OnOk result (IsLegal core.old.founder core.new.history) }
+    ensures acts { OnOk result (AreActs core.new.history) }
+    ensures spelled { IfOk result (λ parcels. IfSome (D.reads first.old) (λ file. Spells file (parcels_of parcels))) }
+    ensures fits { IfOk result (λ parcels. row_length_in chained (parcels_of parcels) + 2 < 2 ^ 64) }
+    ensures damaged { (file offset : ℕ) → result ≡ Err (OpenFault.Damaged file offset) →
+        (file ≡ 1) × IfSome (D.reads first.old) (λ bytes. IsDamagedFirst core.old.founder bytes offset) }
+    ensures any_moment { During D.moment D.since first.old first.new (SpellsAlike (D.reads first.old)) }
+    ensures unwritten { IsErr result → result ≢ Err OpenFault.DiskFault → IsSome (D.reads first.old) →
+        IsUnwritten D.reads D.moment D.since first.old first.new }
+    ensures founder { core.new.founder ≡ core.old.founder }
+    ensures counts { D.faults first.old ≤ D.faults first.new }
+    ensures cause { result ≡ Err OpenFault.DiskFault → Rises (D.faults first.old) (D.faults first.new) }
+{
+    obs_journal::laws::one_list();
+    let parcels = match open_first(alloc, first) {
+        Ok(parcels) => parcels,
+        Err(fault) => return Err(fault),
+    };
+    match replay_all(core, 1, parcels.as_slice()) {
+        Ok(()) => {}
+        Err(fault) => return Err(fault),
+    }
+    match carried_length(&parcels) {
+        Some(_) => Ok(parcels),
+        None => Err(OpenFault::NoMemory),
+    }
+}
 
-        // Where each image of a disk with known reads stands for a legal history, nothing is damaged.
-        ensures sound { IfErr result (λ failed. (offset : ℕ) → failed.0 ≡ OpenFault.Damaged offset →
-            IsSome (D.reads disk) → ((image : List ℕ) → D.leaves disk image →
-            (history : List Entry) × IsLegal founder history × Stands image history) → ⊥) }
-
-        // A crash at any moment of the call leaves what it could leave before, or the same history.
-        ensures any_moment { IfOk result (λ desk. During D.moment D.since disk desk.disk
-            (StandsAlike (D.reads disk) desk.state.settled)) }
-        ensures any_moment_failed { IfErr result (λ failed. During D.moment D.since disk failed.1
-            (SpellsAlike (D.reads disk))) }
-        ensures unwritten { IfErr result (λ failed. failed.0 ≢ OpenFault.DiskFault → IsSome (D.reads disk) →
-            IsUnwritten D.reads D.moment D.since disk failed.1) }
-        ensures counts { D.faults disk ≤ D.faults (disk_after result) }
-        ensures event { IfOk result (λ desk. IsOpening (disk_words D.reads D.leaves D.moment D.since D.faults)
-            founder limit disk desk) }
-        ensures along { IsOpeningAlong (disk_words D.reads D.leaves D.moment D.since D.faults) disk result }
-        ensures cause { IfErr result (λ failed. failed.0 ≡ OpenFault.DiskFault →
-            Rises (D.faults disk) (D.faults failed.1)) }
-    {
-        obs_journal::laws::one_list();
-        let Ok(mut core) = Core::new(alloc, founder) else {
-            return Err((OpenFault::NoMemory, disk));
-        };
-        let (journal, parcels) = match Journal::open(alloc, disk) {
-            Ok(opened) => opened,
-            Err(failed) => return Err(failed),
-        };
-        // A position is fewer than 2 ^ 64 bytes.
-        let _ = journal.position();
-        match replay_all(&mut core, parcels.as_slice()) {
-            Ok(()) => Ok(Desk {
+/// Opens the office on a first disk, and carries it over to a second one, which isn't in force. That is written last,
+/// so that a first file which stands for no office leaves it as it was.
+fn move_over<D: Disk>(
+    alloc: Global,
+    mut core: Core,
+    limit: u64,
+    first: &mut D,
+    second: D,
+) -> Result<ChainedDesk<D>, (OpenFault, D)>
+    requires empty { core.history ≡ [] }
+    requires safe { (image : List ℕ) → D.leaves second image → D.reads second ≡ Some image }
+    requires idle { IfSome (D.reads second) IsIdle }
+    ensures ends { EndsMove (disk_words D.reads D.leaves D.moment D.since D.faults) core.founder limit
+        (pair first.old second) first.new result }
+{
+    let parcels = match take_first(alloc, &mut core, first) {
+        Ok(parcels) => parcels,
+        Err(fault) => return Err((fault, second)),
+    };
+    match Journal::carried(&parcels, second) {
+        Ok(journal) => {
+            // A position is fewer than 2 ^ 64 bytes.
+            let _ = journal.position();
+            Ok(ChainedDesk {
                 alloc,
                 core,
                 journal,
                 limit,
                 doubt: None,
+            })
+        }
+        Err(second) => Err((OpenFault::DiskFault, second)),
+    }
+}
+
+impl<D: Disk> Desk<D> {
+    /// Opens the office of the founding officer with this key on its two disks, where the second file may have so many
+    /// bytes. The second disk is made safe, and where its file is in force its parcels are read, and the entry of each
+    /// is taken in, by all rules of the office. Else those of the first file are, which gets its first gate where it is
+    /// fresh, and the history is carried over: the second file is in force then. The key begins with a plus and has at
+    /// most 33 bytes. It takes memory.
+    ///
+    /// # Errors
+    /// The disks come back beside the fault: `DiskFault` where one of them failed; `Damaged` where the file that counts
+    /// spells no list of parcels, with its number and the offset of the gate where it stops, and else where an entry
+    /// isn't legal after those before it, with the offset of its gate; `NoMemory` where memory was refused, or a `u64`
+    /// can't count the bytes of the second file.
+    pub fn open(
+        alloc: Global,
+        founder: Key,
+        limit: u64,
+        mut disk: D,
+        mut second: D,
+    ) -> Result<Desk<D>, (OpenFault, D, D)>
+        requires founder { IsFounder founder }
+        // What is promised at each end stands in `specs/Opening.antt`.
+        ensures ends { EndsOpening (disk_words D.reads D.leaves D.moment D.since D.faults) founder limit
+            (pair disk second) result }
+    {
+        obs_journal::laws::one_list();
+        obs_journal::laws::one_chain();
+        desk_laws::damage();
+        let Ok(core) = Core::new(alloc, founder) else {
+            return Err((OpenFault::NoMemory, disk, second));
+        };
+        let Ok(is_in_force) = in_force(&mut second) else {
+            return Err((OpenFault::DiskFault, disk, second));
+        };
+        if is_in_force {
+            return match open_second(alloc, core, limit, second) {
+                Ok(chained) => Ok(Desk {
+                    first: disk,
+                    chained,
+                }),
+                Err((fault, second)) => Err((fault, disk, second)),
+            };
+        }
+        match move_over(alloc, core, limit, &mut disk, second) {
+            Ok(chained) => Ok(Desk {
+                first: disk,
+                chained,
             }),
-            Err(fault) => Err((fault, journal.close())),
+            Err((fault, second)) => Err((fault, disk, second)),
         }
     }
 }

@@ -1,4 +1,4 @@
-//! All that `main` does: it reads the words of the command line, makes the real source, sink, disk, clock and door,
+//! All that `main` does: it reads the words of the command line, makes the real source, sink, disks, clock and door,
 //! hands them to `top` of program_top, says on standard error what the operator must know, and ends with the status's
 //! number.
 //!
@@ -31,8 +31,11 @@ use std::sync::Wait;
 use std::thread::Threads;
 use usage_text::{is_command, usage_text};
 
-/// The file of the current folder in which the office is kept.
-const JOURNAL: &str = "desk.journal";
+/// The file of the current folder in which the office is kept, the journal.
+const JOURNAL: &str = "desk.journal2";
+
+/// The file in which it was kept before. It is read, and carried over, where the journal isn't in force.
+const FIRST_JOURNAL: &str = "desk.journal";
 
 /// How much memory is taken and given back at the start, in bytes.
 const KEPT: usize = 1 << 22;
@@ -122,11 +125,11 @@ fn tell_left<I, O>(rt: HostRuntime, ends: &LinkEnds<I, O>) {
     );
 }
 
-/// Tells on standard error why the disk failed the last time, and how often it failed, where it did.
-fn tell_disk<F: NamedFile>(rt: HostRuntime, disk: &FileDisk<F>) {
+/// Tells on standard error why the disk with this file failed the last time, and how often it failed, where it did.
+fn tell_disk<F: NamedFile>(rt: HostRuntime, name: &str, disk: &FileDisk<F>) {
     if let Some(error) = disk.last_error() {
-        let _ = eprintln!(rt; "mpc_cli: {JOURNAL}: {error}");
-        let _ = eprintln!(rt; "mpc_cli: the disk failed {} times", disk.faults());
+        let _ = eprintln!(rt; "mpc_cli: {name}: {error}");
+        let _ = eprintln!(rt; "mpc_cli: {name}: the disk failed {} times", disk.faults());
     }
 }
 
@@ -137,9 +140,10 @@ fn tell_status(rt: HostRuntime, status: &Status) {
     }
 }
 
-/// Runs the program over standard input, standard output, the file `desk.journal` of the current folder, the system's
-/// clock and the port for connections, which are attended in threads. Standard error says when the port is bound, how
-/// the links ended, with which status the program ends, and what the system said of a disk or a port that failed.
+/// Runs the program over standard input, standard output, the files `desk.journal` and `desk.journal2` of the current
+/// folder, the system's clock and the port for connections, which are attended in threads. Standard error says when the
+/// port is bound, how the links ended, with which status the program ends, and what the system said of a disk or a port
+/// that failed.
 fn run<
     N: Net<Listener = TcpListener, Stream = TcpStream> + Clock + Copy + Send + Sync,
     R: Threads + Wait + Sync,
@@ -148,7 +152,8 @@ fn run<
     let mut source = StreamSource::new(host.stdin());
     let mut sink = StreamSink::new(host.stdout());
     let mut clock = SystemClock::new(host);
-    let disk = FileDisk::new(host, JOURNAL);
+    let disk = FileDisk::new(host, FIRST_JOURNAL);
+    let second = FileDisk::new(host, JOURNAL);
     let mut door = ServingDoor::new(TcpDoor::new(net, alloc), wanted_links(words), host.stderr());
     let (ended, ends) = top(
         rt,
@@ -157,12 +162,14 @@ fn run<
         &mut source,
         &mut sink,
         disk,
+        second,
         &mut clock,
         &mut door,
     );
     tell_left(host, &ends);
     tell_status(host, &ended.status);
-    tell_disk(host, &ended.disk);
+    tell_disk(host, FIRST_JOURNAL, &ended.disk);
+    tell_disk(host, JOURNAL, &ended.second);
     if let Some(error) = door.last_error() {
         let _ = eprintln!(host; "mpc_cli: the port: {error}");
     }

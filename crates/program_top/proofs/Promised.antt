@@ -29,7 +29,7 @@ stays_open {X = X} faults is_open x same =
 
 module _ {S K D C : Type 0} (read : SourceWords S) (on : OutsideWords K D C) (source : Change S) (course : Course K D C) where
   -- where the source wasn't called, and the end is none of its faults
-  sourceless : IsUncalled source → (course.status ≡ ReadFault → ⊥) → SinkCause on.sink course.sink course.status → DiskCause on.disk course.disk course.status → HasCauses read on source course
+  sourceless : IsUncalled source → (course.status ≡ ReadFault → ⊥) → SinkCause on.sink course.sink course.status → DiskCause on.disk course.disks course.status → HasCauses read on source course
   sourceless same other write disk = record {
     read_cause = (quiet read.faults source ReadFault course.status same other, stays_open read.faults read.is_open source same);
     write_cause = write;

@@ -1,5 +1,5 @@
--- What the program promises of each command, over every source, sink, disk, clock and door. What it promises of one
--- command stands in that command's own `specs/Promises.antt`.
+-- What the program promises of each command, over every source, sink, two disks, clock and door. What it promises of
+-- one command stands in that command's own `specs/Promises.antt`.
 use Rattle.std.specs.Prelude.{◌≡◌, ◌↔◌, true, false, ℕ, List, [], Option, Some, None}
 use Rattle.command_line.specs.declared.command.Command.{Command}
 use Rattle.command_line.specs.declared.command.Command.TheVariants.{Run, Serve, Export, Workload}
@@ -24,11 +24,11 @@ IsDoorUncalled at = IsUncalled at.door × (at.ends ≡ [])
 
 -- ---- each command
 
--- words that name no command: nothing was called, and the disk is given back as it was
+-- words that name no command: nothing was called, and the disks are given back as they were
 pub record IsUsage {S K D C : Type 0} (source : Change S) (course : Course K D C) : Type 0 where
   pub status : course.status ≡ Usage
   pub uncalled : IsUncalled source × IsUncalled course.sink × IsUncalled course.clock
-  pub disk : IsUncalled course.disk
+  pub disks : IsUncalled course.disks
   pub added : course.added ≡ 0
 
 -- `export` calls neither source nor clock
@@ -36,14 +36,14 @@ pub record ExportsAlone {S K D C : Type 0} (on : OutsideWords K D C) (source : C
     : Type 0 where
   pub source_rests : IsUncalled source
   pub clock_rests : IsUncalled course.clock
-  pub keeps : KeepsExport on.sink on.disk course.sink course.disk course.added course.status
+  pub keeps : KeepsExport on.sink on.disk course.sink course.disks course.added course.status
 
--- `workload` calls the sink alone; the disk is given back as it was
+-- `workload` calls the sink alone; the disks are given back as they were
 pub record WorksAlone {S K D C : Type 0} (on : OutsideWords K D C) (source : Change S) (course : Course K D C)
     (seed count : ℕ) : Type 0 where
   pub source_rests : IsUncalled source
   pub clock_rests : IsUncalled course.clock
-  pub disk_rests : IsUncalled course.disk
+  pub disks_rest : IsUncalled course.disks
   pub added : course.added ≡ 0
   pub keeps : KeepsWorkload on.sink course.sink course.status seed count
 
@@ -63,7 +63,7 @@ pub record HasCauses {S K D C : Type 0} (read : SourceWords S) (on : OutsideWord
     (course : Course K D C) : Type 0 where
   pub read_cause : SourceCause read source course.status
   pub write_cause : SinkCause on.sink course.sink course.status
-  pub disk_cause : DiskCause on.disk course.disk course.status
+  pub disk_cause : DiskCause on.disk course.disks course.status
 
 -- What is promised without threads. The words decide alone whether it ends with `Usage`.
 pub record PromisesAlone {S K D C : Type 0} (read : SourceWords S) (on : OutsideWords K D C) (source : Change S)

@@ -1,7 +1,8 @@
-//! The whole program, over any source, sink, disk, clock and door.
+//! The whole program, over any source, sink, two disks, clock and door.
 
 ghost use Rattle.act_model.specs.Clocks.{clock_of};
 ghost use Rattle.command_line.specs.Commands.{command_of};
+ghost use Rattle.mpc_desk.specs.Pairs.{pair};
 ghost use Rattle.command_ends.specs.Courses.{source_words, sink_words, outside_words, change};
 ghost use Rattle.command_ends.specs.Disks.{disk_words};
 ghost use Rattle.serve_command.specs.Links.{link_words};
@@ -24,11 +25,12 @@ use workload_command::workload;
 /// All that the program does without threads: each command but `serve`, for which it ends as for words that name no
 /// command.
 ///
-/// The office is the one that the disk stands for. Over every source, however it cuts its bytes into pieces, the
+/// The office is the one that the two disks stand for: the second one where its file is in force, else the first one,
+/// from which it is then carried over. Over every source, however it cuts its bytes into pieces, the
 /// answers of `run` are those of one history: the requests of the frames that came, in their order, are answered by a
-/// conduct from the history that the disk stood for, each request under a caller's number acts at most once, and the
-/// sink takes the texts of the replies and nothing else. A crash at any moment leaves a file that stands for a history
-/// of that conduct. `export` writes the catalogue, the written function of the history that the disk stands for.
+/// conduct from the history that the disks stood for, each request under a caller's number acts at most once, and the
+/// sink takes the texts of the replies and nothing else. A crash at any moment leaves files that stand for a history
+/// of that conduct. `export` writes the catalogue, the written function of the history that the disks stand for.
 /// `workload` writes the summary of a made-up workload, and calls nothing but the sink. What is promised of each stands
 /// in `specs/Promises.antt`.
 pub fn single<S: Source, K: Sink, D: Disk, C: Clock>(
@@ -37,6 +39,7 @@ pub fn single<S: Source, K: Sink, D: Disk, C: Clock>(
     source: &mut S,
     sink: &mut K,
     disk: D,
+    second: D,
     clock: &mut C,
 ) -> Ended<D>
     ensures promises { PromisesAlone (source_words S.left S.gives S.faults S.is_open)
@@ -45,7 +48,7 @@ pub fn single<S: Source, K: Sink, D: Disk, C: Clock>(
         (change source.old source.new)
         (record {
           sink = change sink.old sink.new;
-          disk = change disk result.disk;
+          disks = change (pair disk second) (pair result.disk result.second);
           clock = change clock.old clock.new;
           added = result.added;
           status = result.status;
@@ -53,13 +56,13 @@ pub fn single<S: Source, K: Sink, D: Disk, C: Clock>(
         (command_of words.now) }
 {
     match command_of(words) {
-        Some(Command::Run { key }) => run(alloc, key, source, sink, disk, clock),
-        Some(Command::Export) => export(alloc, sink, disk),
+        Some(Command::Run { key }) => run(alloc, key, source, sink, disk, second, clock),
+        Some(Command::Export) => export(alloc, sink, disk, second),
         Some(Command::Workload { seed, count }) => {
             let status = workload(alloc, seed, count, sink);
-            not_begun(status, disk)
+            not_begun(status, disk, second)
         }
-        Some(Command::Serve { .. }) | None => not_begun(Status::Usage, disk),
+        Some(Command::Serve { .. }) | None => not_begun(Status::Usage, disk, second),
     }
 }
 
@@ -67,7 +70,7 @@ pub fn single<S: Source, K: Sink, D: Disk, C: Clock>(
 ///
 /// For each command but `serve` it is [`single`]. `serve` attends the connections of the door, each in turns of its own
 /// at the one office: over every interleaving, each call is true of one history, which is legal, extends the one that
-/// the disk stood for, and has no newer entry but what a call for one of the links added. How each link ended is given
+/// the disks stood for, and has no newer entry but what a call for one of the links added. How each link ended is given
 /// in the door's order; for every other command there is none. What is promised of each command stands in
 /// `specs/Promises.antt`.
 pub fn top<
@@ -84,6 +87,7 @@ pub fn top<
     source: &mut S,
     sink: &mut K,
     disk: D,
+    second: D,
     clock: &mut C,
     door: &mut G,
 ) -> (Ended<D>, LinkEnds<G::In, G::Out>)
@@ -95,7 +99,7 @@ pub fn top<
         (change source.old source.new)
         (record {
           sink = change sink.old sink.new;
-          disk = change disk result.0.disk;
+          disks = change (pair disk second) (pair result.0.disk result.0.second);
           clock = change clock.old clock.new;
           added = result.0.added;
           status = result.0.status;
@@ -112,6 +116,7 @@ pub fn top<
                 u64::from(connections),
                 sink,
                 disk,
+                second,
                 clock,
                 door,
             );
@@ -119,7 +124,7 @@ pub fn top<
         }
         Some(Command::Run { .. } | Command::Export | Command::Workload { .. }) | None => {
             (
-                single(alloc, words, source, sink, disk, clock),
+                single(alloc, words, source, sink, disk, second, clock),
                 LinkEnds::new(Vec::new(alloc)),
             )
         }

@@ -6,14 +6,12 @@ use Rattle.std.proofs.lemmas.Bool.Decides.{nat_tests}
 use Rattle.desk_io.specs.Outside.{AppendsPart}
 use Rattle.desk_io.specs.declared.outside.Failed.{Failed}
 use Rattle.frame_grammar.specs.Replies.{reply_frame}
-use Rattle.read_ahead.specs.declared.body.Body.{Body as FrameBody}
-use Rattle.read_ahead.specs.declared.body.Body.TheVariants as kept
+use Rattle.read_ahead.specs.declared.body.Body.{Body}
+use Rattle.read_ahead.specs.declared.body.Body.TheVariants.{Whole, TooLong, NoRoom}
 use Rattle.read_ahead.specs.Reading.{IsBody}
 use Rattle.frame_reader.specs.declared.frame.ReadFrame.{ReadFrame}
 use Rattle.frame_reader.specs.Frames.{IsFrameRead}
 use Rattle.act_bodies.specs.Keys.{key_of}
-use Rattle.act_model.specs.declared.request.Body.{Body}
-use Rattle.act_model.specs.declared.request.Body.TheVariants.{Whole, TooLong}
 use Rattle.act_model.specs.declared.request.Request.{Request}
 use Rattle.act_model.specs.declared.request.TheConstants.{BODY_BYTES}
 use Rattle.act_model.specs.declared.reply.Refusal.TheVariants.{NoLine, NoMemory}
@@ -26,34 +24,34 @@ use Rattle.run_command.specs.declared.spoken.Spoken.{Spoken}
 use Rattle.command_ends.specs.Disks.{DiskWords}
 use Rattle.run_command.specs.Conducted.{TakesTurn}
 use Rattle.run_command.specs.Spoken.{IsSpoken, Speaks}
-use Rattle.run_command.specs.Steps.{Answering, body_read, request_read, Writes, AnswersFrame}
+use Rattle.run_command.specs.Steps.{Answering, request_read, Writes, AnswersFrame}
 use Rattle.run_command.proofs.Laws.{WantLaws}
 use Rattle.run_command.proofs.DeskTurns.{turn_wanting, turn_standing}
 
 -- a body that was read is the request's, but for one that had no room
-body_kept : (body : FrameBody) (text : List ℕ) → IsBody body text → (body_read body ≡ body_of text) ⊎ (body ≡ kept.NoRoom)
-body_kept (kept.Whole bytes) text (is, short) =
+body_kept : (body : Body) (text : List ℕ) → IsBody body text → (body ≡ body_of text) ⊎ (body ≡ NoRoom)
+body_kept (Whole bytes) text (is, short) =
     let test : nat_lt BODY_BYTES (length text) ≡ false = grind (arith, nat_tests) in
     inl (ap (λ (b : List ℕ). Whole b) is ∙ sym (ap (λ (b : Bool). cond b (TooLong (length text)) (Whole text)) test))
-body_kept (kept.TooLong size) text (is, long) =
+body_kept (TooLong size) text (is, long) =
     let test : nat_lt BODY_BYTES (length text) ≡ true = grind (arith, nat_tests) in
     inl (ap (λ (n : ℕ). TooLong n) is ∙ sym (ap (λ (b : Bool). cond b (TooLong (length text)) (Whole text)) test))
-body_kept kept.NoRoom text small = inr refl
+body_kept NoRoom text small = inr refl
 
 -- the turn of the request that was read is that of the frame's request
 module _ (wants : WantLaws) {D : Type 0} (on : DiskWords D) (old new : Answering D) (read : ReadFrame) (reply : Reply) (turn : TakesTurn on old.desk (request_read read) reply new.desk old.clock new.clock) where
   turn_of_frame : (front rest : List ℕ) (r : IsFrameRead front read rest) → TakesTurn on old.desk (request_of r.frame) reply new.desk old.clock new.clock
   turn_of_frame front rest r = by (body_kept read.body r.frame.body r.body)
     where
-      by : (body_read read.body ≡ body_of r.frame.body) ⊎ (read.body ≡ kept.NoRoom) → TakesTurn on old.desk (request_of r.frame) reply new.desk old.clock new.clock
+      by : (read.body ≡ body_of r.frame.body) ⊎ (read.body ≡ NoRoom) → TakesTurn on old.desk (request_of r.frame) reply new.desk old.clock new.clock
       by (inl same) =
           let request : request_read read ≡ request_of r.frame =
-          ap (λ (k : List ℕ). record { key = key_of k; number = Some read.number; verb = verb_of read.verb.items; body = body_read read.body }) r.key
-          ∙ ap (λ (n : ℕ). record { key = key_of r.frame.key; number = Some n; verb = verb_of read.verb.items; body = body_read read.body }) r.number
-          ∙ ap (λ (v : List ℕ). record { key = key_of r.frame.key; number = Some r.frame.number; verb = verb_of v; body = body_read read.body }) r.verb
+          ap (λ (k : List ℕ). record { key = key_of k; number = Some read.number; verb = verb_of read.verb.items; body = read.body }) r.key
+          ∙ ap (λ (n : ℕ). record { key = key_of r.frame.key; number = Some n; verb = verb_of read.verb.items; body = read.body }) r.number
+          ∙ ap (λ (v : List ℕ). record { key = key_of r.frame.key; number = Some r.frame.number; verb = verb_of v; body = read.body }) r.verb
           ∙ ap (λ (b : Body). record { key = key_of r.frame.key; number = Some r.frame.number; verb = verb_of r.frame.verb; body = b }) same in
           subst (λ (q : Request). TakesTurn on old.desk q reply new.desk old.clock new.clock) request turn
-      by (inr none) = turn_standing on old.desk new.desk wants (request_read read) (request_of r.frame) reply (ap body_read none) (ap verb_of r.verb) old.clock new.clock turn
+      by (inr none) = turn_standing on old.desk new.desk wants (request_read read) (request_of r.frame) reply none (ap verb_of r.verb) old.clock new.clock turn
 
 -- the frame of what was spoken was written, or a front of it
 abbrev pub Wrote : Option (List ℕ) → Option (List ℕ) → Spoken → Result ℕ Failed → Type 0

@@ -95,7 +95,7 @@ module _ {D : Type 0} (on : DiskWords D) where
         subst (λ (s : OfficeState). Mends old.state.settled old.state.doubt s.settled) (sym doubted.stays) (nothing_mended old.state.settled old.state.doubt)
     finish_mends stop.Over Usage ends = absurd ends
     finish_mends stop.Over (BadFrame offset) ends = absurd ends
-    finish_mends stop.Over (Damaged offset) ends = absurd ends
+    finish_mends stop.Over (Damaged file offset) ends = absurd ends
     finish_mends stop.Over ReadFault ends = absurd ends
     finish_mends stop.Over WriteFault ends = absurd ends
     finish_mends stop.Over NoMemory ends = absurd ends

@@ -1,20 +1,21 @@
 -- What a run's end says of its causes, and that a whole session without a fault is served to its end.
 use Rattle.std.proofs.Common.{◌≡◌, ℕ, ◌+◌, List, [], ◌++◌, length, Option, Some, refl, ap, subst, ◌∙◌, inl, inr, arith}
 use Rattle.std.specs.Prelude.{IfSome}
-use Rattle.disk_model.specs.Counts.{Rises}
 use Rattle.frame_grammar.specs.Frames.{Frame, IsSession}
 use Rattle.act_bodies.specs.declared.key.Key.{Key}
 use Rattle.act_model.specs.declared.entry.Entry.{Entry}
 use Rattle.act_model.specs.Legal.{IsLegal}
 use Rattle.act_model.specs.Turns.{Turn, rises_of}
-use Rattle.mpc_desk.specs.Files.{Stands}
-use Rattle.mpc_desk.specs.Opening.{IsDamagedDesk}
+use Rattle.obs_journal.specs.Chains.{IsInForce}
+use Rattle.mpc_desk.specs.Files.{Stands, StandsFirst}
+use Rattle.mpc_desk.specs.Opening.{IsDamagedFirst, IsDamagedSecond}
+use Rattle.mpc_desk.specs.Pairs.{FilePair, StandBoth, AreRead, EitherRises}
+use Rattle.mpc_desk.specs.PairLaws.{risen_rises, never_damaged}
 use Rattle.command_ends.specs.declared.status.Status.{Status}
 use Rattle.command_ends.specs.declared.status.Status.TheVariants.{Done, Usage, BadFrame, DiskFault, Damaged, ReadFault, WriteFault, NoMemory, DoorFault}
 use Rattle.command_ends.specs.Disks.{DiskWords}
 use Rattle.command_ends.specs.Statuses.{IsDoneOrNoMemory}
 use Rattle.run_command.specs.Runs.{AnswersFrames, StopsAt, IsWhole, Course, Ends}
-use Rattle.run_command.proofs.Closings.{rises_by}
 
 -- known bytes are those of the run
 pub known_bytes : (left : Option (List ℕ)) (bytes all : List ℕ) → left ≡ Some bytes → IfSome left (λ known. known ≡ all) → bytes ≡ all
@@ -28,25 +29,26 @@ module _ {D : Type 0} (on : DiskWords D) (course : Course D) (Uncalled : Type 0)
     λ is. subst (λ (s : Status). Ends on course Uncalled s) is ends,
   )
 
-  -- the disk's count rose where the disk failed
-  fault_rises : Ends on course Uncalled DiskFault → Rises (on.faults course.disk) (on.faults course.disk_after)
-  fault_rises (inl (idle, (rise, some, shut))) = rises_by (on.faults course.disk) (on.faults course.disk_after) rise some shut.counts
+  -- the count of one of the disks rose where a disk failed
+  fault_rises : Ends on course Uncalled DiskFault → EitherRises on course.disks course.disks_after
+  fault_rises (inl (idle, (rise, some, shut))) = risen_rises rise some shut.counts
   fault_rises (inr (turns, all, runs)) =
       let some = runs.closes.rose in
-      rises_by (on.faults course.disk) (on.faults course.disk_after) (runs.opening + rises_of turns + runs.mending) (omega (arith, some)) runs.counts
+      risen_rises (runs.opening + rises_of turns + runs.mending) (omega (arith, some)) runs.counts
 
-  pub disk_rises : (status : Status) → Ends on course Uncalled status → status ≡ DiskFault → Rises (on.faults course.disk) (on.faults course.disk_after)
+  pub disk_rises : (status : Status) → Ends on course Uncalled status → status ≡ DiskFault → EitherRises on course.disks course.disks_after
   disk_rises status ends is = fault_rises (subst (λ (s : Status). Ends on course Uncalled s) is ends)
 
-  module _ (damage : (founder : Key) (file : List ℕ) (offset : ℕ) (history : List Entry) → IsDamagedDesk founder file offset → IsLegal founder history → Stands file history → ⊥)
-      (file : List ℕ) (history : List Entry) (reads : on.reads course.disk ≡ Some file) (stands : Stands file history) (legal : IsLegal course.founder history) where
-    -- a file that stands for a legal history isn't damaged
-    undamaged : (offset : ℕ) → Ends on course Uncalled (Damaged offset) → ⊥
-    undamaged offset ends =
-        damage course.founder file offset history (subst (λ (o : Option (List ℕ)). IfSome o (λ known. IsDamagedDesk course.founder known offset)) reads ends.1.0) legal stands
+  module _ (first : (founder : Key) (file : List ℕ) (offset : ℕ) (history : List Entry) → IsDamagedFirst founder file offset → IsLegal founder history → StandsFirst file history → ⊥)
+      (second : (founder : Key) (file : List ℕ) (offset : ℕ) (history : List Entry) → IsDamagedSecond founder file offset → IsLegal founder history → Stands file history → ⊥)
+      (force : (founder : Key) (file : List ℕ) (offset : ℕ) → IsDamagedSecond founder file offset → IsInForce file)
+      (files : FilePair) (history : List Entry) (reads : AreRead on course.disks files) (stands : StandBoth files history) (legal : IsLegal course.founder history) where
+    -- files that stand for a legal history aren't damaged
+    undamaged : (file offset : ℕ) → Ends on course Uncalled (Damaged file offset) → ⊥
+    undamaged file offset ends = never_damaged first second force on course.founder course.disks files history file offset reads stands legal ends.1.0
 
-    pub sound : (status : Status) (offset : ℕ) → Ends on course Uncalled status → status ≡ Damaged offset → ⊥
-    sound status offset ends is = undamaged offset (subst (λ (s : Status). Ends on course Uncalled s) is ends)
+    pub sound : (status : Status) (file offset : ℕ) → Ends on course Uncalled status → status ≡ Damaged file offset → ⊥
+    sound status file offset ends is = undamaged file offset (subst (λ (s : Status). Ends on course Uncalled s) is ends)
 
     module _ (one_session : (bytes : List ℕ) (fs gs : List Frame) (x y : List ℕ) → IsSession bytes fs x → IsSession bytes gs y → (fs ≡ gs) × (x ≡ y))
         (bytes : List ℕ) (known : bytes ≡ course.run.came ++ course.run.more) where
@@ -68,6 +70,6 @@ module _ {D : Type 0} (on : DiskWords D) (course : Course D) (Uncalled : Type 0)
       complete DoorFault ends whole disks reads writes = ends
       complete (BadFrame offset) ends whole disks reads writes = no_stop ends.0 offset ends.1 whole
       complete DiskFault ends whole disks reads writes = disks refl
-      complete (Damaged offset) ends whole disks reads writes = undamaged offset ends
+      complete (Damaged file offset) ends whole disks reads writes = undamaged file offset ends
       complete ReadFault ends whole disks reads writes = reads refl
       complete WriteFault ends whole disks reads writes = writes refl

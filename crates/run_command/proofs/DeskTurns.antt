@@ -6,7 +6,7 @@ use Rattle.disk_model.specs.Crashes.{During}
 use Rattle.disk_model.specs.Moments.{during_nothing, during_weaker}
 use Rattle.act_bodies.specs.declared.key.Key.{Key}
 use Rattle.act_model.specs.declared.entry.Entry.{Entry}
-use Rattle.act_model.specs.declared.request.Body.TheVariants.{NoRoom}
+use Rattle.read_ahead.specs.declared.body.Body.TheVariants.{NoRoom}
 use Rattle.act_model.specs.declared.request.Verb.{Verb}
 use Rattle.act_model.specs.declared.request.Request.{Request}
 use Rattle.act_model.specs.declared.reply.Fault.{Fault}

@@ -5,7 +5,7 @@ use Rattle.frame_grammar.specs.Frames.{Frame, framed, streamed, NoFrame}
 use Rattle.act_bodies.specs.declared.key.Key.{Key}
 use Rattle.act_model.specs.declared.entry.Entry.{Entry}
 use Rattle.act_model.specs.declared.keeper.OfficeState.{OfficeState}
-use Rattle.act_model.specs.declared.request.Body.TheVariants.{NoRoom}
+use Rattle.read_ahead.specs.declared.body.Body.TheVariants.{NoRoom}
 use Rattle.act_model.specs.declared.request.Request.{Request}
 use Rattle.act_model.specs.declared.reply.Refusal.{Refusal}
 use Rattle.act_model.specs.declared.reply.Refusal.TheVariants.{NoMemory}

@@ -4,7 +4,6 @@ use Rattle.std.specs.Io.KnownBytes.{Appends}
 use Rattle.std.proofs.KnownBytes.{Appends-nil}
 use Rattle.std.proofs.lemmas.List.{length-append}
 use Rattle.std.proofs.lemmas.List.Sums.{sum_by-cons}
-use Rattle.disk_model.specs.Counts.{Rises}
 use Rattle.disk_model.specs.Crashes.{During}
 use Rattle.disk_model.specs.Moments.{during_weaker, during_joined}
 use Rattle.desk_io.specs.Reads.{Passes}
@@ -15,19 +14,21 @@ use Rattle.act_model.specs.History.{EachNumberOnce}
 use Rattle.act_model.specs.Conducts.{Extends, HadMemory, HadNoFault, IsStepped}
 use Rattle.act_model.specs.Turns.{Turn, Conduct, Mends, at_rest, rises_of}
 use Rattle.mpc_desk.specs.Desks.{DeskState, count_of}
+use Rattle.mpc_desk.specs.Pairs.{DiskPair, pair, DuringBoth, HaveRisen, EitherRises, PairState, disks_of}
+use Rattle.mpc_desk.specs.PairLaws.{both_then}
 use Rattle.run_command.specs.declared.serving.Stop.{Stop}
 use Rattle.run_command.specs.declared.serving.Stop.TheVariants as stop
 use Rattle.command_ends.specs.declared.status.Status.{Status}
 use Rattle.command_ends.specs.declared.status.Status.TheVariants.{Done, Usage, BadFrame, DiskFault, Damaged, ReadFault, WriteFault, NoMemory, DoorFault}
 use Rattle.act_model.specs.Clocks.{ClockState}
 use Rattle.command_ends.specs.Disks.{DiskWords, DiskRose}
-use Rattle.run_command.specs.Conducted.{LeavesIn, Rests, TurnsOn, KeepsEach, TakesTurns}
+use Rattle.run_command.specs.Conducted.{LeavesIn, LeavesBoth, Rests, TurnsOn, KeepsEach, TakesTurns}
 use Rattle.run_command.specs.Runs.{Run, AwaitsNext, Stops, RunsOn, ServesNothing, Course, Ends}
 use Rattle.command_ends.specs.Opening.{journal_bytes, Opens, EndsUnopened}
 use Rattle.command_ends.specs.Closing.{IsNotMended, IsMended, IsStillInDoubt, IsClosed}
 use Rattle.run_command.specs.Closing.{Finishes}
 use Rattle.run_command.proofs.Laws.{OfficeLaws}
-use Rattle.run_command.proofs.Conducting.{leaves_first, grows, extends_on, rose_more}
+use Rattle.run_command.proofs.Conducting.{grows, extends_on, rose_more}
 use Rattle.run_command.proofs.Closings.{never_rose, rise_between, nothing_mended, mended_extends, mended_has, mended_none, closed_as_is}
 use Rattle.run_command.proofs.Keeping.{keeps_each}
 use Rattle.read_ahead.specs.Reading.{Supplies}
@@ -52,7 +53,10 @@ longer : (first last : List Entry) → Extends first last → (added : ℕ) → 
 longer first last (newer, is) added counted = omega (arith, counted, ap length is, length-append newer first)
 
 module _ (laws : OfficeLaws) {D : Type 0} (on : DiskWords D) (only_now : (disk : D) (image : List ℕ) → on.since disk (on.moment disk) image → on.leaves disk image)
-    (founder : Key) (disk : D) (opened served : DeskState D) (turns : List Turn) (opens : Opens on founder disk opened) (takes : TakesTurns on opened turns served) where
+    (founder : Key) (disks : DiskPair D) (office : PairState D) (served : DeskState D) (turns : List Turn) (opens : Opens on founder disks office) (takes : TakesTurns on office.chained turns served) where
+  abbrev opened : DeskState D
+  opened = office.chained
+
   -- the turns as a conduct from the history that the disk stood for, and its images
   record Conducted (k : Key) (limit : ℕ) (start : OfficeState) : Type 0 where
     conduct : Conduct k (Some limit) start turns served.state
@@ -68,25 +72,52 @@ module _ (laws : OfficeLaws) {D : Type 0} (on : DiskWords D) (only_now : (disk :
   rests : Rests on opened.disk (at_rest opened.state.settled)
   rests = subst (λ (s : OfficeState). Rests on opened.disk s) (rests_so opened.state opens.settled) opens.at_rest
 
-  module _ (Closes : OfficeState → ℕ → OfficeState → Type 0) (mending : ℕ) (last : DeskState D) (now : D) (added : ℕ)
+  module _ (Closes : OfficeState → ℕ → OfficeState → Type 0) (mending : ℕ) (last : DeskState D) (now : DiskPair D) (added : ℕ)
       (closes : Closes served.state mending last.state) (mends : Mends served.state.settled served.state.doubt last.state.settled)
-      (closed : IsClosed on mending served last) (disk_is : now ≡ last.disk) (counted : added ≡ length last.state.settled - length opened.state.settled) where
+      (closed : IsClosed on mending served last) (disks_are : now ≡ pair office.first last.disk) (counted : added ≡ length last.state.settled - length opened.state.settled) where
     all_extends : Extends opened.state.settled last.state.settled
     all_extends =
         extends_on founder (Some journal_bytes) opened.state.settled served.state.settled last.state.settled
         (laws.grow founder (Some journal_bytes) (at_rest opened.state.settled) served.state turns conducted.conduct)
         (mended_extends served.state.settled served.state.doubt last.state.settled mends)
 
-    all_counts : DiskRose on (count_of (on.faults opened.disk) - count_of (on.faults disk) + rises_of turns + mending) disk last.disk
-    all_counts =
-        rose_more (on.faults disk) (on.faults served.disk) (on.faults last.disk) (count_of (on.faults opened.disk) - count_of (on.faults disk) + rises_of turns) mending _
-        (rose_more (on.faults disk) (on.faults opened.disk) (on.faults served.disk) (count_of (on.faults opened.disk) - count_of (on.faults disk)) (rises_of turns) _ (rise_between (on.faults disk) (on.faults opened.disk) opens.later) takes.counts refl)
+    abbrev end : DiskPair D
+    end = pair office.first last.disk
+
+    -- by how much each count rose in opening
+    abbrev in_first : ℕ
+    in_first = count_of (on.faults office.first) - count_of (on.faults disks.first)
+
+    abbrev in_second : ℕ
+    in_second = count_of (on.faults opened.disk) - count_of (on.faults disks.second)
+
+    second_counts : DiskRose on (in_second + rises_of turns + mending) disks.second last.disk
+    second_counts =
+        rose_more (on.faults disks.second) (on.faults served.disk) (on.faults last.disk) (in_second + rises_of turns) mending _
+        (rose_more (on.faults disks.second) (on.faults opened.disk) (on.faults served.disk) in_second (rises_of turns) _ (rise_between (on.faults disks.second) (on.faults opened.disk) opens.counts.second) takes.counts refl)
         closed.counts refl
 
-    all_images : During on.moment on.since disk last.disk (LeavesIn founder (Some journal_bytes) (at_rest opened.state.settled) turns served.state conducted.conduct)
+    opening_counts : HaveRisen on (in_first + in_second) disks (disks_of office)
+    opening_counts = record {
+      first = in_first;
+      second = in_second;
+      sum = refl;
+      rose_first = rise_between (on.faults disks.first) (on.faults office.first) opens.counts.first;
+      rose_second = rise_between (on.faults disks.second) (on.faults opened.disk) opens.counts.second;
+    }
+
+    all_counts : HaveRisen on (in_first + in_second + rises_of turns + mending) disks end
+    all_counts = record {
+      first = in_first;
+      second = in_second + rises_of turns + mending;
+      sum = omega arith;
+      rose_first = rise_between (on.faults disks.first) (on.faults office.first) opens.counts.first;
+      rose_second = second_counts;
+    }
+
+    all_images : DuringBoth on disks end (LeavesBoth founder (Some journal_bytes) (at_rest opened.state.settled) turns served.state conducted.conduct)
     all_images =
-        during_joined
-        (during_weaker _ (λ image alike. leaves_first founder (Some journal_bytes) (at_rest opened.state.settled) turns served.state conducted.conduct image (inl alike.now)) opens.images)
+        both_then (LeavesBoth founder (Some journal_bytes) (at_rest opened.state.settled) turns served.state conducted.conduct) (λ files alike. inl alike.now) (λ files may. inr may) opens.images refl
         (during_joined conducted.images (during_weaker _ (λ image never. absurd never) closed.no_image))
 
     once : EachNumberOnce last.state.settled
@@ -94,9 +125,9 @@ module _ (laws : OfficeLaws) {D : Type 0} (on : DiskWords D) (only_now : (disk :
         mended_has EachNumberOnce served.state last.state.settled
         (laws.once founder (Some journal_bytes) (at_rest opened.state.settled) served.state turns conducted.conduct (laws.legal_once founder opened.state.settled opens.legal, tt)) mends
 
-    all_stepped : (Rises (on.faults disk) (on.faults last.disk) → ⊥) → HadMemory turns → IsStepped founder (Some journal_bytes) opened.state.settled turns last.state.settled
+    all_stepped : (EitherRises on disks end → ⊥) → HadMemory turns → IsStepped founder (Some journal_bytes) opened.state.settled turns last.state.settled
     all_stepped never memory =
-        let none = never_rose (on.faults disk) (on.faults last.disk) _ never all_counts in
+        let none = never_rose (on.faults disks.second) (on.faults last.disk) _ (λ rises. never (inr rises)) second_counts in
         let faultless = none_rose turns (omega (arith, none)) in
         let rests = laws.rests founder (Some journal_bytes) opened.state.settled served.state turns conducted.conduct faultless in
         let same = mended_none served.state last.state.settled (ap (λ (s : OfficeState). s.doubt) rests) mends in
@@ -108,33 +139,33 @@ module _ (laws : OfficeLaws) {D : Type 0} (on : DiskWords D) (only_now : (disk :
         keeps_each laws.keeps founder (Some journal_bytes) (laws.grow founder (Some journal_bytes)) on only_now served.disk last.disk closed.no_image
         (at_rest opened.state.settled) turns served.state conducted.conduct opened.disk (opens.legal, tt) rests conducted.each
 
-    -- the images and the counts of the disk at the end
-    record OnDisk (end : D) : Type 0 where
-      kept : KeepsEach on end founder (Some journal_bytes) (at_rest opened.state.settled) turns served.state conducted.conduct opened.disk served.disk
-      counts : DiskRose on (count_of (on.faults opened.disk) - count_of (on.faults disk) + rises_of turns + mending) disk end
-      images : During on.moment on.since disk end (LeavesIn founder (Some journal_bytes) (at_rest opened.state.settled) turns served.state conducted.conduct)
-      stepped : (Rises (on.faults disk) (on.faults end) → ⊥) → HadMemory turns → IsStepped founder (Some journal_bytes) opened.state.settled turns last.state.settled
+    -- the images and the counts of the disks at the end
+    record OnDisks (at : DiskPair D) : Type 0 where
+      kept : KeepsEach on at.second founder (Some journal_bytes) (at_rest opened.state.settled) turns served.state conducted.conduct opened.disk served.disk
+      counts : HaveRisen on (in_first + in_second + rises_of turns + mending) disks at
+      images : DuringBoth on disks at (LeavesBoth founder (Some journal_bytes) (at_rest opened.state.settled) turns served.state conducted.conduct)
+      stepped : (EitherRises on disks at → ⊥) → HadMemory turns → IsStepped founder (Some journal_bytes) opened.state.settled turns last.state.settled
 
-    on_disk : OnDisk now
-    on_disk = subst OnDisk (sym disk_is) (record { kept = all_kept; counts = all_counts; images = all_images; stepped = all_stepped })
+    on_disks : OnDisks now
+    on_disks = subst OnDisks (sym disks_are) (record { kept = all_kept; counts = all_counts; images = all_images; stepped = all_stepped })
 
-    pub runs_on : RunsOn on founder disk now turns Closes added
+    pub runs_on : RunsOn on founder disks now turns Closes added
     runs_on = record {
-      opened = opened;
+      opened = office;
       opens = opens;
       left = served;
       conduct = conducted.conduct;
       grows = grows founder (Some journal_bytes) (laws.grow founder (Some journal_bytes)) (at_rest opened.state.settled) turns served.state conducted.conduct;
-      kept = on_disk.kept;
+      kept = on_disks.kept;
       last = last;
       mending = mending;
       closes = closes;
       closed = closed;
-      disk_is = disk_is;
-      opening = count_of (on.faults opened.disk) - count_of (on.faults disk);
-      rose_opening = rise_between (on.faults disk) (on.faults opened.disk) opens.later;
-      counts = on_disk.counts;
-      images = on_disk.images;
+      disks_are = disks_are;
+      opening = in_first + in_second;
+      rose_opening = opening_counts;
+      counts = on_disks.counts;
+      images = on_disks.images;
       is_left = record {
         entries = longer opened.state.settled last.state.settled all_extends added counted;
         once = once;
@@ -143,7 +174,7 @@ module _ (laws : OfficeLaws) {D : Type 0} (on : DiskWords D) (only_now : (disk :
         numbers = laws.numbers last.state.settled;
         lines = laws.lines opened.state.settled last.state.settled all_extends;
       };
-      stepped = on_disk.stepped;
+      stepped = on_disks.stepped;
     }
 
   -- the history at the end isn't shorter
@@ -157,32 +188,32 @@ module _ (laws : OfficeLaws) {D : Type 0} (on : DiskWords D) (only_now : (disk :
 
   -- ---- the ends of a run that was served
 
-  module _ (before after : ClockState) (run : Run) (Uncalled : Type 0) (last : DeskState D) (now : D) (added : ℕ)
-      (disk_is : now ≡ last.disk) (counted : added ≡ length last.state.settled - length opened.state.settled) where
-    not_mended : last ≡ served → RunsOn on founder disk now turns IsNotMended added
+  module _ (before after : ClockState) (run : Run) (Uncalled : Type 0) (last : DeskState D) (now : DiskPair D) (added : ℕ)
+      (disks_are : now ≡ pair office.first last.disk) (counted : added ≡ length last.state.settled - length opened.state.settled) where
+    not_mended : last ≡ served → RunsOn on founder disks now turns IsNotMended added
     not_mended same =
         runs_on IsNotMended 0 last now added (ap (λ (d : DeskState D). d.state) same, refl)
         (subst (λ (d : DeskState D). Mends served.state.settled served.state.doubt d.state.settled) (sym same) (nothing_mended served.state.settled served.state.doubt))
         (subst (λ (d : DeskState D). IsClosed on 0 served d) (sym same) (closed_as_is on served (takes.stays.at_rest opens.at_rest)))
-        disk_is counted
+        disks_are counted
 
     abbrev course : Course D
-    course = record { founder = founder; disk = disk; disk_after = now; clock = before; clock_after = after; run = run; added = added }
+    course = record { founder = founder; disks = disks; disks_after = now; clock = before; clock_after = after; run = run; added = added }
 
     pub served_ends : (stopped : Stop) (status : Status) → Stops before after run turns stopped → Finishes on served stopped status last → Ends on course Uncalled status
     served_ends stop.Over Done stops (rise, mended, closed) =
-        (turns, stops, runs_on IsMended rise last now added mended mended.mends closed disk_is counted)
+        (turns, stops, runs_on IsMended rise last now added mended mended.mends closed disks_are counted)
     served_ends stop.Over DiskFault stops (rise, doubted, closed) =
         inr (
           turns,
           stops,
           runs_on IsStillInDoubt rise last now added doubted
               (subst (λ (s : OfficeState). Mends served.state.settled served.state.doubt s.settled) (sym doubted.stays) (nothing_mended served.state.settled served.state.doubt))
-              closed disk_is counted,
+              closed disks_are counted,
         )
     served_ends stop.Over Usage stops ends = absurd ends
     served_ends stop.Over (BadFrame offset) stops ends = absurd ends
-    served_ends stop.Over (Damaged offset) stops ends = absurd ends
+    served_ends stop.Over (Damaged file offset) stops ends = absurd ends
     served_ends stop.Over ReadFault stops ends = absurd ends
     served_ends stop.Over WriteFault stops ends = absurd ends
     served_ends stop.Over NoMemory stops ends = absurd ends
@@ -196,17 +227,17 @@ module _ (laws : OfficeLaws) {D : Type 0} (on : DiskWords D) (only_now : (disk :
 
 -- ---- the ends of a run whose office wasn't opened
 
-module _ {D : Type 0} (on : DiskWords D) (founder : Key) (disk now : D) (clock : ClockState) (Uncalled : Type 0) (uncalled : Uncalled) (added : ℕ) (more : List ℕ) where
+module _ {D : Type 0} (on : DiskWords D) (founder : Key) (disks now : DiskPair D) (clock : ClockState) (Uncalled : Type 0) (uncalled : Uncalled) (added : ℕ) (more : List ℕ) where
   idle : ServesNothing (record { came = []; more = more; answered = 0; texts = [] }) Uncalled
   idle = record { uncalled = uncalled; came = refl; texts = refl }
 
   abbrev not_run : Run → Course D
-  not_run run = record { founder = founder; disk = disk; disk_after = now; clock = clock; clock_after = clock; run = run; added = added }
+  not_run run = record { founder = founder; disks = disks; disks_after = now; clock = clock; clock_after = clock; run = run; added = added }
 
-  pub unopened_ends : (status : Status) → EndsUnopened on founder disk now added status
+  pub unopened_ends : (status : Status) → EndsUnopened on founder disks now added status
       → Ends on (not_run (record { came = []; more = more; answered = 0; texts = [] })) Uncalled status
   unopened_ends DiskFault ends = inl (idle, ends)
-  unopened_ends (Damaged offset) ends = (idle, ends)
+  unopened_ends (Damaged file offset) ends = (idle, ends)
   unopened_ends NoMemory ends = (idle, ends)
   unopened_ends Done ends = absurd ends
   unopened_ends Usage ends = absurd ends
@@ -216,10 +247,10 @@ module _ {D : Type 0} (on : DiskWords D) (founder : Key) (disk now : D) (clock :
   unopened_ends DoorFault ends = absurd ends
 
 -- nothing was served
-pub nothing_served : {S : Type 0} (left : S → Option (List ℕ)) (gives : Passes S) (source : S) (taken : Option (List ℕ)) {D : Type 0} (on : DiskWords D) (founder : Key) (disk now : D) (clock : ClockState)
-    (Uncalled : Type 0) (uncalled : Uncalled) (added : ℕ) (status : Status) → EndsUnopened on founder disk now added status
-    → (run : Run) × Supplies left gives (AwaitsNext run.answered) source source run.came run.more × Appends taken taken run.texts × Ends on (record { founder = founder; disk = disk; disk_after = now; clock = clock; clock_after = clock; run = run; added = added }) Uncalled status
-nothing_served left gives source taken on founder disk now clock Uncalled uncalled added status ends =
+pub nothing_served : {S : Type 0} (left : S → Option (List ℕ)) (gives : Passes S) (source : S) (taken : Option (List ℕ)) {D : Type 0} (on : DiskWords D) (founder : Key) (disks now : DiskPair D) (clock : ClockState)
+    (Uncalled : Type 0) (uncalled : Uncalled) (added : ℕ) (status : Status) → EndsUnopened on founder disks now added status
+    → (run : Run) × Supplies left gives (AwaitsNext run.answered) source source run.came run.more × Appends taken taken run.texts × Ends on (record { founder = founder; disks = disks; disks_after = now; clock = clock; clock_after = clock; run = run; added = added }) Uncalled status
+nothing_served left gives source taken on founder disks now clock Uncalled uncalled added status ends =
     let more : List ℕ = (remaining (left source)).0 in
     let run : Run = record { came = []; more = more; answered = 0; texts = [] } in
-    (run, supplies_nothing left gives (AwaitsNext 0) source, Appends-nil taken, unopened_ends on founder disk now clock Uncalled uncalled added more status ends)
+    (run, supplies_nothing left gives (AwaitsNext 0) source, Appends-nil taken, unopened_ends on founder disks now clock Uncalled uncalled added more status ends)

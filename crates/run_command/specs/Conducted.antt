@@ -15,6 +15,7 @@ use Rattle.act_model.specs.Step.{Adds, outcome}
 use Rattle.act_model.specs.Turns.{Turn, TakesReading, Answers, Mends, Takes, IsTurn, Conduct, rises_of}
 use Rattle.mpc_desk.specs.Desks.{DeskState, RestsAt, IsAtRest, ActsInTurn}
 use Rattle.mpc_desk.specs.Files.{Stands}
+use Rattle.mpc_desk.specs.Pairs.{FilePair, StandBoth}
 use Rattle.command_ends.specs.Disks.{DiskWords, DiskRose}
 use Rattle.act_model.specs.Clocks.{ClockState, Gives}
 
@@ -34,7 +35,8 @@ InsideTurn founder limit before turn (Some reading) after (inr acts) image =
 abbrev pub LeavesInTurn : (founder : Key) (limit : Option ℕ) (before : OfficeState) (turn : Turn) (after : OfficeState)
     → IsTurn founder limit before turn after → List ℕ → Type 0
 LeavesInTurn founder limit before turn after is image =
-    RestsAt before image ⊎ (InsideTurn founder limit before turn turn.reading after is.takes image ⊎ RestsAt after image)
+    RestsAt before image
+    ⊎ (InsideTurn founder limit before turn turn.reading after is.takes image ⊎ RestsAt after image)
 
 -- an image at some moment of a conduct: it is one of an office at rest, before or after one of the turns, or one inside
 -- a turn
@@ -45,6 +47,13 @@ LeavesIn founder limit before (turn ∷ turns) after (between, is, later) image 
     RestsAt before image
     ⊎ (InsideTurn founder limit before turn turn.reading between is.takes image
     ⊎ LeavesIn founder limit between turns after later image)
+
+-- two files at some moment of a run, its opening included: they stand for the history at which it began, or the second
+-- one is an image at some moment of the conduct
+abbrev pub LeavesBoth : (founder : Key) (limit : Option ℕ) (before : OfficeState) (turns : List Turn)
+    (after : OfficeState) → Conduct founder limit before turns after → FilePair → Type 0
+LeavesBoth founder limit before turns after conduct files =
+    StandBoth files before.settled ⊎ LeavesIn founder limit before turns after conduct files.second
 
 -- ---- how histories follow one another
 
@@ -70,8 +79,8 @@ Rests on disk state = (image : List ℕ) → on.leaves disk image → RestsAt st
 
 -- A turn, from the disk as it was before to the disk as it was when the reply was given: by how much the count of
 -- faults rose, and what a crash at some moment of the turn may leave. The disk is at rest after it if it was before.
-pub record TurnOn {D : Type 0} (on : DiskWords D) (founder : Key) (limit : Option ℕ) (before : OfficeState) (turn : Turn)
-    (after : OfficeState) (is : IsTurn founder limit before turn after) (old new : D) : Type 0 where
+pub record TurnOn {D : Type 0} (on : DiskWords D) (founder : Key) (limit : Option ℕ) (before : OfficeState)
+    (turn : Turn) (after : OfficeState) (is : IsTurn founder limit before turn after) (old new : D) : Type 0 where
   pub counts : DiskRose on turn.rise old new
   pub images : During on.moment on.since old new (LeavesInTurn founder limit before turn after is)
   pub at_rest : Rests on old before → Rests on new after

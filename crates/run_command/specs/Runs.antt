@@ -1,15 +1,14 @@
 -- What a run of the program leaves, by the status with which it ended.
 use Rattle.std.specs.Prelude.{◌≡◌, ◌⊎◌, ℕ, ◌+◌, ◌-◌, ◌^◌, ◌<◌, ◌≤◌, min, List, [], ◌∷◌, ◌++◌, length, take, Option}
 use Rattle.std.specs.Prelude.{Some}
-use Rattle.disk_model.specs.Counts.{Rises}
-use Rattle.disk_model.specs.Crashes.{During}
 use Rattle.frame_grammar.specs.Frames.{Frame, NoFrame, NeverFrame, IsSession, reached}
 use Rattle.act_bodies.specs.declared.key.Key.{Key}
 use Rattle.act_model.specs.declared.keeper.OfficeState.{OfficeState}
 use Rattle.act_model.specs.Conducts.{HadMemory, IsStepped}
 use Rattle.act_model.specs.Turns.{Turn, Conduct, at_rest, rises_of, written_reply, written}
 use Rattle.mpc_desk.specs.Desks.{DeskState}
-use Rattle.command_ends.specs.Disks.{DiskWords, DiskRose}
+use Rattle.mpc_desk.specs.Pairs.{DiskPair, pair, DuringBoth, HaveRisen, EitherRises, PairState, disks_of}
+use Rattle.command_ends.specs.Disks.{DiskWords}
 use Rattle.command_ends.specs.Opening.{journal_bytes, Opens, EndsUnopened}
 use Rattle.command_ends.specs.Closing.{IsNotMended, IsMended, IsStillInDoubt, IsClosed}
 use Rattle.command_ends.specs.Left.{IsLeft}
@@ -20,7 +19,7 @@ use Rattle.command_ends.specs.declared.status.Status.TheVariants.{Done, Usage, B
 use Rattle.command_ends.specs.declared.status.Status.TheVariants.{WriteFault, NoMemory, DoorFault}
 use Rattle.act_model.specs.Clocks.{ClockState}
 use Rattle.run_command.specs.Serving.{Serves}
-use Rattle.run_command.specs.Conducted.{LeavesIn, Grows, KeepsEach}
+use Rattle.run_command.specs.Conducted.{LeavesBoth, Grows, KeepsEach}
 
 -- ---- what a run took from its source and wrote
 
@@ -93,35 +92,35 @@ Stops before after run turns WriteFailed = StopsWriting before after run turns
 
 -- ---- the office
 
--- The office of a run, from the disk at its start to the disk at its end. The desk was opened on the disk, which stood
--- for a legal history, and the turns are a conduct from there, each of whose settled histories is an end of every later
--- one. What each turn left is in each image of the disk from the moment at which its reply was given to the end. What
--- is in doubt when serving has stopped is closed, and the disk is then at rest. The disk's count of faults rose by what
--- it rose in opening, in the turns and in the last mending. Each image at some moment of the run was one at its start,
--- or one that the conduct allows. Where the count didn't rise and no turn ran out of memory, the conduct is the step,
--- one after another.
-pub record RunsOn {D : Type 0} (on : DiskWords D) (founder : Key) (disk now : D) (turns : List Turn)
+-- The office of a run, from the disks at its start to the disks at its end. It was opened on the disks, which stood for
+-- a legal history, and the first one is then as opening left it. The turns are a conduct from there, each of whose
+-- settled histories is an end of every later one. What each turn left is in each image of the second disk from the
+-- moment at which its reply was given to the end. What is in doubt when serving has stopped is closed, and the second
+-- disk is then at rest. The counts of faults rose together by what they rose in opening, in the turns and in the last
+-- mending. What a crash at some moment of the run leaves is read like what it might have left at its start, or is what
+-- the conduct allows. Where no count rose and no turn ran out of memory, the conduct is the step, one after another.
+pub record RunsOn {D : Type 0} (on : DiskWords D) (founder : Key) (disks now : DiskPair D) (turns : List Turn)
     (Closes : OfficeState → ℕ → OfficeState → Type 0) (added : ℕ) : Type 0 where
-  pub opened : DeskState D
-  pub opens : Opens on founder disk opened
+  pub opened : PairState D
+  pub opens : Opens on founder disks opened
   pub left : DeskState D
-  pub conduct : Conduct founder (Some journal_bytes) (at_rest opened.state.settled) turns left.state
-  pub grows : Grows founder (Some journal_bytes) (at_rest opened.state.settled) turns left.state conduct
-  pub kept : KeepsEach on now founder (Some journal_bytes) (at_rest opened.state.settled) turns left.state conduct
-      opened.disk left.disk
+  pub conduct : Conduct founder (Some journal_bytes) (at_rest opened.chained.state.settled) turns left.state
+  pub grows : Grows founder (Some journal_bytes) (at_rest opened.chained.state.settled) turns left.state conduct
+  pub kept : KeepsEach on now.second founder (Some journal_bytes) (at_rest opened.chained.state.settled) turns
+      left.state conduct opened.chained.disk left.disk
   pub last : DeskState D
   pub mending : ℕ
   pub closes : Closes left.state mending last.state
   pub closed : IsClosed on mending left last
-  pub disk_is : now ≡ last.disk
+  pub disks_are : now ≡ pair opened.first last.disk
   pub opening : ℕ
-  pub rose_opening : DiskRose on opening disk opened.disk
-  pub counts : DiskRose on (opening + rises_of turns + mending) disk now
-  pub images : During on.moment on.since disk now
-      (LeavesIn founder (Some journal_bytes) (at_rest opened.state.settled) turns left.state conduct)
-  pub is_left : IsLeft opened.state.settled last.state.settled added
-  pub stepped : ¬ Rises (on.faults disk) (on.faults now) → HadMemory turns
-      → IsStepped founder (Some journal_bytes) opened.state.settled turns last.state.settled
+  pub rose_opening : HaveRisen on opening disks (disks_of opened)
+  pub counts : HaveRisen on (opening + rises_of turns + mending) disks now
+  pub images : DuringBoth on disks now
+      (LeavesBoth founder (Some journal_bytes) (at_rest opened.chained.state.settled) turns left.state conduct)
+  pub is_left : IsLeft opened.chained.state.settled last.state.settled added
+  pub stepped : ¬ EitherRises on disks now → HadMemory turns
+      → IsStepped founder (Some journal_bytes) opened.chained.state.settled turns last.state.settled
 
 -- the office wasn't opened: nothing was served, and no byte came and none was written
 pub record ServesNothing (run : Run) (Uncalled : Type 0) : Type 0 where
@@ -131,12 +130,12 @@ pub record ServesNothing (run : Run) (Uncalled : Type 0) : Type 0 where
 
 -- ---- what stands at each end
 
--- the course of a run: the founding officer's key, the disk and the clock before it and after it, what came, was
+-- the course of a run: the founding officer's key, the disks and the clock before it and after it, what came, was
 -- answered and written, and by how many entries the history grew
 pub record Course (D : Type 0) : Type 0 where
   pub founder : Key
-  pub disk : D
-  pub disk_after : D
+  pub disks : DiskPair D
+  pub disks_after : DiskPair D
   pub clock : ClockState
   pub clock_after : ClockState
   pub run : Run
@@ -145,13 +144,13 @@ pub record Course (D : Type 0) : Type 0 where
 -- the office was opened, these turns were taken there, and what was in doubt was closed so
 abbrev pub RunsSo : {D : Type 0} → DiskWords D → Course D → List Turn → (OfficeState → ℕ → OfficeState → Type 0)
     → Type 0
-RunsSo on course turns Closes = RunsOn on course.founder course.disk course.disk_after turns Closes course.added
+RunsSo on course turns Closes = RunsOn on course.founder course.disks course.disks_after turns Closes course.added
 
 -- it was not opened, and nothing was served
 abbrev pub IsNotRun : {D : Type 0} → DiskWords D → Course D → Type 0 → Status → Type 0
 IsNotRun on course Uncalled status =
     ServesNothing course.run Uncalled
-    × EndsUnopened on course.founder course.disk course.disk_after course.added status
+    × EndsUnopened on course.founder course.disks course.disks_after course.added status
 
 -- What stands at each end of a run. `Uncalled` says that the source, the sink and the clock were not called.
 abbrev pub Ends : {D : Type 0} → DiskWords D → Course D → Type 0 → Status → Type 0
@@ -170,7 +169,7 @@ Ends on course Uncalled DiskFault =
     IsNotRun on course Uncalled DiskFault
     ⊎ ((turns : List Turn) × AnswersAll course.clock course.clock_after course.run turns
     × RunsSo on course turns IsStillInDoubt)
-Ends on course Uncalled (Damaged offset) = IsNotRun on course Uncalled (Damaged offset)
+Ends on course Uncalled (Damaged file offset) = IsNotRun on course Uncalled (Damaged file offset)
 Ends on course Uncalled NoMemory = IsNotRun on course Uncalled NoMemory
 Ends on course Uncalled Usage = ⊥
 Ends on course Uncalled DoorFault = ⊥

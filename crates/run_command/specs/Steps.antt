@@ -5,15 +5,11 @@ use Rattle.desk_io.specs.Outside.{Rises, AppendsPart}
 use Rattle.desk_io.specs.Reads.{Passes, Comes}
 use Rattle.desk_io.specs.declared.outside.Failed.{Failed}
 use Rattle.frame_grammar.specs.Frames.{Frame, IsFrame, framed, NoFrame}
-use Rattle.read_ahead.specs.declared.body.Body.{Body as FrameBody}
-use Rattle.read_ahead.specs.declared.body.Body.TheVariants as kept
 use Rattle.read_ahead.specs.declared.halt.Halt.TheVariants.{End}
 use Rattle.read_ahead.specs.Reading.{Halts}
 use Rattle.frame_reader.specs.declared.frame.ReadFrame.{ReadFrame}
 use Rattle.frame_reader.specs.Reading.{AwaitsFrame}
 use Rattle.frame_reader.specs.Frames.{NoFrameComes}
-use Rattle.act_model.specs.declared.request.Body.{Body}
-use Rattle.act_model.specs.declared.request.Body.TheVariants.{Whole, TooLong, NoRoom}
 use Rattle.act_model.specs.declared.request.Request.{Request}
 use Rattle.act_model.specs.declared.reply.Reply.{Reply}
 use Rattle.act_bodies.specs.Keys.{key_of}
@@ -47,12 +43,6 @@ pub record Answering (D : Type 0) : Type 0 where
 abbrev pub answering : {S D : Type 0} → Standing S D → Answering D
 answering at = record { desk = at.desk; clock = at.clock; taken = at.taken }
 
--- the body of a request, as it was read
-abbrev pub body_read : FrameBody → Body
-body_read (kept.Whole bytes) = Whole bytes
-body_read (kept.TooLong size) = TooLong size
-body_read kept.NoRoom = NoRoom
-
 -- the request of a frame, as it was read
 abbrev pub request_read : ReadFrame → Request
 request_read read =
@@ -60,7 +50,7 @@ request_read read =
       key = key_of read.key.items;
       number = Some read.number;
       verb = verb_of read.verb.items;
-      body = body_read read.body;
+      body = read.body;
     }
 
 -- a reply was written whole, or a front of it and not all

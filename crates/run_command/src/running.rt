@@ -6,6 +6,7 @@ ghost use Rattle.desk_io.specs.Outside.{Rises};
 ghost use Rattle.read_ahead.specs.Reading.{Supplies};
 ghost use Rattle.act_model.specs.Clocks.{clock_of};
 ghost use Rattle.act_model.specs.Roster.{IsFounder};
+ghost use Rattle.mpc_desk.specs.Pairs.{pair};
 ghost use Rattle.command_ends.specs.Courses.{source_words, sink_words, outside_words, change};
 ghost use Rattle.command_ends.specs.Disks.{disk_words};
 ghost use Rattle.run_command.specs.Closing.{Finishes};
@@ -19,12 +20,12 @@ use desk_io::{Clock, Sink, Source};
 use disk_model::Disk;
 use frame_grammar::laws as frame_laws;
 use frame_reader::FrameReader;
-use mpc_desk::{Desk, laws as desk_laws};
+use mpc_desk::{ChainedDesk, laws as desk_laws};
 use std::alloc::Global;
 
 /// What is done when serving has stopped: an act in doubt is mended where the source was read to its end, and the
 /// status says how the call ended.
-fn finish<D: Disk>(desk: &mut Desk<D>, stop: Stop) -> Status
+fn finish<D: Disk>(desk: &mut ChainedDesk<D>, stop: Stop) -> Status
     ensures { Finishes (disk_words D.reads D.leaves D.moment D.since D.faults) desk.old stop result desk.new }
 {
     match stop {
@@ -42,6 +43,7 @@ fn run_all<S: Source, K: Sink, D: Disk, C: Clock>(
     source: &mut S,
     sink: &mut K,
     disk: D,
+    second: D,
     clock: &mut C,
 ) -> Ended<D>
     requires { IsFounder founder }
@@ -53,8 +55,8 @@ fn run_all<S: Source, K: Sink, D: Disk, C: Clock>(
         × Ends (disk_words D.reads D.leaves D.moment D.since D.faults)
         (record {
           founder = founder;
-          disk = disk;
-          disk_after = result.disk;
+          disks = pair disk second;
+          disks_after = pair result.disk result.second;
           clock = clock_of C.reading C.last clock.old;
           clock_after = clock_of C.reading C.last clock.new;
           run = run;
@@ -82,10 +84,10 @@ fn run_all<S: Source, K: Sink, D: Disk, C: Clock>(
     office_laws::no_faults();
     desk_laws::lines_are_added();
     let Ok(mut reader) = FrameReader::new(alloc) else {
-        return not_begun(Status::NoMemory, disk);
+        return not_begun(Status::NoMemory, disk, second);
     };
-    let mut desk = match open_desk(alloc, founder, disk) {
-        Ok(desk) => desk,
+    let (first, mut desk) = match open_desk(alloc, founder, disk, second) {
+        Ok(desk) => desk.apart(),
         Err(ended) => return ended,
     };
     let before = desk.entries();
@@ -94,17 +96,19 @@ fn run_all<S: Source, K: Sink, D: Disk, C: Clock>(
     let added = desk.entries() - before;
     Ended {
         status,
-        disk: desk.close(),
+        disk: first,
+        second: desk.close(),
         added,
     }
 }
 
-/// Serves the frames of the source with the founding officer's key, on the office that the disk stands for.
+/// Serves the frames of the source with the founding officer's key, on the office that the two disks stand for: the
+/// second one where its file is in force, else the first, which is then carried over.
 ///
 /// Over every source, however it cuts its bytes into pieces, the answers are those of one history: the requests of the
-/// frames that came, in their order, are answered by a conduct from the history that the disk stood for, each request
+/// frames that came, in their order, are answered by a conduct from the history that the disks stood for, each request
 /// under a caller's number acts at most once, and the sink takes the texts of the replies and nothing else. A crash at
-/// any moment leaves a file that stands for a history of that conduct. It takes memory.
+/// any moment leaves files that stand for a history of that conduct. It takes memory.
 ///
 /// Ends with `Done`, `BadFrame`, `DiskFault`, `Damaged`, `ReadFault`, `WriteFault` or `NoMemory`; the last only before
 /// the first read. The key begins with a plus and has at most 33 bytes.
@@ -114,6 +118,7 @@ pub fn run<S: Source, K: Sink, D: Disk, C: Clock>(
     source: &mut S,
     sink: &mut K,
     disk: D,
+    second: D,
     clock: &mut C,
 ) -> Ended<D>
     requires { IsFounder founder }
@@ -124,7 +129,7 @@ pub fn run<S: Source, K: Sink, D: Disk, C: Clock>(
         (change source.old source.new)
         (record {
           sink = change sink.old sink.new;
-          disk = change disk result.disk;
+          disks = change (pair disk second) (pair result.disk result.second);
           clock = change clock.old clock.new;
           added = result.added;
           status = result.status;
@@ -132,5 +137,5 @@ pub fn run<S: Source, K: Sink, D: Disk, C: Clock>(
 {
     frame_laws::one_session();
     desk_laws::damage();
-    run_all(alloc, founder, source, sink, disk, clock)
+    run_all(alloc, founder, source, sink, disk, second, clock)
 }

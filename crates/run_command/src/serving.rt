@@ -14,12 +14,12 @@ ghost use Rattle.run_command.specs.Runs.{Run, AwaitsNext, Stops};
 
 use crate::spoken::{speak, write_spoken};
 use crate::turns::take_turn;
-use act_model::{Body, Key, Request, laws as office_laws, read_verb};
+use act_model::{Key, Request, laws as office_laws, read_verb};
 use desk_io::{Clock, Failed, Sink, Source};
 use disk_model::Disk;
 use frame_grammar::laws as frame_laws;
-use frame_reader::{Body as FrameBody, FrameReader, Halt, ReadFrame};
-use mpc_desk::Desk;
+use frame_reader::{FrameReader, Halt, ReadFrame};
+use mpc_desk::ChainedDesk;
 use std::alloc::Global;
 
 /// Why serving stopped.
@@ -42,18 +42,14 @@ fn request_of(read: ReadFrame) -> Request
         key: Key::new(read.key.as_slice()),
         number: Some(read.number),
         verb: read_verb(read.verb.as_slice()),
-        body: match read.body {
-            FrameBody::Whole(bytes) => Body::Whole(bytes),
-            FrameBody::TooLong(size) => Body::TooLong(size),
-            FrameBody::NoRoom => Body::NoRoom,
-        },
+        body: read.body,
     }
 }
 
 /// Answers a frame that was read. Says how many bytes it has.
 fn answer_frame<K: Sink, D: Disk, C: Clock>(
     alloc: Global,
-    desk: &mut Desk<D>,
+    desk: &mut ChainedDesk<D>,
     read: ReadFrame,
     sink: &mut K,
     clock: &mut C,
@@ -84,7 +80,7 @@ fn answer_frame<K: Sink, D: Disk, C: Clock>(
 /// Reads the next frame, at this offset, and answers it. Says how many bytes it has, or why serving stops.
 fn serve_next<S: Source, K: Sink, D: Disk, C: Clock>(
     alloc: Global,
-    desk: &mut Desk<D>,
+    desk: &mut ChainedDesk<D>,
     reader: &mut FrameReader,
     source: &mut S,
     sink: &mut K,
@@ -129,7 +125,7 @@ fn serve_next<S: Source, K: Sink, D: Disk, C: Clock>(
 /// Answers the frames of the source to its end, or to where it has none.
 pub fn serve<S: Source, K: Sink, D: Disk, C: Clock>(
     alloc: Global,
-    desk: &mut Desk<D>,
+    desk: &mut ChainedDesk<D>,
     reader: &mut FrameReader,
     source: &mut S,
     sink: &mut K,

@@ -7,10 +7,14 @@ ghost use Rattle.run_command.specs.Conducted.{TakesTurn};
 use act_model::{Reply, Request};
 use desk_io::Clock;
 use disk_model::Disk;
-use mpc_desk::Desk;
+use mpc_desk::ChainedDesk;
 
 /// Takes one turn. A request whose verb is an act takes one reading of the clock, whatever its answer.
-pub fn take_turn<D: Disk, C: Clock>(desk: &mut Desk<D>, request: &Request, clock: &mut C) -> Reply
+pub fn take_turn<D: Disk, C: Clock>(
+    desk: &mut ChainedDesk<D>,
+    request: &Request,
+    clock: &mut C,
+) -> Reply
     ensures { TakesTurn (disk_words D.reads D.leaves D.moment D.since D.faults)
         desk.old request.now result desk.new
         (clock_of C.reading C.last clock.old) (clock_of C.reading C.last clock.new) }

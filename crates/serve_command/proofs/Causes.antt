@@ -7,8 +7,11 @@ use Rattle.act_model.specs.declared.entry.Entry.{Entry}
 use Rattle.act_model.specs.Keepers.{RoseBy}
 use Rattle.act_model.specs.Legal.{IsLegal}
 use Rattle.mpc_desk.specs.Desks.{DeskState, count_of}
-use Rattle.mpc_desk.specs.Files.{Stands}
-use Rattle.mpc_desk.specs.Opening.{IsDamagedDesk}
+use Rattle.obs_journal.specs.Chains.{IsInForce}
+use Rattle.mpc_desk.specs.Files.{Stands, StandsFirst}
+use Rattle.mpc_desk.specs.Opening.{IsDamagedFirst, IsDamagedSecond}
+use Rattle.mpc_desk.specs.Pairs.{FilePair, StandBoth, DiskPair, AreRead, EitherRises}
+use Rattle.mpc_desk.specs.PairLaws.{risen_rises, never_damaged}
 use Rattle.intake_lock.specs.Items.{RisesBy}
 use Rattle.command_ends.specs.declared.status.Status.{Status}
 use Rattle.command_ends.specs.declared.status.Status.TheVariants.{Done, Usage, BadFrame, DiskFault, Damaged, ReadFault, WriteFault, NoMemory, DoorFault}
@@ -25,13 +28,11 @@ use Rattle.serve_command.specs.Runs.{first_fault, WritesLines, Writes, RunStart,
 use Rattle.serve_command.specs.Summaries.{summary}
 use Rattle.serve_command.proofs.Mending.{IsFromMending, first_so}
 
--- the law that a file which stands for a legal history isn't damaged
-abbrev pub Undamaged : Type 0
-Undamaged = (founder : Key) (file : List ℕ) (offset : ℕ) (history : List Entry) → IsDamagedDesk founder file offset
-    → IsLegal founder history → Stands file history → ⊥
-
-pub rises_by : (a b rise : ℕ) → 0 < rise → RoseBy rise (count_of a) (count_of b) → Rises a b
-rises_by a b rise some rose = omega arith
+-- the laws that a file which stands for a legal history isn't damaged
+pub record Undamaged : Type 0 where
+  pub first : (founder : Key) (file : List ℕ) (offset : ℕ) (history : List Entry) → IsDamagedFirst founder file offset → IsLegal founder history → StandsFirst file history → ⊥
+  pub second : (founder : Key) (file : List ℕ) (offset : ℕ) (history : List Entry) → IsDamagedSecond founder file offset → IsLegal founder history → Stands file history → ⊥
+  pub force : (founder : Key) (file : List ℕ) (offset : ℕ) → IsDamagedSecond founder file offset → IsInForce file
 
 -- the count rose in the last mending
 rises_last : (a b c d calls rise : ℕ) → a ≤ b → RisesBy calls (count_of b) (count_of c) → 0 < rise → RoseBy rise (count_of c) (count_of d) → Rises a d
@@ -49,7 +50,7 @@ lines_end old new lines WriteFault writes = inr refl
 lines_end old new lines Usage writes = absurd writes
 lines_end old new lines (BadFrame offset) writes = absurd writes
 lines_end old new lines DiskFault writes = absurd writes
-lines_end old new lines (Damaged offset) writes = absurd writes
+lines_end old new lines (Damaged file offset) writes = absurd writes
 lines_end old new lines ReadFault writes = absurd writes
 lines_end old new lines NoMemory writes = absurd writes
 lines_end old new lines DoorFault writes = absurd writes
@@ -96,7 +97,7 @@ module _ {D I O : Type 0} (on : DiskWords D) (links : LinkWords I O) (start : Ru
           door_failed on r.left r.last start.most (map link_of r.serves.attendances) start.door end.door r.stop r.mended r.serves.stops r.mends (sym same ∙ is)
 
       by : Ends on links start end Uncalled Unasked Unwritten → Rises start.door.faults end.door.faults
-      by (inl (uncalled, unopened)) = absurd (subst (λ (s : Status). EndsUnopened on start.founder start.disk end.disk end.added s) is unopened)
+      by (inl (uncalled, unopened)) = absurd (subst (λ (s : Status). EndsUnopened on start.founder start.disks end.disks end.added s) is unopened)
       by (inr r) = of_run r r.writes
 
   pub door_faultless : (Uncalled → end.door.faults ≡ start.door.faults) → (end.status ≡ DoorFault → ⊥) → end.door.faults ≡ start.door.faults
@@ -112,20 +113,21 @@ module _ {D I O : Type 0} (on : DiskWords D) (links : LinkWords I O) (start : Ru
       by (inl (uncalled, unopened)) = untouched uncalled
       by (inr r) = of_run r r.writes
 
-  pub disk_caused : end.status ≡ DiskFault → Rises (on.faults start.disk) (on.faults end.disk)
+  pub disk_caused : end.status ≡ DiskFault → EitherRises on start.disks end.disks
   disk_caused is = by ran
     where
-      of_run : (r : Runs on links start end Unasked Unwritten) → Writes (first_fault r.stop r.mended) Unwritten start.taken end.taken (lines_of r) end.status → Rises (on.faults start.disk) (on.faults end.disk)
+      of_run : (r : Runs on links start end Unasked Unwritten) → Writes (first_fault r.stop r.mended) Unwritten start.taken end.taken (lines_of r) end.status → EitherRises on start.disks end.disks
       of_run r (inl (good, lines)) = absurd (subst (WritesLines start.taken end.taken (lines_of r)) is lines)
       of_run r (inr (bad, same, unwritten)) =
           let m = disk_failed on r.left r.last start.most (map link_of r.serves.attendances) start.door end.door r.stop r.mended r.mends (sym same ∙ is) in
-          subst (λ (d : D). Rises (on.faults start.disk) (on.faults d)) (sym r.disk_is)
-          (rises_last (on.faults start.disk) (on.faults r.opened.disk) (on.faults r.left.disk) (on.faults r.last.disk) _ m.0 r.opens.later r.serves.grows.counts m.1.rose m.2.counts)
+          inr
+          (subst (λ (d : DiskPair D). Rises (on.faults start.disks.second) (on.faults d.second)) (sym r.disks_are)
+          (rises_last (on.faults start.disks.second) (on.faults r.opened.chained.disk) (on.faults r.left.disk) (on.faults r.last.disk) _ m.0 r.opens.counts.second r.serves.grows.counts m.1.rose m.2.counts))
 
-      by : Ends on links start end Uncalled Unasked Unwritten → Rises (on.faults start.disk) (on.faults end.disk)
+      by : Ends on links start end Uncalled Unasked Unwritten → EitherRises on start.disks end.disks
       by (inl (uncalled, unopened)) =
-          let u = subst (λ (s : Status). EndsUnopened on start.founder start.disk end.disk end.added s) is unopened in
-          rises_by (on.faults start.disk) (on.faults end.disk) u.0 u.1 u.2.counts
+          let u = subst (λ (s : Status). EndsUnopened on start.founder start.disks end.disks end.added s) is unopened in
+          risen_rises u.0 u.1 u.2.counts
       by (inr r) = of_run r r.writes
 
   -- once the office was opened
@@ -138,11 +140,11 @@ module _ {D I O : Type 0} (on : DiskWords D) (links : LinkWords I O) (start : Ru
       by (inr (bad, same, unwritten)) = inl (subst IsFromMending (sym same) (first_so on r.left r.last r.stop r.mended r.mends))
 
   -- a status that is of no end
-  none_such : (s : Status) → (EndsUnopened on start.founder start.disk end.disk end.added s → ⊥) → (IsFromMending s → ⊥) → (s ≡ WriteFault → ⊥) → end.status ≡ s → ⊥
+  none_such : (s : Status) → (EndsUnopened on start.founder start.disks end.disks end.added s → ⊥) → (IsFromMending s → ⊥) → (s ≡ WriteFault → ⊥) → end.status ≡ s → ⊥
   none_such s unopened mended written is = by ran
     where
       by : Ends on links start end Uncalled Unasked Unwritten → ⊥
-      by (inl (uncalled, u)) = unopened (subst (λ (s : Status). EndsUnopened on start.founder start.disk end.disk end.added s) is u)
+      by (inl (uncalled, u)) = unopened (subst (λ (s : Status). EndsUnopened on start.founder start.disks end.disks end.added s) is u)
       by (inr r) = ⊎_elim mended written (subst IsOwn is (own_run r))
 
   pub no_usage : end.status ≡ Usage → ⊥
@@ -154,17 +156,17 @@ module _ {D I O : Type 0} (on : DiskWords D) (links : LinkWords I O) (start : Ru
   pub no_frame : (offset : ℕ) → end.status ≡ BadFrame offset → ⊥
   no_frame offset = none_such (BadFrame offset) (λ e. e) (λ e. e) (λ e. absurd cc)
 
-  pub undamaged : Undamaged → (file : List ℕ) (history : List Entry) (offset : ℕ) → on.reads start.disk ≡ Some file → Stands file history → IsLegal start.founder history
-      → end.status ≡ Damaged offset → ⊥
-  undamaged law file history offset reads stands legal =
-      none_such (Damaged offset)
-      (λ e. law start.founder file offset history (subst (λ (o : Option (List ℕ)). IfSome o (λ f. IsDamagedDesk start.founder f offset)) reads e.0) legal stands)
+  pub undamaged : Undamaged → (files : FilePair) (history : List Entry) (file offset : ℕ) → AreRead on start.disks files → StandBoth files history → IsLegal start.founder history
+      → end.status ≡ Damaged file offset → ⊥
+  undamaged law files history file offset reads stands legal =
+      none_such (Damaged file offset)
+      (λ e. never_damaged law.first law.second law.force on start.founder start.disks files history file offset reads stands legal e.0)
       (λ e. e) (λ e. absurd cc)
 
-  pub completes : Undamaged → (write_rose : Type 0) → (end.status ≡ WriteFault → write_rose) → (file : List ℕ) (history : List Entry)
-      → on.reads start.disk ≡ Some file → Stands file history → IsLegal start.founder history → ¬ Rises (on.faults start.disk) (on.faults end.disk)
+  pub completes : Undamaged → (write_rose : Type 0) → (end.status ≡ WriteFault → write_rose) → (files : FilePair) (history : List Entry)
+      → AreRead on start.disks files → StandBoth files history → IsLegal start.founder history → ¬ EitherRises on start.disks end.disks
       → ¬ Rises start.door.faults end.door.faults → ¬ write_rose → IsDoneOrNoMemory end.status
-  completes law write_rose wrote file history reads stands legal no_disk no_door no_write = by end.status refl
+  completes law write_rose wrote files history reads stands legal no_disk no_door no_write = by end.status refl
     where
       by : (s : Status) → end.status ≡ s → IsDoneOrNoMemory s
       by Done is = tt
@@ -172,7 +174,7 @@ module _ {D I O : Type 0} (on : DiskWords D) (links : LinkWords I O) (start : Ru
       by DiskFault is = no_disk (disk_caused is)
       by DoorFault is = no_door (door_caused is)
       by WriteFault is = no_write (wrote is)
-      by (Damaged offset) is = undamaged law file history offset reads stands legal is
+      by (Damaged file offset) is = undamaged law files history file offset reads stands legal is
       by Usage is = no_usage is
       by (BadFrame offset) is = no_frame offset is
       by ReadFault is = no_read is

@@ -40,7 +40,7 @@ closed_so on left last Done (rise, does, closed) = record { rise = rise; does = 
 closed_so on left last DiskFault (rise, does, closed) = record { rise = rise; does = inr does; closed = closed }
 closed_so on left last Usage mends = absurd mends
 closed_so on left last (BadFrame offset) mends = absurd mends
-closed_so on left last (Damaged offset) mends = absurd mends
+closed_so on left last (Damaged file offset) mends = absurd mends
 closed_so on left last ReadFault mends = absurd mends
 closed_so on left last WriteFault mends = absurd mends
 closed_so on left last NoMemory mends = absurd mends
@@ -89,6 +89,9 @@ module _ {D : Type 0} (on : DiskWords D) (left last : DeskState D) (closed : Clo
 pub rose_between : (a b : ℕ) → a ≤ b → RoseBy (count_of b - count_of a) (count_of a) (count_of b)
 rose_between a b later = omega arith
 
+pub rises_at_least : (a b rise : ℕ) → RoseBy rise (count_of a) (count_of b) → RisesBy rise (count_of a) (count_of b)
+rises_at_least a b rise rose = omega arith
+
 -- the count rose in opening, in the calls and in the last mending
 pub counted : (a b c d opening calls mending : ℕ) → RoseBy opening (count_of a) (count_of b) → RisesBy calls (count_of b) (count_of c)
     → RoseBy mending (count_of c) (count_of d) → RisesBy (opening + calls + mending) (count_of a) (count_of d)
@@ -126,7 +129,7 @@ IsFromMending DoorFault = Unit {0}
 IsFromMending NoMemory = Unit {0}
 IsFromMending Usage = ⊥
 IsFromMending (BadFrame offset) = ⊥
-IsFromMending (Damaged offset) = ⊥
+IsFromMending (Damaged file offset) = ⊥
 IsFromMending ReadFault = ⊥
 IsFromMending WriteFault = ⊥
 
@@ -136,7 +139,7 @@ module _ {D : Type 0} (on : DiskWords D) (left last : DeskState D) where
   mended_so DiskFault mends = tt
   mended_so Usage mends = mends
   mended_so (BadFrame offset) mends = mends
-  mended_so (Damaged offset) mends = mends
+  mended_so (Damaged file offset) mends = mends
   mended_so ReadFault mends = mends
   mended_so WriteFault mends = mends
   mended_so NoMemory mends = tt

@@ -18,7 +18,9 @@ use Rattle.act_model.specs.Step.{Outcome, Adds, outcome, after, step}
 use Rattle.act_model.specs.Turns.{Turn, Conduct, Mends, Settles, FailsToKeep, unless_untouched, Answers}
 use Rattle.mpc_desk.specs.Desks.{DeskState, RestsAt, MayLeave, FailsOn, ActsOn, ActsInTurn, turn_of, office_of}
 use Rattle.mpc_desk.specs.Files.{Stands}
-use Rattle.mpc_desk.specs.Opening.{StandsAlike}
+use Rattle.mpc_desk.specs.Opening.{StandAlike}
+use Rattle.mpc_desk.specs.Pairs.{FilePair, DiskPair, pair, DuringBoth, PairState, disks_of}
+use Rattle.mpc_desk.specs.PairLaws.{both_then}
 use Rattle.command_ends.specs.Disks.{DiskWords}
 use Rattle.serve_command.specs.Images.{Asks, IsOfAsked, StandsWithin, IsWatched, Keeps, WasBetween, LeavesInService}
 use Rattle.serve_command.proofs.Gathering.{extends_on}
@@ -299,18 +301,20 @@ watched_during moment since first from images asked desk last first_is from_is a
 }
 
 -- opening, the links and the last mending together
-pub service_images : {D : Type 0} (on : DiskWords D) (founder : Key) (asked : Asks) (disk now : D) (opened left last : DeskState D) → opened.founder ≡ founder
-    → During on.moment on.since disk opened.disk (StandsAlike (on.reads disk) opened.state.settled)
-    → During on.moment on.since opened.disk left.disk (StandsWithin opened.founder (Some opened.limit) asked opened.state.settled left.state.settled)
-    → During on.moment on.since left.disk last.disk (λ _. ⊥) → Extends left.state.settled last.state.settled → now ≡ last.disk
-    → During on.moment on.since disk now (LeavesInService (on.reads disk) founder (Some opened.limit) asked opened.state.settled last.state.settled)
-service_images {D = D} on founder asked disk now opened left last same opening service mending goes_on now_is =
-    let P : List ℕ → Type 0 = LeavesInService (on.reads disk) founder (Some opened.limit) asked opened.state.settled last.state.settled in
-    subst (λ (d : D). During on.moment on.since disk d P) (sym now_is)
+pub service_images : {D : Type 0} (on : DiskWords D) (founder : Key) (asked : Asks) (disks now : DiskPair D) (opened : PairState D) (left last : DeskState D) → opened.chained.founder ≡ founder
+    → DuringBoth on disks (disks_of opened) (StandAlike on disks opened.chained.state.settled)
+    → During on.moment on.since opened.chained.disk left.disk (StandsWithin opened.chained.founder (Some opened.chained.limit) asked opened.chained.state.settled left.state.settled)
+    → During on.moment on.since left.disk last.disk (λ _. ⊥) → Extends left.state.settled last.state.settled → now ≡ pair opened.first last.disk
+    → DuringBoth on disks now (LeavesInService on disks founder (Some opened.chained.limit) asked opened.chained.state.settled last.state.settled)
+service_images {D = D} on founder asked disks now opened left last same opening service mending goes_on now_is =
+    let desk = opened.chained in
+    let P : FilePair → Type 0 = LeavesInService on disks founder (Some desk.limit) asked desk.state.settled last.state.settled in
+    let Q : List ℕ → Type 0 = StandsWithin founder (Some desk.limit) asked desk.state.settled last.state.settled in
+    subst (λ (d : DiskPair D). DuringBoth on disks d P) (sym now_is)
+    (both_then P (λ files has. inl has) (λ files has. inr has) opening refl
     (during_joined
-    (during_joined (during_weaker P (λ image has. inl has) opening)
-    (during_weaker P
-    (λ image has. inr (within_on founder (Some opened.limit) asked opened.state.settled left.state.settled last.state.settled image goes_on
-    (subst (λ (k : Key). StandsWithin k (Some opened.limit) asked opened.state.settled left.state.settled image) same has)))
-    service))
-    (during_weaker P (λ image none. absurd none) mending))
+    (during_weaker Q
+    (λ image has. within_on founder (Some desk.limit) asked desk.state.settled left.state.settled last.state.settled image goes_on
+    (subst (λ (k : Key). StandsWithin k (Some desk.limit) asked desk.state.settled left.state.settled image) same has))
+    service)
+    (during_weaker Q (λ image none. absurd none) mending)))

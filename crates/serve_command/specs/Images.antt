@@ -5,7 +5,7 @@ use Rattle.disk_model.specs.Crashes.{During}
 use Rattle.act_bodies.specs.declared.key.Key.{Key}
 use Rattle.act_model.specs.declared.entry.Entry.{Entry}
 use Rattle.act_model.specs.declared.reply.Reply.TheVariants.{Done}
-use Rattle.act_model.specs.declared.request.Body.TheVariants.{NoRoom}
+use Rattle.read_ahead.specs.declared.body.Body.TheVariants.{NoRoom}
 use Rattle.act_model.specs.declared.request.Request.{Request}
 use Rattle.act_model.specs.declared.request.Verb.TheVariants.{Unknown}
 use Rattle.act_model.specs.Conducts.{Extends, EitherWay, IsAcknowledged}
@@ -18,7 +18,9 @@ use Rattle.intake_lock.specs.Items.{reading_of}
 use Rattle.http_connection.specs.Calls.{IsAdded}
 use Rattle.mpc_desk.specs.Desks.{DeskState, office_of}
 use Rattle.mpc_desk.specs.Files.{Stands}
-use Rattle.mpc_desk.specs.Opening.{StandsAlike}
+use Rattle.mpc_desk.specs.Opening.{StandAlike}
+use Rattle.mpc_desk.specs.Pairs.{FilePair, DiskPair}
+use Rattle.mpc_desk.specs.Disks.{DiskWords}
 use Rattle.http_server.specs.declared.log.Log.{Log}
 
 -- ---- entries of acts that were asked
@@ -168,9 +170,9 @@ KeepsDone moment since asked opened now item =
 
 -- ---- the whole service
 
--- an image at some moment of a service, its opening included: the file stood for the same history as it was read, or
--- the office came there
-abbrev pub LeavesInService : Option (List ℕ) → Key → Option ℕ → Asks → List Entry → List Entry
-    → List ℕ → Type 0
-LeavesInService reads founder limit asked first last image =
-    StandsAlike reads first image ⊎ StandsWithin founder limit asked first last image
+-- two files at some moment of a service, its opening included: the files stood for the same history as they were read,
+-- or the second one stands for where the office came
+abbrev pub LeavesInService : {D : Type 0} → DiskWords D → DiskPair D → Key → Option ℕ → Asks → List Entry → List Entry
+    → FilePair → Type 0
+LeavesInService on disks founder limit asked first last files =
+    StandAlike on disks first files ⊎ StandsWithin founder limit asked first last files.second

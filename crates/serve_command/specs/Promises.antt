@@ -1,12 +1,12 @@
--- What `serve` promises, over every sink, disk, clock and door.
-use Rattle.std.specs.Prelude.{◌≡◌, ℕ, List, [], Option, Some}
+-- What `serve` promises, over every sink, every two disks, and every clock and door.
+use Rattle.std.specs.Prelude.{◌≡◌, ℕ, List, [], Option}
 use Rattle.act_bodies.specs.declared.key.Key.{Key}
 use Rattle.act_model.specs.declared.entry.Entry.{Entry}
 use Rattle.act_model.specs.Legal.{IsLegal}
-use Rattle.mpc_desk.specs.Files.{Stands}
+use Rattle.mpc_desk.specs.Pairs.{FilePair, StandBoth, AreRead}
 use Rattle.command_ends.specs.declared.status.Status.TheVariants.{Usage, BadFrame, Damaged, ReadFault, DoorFault}
 use Rattle.command_ends.specs.Courses.{OutsideWords, Change, IsUncalled, Course, HasCause, SinkCause, DiskCause}
-use Rattle.command_ends.specs.Courses.{IsFaultless}
+use Rattle.command_ends.specs.Courses.{IsFaultless, AreFaultless}
 use Rattle.command_ends.specs.Statuses.{IsDoneOrNoMemory}
 use Rattle.serve_command.specs.declared.ends.LinkEnd.{LinkEnd}
 use Rattle.serve_command.specs.Gathering.{door_of}
@@ -26,23 +26,24 @@ door_words links faults each = record { links = links; faults = faults; each = e
 -- crash at any moment leaves. The places of each link's calls rise in the one history, and a reply that the disk failed
 -- comes only where the disk's count of faults rose in that call.
 --
--- A file that stands for a legal history, and no fault of the disk, the door or the sink, give `Done`, or `NoMemory`;
--- and such a file isn't damaged. A fresh file stands for the history without entries; faults of links play no part.
--- Each fault has its cause. It ends neither with `Usage`, nor with `BadFrame`, nor with `ReadFault`.
+-- Files that stand for a legal history, and no fault of the disks, the door or the sink, give `Done`, or `NoMemory`;
+-- and such files aren't damaged. A fresh first file beside a second one that isn't in force stands for the history
+-- without entries; faults of links play no part. Each fault has its cause. It ends neither with `Usage`, nor with
+-- `BadFrame`, nor with `ReadFault`.
 pub record KeepsServe {K D C G I O : Type 0} (on : OutsideWords K D C) (doors : DoorWords G I O)
     (course : Course K D C) (door : Change G) (ends : List (LinkEnd I O)) (founder : Key) (connections : ℕ)
     : Type 0 where
   pub served : Ends on.disk doors.each
       (record {
         founder = founder;
-        disk = course.disk.old;
+        disks = course.disks.old;
         clock = on.clock course.clock.old;
         door = door_of doors.links doors.faults door.old;
         most = connections;
         taken = on.sink.taken course.sink.old;
       })
       (record {
-        disk = course.disk.new;
+        disks = course.disks.new;
         door = door_of doors.links doors.faults door.new;
         ends = ends;
         taken = on.sink.taken course.sink.new;
@@ -51,12 +52,12 @@ pub record KeepsServe {K D C G I O : Type 0} (on : OutsideWords K D C) (doors : 
       })
       (IsUncalled course.sink × IsUncalled course.clock × IsUncalled door × (ends ≡ []))
       (IsUncalled course.clock × IsUncalled door) (IsUncalled course.sink)
-  pub complete : (file : List ℕ) (history : List Entry) → on.disk.reads course.disk.old ≡ Some file
-      → Stands file history → IsLegal founder history → IsFaultless on.disk.faults course.disk
+  pub complete : (files : FilePair) (history : List Entry) → AreRead on.disk course.disks.old files
+      → StandBoth files history → IsLegal founder history → AreFaultless on.disk course.disks
       → IsFaultless doors.faults door → IsFaultless on.sink.faults course.sink → IsDoneOrNoMemory course.status
-  pub sound : (file : List ℕ) (history : List Entry) (offset : ℕ) → on.disk.reads course.disk.old ≡ Some file
-      → Stands file history → IsLegal founder history → course.status ≡ Damaged offset → ⊥
-  pub disk_cause : DiskCause on.disk course.disk course.status
+  pub sound : (files : FilePair) (history : List Entry) (file offset : ℕ) → AreRead on.disk course.disks.old files
+      → StandBoth files history → IsLegal founder history → course.status ≡ Damaged file offset → ⊥
+  pub disk_cause : DiskCause on.disk course.disks course.status
   pub door_cause : HasCause doors.faults door DoorFault course.status
   pub write_cause : SinkCause on.sink course.sink course.status
   pub own : (course.status ≡ Usage → ⊥) × (course.status ≡ ReadFault → ⊥)

@@ -3,14 +3,13 @@ use Rattle.std.specs.Prelude.{◌≡◌, ◌≢◌, ◌⊎◌, ℕ, ◌+◌, Lis
 use Rattle.std.specs.List.{AllByRecursion}
 use Rattle.std.specs.Io.KnownBytes.{Appends}
 use Rattle.desk_io.specs.Outside.{AppendsPart}
-use Rattle.disk_model.specs.Counts.{Rises}
-use Rattle.disk_model.specs.Crashes.{During}
 use Rattle.act_bodies.specs.declared.key.Key.{Key}
 use Rattle.act_model.specs.Clocks.{ClockState}
 use Rattle.act_model.specs.Conducts.{EitherWay, Extends}
 use Rattle.act_model.specs.Legal.{IsLegal}
 use Rattle.intake_lock.specs.Items.{RisesBy, rises}
 use Rattle.mpc_desk.specs.Desks.{DeskState, IsAtRest, count_of}
+use Rattle.mpc_desk.specs.Pairs.{DiskPair, pair, DuringBoth, HaveRisen, EitherRises, PairState, disks_of}
 use Rattle.command_ends.specs.declared.status.Status.{Status}
 use Rattle.command_ends.specs.declared.status.Status.TheVariants.{Done, Usage, BadFrame, DiskFault, Damaged, ReadFault}
 use Rattle.command_ends.specs.declared.status.Status.TheVariants.{WriteFault, NoMemory, DoorFault}
@@ -47,7 +46,7 @@ WritesLines old new lines WriteFault = AppendsPart old new lines
 WritesLines old new lines Usage = ⊥
 WritesLines old new lines (BadFrame offset) = ⊥
 WritesLines old new lines DiskFault = ⊥
-WritesLines old new lines (Damaged offset) = ⊥
+WritesLines old new lines (Damaged file offset) = ⊥
 WritesLines old new lines ReadFault = ⊥
 WritesLines old new lines NoMemory = ⊥
 WritesLines old new lines DoorFault = ⊥
@@ -59,48 +58,57 @@ Writes so_far Unwritten old new lines status =
 
 -- ---- the whole call
 
--- what the call was given: the founder's key, the disk, the clock, the door, how many links may come, and what the sink
--- took so far
+-- what the call was given: the founder's key, the disks, the clock, the door, how many links may come, and what the
+-- sink took so far
 pub record RunStart (D I O : Type 0) : Type 0 where
   pub founder : Key
-  pub disk : D
+  pub disks : DiskPair D
   pub clock : ClockState
   pub door : DoorState I O
   pub most : ℕ
   pub taken : Option (List ℕ)
 
--- what the call left: the disk, the door, how the links ended, what the sink took, by how many entries the history
+-- what the call left: the disks, the door, how the links ended, what the sink took, by how many entries the history
 -- grew, and the status
 pub record RunEnd (D I O : Type 0) : Type 0 where
-  pub disk : D
+  pub disks : DiskPair D
   pub door : DoorState I O
   pub ends : List (LinkEnd I O)
   pub taken : Option (List ℕ)
   pub added : ℕ
   pub status : Status
 
+-- the counts of faults rose by at least so much together, each by itself
+pub record HaveRisenBy {D : Type 0} (on : DiskWords D) (rise : ℕ) (old new : DiskPair D) : Type 0 where
+  pub first : ℕ
+  pub second : ℕ
+  pub sum : rise ≡ first + second
+  pub rises_first : RisesBy first (count_of (on.faults old.first)) (count_of (on.faults new.first))
+  pub rises_second : RisesBy second (count_of (on.faults old.second)) (count_of (on.faults new.second))
+
 -- The desk was opened, the links of the door were attended, an act in doubt was mended once, and the two lines were
 -- written where nothing had failed. `Unasked` says that clock and door are as they were, which they are where memory
 -- for the links was refused; `Unwritten` that the sink is.
 --
--- Each image at some moment of the call was one at its start, or stands for a legal history to which the office came,
--- or for one entry more, which the step adds there for an act that a link asked at that place. At the end each stands
--- for the settled history, or for that with the act in doubt. That history is legal, extends the one at the opening,
--- and has all that every legal history has. The entry of each act that was done, also of one that was sent again, is in
--- each image since the moment at which it was answered, its stamp's. The disk's count of faults rose by at least what
--- it rose in opening, in the calls for the links and in the last mending; where it didn't rise no call is answered that
--- the disk failed.
+-- What a crash at some moment of the call leaves is read like what it might have left at its start, or stands for a
+-- legal history to which the office came, or for one entry more, which the step adds there for an act that a link asked
+-- at that place. At the end each image of the second disk stands for the settled history, or for that with the act in
+-- doubt; the first disk is as opening left it. That history is legal, extends the one at the opening, and has all that
+-- every legal history has. The entry of each act that was done, also of one that was sent again, is in each image since
+-- the moment at which it was answered, its stamp's. The counts of faults rose together by at least what they rose in
+-- opening, in the calls for the links and in the last mending; where none rose no call is answered that the disk
+-- failed.
 pub record Runs {D I O : Type 0} (on : DiskWords D) (links : LinkWords I O) (start : RunStart D I O)
     (end : RunEnd D I O) (Unasked Unwritten : Type 0) : Type 0 where
-  pub opened : DeskState D
-  pub opens : Opens on start.founder start.disk opened
+  pub opened : PairState D
+  pub opens : Opens on start.founder start.disks opened
   pub left : DeskState D
   pub stop : Option Stop
   pub answered : Answered D
   pub serves : Serves links
       (record {
         clock = start.clock;
-        office = stamping on.moment on.faults opened [];
+        office = stamping on.moment on.faults opened.chained [];
         door = start.door;
         most = start.most;
       })
@@ -116,23 +124,22 @@ pub record Runs {D I O : Type 0} (on : DiskWords D) (links : LinkWords I O) (sta
   pub mends : MendsLast on left mended last
   pub writes : Writes (first_fault stop mended) Unwritten start.taken end.taken
       (summary (length end.ends) (length last.state.settled)) end.status
-  pub disk_is : end.disk ≡ last.disk
-  pub images : During on.moment on.since start.disk end.disk
-      (LeavesInService (on.reads start.disk) start.founder (Some opened.limit) (AskedBy (calls_in serves.attendances))
-      opened.state.settled last.state.settled)
-  pub kept : AllByRecursion (KeepsDone on.moment on.since (AskedBy (calls_in serves.attendances)) opened last)
+  pub disks_are : end.disks ≡ pair opened.first last.disk
+  pub images : DuringBoth on start.disks end.disks
+      (LeavesInService on start.disks start.founder (Some opened.chained.limit)
+      (AskedBy (calls_in serves.attendances)) opened.chained.state.settled last.state.settled)
+  pub kept : AllByRecursion (KeepsDone on.moment on.since (AskedBy (calls_in serves.attendances)) opened.chained last)
       (calls_in serves.attendances)
   pub at_rest : IsAtRest on.leaves last
   pub legal : EitherWay (IsLegal start.founder) last.state
-  pub grows : Extends opened.state.settled last.state.settled
-  pub is_left : IsLeft opened.state.settled last.state.settled end.added
+  pub grows : Extends opened.chained.state.settled last.state.settled
+  pub is_left : IsLeft opened.chained.state.settled last.state.settled end.added
   pub opening : ℕ
-  pub rose_opening : DiskRose on opening start.disk opened.disk
+  pub rose_opening : HaveRisen on opening start.disks (disks_of opened)
   pub mending : ℕ
   pub rose_mending : DiskRose on mending left.disk last.disk
-  pub counts : RisesBy (opening + rises (calls_in serves.attendances) + mending) (count_of (on.faults start.disk))
-      (count_of (on.faults end.disk))
-  pub quiet : ¬ Rises (on.faults start.disk) (on.faults end.disk)
+  pub counts : HaveRisenBy on (opening + rises (calls_in serves.attendances) + mending) start.disks end.disks
+  pub quiet : ¬ EitherRises on start.disks end.disks
       → AllByRecursion IsNoDiskFault (calls_in serves.attendances)
 
 -- What stands at the end of the call. Either the office couldn't be opened, and `Uncalled` says that the sink, the
@@ -140,5 +147,5 @@ pub record Runs {D I O : Type 0} (on : DiskWords D) (links : LinkWords I O) (sta
 abbrev pub Ends : {D I O : Type 0} → DiskWords D → LinkWords I O → RunStart D I O → RunEnd D I O → Type 0 → Type 0
     → Type 0 → Type 0
 Ends on links start end Uncalled Unasked Unwritten =
-    (Uncalled × EndsUnopened on start.founder start.disk end.disk end.added end.status)
+    (Uncalled × EndsUnopened on start.founder start.disks end.disks end.added end.status)
     ⊎ Runs on links start end Unasked Unwritten

@@ -5,6 +5,7 @@ ghost use Rattle.desk_io.specs.Outside.{Rises};
 ghost use Rattle.act_model.specs.Clocks.{clock_of};
 ghost use Rattle.act_model.specs.Roster.{IsFounder};
 ghost use Rattle.intake_lock.specs.Rule.{MOST};
+ghost use Rattle.mpc_desk.specs.Pairs.{pair};
 ghost use Rattle.command_ends.specs.Courses.{sink_words, outside_words, change};
 ghost use Rattle.command_ends.specs.Disks.{disk_words};
 ghost use Rattle.serve_command.specs.Links.{link_words};
@@ -68,6 +69,7 @@ fn run<D: Disk + Send, K: Sink, C: Clock + Send, G: Door + Send, R: Threads + Wa
     connections: u64,
     sink: &mut K,
     disk: D,
+    second: D,
     clock: &mut C,
     door: &mut G,
 ) -> (Ended<D>, Vec<LinkEnd<G::In, G::Out>>)
@@ -78,14 +80,14 @@ fn run<D: Disk + Send, K: Sink, C: Clock + Send, G: Door + Send, R: Threads + Wa
         (link_words G.In.left G.In.gives G.In.faults G.In.is_open G.Out.taken G.Out.faults G.Out.is_open)
         (record {
           founder = founder;
-          disk = disk;
+          disks = pair disk second;
           clock = clock_of C.reading C.last clock.old;
           door = door_of G.links G.faults door.old;
           most = connections;
           taken = K.taken sink.old;
         })
         (record {
-          disk = result.0.disk;
+          disks = pair result.0.disk result.0.second;
           door = door_of G.links G.faults door.new;
           ends = result.1.items;
           taken = K.taken sink.new;
@@ -116,8 +118,8 @@ fn run<D: Disk + Send, K: Sink, C: Clock + Send, G: Door + Send, R: Threads + Wa
     office_laws::unbroken_rows();
     office_laws::unbroken_numbers();
     desk_laws::lines_are_added();
-    let desk = match open_desk(alloc, founder, disk) {
-        Ok(desk) => desk,
+    let (first, desk) = match open_desk(alloc, founder, disk, second) {
+        Ok(desk) => desk.apart(),
         Err(ended) => return (ended, no_ends(alloc)),
     };
     let before = desk.entries();
@@ -133,20 +135,21 @@ fn run<D: Disk + Send, K: Sink, C: Clock + Send, G: Door + Send, R: Threads + Wa
     (
         Ended {
             status,
-            disk: desk.close(),
+            disk: first,
+            second: desk.close(),
             added,
         },
         ends,
     )
 }
 
-/// Serves a door over the office that the disk stands for: attends `connections` links, or fewer where the door is
+/// Serves a door over the office that the two disks stand for: attends `connections` links, or fewer where the door is
 /// shut, each in a thread of its own while the next one is awaited. Each link has its own clock and its own turns at
 /// the office, and its source and sink are ended when it was left. When all links were left, an act in doubt is mended
 /// once, and where nothing has failed so far the sink gets two lines, `connections N` and `entries E`.
 ///
 /// `founder` is the founding officer's key, which begins with a plus and has at most 33 bytes; `connections` is at most
-/// 1,000. It answers how the call ended, with the first fault that arose, the disk, by how many entries the settled
+/// 1,000. It answers how the call ended, with the first fault that arose, the disks, by how many entries the settled
 /// history grew, and how each link ended. It ends with `Done`, `DiskFault`, `Damaged`, `WriteFault`, `NoMemory` or
 /// `DoorFault`.
 pub fn serve<D: Disk + Send, K: Sink, C: Clock + Send, G: Door + Send, R: Threads + Wait + Sync>(
@@ -156,6 +159,7 @@ pub fn serve<D: Disk + Send, K: Sink, C: Clock + Send, G: Door + Send, R: Thread
     connections: u64,
     sink: &mut K,
     disk: D,
+    second: D,
     clock: &mut C,
     door: &mut G,
 ) -> (Ended<D>, Vec<LinkEnd<G::In, G::Out>>)
@@ -169,12 +173,22 @@ pub fn serve<D: Disk + Send, K: Sink, C: Clock + Send, G: Door + Send, R: Thread
         (link_words G.In.left G.In.gives G.In.faults G.In.is_open G.Out.taken G.Out.faults G.Out.is_open))
         (record {
           sink = change sink.old sink.new;
-          disk = change disk result.0.disk;
+          disks = change (pair disk second) (pair result.0.disk result.0.second);
           clock = change clock.old clock.new;
           added = result.0.added;
           status = result.0.status;
         }) (change door.old door.new) result.1.items founder connections }
 {
     desk_laws::damage();
-    run(rt, alloc, founder, connections, sink, disk, clock, door)
+    run(
+        rt,
+        alloc,
+        founder,
+        connections,
+        sink,
+        disk,
+        second,
+        clock,
+        door,
+    )
 }

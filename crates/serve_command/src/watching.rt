@@ -18,7 +18,7 @@ use act_model::{Keeper, Reply, Request, laws as office_laws};
 use desk_io::{Clock, Door};
 use disk_model::Disk;
 use http_server::Log;
-use mpc_desk::Desk;
+use mpc_desk::ChainedDesk;
 use obs_time::Instant;
 use std::alloc::Global;
 use std::marker::{Brand, Model, PhantomData};
@@ -52,8 +52,8 @@ pub type Asked = Log<Request, Instant>;
 /// is a list that only proofs read, and takes no memory.
 #[derive(Drop)]
 pub struct Watched<D: Disk, W: Opening> {
-    desk: Desk<D>,
-    answered: Log<Desk<D>, Asked>,
+    desk: ChainedDesk<D>,
+    answered: Log<ChainedDesk<D>, Asked>,
     opening: PhantomData<W>,
 }
 
@@ -73,7 +73,7 @@ impl<D: Disk, W: Opening> Model for Watched<D, W> {
 
 impl<D: Disk, W: Opening> Watched<D, W> {
     // Watches a desk from now on.
-    fn new(desk: Desk<D>) -> Watched<D, W>
+    fn new(desk: ChainedDesk<D>) -> Watched<D, W>
         requires settled { desk.state.doubt ≡ None }
         requires legal { IsLegal desk.founder desk.state.settled }
         requires history { W.history ≡ desk.state.settled }
@@ -89,7 +89,7 @@ impl<D: Disk, W: Opening> Watched<D, W> {
     }
 
     // The desk, and what a crash may have left since it was opened and since each act.
-    fn close(self) -> Desk<D>
+    fn close(self) -> ChainedDesk<D>
         ensures desk { result ≡ self.desk }
         ensures later { W.moment ≤ D.moment result.disk }
         ensures images { (t : ℕ) (image : List ℕ) → t ≤ W.moment → D.since result.disk t image →
@@ -138,11 +138,11 @@ pub(crate) fn attend_watched<
 >(
     rt: &R,
     alloc: Global,
-    desk: Desk<D>,
+    desk: ChainedDesk<D>,
     connections: u64,
     clock: &mut C,
     door: &mut G,
-) -> Attended<Desk<D>, G::In, G::Out>
+) -> Attended<ChainedDesk<D>, G::In, G::Out>
     requires settled { desk.state.doubt ≡ None }
     requires legal { IsLegal desk.founder desk.state.settled }
     requires most { connections ≤ MOST }

@@ -15,8 +15,10 @@ fn names_each_command(rt: HostRuntime) -> Result<(), Fail> {
         "1 to 1000\n",
         "0 to 18446744073709551615\n",
         "1 to 20000\n",
+        "on the journal desk.journal2 of the current folder\n",
+        "  5  Damaged: file 2, which is desk.journal2, or file 1, desk.journal, is damaged at this offset\n",
         "  9  DoorFault: the port failed\n",
-        "\nmpc_cli 0.9\n",
+        "\nmpc_cli 0.10\n",
     ] {
         assert!(rt; text.as_str().contains(part), "{part} in {text}");
     }

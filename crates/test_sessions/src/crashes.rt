@@ -1,17 +1,19 @@
-//! What a run leaves on the disk: the bytes of its journal, what a crash after each call of the disk leaves of an act,
+//! What a run leaves on the second disk: the bytes of its journal, what a crash after each call of it leaves of an act,
 //! and an act in doubt that another caller's act settles.
 
-use super::files::{ENROLLED, ENROLS, FILE};
 use std::alloc::Global;
-use testkit_sessions::{BATCH, Call, Drive, FOUNDER, OBSERVER, Row, Script, Wrong, call_in_turn};
+use testkit_sessions::{
+    BATCH, CHAINED, Call, Drive, Drives, ENROLLED, ENROLS, FOUNDER, OBSERVER, Row, Script, Wrong,
+    call_in_turn,
+};
 
 fn written(alloc: Global) -> Result<(), Wrong> {
-    let drive = Drive {
-        left: Some(&FILE),
+    let drives = Drives::with_second(Drive {
+        left: Some(&CHAINED),
         ..Drive::EMPTY
-    };
+    });
     let run = Call::run(ENROLS.as_bytes(), 1, ENROLLED.as_bytes());
-    call_in_turn(alloc, &drive, &[run])
+    call_in_turn(alloc, &drives, &[run])
 }
 
 #[test]
@@ -27,17 +29,17 @@ const NO_ENTRY: &str = "200 54\nentries 0\nisolated 0\nobjects 0\nretracted 0\na
 
 const ONE_ENTRY: &str = "200 54\nentries 1\nisolated 0\nobjects 0\nretracted 0\naccepted 0\n";
 
-/// For how many bytes the disk has room, the status and its number, the entries, the sink's bytes, and the picks by
-/// which the crash leaves the act. The file and a record of the disk's calls share the room, a call counting 32 bytes
-/// and those that it writes: opening takes three calls and 97 bytes, the parcel with a closed gate 109 and then the
-/// file 78, a sync 32, the open gate 33, and the last sync 32. So each row has room for one call more of the act, and
-/// the crash comes after it.
+/// For how many bytes the second disk has room, the status and its number, the entries, the sink's bytes, and the picks
+/// by which the crash leaves the act. The file and a record of the disk's writes and syncs share the room, each
+/// counting 32 bytes and those that it writes: opening takes four syncs and three writes of a byte, and so 227 bytes,
+/// the parcel with its digest and a closed gate 141 and then the file 111, a sync 32, the open gate 33, and the last
+/// sync 32. So each row has room for one call more of the act, and the crash comes after it.
 const CRASHES: &[(usize, &str, u8, u64, &str, &[u64])] = &[
-    (284, "Done", 0, 0, UNTOUCHED, &[]),
-    (316, "DiskFault", 4, 0, DOUBT, &[]),
+    (479, "Done", 0, 0, UNTOUCHED, &[]),
+    (511, "DiskFault", 4, 0, DOUBT, &[]),
     // All of the gate is lost, or none of it.
-    (349, "DiskFault", 4, 0, DOUBT, &[1, 3, 4]),
-    (381, "Done", 0, 1, ENROLLED, &[0, 1, 2, 3, 4]),
+    (544, "DiskFault", 4, 0, DOUBT, &[1, 3, 4]),
+    (576, "Done", 0, 1, ENROLLED, &[0, 1, 2, 3, 4]),
 ];
 
 /// A run with one act, a crash by this pick, and a run that asks for the tally.
@@ -48,10 +50,10 @@ fn crashed(
     pick: u64,
     tally: &'static str,
 ) -> Result<(), Wrong> {
-    let drive = Drive {
+    let drives = Drives::with_second(Drive {
         room,
         ..Drive::EMPTY
-    };
+    });
     let stopped = Call {
         pick: Some(pick),
         ..*stopped
@@ -60,7 +62,7 @@ fn crashed(
         mark: stopped.mark.saturating_add(10),
         ..Call::run(b"+founder-1 0 tally 0\n", 0, tally.as_bytes())
     };
-    call_in_turn(alloc, &drive, &[stopped, opened])
+    call_in_turn(alloc, &drives, &[stopped, opened])
 }
 
 /// Each row with each digit of a pick.
@@ -159,26 +161,26 @@ const DROPPED: &[Row] = &[
     ),
 ];
 
-/// Opening and the founder's five requests take 24 calls of the disk. The observer's act takes four, of which this one
-/// fails.
+/// Opening and the founder's five requests take 29 calls of the second disk. The observer's act takes four, of which
+/// this one fails.
 fn settled(alloc: Global, fails: u64, rows: &[Row], mark: usize) -> Result<(), Wrong> {
     let mut script = Script::begun(alloc)?;
     script.add_rows(rows)?;
     let fails = [fails];
-    let drive = Drive {
+    let drives = Drives::with_second(Drive {
         fails: &fails,
         ..Drive::EMPTY
-    };
+    });
     let run = Call {
         mark,
         ..script.call(7)
     };
-    call_in_turn(alloc, &drive, &[run])
+    call_in_turn(alloc, &drives, &[run])
 }
 
 fn settled_both_ways(alloc: Global) -> Result<(), Wrong> {
-    settled(alloc, 28, ADDED, 28)?;
-    settled(alloc, 27, DROPPED, 27)
+    settled(alloc, 33, ADDED, 33)?;
+    settled(alloc, 32, DROPPED, 32)
 }
 
 #[test]

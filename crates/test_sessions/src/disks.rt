@@ -1,22 +1,28 @@
-//! Runs over a disk: an empty one, one that an earlier run left, and one whose calls fail.
+//! Runs over two disks: empty ones, those that an earlier run left, and those whose calls fail.
 
 use std::alloc::Global;
 use testkit_sessions::{
-    BATCHES, Call, Drive, Exchange, FIRST, FIRST_ANSWER, Frames, SETUP, Wrong, call_in_turn,
+    BATCHES, Call, Drive, Drives, Exchange, FIRST, FIRST_ANSWER, Frames, SETUP, Wrong, call_in_turn,
 };
 
-// An empty disk gets its first gate, a byte.
-fn first_gate(alloc: Global) -> Result<(), Wrong> {
-    let drive = Drive {
-        left: Some(&[0]),
-        ..Drive::EMPTY
+// Two empty disks get their first gates: the first file is that byte, the second has the byte 1 before it.
+fn first_gates(alloc: Global) -> Result<(), Wrong> {
+    let drives = Drives {
+        first: Drive {
+            left: Some(&[0]),
+            ..Drive::EMPTY
+        },
+        second: Drive {
+            left: Some(&[1, 0]),
+            ..Drive::EMPTY
+        },
     };
-    call_in_turn(alloc, &drive, &[Call::run(b"", 0, b"")])
+    call_in_turn(alloc, &drives, &[Call::run(b"", 0, b"")])
 }
 
 #[test]
-fn empty_disk(rt: HostRuntime) {
-    first_gate(rt.alloc()).expect(&rt, "as wanted");
+fn empty_disks(rt: HostRuntime) {
+    first_gates(rt.alloc()).expect(&rt, "as wanted");
 }
 
 const TALLY: &[Exchange] = &[Exchange {
@@ -33,7 +39,7 @@ fn day_tables() -> [&'static [Exchange]; 3] {
     [SETUP, BATCHES, TALLY]
 }
 
-// The batch is answered in one run, and in the next one over the same disk it is a resend.
+// The batch is answered in one run, and in the next one over the same disks it is a resend.
 fn answered_twice(alloc: Global) -> Result<(), Wrong> {
     let tables = day_tables();
     let day = Frames { tables: &tables };
@@ -47,7 +53,7 @@ fn answered_twice(alloc: Global) -> Result<(), Wrong> {
     };
     call_in_turn(
         alloc,
-        &Drive::EMPTY,
+        &Drives::EMPTY,
         &[Call::run(&morning, 6, &replies), second],
     )
 }
@@ -76,7 +82,7 @@ fn stopped_after(alloc: Global, day: &Frames, count: usize) -> Result<(), Wrong>
         mark: count,
         ..Call::run(&bytes, day.entries(FRAMES).saturating_sub(kept), &replies)
     };
-    call_in_turn(alloc, &Drive::EMPTY, &[stopped, again])
+    call_in_turn(alloc, &Drives::EMPTY, &[stopped, again])
 }
 
 fn stopped_everywhere(alloc: Global) -> Result<(), Wrong> {
@@ -113,41 +119,47 @@ const UNTOUCHED: &str = "503 31\nrefused 16 DiskFault untouched\n";
 
 const SETTLED: &str = "503 27\nrefused 16 DiskFault doubt\n200 10\nreceipt 1\n";
 
-// The source's bytes, the disk's calls that fail, the status and its number, the entries, the sink's bytes. Opening an
-// empty disk takes the first four calls, an act the next four, and the last mending two more.
+// The source's bytes, the calls of the second disk that fail, the status and its number, the entries, the sink's bytes.
+// Opening empty disks takes the first nine calls of the second one, an act the next four, and the last mending two
+// more.
 const DISKS: &[(&str, [u64; 2], &str, u8, u64, &str)] = &[
     (FIRST, [1, 0], "DiskFault", 4, 0, ""),
     (FIRST, [2, 0], "DiskFault", 4, 0, ""),
     (FIRST, [3, 0], "DiskFault", 4, 0, ""),
     (FIRST, [4, 0], "DiskFault", 4, 0, ""),
-    (FIRST, [5, 0], "Done", 0, 0, UNTOUCHED),
-    (FIRST, [6, 0], "Done", 0, 0, UNTOUCHED),
+    (FIRST, [5, 0], "DiskFault", 4, 0, ""),
+    (FIRST, [6, 0], "DiskFault", 4, 0, ""),
+    (FIRST, [7, 0], "DiskFault", 4, 0, ""),
+    (FIRST, [8, 0], "DiskFault", 4, 0, ""),
+    (FIRST, [9, 0], "DiskFault", 4, 0, ""),
+    (FIRST, [10, 0], "Done", 0, 0, UNTOUCHED),
+    (FIRST, [11, 0], "Done", 0, 0, UNTOUCHED),
     // The last mending drops the act, or adds it, or fails.
-    (FIRST, [7, 0], "Done", 0, 0, DOUBT),
-    (FIRST, [8, 0], "Done", 0, 1, DOUBT),
-    (FIRST, [8, 9], "DiskFault", 4, 0, DOUBT),
-    (FIRST, [8, 10], "DiskFault", 4, 0, DOUBT),
+    (FIRST, [12, 0], "Done", 0, 0, DOUBT),
+    (FIRST, [13, 0], "Done", 0, 1, DOUBT),
+    (FIRST, [13, 14], "DiskFault", 4, 0, DOUBT),
+    (FIRST, [13, 15], "DiskFault", 4, 0, DOUBT),
     // The act is sent again, which mends it.
-    (TWICE, [8, 0], "Done", 0, 1, SETTLED),
+    (TWICE, [13, 0], "Done", 0, 1, SETTLED),
     // Nothing is mended at a bad frame.
-    (BAD, [8, 0], "BadFrame at 94", 3, 0, DOUBT),
-    (FIRST, [9, 0], "Done", 0, 1, FIRST_ANSWER),
+    (BAD, [13, 0], "BadFrame at 94", 3, 0, DOUBT),
+    (FIRST, [14, 0], "Done", 0, 1, FIRST_ANSWER),
 ];
 
 // Each disk by its place in the table.
 fn on_failing_disks(alloc: Global) -> Result<(), Wrong> {
     for (mark, &(bytes, fails, status, number, added, taken)) in DISKS.iter().enumerate() {
-        let drive = Drive {
+        let drives = Drives::with_second(Drive {
             fails: &fails,
             ..Drive::EMPTY
-        };
+        });
         let call = Call {
             mark,
             status,
             number,
             ..Call::run(bytes.as_bytes(), added, taken.as_bytes())
         };
-        call_in_turn(alloc, &drive, &[call])?;
+        call_in_turn(alloc, &drives, &[call])?;
     }
     Ok(())
 }
@@ -155,4 +167,32 @@ fn on_failing_disks(alloc: Global) -> Result<(), Wrong> {
 #[test]
 fn failing_disks(rt: HostRuntime) {
     on_failing_disks(rt.alloc()).expect(&rt, "as wanted");
+}
+
+// Opening takes four calls of the first disk, and nothing takes a fifth one.
+fn on_failing_firsts(alloc: Global) -> Result<(), Wrong> {
+    for call in 1..=5u64 {
+        let fails = [call];
+        let drives = Drives {
+            first: Drive {
+                fails: &fails,
+                ..Drive::EMPTY
+            },
+            ..Drives::EMPTY
+        };
+        let done = Call::run(FIRST.as_bytes(), 1, FIRST_ANSWER.as_bytes());
+        let failed = Call {
+            mark: call as usize,
+            status: "DiskFault",
+            number: 4,
+            ..Call::run(FIRST.as_bytes(), 0, b"")
+        };
+        call_in_turn(alloc, &drives, &[if call < 5 { failed } else { done }])?;
+    }
+    Ok(())
+}
+
+#[test]
+fn failing_first_disks(rt: HostRuntime) {
+    on_failing_firsts(rt.alloc()).expect(&rt, "as wanted");
 }

@@ -11,11 +11,7 @@ mod crashes;
 #[cfg(test)]
 mod disks;
 #[cfg(test)]
-mod each_place;
-#[cfg(test)]
 mod edges;
-#[cfg(test)]
-mod files;
 #[cfg(test)]
 mod large;
 #[cfg(test)]

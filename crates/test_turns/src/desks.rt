@@ -100,11 +100,13 @@ fn wrong_answer<V: Keeper>(
 
 const ANN: Exchange = (ENROLS_ANN, "receipt 1\ncaller 1\n");
 
-// How many bytes the journal may have, and what a second act of 77 bytes is answered after one that left 78.
-const LIMITS: [(u64, &str); 3] = [
-    (100, "refused 15 JournalFull used 78 more 77 limit 100\n"),
-    (154, "refused 15 JournalFull used 78 more 77 limit 154\n"),
-    (155, "receipt 2\ncaller 2\n"),
+// How many bytes the journal may have, and what a second act is answered. An empty journal has 2 bytes, and each act
+// takes 58 and the 51 of its body.
+const LIMITS: [(u64, &str); 4] = [
+    (111, "refused 15 JournalFull used 111 more 109 limit 111\n"),
+    (200, "refused 15 JournalFull used 111 more 109 limit 200\n"),
+    (219, "refused 15 JournalFull used 111 more 109 limit 219\n"),
+    (220, "receipt 2\ncaller 2\n"),
 ];
 
 /// Whether the second act is answered so, between the first one and the first one again.
@@ -133,7 +135,7 @@ impl Visit for Second {
     }
 }
 
-/// Whether it is, at a desk on an empty disk, whose journal may have so many bytes.
+/// Whether it is, at a desk on two empty disks, whose journal may have so many bytes.
 fn is_second_within(alloc: Global, limit: u64, reading: Instant, text: &'static str) -> bool {
     visit_desk(alloc, limit, CAPACITY, &Second { reading, text }) == Some(true)
 }

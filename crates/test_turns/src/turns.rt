@@ -1,4 +1,4 @@
-//! Threads that take turns at one desk, over a disk whose syncs fail now and then.
+//! Threads that take turns at one desk, over a second disk whose syncs fail now and then.
 //!
 //! All is over any keeper: the type of a desk makes each proof that it stands in dear.
 
@@ -15,13 +15,13 @@ use testkit_desks::{
 // How often each thread enters, each fourth time for the tally and else with an act.
 const TURNS: u64 = 200;
 
-// Room for the journal, and for what the disk notes of its calls.
+// Room for the journal, and for what its disk notes of its calls.
 const CAPACITY: usize = 1_048_576;
 
-// The calls of the disk that fail. Opening takes the first four and an act four more, of which each second one is a
-// sync. After the last of them every act is done.
+// The calls of the second disk that fail. Opening takes the first nine and an act four more, of which each second one
+// is a sync. After the last of them every act is done.
 const FAILS: [u64; 16] = [
-    6, 8, 20, 54, 56, 58, 100, 246, 248, 252, 400, 500, 750, 1_002, 1_500, 2_000,
+    11, 13, 25, 59, 61, 63, 105, 251, 253, 257, 405, 505, 755, 1_007, 1_505, 2_005,
 ];
 
 // The number of a thread's act, both counted from 1.

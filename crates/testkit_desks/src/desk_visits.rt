@@ -15,19 +15,24 @@ pub trait Visit {
     fn visit<K: Keeper>(&self, alloc: Global, keeper: K) -> Self::Told;
 }
 
-/// What a visit tells of a desk over this disk.
-fn visit_over<D: Disk, V: Visit>(alloc: Global, limit: u64, disk: D, visit: &V) -> Option<V::Told> {
-    match Desk::open(alloc, founder(), limit, disk) {
+/// What a visit tells of a desk over these two disks.
+fn visit_over<D: Disk, V: Visit>(
+    alloc: Global,
+    limit: u64,
+    disk: D,
+    second: D,
+    visit: &V,
+) -> Option<V::Told> {
+    match Desk::open(alloc, founder(), limit, disk, second) {
         Ok(desk) => Some(visit.visit(alloc, desk)),
         Err(_) => None,
     }
 }
 
-/// What a visit tells of a desk whose journal may have so many bytes, on an empty disk in memory that has room for
-/// `room` bytes; None where memory was refused.
+/// What a visit tells of a desk whose journal may have so many bytes, on two empty disks in memory that have room for
+/// `room` bytes each; None where memory was refused.
 pub fn visit_desk<V: Visit>(alloc: Global, limit: u64, room: usize, visit: &V) -> Option<V::Told> {
-    match MemDisk::new(alloc, &[], room, &[]) {
-        Ok(disk) => visit_over(alloc, limit, disk, visit),
-        Err(_) => None,
-    }
+    let disk = MemDisk::new(alloc, &[], room, &[]).ok()?;
+    let second = MemDisk::new(alloc, &[], room, &[]).ok()?;
+    visit_over(alloc, limit, disk, second, visit)
 }

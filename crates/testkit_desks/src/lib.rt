@@ -1,6 +1,6 @@
-//! Offices that are opened for tests: a desk on a disk in memory that is handed to a visit, and threads that take turns
-//! at the lock of a desk on a disk in memory or of an office in memory alone. What is done with an office, and what is
-//! told of it, is the test's.
+//! Offices that are opened for tests: a desk on two disks in memory that is handed to a visit, and threads that take
+//! turns at the lock of a desk on disks in memory or of an office in memory alone. What is done with an office, and
+//! what is told of it, is the test's.
 //!
 //! Tests over them meet the large type of a desk nowhere, so that they are proved at little cost.
 #![tactic(auto)]

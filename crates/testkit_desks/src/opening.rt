@@ -9,7 +9,7 @@ use crate::turns::Turns;
 use act_model::{Keeper, Key};
 use disk_model::{Disk, MemDisk};
 use intake_lock::TurnLock;
-use mpc_desk::{Desk, PlainKeeper};
+use mpc_desk::{ChainedDesk, Desk, PlainKeeper};
 use std::alloc::Global;
 use std::sync::Wait;
 use std::thread::Threads;
@@ -27,9 +27,9 @@ trait Mend: Keeper {
     fn mend(&mut self) -> bool;
 }
 
-impl<D: Disk> Mend for Desk<D> {
+impl<D: Disk> Mend for ChainedDesk<D> {
     fn mend(&mut self) -> bool {
-        Desk::mend(self).is_ok()
+        ChainedDesk::mend(self).is_ok()
     }
 }
 
@@ -58,23 +58,27 @@ fn told_of<V: Mend + Send, J: Turns + Sync, R: Threads + Wait + Sync>(
     Some(turns.tell(alloc, &keeper, &came))
 }
 
-/// The same of a desk over this disk.
+/// The same of the desk over these two disks that goes on without the first one.
 fn told_over<D: Disk + Send, J: Turns + Sync, R: Threads + Wait + Sync>(
     rt: &R,
     alloc: Global,
     limit: u64,
     disk: D,
+    second: D,
     turns: &J,
 ) -> Option<J::Told> {
-    match Desk::open(alloc, founder(), limit, disk) {
-        Ok(desk) => told_of(rt, alloc, desk, turns),
+    match Desk::open(alloc, founder(), limit, disk, second) {
+        Ok(desk) => {
+            let (_first, chained) = desk.apart();
+            told_of(rt, alloc, chained, turns)
+        }
         Err(_) => None,
     }
 }
 
-/// What is told of a desk after the turns of eight threads, on an empty disk in memory that has room for so many bytes,
-/// and of which the calls with these numbers fail; None where memory was refused, or the disk failed in opening or in
-/// the last mending.
+/// What is told of a desk after the turns of eight threads, on two empty disks in memory that have room for so many
+/// bytes each, and of the second of which the calls with these numbers fail; None where memory was refused, or that
+/// disk failed in opening or in the last mending.
 pub fn told_of_desk<J: Turns + Sync, R: Threads + Wait + Sync>(
     rt: &R,
     alloc: Global,
@@ -82,10 +86,9 @@ pub fn told_of_desk<J: Turns + Sync, R: Threads + Wait + Sync>(
     fails: &[u64],
     turns: &J,
 ) -> Option<J::Told> {
-    match MemDisk::new(alloc, &[], room, fails) {
-        Ok(disk) => told_over(rt, alloc, room as u64, disk, turns),
-        Err(_) => None,
-    }
+    let disk = MemDisk::new(alloc, &[], room, &[]).ok()?;
+    let second = MemDisk::new(alloc, &[], room, fails).ok()?;
+    told_over(rt, alloc, room as u64, disk, second, turns)
 }
 
 /// What is told of a keeper after the turns of two threads; None where memory was refused.

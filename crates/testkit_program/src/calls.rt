@@ -1,4 +1,4 @@
-//! Calls of the program on an empty disk in memory.
+//! Calls of the program on two empty disks in memory.
 
 use crate::links::{End, Exchanged, Sent, door_of, long_door, wrong_end, wrong_long_end};
 use desk_io::{Clock, Door, MemSink, MemSource, NoMemory, Sink, Source, TcpDoor, TickClock};
@@ -16,7 +16,7 @@ use testkit_sessions::{Call, Found, Wrong, words_of};
 /// How many bytes the sink has room for at first.
 const SINK_BYTES: usize = 65_536;
 
-/// How many bytes the disk has room for.
+/// How many bytes a disk has room for.
 const DISK_BYTES: usize = 1_048_576;
 
 /// What the program is called over.
@@ -67,9 +67,10 @@ fn called<S: Source, K: Sink, D: Disk, C: Clock>(
     source: &mut S,
     sink: &mut K,
     disk: D,
+    second: D,
     clock: &mut C,
 ) -> Ended<D> {
-    single(alloc, words, source, sink, disk, clock)
+    single(alloc, words, source, sink, disk, second, clock)
 }
 
 /// `top`, without its clauses.
@@ -87,19 +88,20 @@ fn served<
     source: &mut S,
     sink: &mut K,
     disk: D,
+    second: D,
     clock: &mut C,
     door: &mut G,
 ) -> (Ended<D>, LinkEnds<G::In, G::Out>) {
-    top(rt, alloc, words, source, sink, disk, clock, door)
+    top(rt, alloc, words, source, sink, disk, second, clock, door)
 }
 
-/// Calls `single` on an empty disk.
+/// Calls `single` on two empty disks.
 ///
 /// # Errors
 ///
 /// What is wrong with the call.
 pub fn call_single(alloc: Global, call: &Call) -> Result<(), Wrong> {
-    let disk = empty_disk(alloc)?;
+    let (disk, second) = (empty_disk(alloc)?, empty_disk(alloc)?);
     let mut devices = Devices::new(alloc, call)?;
     let ended = called(
         alloc,
@@ -107,12 +109,13 @@ pub fn call_single(alloc: Global, call: &Call) -> Result<(), Wrong> {
         &mut devices.source,
         &mut devices.sink,
         disk,
+        second,
         &mut devices.clock,
     );
     is_met(alloc, call, &ended, &devices.sink)
 }
 
-/// Calls `top` on an empty disk, with links that come through this door, and gives how they ended.
+/// Calls `top` on two empty disks, with links that come through this door, and gives how they ended.
 ///
 /// # Errors
 ///
@@ -123,7 +126,7 @@ pub(crate) fn call_top<G: Door + Send, R: Threads + Wait + Sync>(
     call: &Call,
     door: &mut G,
 ) -> Result<LinkEnds<G::In, G::Out>, Wrong> {
-    let disk = empty_disk(alloc)?;
+    let (disk, second) = (empty_disk(alloc)?, empty_disk(alloc)?);
     let mut devices = Devices::new(alloc, call)?;
     let (ended, ends) = served(
         rt,
@@ -132,6 +135,7 @@ pub(crate) fn call_top<G: Door + Send, R: Threads + Wait + Sync>(
         &mut devices.source,
         &mut devices.sink,
         disk,
+        second,
         &mut devices.clock,
         door,
     );
@@ -139,7 +143,7 @@ pub(crate) fn call_top<G: Door + Send, R: Threads + Wait + Sync>(
     Ok(ends)
 }
 
-/// Calls `top` on an empty disk, with these links through a door in memory, of which the call with the number `fails`
+/// Calls `top` on two empty disks, with these links through a door in memory, of which the call with the number `fails`
 /// fails (for 0 none does), and gives the place of the first link that ended otherwise than it is wanted.
 ///
 /// # Errors
@@ -158,8 +162,8 @@ pub fn call_over_links<R: Threads + Wait + Sync>(
     Ok(wrong_end(&ends, wanted))
 }
 
-/// Calls `top` on an empty disk, with these links through a door in memory, and gives the place of the first link that
-/// ended otherwise.
+/// Calls `top` on two empty disks, with these links through a door in memory, and gives the place of the first link
+/// that ended otherwise.
 ///
 /// # Errors
 ///
@@ -175,7 +179,7 @@ pub fn call_over_long_links<R: Threads + Wait + Sync>(
     Ok(wrong_long_end(alloc, &ends, links)?)
 }
 
-/// Calls `top` on an empty disk, with links that come through port 8017 of this machine, and gives how many came.
+/// Calls `top` on two empty disks, with links that come through port 8017 of this machine, and gives how many came.
 ///
 /// # Errors
 ///

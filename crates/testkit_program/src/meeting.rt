@@ -248,9 +248,9 @@ impl Door for MetDoor {
     }
 }
 
-/// Calls `top` on an empty disk with two links. The first is held at this place until the second was answered whole;
-/// the second sends nothing before the first is there. Gives the place of the first that ended otherwise than it is
-/// wanted.
+/// Calls `top` with two links, on two empty disks. The first link is held at this place until the second was answered
+/// whole; the second sends nothing before the first is there. Gives the place of the first that ended otherwise than it
+/// is wanted.
 ///
 /// # Errors
 ///

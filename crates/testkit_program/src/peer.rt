@@ -62,7 +62,7 @@ pub fn is_free<N: Net<Listener = TcpListener, Stream = TcpStream>>(net: &N) -> b
     false
 }
 
-/// Calls `top` on an empty disk, with links that come through the port, while a peer sends this text there and reads
+/// Calls `top` on two empty disks, with links that come through the port, while a peer sends this text there and reads
 /// what is answered.
 ///
 /// # Errors

@@ -1,4 +1,4 @@
-//! Calls of `run` and of `export` over a source, a sink, a disk and a clock in memory.
+//! Calls of `run` and of `export` over a source, a sink, two disks and a clock in memory.
 
 use crate::pieces::NoMemory;
 use crate::wrong::{Found, Wrong};
@@ -34,7 +34,7 @@ pub struct Call<'a> {
     /// What its sink takes: all of these bytes, or where `least` is given the first ones, at least so many and not all.
     pub taken: &'a [u8],
     pub least: Option<usize>,
-    /// By which pick a crash then takes what isn't safe on the disk, where one comes: 0 takes all of it.
+    /// By which pick a crash then takes what isn't safe on both disks, where one comes: 0 takes all of it.
     pub pick: Option<u64>,
 }
 
@@ -134,7 +134,7 @@ pub struct Drive<'a> {
 /// How many bytes a disk has room for where nothing else is said.
 const DISK_BYTES: usize = 1_048_576;
 
-impl Drive<'_> {
+impl<'a> Drive<'a> {
     /// An empty file on a disk that doesn't fail.
     pub const EMPTY: Drive<'static> = Drive {
         file: b"",
@@ -143,9 +143,43 @@ impl Drive<'_> {
         left: None,
     };
 
+    /// This file, on a disk that doesn't fail: it is to be left as it is.
+    pub const fn kept(file: &'a [u8]) -> Drive<'a> {
+        Drive {
+            file,
+            fails: &[],
+            room: DISK_BYTES,
+            left: Some(file),
+        }
+    }
+
     fn disk(&self, alloc: Global) -> Result<MemDisk, NoMemory> {
         let capacity = self.file.len().max(self.room);
         MemDisk::new(alloc, self.file, capacity, self.fails)
+    }
+}
+
+/// The two disks of a call, each of which counts its own calls: the first, whose file is only moved from, and the
+/// second, which has the journal.
+#[derive(Clone, Copy)]
+pub struct Drives<'a> {
+    pub first: Drive<'a>,
+    pub second: Drive<'a>,
+}
+
+impl<'a> Drives<'a> {
+    /// Two empty files on disks that don't fail.
+    pub const EMPTY: Drives<'static> = Drives {
+        first: Drive::EMPTY,
+        second: Drive::EMPTY,
+    };
+
+    /// This second disk beside an empty first one that doesn't fail.
+    pub const fn with_second(second: Drive<'a>) -> Drives<'a> {
+        Drives {
+            first: Drive::EMPTY,
+            second,
+        }
     }
 }
 
@@ -169,47 +203,72 @@ fn called<S: Source, K: Sink, D: Disk, C: Clock>(
     source: &mut S,
     sink: &mut K,
     disk: D,
+    second: D,
     clock: &mut C,
 ) -> Ended<D> {
     match command_of(words) {
-        Some(Command::Run { key }) => run(alloc, key, source, sink, disk, clock),
-        Some(Command::Export) => export(alloc, sink, disk),
+        Some(Command::Run { key }) => run(alloc, key, source, sink, disk, second, clock),
+        Some(Command::Export) => export(alloc, sink, disk, second),
         _ => Ended {
             status: Status::Usage,
             disk,
+            second,
             added: 0,
         },
     }
 }
 
-/// Makes a call on this disk, looks whether it is as wanted, and gives the disk back.
-fn call_on<D: Disk>(alloc: Global, call: &Call, disk: D) -> Result<D, Wrong> {
+/// Makes a call on these two disks, looks whether it is as wanted, and gives them back.
+fn call_on<D: Disk>(alloc: Global, call: &Call, disks: (D, D)) -> Result<(D, D), Wrong> {
     let words = words_of(alloc, call.words)?;
     let mut source = MemSource::new(alloc, call.bytes, call.greatest.max(1), &[call.read])?;
     let room = call.taken.len().saturating_add(65_536);
     let mut sink = MemSink::new(alloc, room, &[call.write])?;
-    let Some(first) = Instant::new(call.start) else {
+    let Some(reading) = Instant::new(call.start) else {
         return Err(Wrong {
             mark: call.mark,
             found: Found::NoClock,
         });
     };
-    let mut clock = TickClock::new(first, 1_000_000_000);
-    let ended = called(alloc, &words, &mut source, &mut sink, disk, &mut clock);
+    let mut clock = TickClock::new(reading, 1_000_000_000);
+    let (disk, second) = disks;
+    let ended = called(
+        alloc,
+        &words,
+        &mut source,
+        &mut sink,
+        disk,
+        second,
+        &mut clock,
+    );
     let status = format!(in alloc; "{}", ended.status)?;
     let number = ended.status.number();
     call.is_met(status, number, ended.added, sink.bytes())?;
-    Ok(ended.disk)
+    Ok((ended.disk, ended.second))
 }
 
-/// Makes a call on an empty disk.
+/// The two disks of a call before it was made.
+fn disks_of(alloc: Global, drives: &Drives) -> Result<(MemDisk, MemDisk), NoMemory> {
+    Ok((drives.first.disk(alloc)?, drives.second.disk(alloc)?))
+}
+
+/// Makes a call on two empty disks.
 ///
 /// # Errors
 ///
 /// What is wrong with it.
 pub fn call_alone(alloc: Global, call: &Call) -> Result<(), Wrong> {
-    call_on(alloc, call, Drive::EMPTY.disk(alloc)?)?;
+    call_on(alloc, call, disks_of(alloc, &Drives::EMPTY)?)?;
     Ok(())
+}
+
+/// The two disks after a crash by this pick, where one comes.
+fn after_crash(disks: (MemDisk, MemDisk), pick: Option<u64>) -> (MemDisk, MemDisk) {
+    let (first, second) = disks;
+    match pick {
+        Some(pick) => (first.crash(pick), second.crash(pick)),
+        None => (first, second),
+    }
 }
 
 /// Whether the file of a disk is this one.
@@ -221,28 +280,34 @@ fn is_file<D: Disk>(alloc: Global, disk: &mut D, file: &[u8]) -> Result<bool, No
     Ok(length == Some(file.len() as u64) && count == Some(file.len()) && piece.as_slice() == file)
 }
 
-/// Makes calls one after another on one disk.
+/// Whether the file of a disk is this one, where that is asked.
+fn is_left<D: Disk>(alloc: Global, disk: D, left: Option<&[u8]>) -> Result<bool, NoMemory> {
+    let mut disk = disk;
+    match left {
+        Some(file) => is_file(alloc, &mut disk, file),
+        None => Ok(true),
+    }
+}
+
+/// Makes calls one after another on two disks.
 ///
 /// # Errors
 ///
-/// What is wrong with the first of them that isn't as wanted.
-pub fn call_in_turn(alloc: Global, drive: &Drive, calls: &[Call]) -> Result<(), Wrong> {
-    let mut disk = drive.disk(alloc)?;
+/// What is wrong with the first of them that isn't as wanted, or with the files that they left.
+pub fn call_in_turn(alloc: Global, drives: &Drives, calls: &[Call]) -> Result<(), Wrong> {
+    let mut disks = disks_of(alloc, drives)?;
     for call in calls {
-        let left = call_on(alloc, call, disk)?;
-        disk = match call.pick {
-            Some(pick) => left.crash(pick),
-            None => left,
-        };
+        disks = after_crash(call_on(alloc, call, disks)?, call.pick);
     }
-    let Some(file) = drive.left else {
-        return Ok(());
-    };
-    if !is_file(alloc, &mut disk, file)? {
-        return Err(Wrong {
-            mark: calls.len(),
-            found: Found::File,
-        });
+    let (first, second) = disks;
+    let mark = calls.len();
+    if !is_left(alloc, first, drives.first.left)? {
+        let found = Found::File(1);
+        return Err(Wrong { mark, found });
+    }
+    if !is_left(alloc, second, drives.second.left)? {
+        let found = Found::File(2);
+        return Err(Wrong { mark, found });
     }
     Ok(())
 }

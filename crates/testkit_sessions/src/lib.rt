@@ -1,5 +1,5 @@
-//! Calls of `run` and of `export` over a source, a sink, a disk and a clock in memory, for the crates that test whole
-//! sessions; what such sessions are made of; and the frames of a whole one with their answers.
+//! Calls of `run` and of `export` over a source, a sink, two disks and a clock in memory, for the crates that test
+//! whole sessions; what such sessions are made of; and the frames of a whole one with their answers.
 //!
 //! A function says what is wrong with a call, and asserts nothing: no library may stop the program. None has a clause,
 //! since what the calls promise would then stand in the proof of every test.
@@ -9,6 +9,7 @@ mod ades;
 mod batches;
 mod calls;
 mod exchange;
+mod journals;
 mod pieces;
 mod places;
 mod refusals;
@@ -20,8 +21,9 @@ mod whole_session;
 mod wrong;
 
 pub use batches::BATCHES;
-pub use calls::{Call, Drive, call_alone, call_in_turn, words_of};
+pub use calls::{Call, Drive, Drives, call_alone, call_in_turn, words_of};
 pub use exchange::{Exchange, Frames};
+pub use journals::{CHAINED, ENROLLED, ENROLS, PLAIN};
 pub use pieces::{
     NoMemory, Part, put, put_lines, put_number, put_parts, put_reply, put_taken, text_of,
 };

@@ -1,6 +1,6 @@
 //! Requests with their replies as rows of a table, and sessions of them.
 
-use crate::calls::{Call, Drive, call_alone, call_in_turn};
+use crate::calls::{Call, Drives, call_alone, call_in_turn};
 use crate::pieces::NoMemory;
 use crate::scripts::Script;
 use crate::wrong::Wrong;
@@ -29,7 +29,7 @@ fn session_of(alloc: Global, tables: &[&[Row]]) -> Result<Script, NoMemory> {
     Ok(script)
 }
 
-/// Runs such a session on an empty disk, which has `added` entries at its end.
+/// Runs such a session on two empty disks, after which the office has `added` entries.
 ///
 /// # Errors
 ///
@@ -62,7 +62,7 @@ fn catalogue(
         start: LATE,
         ..Call::run(b"", 0, text.as_bytes())
     };
-    call_in_turn(alloc, &Drive::EMPTY, &[run, export])
+    call_in_turn(alloc, &Drives::EMPTY, &[run, export])
 }
 
 /// Looks at the catalogue of an office with `added` entries, after the founder's five requests and these tables.

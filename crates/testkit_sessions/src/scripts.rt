@@ -1,6 +1,6 @@
 //! Sessions that are written request by request, with the replies to them.
 
-use crate::calls::{Call, Drive, call_in_turn};
+use crate::calls::{Call, Drive, Drives, call_in_turn};
 use crate::pieces::{NoMemory, put, put_number, put_reply};
 use crate::rows::Row;
 use crate::setup::begun;
@@ -86,9 +86,9 @@ impl Script {
     }
 }
 
-/// Runs a session by which the history grows by so many entries, on an empty disk that has room for so many bytes;
-/// takes what isn't safe by a crash with this pick, where there is one; runs a session by which the history stays, over
-/// the journal that was left; and writes the catalogue out, which is this one; for an empty one it doesn't.
+/// Runs a session by which the history grows by so many entries, on two empty disks of which the second has room for so
+/// many bytes; takes what isn't safe by a crash with this pick, where there is one; runs a session by which the history
+/// stays, over the journal that was left; and writes the catalogue out, which is this one; for an empty one it doesn't.
 ///
 /// # Errors
 ///
@@ -102,10 +102,10 @@ pub fn call_days<'a>(
     later: &'a Script,
     written: &'a [u8],
 ) -> Result<(), Wrong> {
-    let drive = Drive {
+    let drives = Drives::with_second(Drive {
         room,
         ..Drive::EMPTY
-    };
+    });
     let first = Call {
         pick,
         ..day.call(added)
@@ -115,12 +115,12 @@ pub fn call_days<'a>(
         ..later.call(0)
     };
     if written.is_empty() {
-        return call_in_turn(alloc, &drive, &[first, second]);
+        return call_in_turn(alloc, &drives, &[first, second]);
     }
     let third = Call {
         mark: 2,
         words: &["export"],
         ..Call::run(b"", 0, written)
     };
-    call_in_turn(alloc, &drive, &[first, second, third])
+    call_in_turn(alloc, &drives, &[first, second, third])
 }

@@ -24,8 +24,8 @@ pub enum Found {
     Entries(u64),
     /// From this place on it wrote other bytes, or more, or no more.
     BytesFrom(usize),
-    /// The disk's file is another one, or the disk doesn't tell it.
-    File,
+    /// The file of the first disk or the second is another one, or the disk doesn't tell it.
+    File(u8),
 }
 
 impl From<NoMemory> for Wrong {

@@ -8,7 +8,7 @@ use clap::{Arg, ArgAction, Command};
 use std::alloc::{AllocError, Global};
 
 /// The version of the program.
-pub const VERSION: &str = "0.9";
+pub const VERSION: &str = "0.10";
 
 const RUN: &str = "run";
 
@@ -26,7 +26,7 @@ const STATUSES: &str = concat!(
     "  2  Usage: the words are none of the above\n",
     "  3  BadFrame: from this offset on the input is no frame\n",
     "  4  DiskFault: the disk failed while the journal was opened, or at the end\n",
-    "  5  Damaged: the journal is damaged at this offset\n",
+    "  5  Damaged: file 2, which is desk.journal2, or file 1, desk.journal, is damaged at this offset\n",
     "  6  ReadFault: the input failed\n",
     "  7  WriteFault: the output failed\n",
     "  8  NoMemory: memory was refused\n",
@@ -117,7 +117,7 @@ fn program<'a>(alloc: Global) -> Result<Command<'a>, AllocError> {
     command(
         alloc,
         "mpc_cli",
-        "A clearing house for minor planet astrometry, on the journal desk.journal of the current folder",
+        "A clearing house for minor planet astrometry, on the journal desk.journal2 of the current folder",
     )
     .version(VERSION)
     .disable_version_flag(true)

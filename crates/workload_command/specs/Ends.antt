@@ -10,6 +10,6 @@ IsOwn NoMemory = Unit {0}
 IsOwn Usage = ⊥
 IsOwn (BadFrame offset) = ⊥
 IsOwn DiskFault = ⊥
-IsOwn (Damaged offset) = ⊥
+IsOwn (Damaged file offset) = ⊥
 IsOwn ReadFault = ⊥
 IsOwn DoorFault = ⊥

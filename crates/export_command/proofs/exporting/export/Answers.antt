@@ -11,11 +11,11 @@ returns g c =
     record {
       promises = record {
         exports = did.ends;
-        complete = λ key file history plus reads stands legal no_write no_disk.
-            complete on _ _ c.damage.ensures c.any_founder.ensures refl key file history reads stands legal status did.ends
+        complete = λ key files history plus reads stands legal no_write no_disk.
+            complete on _ _ c.damage.ensures.first c.damage.ensures.second c.damage.ensures.in_force c.any_founder.ensures refl key files history reads stands legal status did.ends
             (λ is. no_disk (disk_rises on _ _ status did.ends is)) (λ is. no_write (did.write_cause is));
-        sound = λ key file history offset plus reads stands legal is.
-            sound on _ _ c.damage.ensures c.any_founder.ensures refl key file history reads stands legal status offset did.ends is;
+        sound = λ key files history file offset plus reads stands legal is.
+            sound on _ _ c.damage.ensures.first c.damage.ensures.second c.damage.ensures.in_force c.any_founder.ensures refl key files history reads stands legal status file offset did.ends is;
         write_cause = (record { cause = did.write_cause; faultless = did.write_faultless }, record { counts = did.counts; stays = did.stays });
         disk_cause = disk_rises on _ _ status did.ends;
         own = own on _ _ status did.ends;

@@ -3,9 +3,8 @@ use Rattle.std.specs.Prelude.{IsErrOf}
 use Rattle.desk_core.specs.declared.replaying.ReplayFault.{ReplayFault}
 use Rattle.desk_core.specs.declared.replaying.ReplayFault.TheVariants.{NotLegal}
 use Rattle.act_bodies.specs.declared.key.Key.{Key}
-use Rattle.obs_journal.specs.Opening.{parcels_of}
-use Rattle.mpc_desk.specs.Opening.{StopsAt}
-use Rattle.mpc_desk.proofs.OpenLemmas.{taken_more, legal_more, acts_more, stops_at}
+use Rattle.mpc_desk.specs.Opening.{StopsIn}
+use Rattle.mpc_desk.proofs.OpenLemmas.{taken_more, legal_more, acts_more, stops_in}
 use Rattle.mpc_desk.proofs.opening.replay_all.Goals as goal
 
 pub loop-placed-preserved : goal.loop-placed-preserved
@@ -19,10 +18,13 @@ loop-placed-preserved c =
     }
 
 pub returns-in-Err-NotLegal-clause-damaged : goal.returns-in-Err-NotLegal-clause-damaged
-returns-in-Err-NotLegal-clause-damaged c = λ offset same.
+returns-in-Err-NotLegal-clause-damaged c = λ number offset same.
+    let file : number ≡ c.args.file = cc in
     let at : c.placed-item.result.offset ≡ offset = cc in
-    let old = c.loop-placed.core in
-    subst (λ (n : ℕ). StopsAt c.args.core.now.founder (parcels_of c.args.parcels.now) n) at
-    (subst (λ (k : Key). StopsAt k (parcels_of c.args.parcels.now) c.placed-item.result.offset) c.loop-placed.invariant.founder
-    (stops_at old.founder old.history c.args.parcels.now c.loop-placed.placed-index c.placed-item.result c.loop-placed-test.true c.placed-item.is c.requires.placed c.loop-placed.invariant.taken c.loop-placed.invariant.legal c.loop-placed.invariant.acts
-    (c.in-Err-NotLegal.ensures.not_next (subst (λ (f : ReplayFault). IsErrOf {T = Unit {0}} (Err f) NotLegal) (sym c.in-Err-NotLegal.field-0-is) refl))))
+    let old = c.loop-placed.core in (
+      file,
+      subst (λ (n : ℕ). StopsIn c.args.core.now.founder c.args.parcels.now n) at
+          (subst (λ (k : Key). StopsIn k c.args.parcels.now c.placed-item.result.offset) c.loop-placed.invariant.founder
+          (stops_in old.founder old.history c.args.parcels.now c.loop-placed.placed-index c.placed-item.result c.loop-placed-test.true c.placed-item.is c.loop-placed.invariant.taken c.loop-placed.invariant.legal c.loop-placed.invariant.acts
+          (c.in-Err-NotLegal.ensures.not_next (subst (λ (f : ReplayFault). IsErrOf {T = Unit {0}} (Err f) NotLegal) (sym c.in-Err-NotLegal.field-0-is) refl)))),
+    )

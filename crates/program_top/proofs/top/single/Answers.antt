@@ -1,6 +1,7 @@
 use Rattle.std.proofs.Common.{◌≡◌, List, ℕ, Option, Some, false, refl, sym, subst, rules}
 use Rattle.command_line.specs.declared.command.Command.{Command}
 use Rattle.command_line.specs.Commands.{command_of}
+use Rattle.mpc_desk.specs.PairLaws.{same_pair}
 use Rattle.command_ends.specs.declared.status.Status.{Status}
 use Rattle.command_ends.specs.Courses.{sink_words, change}
 use Rattle.workload_command.specs.Promises.{KeepsWorkload}
@@ -35,7 +36,7 @@ returns-in-Some-Workload g c =
           (record {
             source_rests = refl;
             clock_rests = refl;
-            disk_rests = c.not_begun.ensures.disk;
+            disks_rest = same_pair _ _ _ _ c.not_begun.ensures.disk c.not_begun.ensures.second;
             added = c.not_begun.ensures.added;
             keeps =
                 subst (λ (s : Status). KeepsWorkload (sink_words g.K.Sink.taken g.K.Sink.faults g.K.Sink.is_open) (change c.args.sink.now c.workload-status.new.sink) s seed count) (sym c.not_begun.ensures.status) c.workload-status.ensures.promises;
@@ -46,4 +47,4 @@ pub returns-in-Some-Serve : goal.returns-in-Some-Serve
 returns-in-Some-Serve g c =
     let none : is_done_alone (command_of c.args.words.now) ≡ false = search rules in
     let begun = c.not_begun-in-Some-Serve.ensures in
-    record { promises = by_usage _ _ _ _ (command_of c.args.words.now) none (record { status = begun.status; uncalled = (refl, refl, refl); disk = begun.disk; added = begun.added }) }
+    record { promises = by_usage _ _ _ _ (command_of c.args.words.now) none (record { status = begun.status; uncalled = (refl, refl, refl); disks = same_pair _ _ _ _ begun.disk begun.second; added = begun.added }) }

@@ -1,15 +1,16 @@
 use Rattle.std.proofs.Common.{ap}
-use Rattle.serve_command.proofs.Causes.{door_caused, door_faultless, disk_caused, no_usage, no_read, no_frame, undamaged, completes}
+use Rattle.serve_command.proofs.Causes.{Undamaged, door_caused, door_faultless, disk_caused, no_usage, no_read, no_frame, undamaged, completes}
 use Rattle.serve_command.proofs.serving.serve.Goals as goal
 
 pub returns : goal.returns
 returns g c =
     let did = c.run.ensures in
+    let laws : Undamaged = record { first = c.damage.ensures.first; second = c.damage.ensures.second; force = c.damage.ensures.in_force } in
     record {
       promises = record {
         served = did.ends;
-        complete = completes _ _ _ _ _ _ _ did.ends c.damage.ensures _ did.write_cause;
-        sound = undamaged _ _ _ _ _ _ _ did.ends c.damage.ensures;
+        complete = completes _ _ _ _ _ _ _ did.ends laws _ did.write_cause;
+        sound = undamaged _ _ _ _ _ _ _ did.ends laws;
         disk_cause = disk_caused _ _ _ _ _ _ _ did.ends;
         door_cause = record {
           cause = door_caused _ _ _ _ _ _ _ did.ends;

@@ -1,28 +1,13 @@
-use Rattle.std.proofs.Common.{Some, [], ◌∷◌, refl}
+use Rattle.std.proofs.Common.{subst}
+use Rattle.mpc_desk.specs.Disks.{disk_words}
+use Rattle.mpc_desk.specs.Events.{IsAct}
+use Rattle.mpc_desk.specs.Pairs.{PairState}
+use Rattle.mpc_desk.proofs.Pairing.{rest_both}
 use Rattle.mpc_desk.proofs.desk.Desk.act.Goals as goal
 
-pub returns-clause-lines : goal.returns-clause-lines
-returns-clause-lines g c =
-    let old = c.args.self.now in
-    let new = c.mend_and_act.new.self in
-    c.lines_are_added.ensures old.state.settled new.state.settled
-    (c.histories_grow.ensures old.founder (Some old.limit) old.state new.state (_ ∷ []) (new.state, c.mend_and_act.ensures.turn.turn, refl))
+pub returns-clause-acts : goal.returns-clause-acts
+returns-clause-acts g c =
+    subst (λ (d : PairState g.row.D.Denot). IsAct {D = g.row.D.Denot} (disk_words g.D.Disk.reads g.D.Disk.leaves g.D.Disk.moment g.D.Disk.since g.D.Disk.faults) (record { old = d.chained; request = c.args.request.now; reading = c.args.reading; reply = c.act.result; new = c.act.new.self })) c.self.view_is c.act.ensures.event
 
-pub returns-clause-places : goal.returns-clause-places
-returns-clause-places g c = c.one_place.ensures c.mend_and_act.new.self.state.settled
-
-pub returns-clause-rows : goal.returns-clause-rows
-returns-clause-rows g c = c.unbroken_rows.ensures c.mend_and_act.new.self.state.settled
-
-pub returns-clause-numbers : goal.returns-clause-numbers
-returns-clause-numbers g c = c.unbroken_numbers.ensures c.mend_and_act.new.self.state.settled
-
-pub returns-clause-event : goal.returns-clause-event
-returns-clause-event g c = record {
-  act = c.requires.act;
-  turn = c.mend_and_act.ensures.turn;
-  inside = c.mend_and_act.ensures.inside;
-  at_rest = c.mend_and_act.ensures.at_rest;
-  founder = c.mend_and_act.ensures.founder;
-  limit = c.mend_and_act.ensures.limit;
-}
+pub returns-clause-at_rest : goal.returns-clause-at_rest
+returns-clause-at_rest g c = λ files left. rest_both c.one_chain.ensures.in_force c.act.new.self.state files (c.act.ensures.at_rest files.second left.1)

@@ -2,7 +2,7 @@ use Rattle.std.proofs.Common.{Some, None, pos, subst}
 use Rattle.act_model.specs.Keepers.{TakesTurn}
 use Rattle.mpc_desk.specs.Desks.{DeskState, office_of, state_of}
 use Rattle.mpc_desk.proofs.Turned.{ask_turn}
-use Rattle.mpc_desk.proofs.desk.Desk.ask.Goals as goal
+use Rattle.mpc_desk.proofs.chained.ChainedDesk.ask.Goals as goal
 
 pub returns-clause-turn : goal.returns-clause-turn
 returns-clause-turn g c =

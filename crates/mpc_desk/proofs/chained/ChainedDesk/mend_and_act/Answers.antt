@@ -2,7 +2,7 @@ use Rattle.std.proofs.Common.{false, Some, refl, ◌∙◌, arith}
 use Rattle.act_model.specs.declared.reply.Refusal.TheVariants.{DiskFault}
 use Rattle.act_model.specs.declared.reply.Reply.TheVariants.{Refused}
 use Rattle.mpc_desk.proofs.Turned.{some_is, failed_turn, taken_turn, act_turn, rose_rises}
-use Rattle.mpc_desk.proofs.desk.Desk.mend_and_act.Goals as goal
+use Rattle.mpc_desk.proofs.chained.ChainedDesk.mend_and_act.Goals as goal
 
 pub returns-in-Ok-clause-inside : goal.returns-in-Ok-clause-inside
 returns-in-Ok-clause-inside g c =

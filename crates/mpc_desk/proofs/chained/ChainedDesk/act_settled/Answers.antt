@@ -2,7 +2,9 @@ use Rattle.std.proofs.Common.{◌≡◌, ◌<◌, List, true, false, refl, Some,
 use Rattle.std.specs.Prelude.{◌^◌, IsErrOf}
 use Rattle.obs_journal.specs.declared.journal.AppendFault.{AppendFault}
 use Rattle.obs_journal.specs.declared.journal.AppendFault.TheVariants.{Untouched, InDoubt}
-use Rattle.obs_journal.specs.Parcels.{room}
+use Rattle.obs_journal.specs.Formats.{room_in}
+use Rattle.obs_journal.specs.Chains.{chained}
+use Rattle.obs_journal.specs.Parcels.{RawParcel}
 use Rattle.act_model.specs.declared.entry.Entry.{Entry}
 use Rattle.act_model.specs.declared.reply.Refusal.TheVariants.{NoMemory, DiskFault}
 use Rattle.act_model.specs.declared.reply.Reply.TheVariants.{Refused}
@@ -13,7 +15,7 @@ use Rattle.mpc_desk.specs.Desks.{DeskState, TakesAct, state_of}
 use Rattle.mpc_desk.proofs.FileLemmas.{rests}
 use Rattle.mpc_desk.proofs.Mended.{position_is}
 use Rattle.mpc_desk.proofs.Acted.{answers_kept, answers_refused, prepared_desk, room_is, kept_desk, doubted_desk, untouched_desk, stays, keeps_it, fails_it, untouched_state, doubted_state}
-use Rattle.mpc_desk.proofs.desk.Desk.act_settled.Goals as goal
+use Rattle.mpc_desk.proofs.chained.ChainedDesk.act_settled.Goals as goal
 
 pub returns-in-Kept-clause-takes : goal.returns-in-Kept-clause-takes
 returns-in-Kept-clause-takes g c =
@@ -32,9 +34,9 @@ returns-in_default-clause-takes g c =
 
 pub append-requires-clause-space : goal.append-requires-clause-space
 append-requires-clause-space g c =
-    let at : c.self.inside.journal.position ≡ used c.self.inside.core.history = position_is g.D.Disk.leaves c.self.inside.core c.self.inside.journal c.self.inside.doubt c.self.invariant in
+    let at : c.self.inside.journal.reached.position ≡ used c.self.inside.core.history = position_is g.D.Disk.leaves c.self.inside.core c.self.inside.journal c.self.inside.doubt c.self.invariant in
     let within = c.in-Ready.ensures.answer.3 in
-    let sized : room c.in-Ok.parcel ≡ entry_size c.in-Ready.prepared.entry.body = ap room (c.in-Ok.ensures ∙ ap parcel_of c.entry.ensures.entry) in
+    let sized : room_in chained c.in-Ok.parcel ≡ entry_size c.in-Ready.prepared.entry.body = ap (λ (p : RawParcel). room_in chained p) (c.in-Ok.ensures ∙ ap parcel_of c.entry.ensures.entry) in
     omega (arith, at, within, sized, c.self.ranges)
 
 pub invariant_of-self-in-Ok-append : goal.invariant_of-self-in-Ok-append
@@ -69,13 +71,13 @@ returns-in-Err-InDoubt-clause-takes g c =
     (fails_it g.D.Disk.leaves c.self.inside.core c.prepare.new.self c.self.inside.journal c.self.inside.doubt c.self.invariant (ap (λ (d : DeskState g.row.D.Denot). d.state.doubt) c.self.view_is ∙ c.requires.settled) c.in-Ready.ensures.history c.in-Ready.ensures.founder g.D.Disk.moment g.D.Disk.since g.D.Disk.faults c.self.inside.limit c.args.request.now c.args.reading c.in-Ready.prepared.entry c.in-Ready.ensures.answer.0 (subst IsOfAct c.entry.ensures.entry (c.entry.ensures.act, c.entry.ensures.short)) c.in-Ok.parcel (c.in-Ok.ensures ∙ ap parcel_of c.entry.ensures.entry) c.append.new.self c.append.ensures.any_moment true (Some c.in-Ready.prepared) (doubted_state g.D.Disk.leaves c.self.inside.core c.prepare.new.self c.self.inside.journal c.self.inside.doubt c.self.invariant (ap (λ (d : DeskState g.row.D.Denot). d.state.doubt) c.self.view_is ∙ c.requires.settled) c.in-Ready.ensures.history c.in-Ready.ensures.founder c.in-Ready.prepared) c.in-Err-InDoubt.ensures.cause)
 
 pub returns-in_default-clause-at_rest : goal.returns-in_default-clause-at_rest
-returns-in_default-clause-at_rest g c = rests g.D.Disk.leaves c.in_doubt.ensures c.prepare.new.self c.self.inside.journal c.self.inside.doubt (prepared_desk g.D.Disk.leaves c.self.inside.core c.prepare.new.self c.self.inside.journal c.self.inside.doubt c.self.invariant (ap (λ (d : DeskState g.row.D.Denot). d.state.doubt) c.self.view_is ∙ c.requires.settled) c.in-Ready.ensures.history c.in-Ready.ensures.founder)
+returns-in_default-clause-at_rest g c = rests g.D.Disk.leaves c.doubtful_chain.ensures c.prepare.new.self c.self.inside.journal c.self.inside.doubt (prepared_desk g.D.Disk.leaves c.self.inside.core c.prepare.new.self c.self.inside.journal c.self.inside.doubt c.self.invariant (ap (λ (d : DeskState g.row.D.Denot). d.state.doubt) c.self.view_is ∙ c.requires.settled) c.in-Ready.ensures.history c.in-Ready.ensures.founder)
 
 pub returns-in-Err-Untouched-clause-at_rest : goal.returns-in-Err-Untouched-clause-at_rest
-returns-in-Err-Untouched-clause-at_rest g c = rests g.D.Disk.leaves c.in_doubt.ensures c.prepare.new.self c.append.new.self c.self.inside.doubt (invariant_of-self-in-Err-Untouched g c)
+returns-in-Err-Untouched-clause-at_rest g c = rests g.D.Disk.leaves c.doubtful_chain.ensures c.prepare.new.self c.append.new.self c.self.inside.doubt (invariant_of-self-in-Err-Untouched g c)
 
 pub returns-in-Err-InDoubt-clause-at_rest : goal.returns-in-Err-InDoubt-clause-at_rest
-returns-in-Err-InDoubt-clause-at_rest g c = rests g.D.Disk.leaves c.in_doubt.ensures c.prepare.new.self c.append.new.self (Some c.in-Ready.prepared) (invariant_of-self-in-Err-InDoubt g c)
+returns-in-Err-InDoubt-clause-at_rest g c = rests g.D.Disk.leaves c.doubtful_chain.ensures c.prepare.new.self c.append.new.self (Some c.in-Ready.prepared) (invariant_of-self-in-Err-InDoubt g c)
 
 pub returns-in-Ok-append-clause-at_rest : goal.returns-in-Ok-append-clause-at_rest
-returns-in-Ok-append-clause-at_rest g c = rests g.D.Disk.leaves c.in_doubt.ensures c.commit.new.self c.append.new.self c.self.inside.doubt (invariant_of-self-in-Ok-append g c)
+returns-in-Ok-append-clause-at_rest g c = rests g.D.Disk.leaves c.doubtful_chain.ensures c.commit.new.self c.append.new.self c.self.inside.doubt (invariant_of-self-in-Ok-append g c)
