@@ -96,20 +96,22 @@ class Ran(typing.NamedTuple):
     text: bytes  # what it wrote
 
 
-def ran(words, path, folder=None, above=None):
+def ran(words, path, folder=None, above=None, wanted=0):
     """A command with the file as its input, in this folder, else in an empty one in the folder above: the program keeps its journal
-    in the folder that it runs in. It is started by `time`, a small process: the peak of what is started from here would be that of
-    this script at least."""
+    in the folder that it runs in. It has to end with the wanted status. It is started by `time`, a small process: the peak of what
+    is started from here would be that of this script at least."""
     if folder is None:
         with tempfile.TemporaryDirectory(dir=above) as empty:
-            return ran(words, path, empty)
+            return ran(words, path, empty, wanted=wanted)
     with open(path, "rb") as source, tempfile.TemporaryFile() as sink, tempfile.NamedTemporaryFile() as told:
         begun = time.monotonic()
-        child = subprocess.Popen(["/usr/bin/time", "-o", told.name, "-f", "%M", *words], stdin=source, stdout=sink, cwd=folder)
+        words_of_time = ["/usr/bin/time", "-o", told.name, "-f", "%M", *words]
+        said = subprocess.DEVNULL if wanted else None
+        child = subprocess.Popen(words_of_time, stdin=source, stdout=sink, stderr=said, cwd=folder)
         _, status, used = os.wait4(child.pid, 0)
         seconds = time.monotonic() - begun
-        if status != 0:
-            sys.exit(f"{words[0]} ended with status {status}")
+        if os.waitstatus_to_exitcode(status) != wanted:
+            sys.exit(f"{words[0]} ended with status {os.waitstatus_to_exitcode(status)}")
         sink.seek(0)
         return Ran(seconds, used.ru_utime, used.ru_stime, int(told.read().split()[-1]), sink.read())
 

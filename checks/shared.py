@@ -19,8 +19,10 @@ TOP = os.path.dirname(os.path.dirname(os.path.abspath(__file__)))
 sys.path.append(os.path.join(TOP, "bench"))
 sys.dont_write_bytecode = True
 
+import journal  # noqa: E402: the files of bench/journal.py
 from session import SETUP, columns  # noqa: E402: the lines of bench/session.py
 
+JOURNAL, FIRST = "desk.journal2", "desk.journal"  # the file that counts, and the one that it was moved from
 BUILT = os.path.join(TOP, "crates/mpc_cli/out/mpc_cli")
 PORT = 8017
 LACKS = 77
@@ -120,6 +122,21 @@ def connect():
         except OSError:
             time.sleep(0.05)
     raise SystemExit(f"nobody serves port {PORT}")
+
+
+def put(path, content):
+    """Makes a file of these bytes."""
+    with open(path, "wb") as file:
+        file.write(content)
+
+
+def bytes_of(path):
+    """The bytes of a file, or None where there is none."""
+    try:
+        with open(path, "rb") as file:
+            return file.read()
+    except FileNotFoundError:
+        return None
 
 
 def within(seconds, words, folder, **how):
