@@ -8,7 +8,7 @@ import subprocess
 
 from shared import ENROL, FIRST, JOURNAL, KEY, SETUP, TOP, bytes_of, columns, journal, put
 
-CAPACITY, HEAD = 1 << 17, 4096  # as in power.c
+CAPACITY, HEAD = 1 << 18, 4096  # as in power.c
 NAMES, STATE = (JOURNAL, FIRST), "state"
 COUNTS, SAFETY = 3, 5  # so many numbers are counts of calls, and so many stand for each file after them
 OPENED = 1_711_929_600 * 10**9  # when the entries of the first file were made: on 2024-04-01
@@ -25,8 +25,8 @@ def acts():
 
 def enrolments(count):
     """So many entries of a first file, each of which enrols an observer that none of the acts names."""
-    return [journal.entry(0, 1_000 + number, OPENED + number, "enrol", ENROL.replace(b"observer-1", b"old-%06d" % number))
-            for number in range(count)]
+    bodies = [ENROL.replace(b"observer-1", b"old-%06d" % number) for number in range(count)]
+    return [journal.entry(0, 1_000 + at, OPENED + at, "enrol", body) for at, body in enumerate(bodies)]
 
 
 def as_entries(them, observer=1):

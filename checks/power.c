@@ -4,14 +4,14 @@
    the bytes, the length, and whether the name is. The file itself holds what reads give. As on Linux a sync that fails
    leaves what was written since the sync before as clean: the next one succeeds and writes nothing of it, unless it was
    written again, while reads go on to give it, until the system forgets what it has in memory (POSIX_FADV_DONTNEED). A
-   length that was changed stays unwritten until a sync succeeds. A name that was made or removed is safe once its folder
-   was synced; a sync of the folder that fails leaves both names as clean, too.
+   length that was changed stays unwritten until a sync succeeds. A name that was made or removed is safe once its
+   folder was synced; a sync of the folder that fails leaves both names as clean, too.
 
    The environment says which syncs of the process fail, the first one being 1 (POWER_FAILS, as 5,6), which write fails
    once half of it is written (POWER_SPOILS), before which write, cut or sync the process ends (POWER_ENDS), how many
-   bytes are clean or not together (POWER_GRAIN), whether what a failed sync leaves is forgotten at once (POWER_FORGETS),
-   and the file in which all this is kept, from one process to the next (POWER_STATE). Calls are counted of both files
-   together. */
+   bytes are clean or not together (POWER_GRAIN), whether what a failed sync leaves is forgotten at once
+   (POWER_FORGETS), and the file in which all this is kept, from one process to the next (POWER_STATE). Calls are
+   counted of both files together. */
 #define _GNU_SOURCE
 #include <dlfcn.h>
 #include <errno.h>
@@ -24,7 +24,7 @@
 #include <sys/stat.h>
 #include <unistd.h>
 
-#define CAPACITY (1L << 17)
+#define CAPACITY (1L << 18)
 #define DESCRIPTORS 1024
 #define FOLDER 3
 #define BOTH 2
