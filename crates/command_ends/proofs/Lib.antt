@@ -1,3 +1,4 @@
 pub mod Counts
 pub mod Mending
+pub mod Unchanged
 pub mod Unopened

@@ -6,7 +6,7 @@ use Rattle.act_model.specs.Turns.{Mends}
 use Rattle.mpc_desk.specs.Desks.{DeskState, IsAtRest}
 use Rattle.command_ends.specs.declared.status.Status.{Status}
 use Rattle.command_ends.specs.declared.status.Status.TheVariants.{Done, Usage, BadFrame, DiskFault, Damaged, ReadFault}
-use Rattle.command_ends.specs.declared.status.Status.TheVariants.{WriteFault, NoMemory, DoorFault}
+use Rattle.command_ends.specs.declared.status.Status.TheVariants.{WriteFault, NoMemory, DoorFault, MirrorFault, TooMany}
 use Rattle.command_ends.specs.Disks.{DiskWords, DiskRose}
 
 -- From what was left to what is there at the end, with the rise of the count of faults in the last mending.
@@ -43,3 +43,5 @@ MendsLast on old ReadFault new = ⊥
 MendsLast on old WriteFault new = ⊥
 MendsLast on old NoMemory new = ⊥
 MendsLast on old DoorFault new = ⊥
+MendsLast on old MirrorFault new = ⊥
+MendsLast on old (TooMany count) new = ⊥

@@ -5,3 +5,4 @@ pub mod Opening
 pub mod Parts
 pub mod Closing
 pub mod Left
+pub mod Reading

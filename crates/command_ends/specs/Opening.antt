@@ -8,7 +8,7 @@ use Rattle.mpc_desk.specs.Opening.{IsOpened, IsDamagedOn, IsKnownUnwritten, Spel
 use Rattle.mpc_desk.specs.Pairs.{DiskPair, DuringBoth, HaveRisen, IsFirstUncalled, PairState}
 use Rattle.command_ends.specs.declared.status.Status.{Status}
 use Rattle.command_ends.specs.declared.status.Status.TheVariants.{Done, Usage, BadFrame, DiskFault, Damaged, ReadFault}
-use Rattle.command_ends.specs.declared.status.Status.TheVariants.{WriteFault, NoMemory, DoorFault}
+use Rattle.command_ends.specs.declared.status.Status.TheVariants.{WriteFault, NoMemory, DoorFault, MirrorFault, TooMany}
 use Rattle.command_ends.specs.Disks.{DiskWords}
 
 -- how many bytes the second file may have
@@ -55,3 +55,5 @@ EndsUnopened on founder disks now added (BadFrame offset) = ⊥
 EndsUnopened on founder disks now added ReadFault = ⊥
 EndsUnopened on founder disks now added WriteFault = ⊥
 EndsUnopened on founder disks now added DoorFault = ⊥
+EndsUnopened on founder disks now added MirrorFault = ⊥
+EndsUnopened on founder disks now added (TooMany count) = ⊥

@@ -2,7 +2,7 @@
 use Rattle.std.specs.Prelude.{ℕ}
 use Rattle.command_ends.specs.declared.status.Status.{Status}
 use Rattle.command_ends.specs.declared.status.Status.TheVariants.{Done, Usage, BadFrame, DiskFault, Damaged, ReadFault}
-use Rattle.command_ends.specs.declared.status.Status.TheVariants.{WriteFault, NoMemory, DoorFault}
+use Rattle.command_ends.specs.declared.status.Status.TheVariants.{WriteFault, NoMemory, DoorFault, MirrorFault, TooMany}
 
 -- the number with which the program ends
 abbrev pub number_of : Status → ℕ
@@ -15,6 +15,8 @@ number_of ReadFault = 6
 number_of WriteFault = 7
 number_of NoMemory = 8
 number_of DoorFault = 9
+number_of MirrorFault = 10
+number_of (TooMany count) = 11
 
 -- the job was done, or memory was refused
 abbrev pub IsDoneOrNoMemory : Status → Type 0
@@ -27,3 +29,5 @@ IsDoneOrNoMemory (Damaged file offset) = ⊥
 IsDoneOrNoMemory ReadFault = ⊥
 IsDoneOrNoMemory WriteFault = ⊥
 IsDoneOrNoMemory DoorFault = ⊥
+IsDoneOrNoMemory MirrorFault = ⊥
+IsDoneOrNoMemory (TooMany count) = ⊥

@@ -36,6 +36,12 @@ pub enum Status {
     /// The door failed, by which connections come.
     #[error("DoorFault")]
     DoorFault,
+    /// The mirror failed.
+    #[error("MirrorFault")]
+    MirrorFault,
+    /// There are more rows than a mirror can count: so many accepted observations, or so many objects.
+    #[error("TooMany {count}")]
+    TooMany { count: u64 },
 }
 
 impl Status {
@@ -53,6 +59,8 @@ impl Status {
             Status::WriteFault => 7,
             Status::NoMemory => 8,
             Status::DoorFault => 9,
+            Status::MirrorFault => 10,
+            Status::TooMany { .. } => 11,
         }
     }
 }

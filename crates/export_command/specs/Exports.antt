@@ -1,40 +1,17 @@
 -- What writing out the catalogue leaves, by the status with which it ended.
-use Rattle.std.specs.Prelude.{◌⊎◌, ℕ, List, [], ◌∷◌, Option}
+use Rattle.std.specs.Prelude.{◌⊎◌, ℕ, List, Option}
 use Rattle.std.specs.Io.KnownBytes.{Appends}
 use Rattle.desk_io.specs.Outside.{AppendsPart}
-use Rattle.act_bodies.specs.declared.key.Key.{Key}
-use Rattle.act_bodies.specs.Keys.{key_of}
 use Rattle.act_model.specs.declared.entry.Entry.{Entry}
 use Rattle.act_model.specs.Catalogue.{catalogue}
-use Rattle.act_model.specs.Legal.{IsLegal}
 use Rattle.catalogue_export.specs.Exports.{AppendsFront}
-use Rattle.mpc_desk.specs.Files.{Stands}
-use Rattle.mpc_desk.specs.Opening.{StandAlike}
-use Rattle.mpc_desk.specs.Pairs.{FilePair, StandBoth, DiskPair, AreRead, DuringBoth, IsFirstUncalled, HaveRisen}
+use Rattle.mpc_desk.specs.Pairs.{DiskPair}
 use Rattle.command_ends.specs.declared.status.Status.{Status}
 use Rattle.command_ends.specs.declared.status.Status.TheVariants.{Done, Usage, BadFrame, DiskFault, Damaged, ReadFault}
-use Rattle.command_ends.specs.declared.status.Status.TheVariants.{WriteFault, NoMemory, DoorFault}
+use Rattle.command_ends.specs.declared.status.Status.TheVariants.{WriteFault, NoMemory, DoorFault, MirrorFault, TooMany}
 use Rattle.command_ends.specs.Disks.{DiskWords}
-use Rattle.command_ends.specs.Left.{IsLeft}
 use Rattle.command_ends.specs.Opening.{EndsUnopened}
-
--- the key with which the office is opened, by which nobody asks: a plus and nothing else
-abbrev pub exporter : Key
-exporter = key_of (43 ∷ [])
-
--- The disks stood for a legal history and stand for it still, now the second one by itself; nothing was added. What a
--- crash at some moment leaves is read like what it might have left at the start, or stands for that history. Where the
--- second file was in force the first disk wasn't called.
-pub record KeepsOffice {D : Type 0} (on : DiskWords D) (disks now : DiskPair D) (added : ℕ) (history : List Entry)
-    : Type 0 where
-  pub rise : ℕ
-  pub stood : (files : FilePair) → AreRead on disks files → StandBoth files history
-  pub legal : IsLegal exporter history
-  pub counts : HaveRisen on rise disks now
-  pub images : DuringBoth on disks now (StandAlike on disks history)
-  pub stands : (image : List ℕ) → on.leaves now.second image → Stands image history
-  pub uncalled : IsFirstUncalled on disks now
-  pub is_left : IsLeft history history added
+use Rattle.command_ends.specs.Reading.{reader, KeepsOffice}
 
 -- how much of a text was written: all of it; a front and not all where the sink failed; a front where memory was
 -- refused
@@ -48,6 +25,8 @@ IsWritten old new text DiskFault = ⊥
 IsWritten old new text (Damaged file offset) = ⊥
 IsWritten old new text ReadFault = ⊥
 IsWritten old new text DoorFault = ⊥
+IsWritten old new text MirrorFault = ⊥
+IsWritten old new text (TooMany count) = ⊥
 
 -- the course of an export: the disks and what the sink took, before it and after it, and by how many entries the
 -- history grew
@@ -61,14 +40,14 @@ pub record Course (D : Type 0) : Type 0 where
 -- the catalogue of the history that the disks stood for was written, so far as the status says
 pub record Writes {D : Type 0} (on : DiskWords D) (course : Course D) (status : Status) : Type 0 where
   pub history : List Entry
-  pub keeps : KeepsOffice on course.disks course.disks_after course.added history
+  pub keeps : KeepsOffice on reader course.disks course.disks_after course.added history
   pub written : IsWritten course.taken course.taken_after (catalogue history) status
 
 -- What stands at the end: the office couldn't be opened, for the reason that the status says, and the sink was not
 -- called, which `Uncalled` says; or its catalogue was written.
 abbrev pub Exports : {D : Type 0} → DiskWords D → Course D → Type 0 → Status → Type 0
 Exports on course Uncalled status =
-    (Uncalled × EndsUnopened on exporter course.disks course.disks_after course.added status) ⊎ Writes on course status
+    (Uncalled × EndsUnopened on reader course.disks course.disks_after course.added status) ⊎ Writes on course status
 
 -- the ends that writing out the catalogue can have
 abbrev pub IsOwn : Status → Type 0
@@ -81,3 +60,5 @@ IsOwn Usage = ⊥
 IsOwn (BadFrame offset) = ⊥
 IsOwn ReadFault = ⊥
 IsOwn DoorFault = ⊥
+IsOwn MirrorFault = ⊥
+IsOwn (TooMany count) = ⊥

@@ -3,28 +3,19 @@
 ghost use Rattle.std.specs.Prelude.{◌≡◌, ◌≤◌};
 ghost use Rattle.desk_io.specs.Outside.{Rises};
 ghost use Rattle.act_model.specs.Catalogue.{catalogue};
-ghost use Rattle.act_model.specs.Roster.{IsFounder};
 ghost use Rattle.mpc_desk.specs.Pairs.{pair};
 ghost use Rattle.command_ends.specs.Courses.{sink_words, change};
 ghost use Rattle.command_ends.specs.Disks.{disk_words};
-ghost use Rattle.export_command.specs.Exports.{exporter, IsWritten, Exports};
+ghost use Rattle.command_ends.specs.Reading.{IsSound};
+ghost use Rattle.export_command.specs.Exports.{IsWritten, Exports};
 ghost use Rattle.export_command.specs.Promises.{KeepsExport};
 
-use act_model::{Key, laws as office_laws};
 use catalogue_export::{ExportFault, export as write_catalogue};
-use command_ends::{Ended, Status, open_desk};
+use command_ends::{Ended, Status, end_reading, open_to_read};
 use desk_io::Sink;
 use disk_model::Disk;
-use mpc_desk::{Desk, laws as desk_laws};
+use mpc_desk::Desk;
 use std::alloc::Global;
-
-/// The key with which the office is opened.
-fn exporter() -> Key
-    ensures key { result ≡ exporter }
-    ensures founder { IsFounder result }
-{
-    Key::new(b"+")
-}
 
 /// Writes the catalogue of an office.
 fn write_out<K: Sink, D: Disk>(alloc: Global, desk: &Desk<D>, sink: &mut K) -> Status
@@ -57,24 +48,14 @@ fn export_all<K: Sink, D: Disk>(alloc: Global, sink: &mut K, disk: D, second: D)
     ensures write_faultless { (result.status ≡ Status.WriteFault → ⊥) → K.faults sink.new ≡ K.faults sink.old }
     ensures counts { K.faults sink.old ≤ K.faults sink.new }
     ensures stays { K.is_open sink.new ≡ K.is_open sink.old }
+    ensures sound { IsSound (disk_words D.reads D.leaves D.moment D.since D.faults) (pair disk second) result.status }
 {
-    office_laws::legal_numbers_once();
-    office_laws::one_place();
-    office_laws::unbroken_rows();
-    office_laws::unbroken_numbers();
-    desk_laws::lines_are_added();
-    let desk = match open_desk(alloc, exporter(), disk, second) {
+    let desk = match open_to_read(alloc, disk, second) {
         Ok(desk) => desk,
         Err(ended) => return ended,
     };
     let status = write_out(alloc, &desk, sink);
-    let (disk, second) = desk.close();
-    Ended {
-        status,
-        disk,
-        second,
-        added: 0,
-    }
+    end_reading(desk, status)
 }
 
 /// Writes the catalogue of the office that the two disks stand for, page by page. The office is opened with a key that
@@ -89,7 +70,5 @@ pub fn export<K: Sink, D: Disk>(alloc: Global, sink: &mut K, disk: D, second: D)
         (disk_words D.reads D.leaves D.moment D.since D.faults) (change sink.old sink.new)
         (change (pair disk second) (pair result.disk result.second)) result.added result.status }
 {
-    office_laws::any_founder();
-    desk_laws::damage();
     export_all(alloc, sink, disk, second)
 }

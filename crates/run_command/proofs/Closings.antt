@@ -12,7 +12,7 @@ use Rattle.mpc_desk.specs.Desks.{DeskState, IsAtRest, count_of}
 use Rattle.run_command.specs.declared.serving.Stop.{Stop}
 use Rattle.run_command.specs.declared.serving.Stop.TheVariants as stop
 use Rattle.command_ends.specs.declared.status.Status.{Status}
-use Rattle.command_ends.specs.declared.status.Status.TheVariants.{Done, Usage, BadFrame, DiskFault, Damaged, ReadFault, WriteFault, NoMemory, DoorFault}
+use Rattle.command_ends.specs.declared.status.Status.TheVariants.{Done, Usage, BadFrame, DiskFault, Damaged, ReadFault, WriteFault, NoMemory, DoorFault, MirrorFault, TooMany}
 use Rattle.command_ends.specs.Disks.{DiskWords}
 use Rattle.command_ends.specs.Closing.{IsClosed}
 use Rattle.run_command.specs.Closing.{Finishes}
@@ -100,6 +100,8 @@ module _ {D : Type 0} (on : DiskWords D) where
     finish_mends stop.Over WriteFault ends = absurd ends
     finish_mends stop.Over NoMemory ends = absurd ends
     finish_mends stop.Over DoorFault ends = absurd ends
+    finish_mends stop.Over MirrorFault ends = absurd ends
+    finish_mends stop.Over (TooMany count) ends = absurd ends
     finish_mends (stop.NoFrameAt offset) status (is, same) = left_alone same
     finish_mends stop.ReadFailed status (is, same) = left_alone same
     finish_mends stop.WriteFailed status (is, same) = left_alone same

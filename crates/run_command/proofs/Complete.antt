@@ -12,7 +12,7 @@ use Rattle.mpc_desk.specs.Opening.{IsDamagedFirst, IsDamagedSecond}
 use Rattle.mpc_desk.specs.Pairs.{FilePair, StandBoth, AreRead, EitherRises}
 use Rattle.mpc_desk.specs.PairLaws.{risen_rises, never_damaged}
 use Rattle.command_ends.specs.declared.status.Status.{Status}
-use Rattle.command_ends.specs.declared.status.Status.TheVariants.{Done, Usage, BadFrame, DiskFault, Damaged, ReadFault, WriteFault, NoMemory, DoorFault}
+use Rattle.command_ends.specs.declared.status.Status.TheVariants.{Done, Usage, BadFrame, DiskFault, Damaged, ReadFault, WriteFault, NoMemory, DoorFault, MirrorFault, TooMany}
 use Rattle.command_ends.specs.Disks.{DiskWords}
 use Rattle.command_ends.specs.Statuses.{IsDoneOrNoMemory}
 use Rattle.run_command.specs.Runs.{AnswersFrames, StopsAt, IsWhole, Course, Ends}
@@ -22,11 +22,14 @@ pub known_bytes : (left : Option (List ℕ)) (bytes all : List ℕ) → left ≡
 known_bytes left bytes all told whole = subst (λ (o : Option (List ℕ)). IfSome o (λ known. known ≡ all)) told whole
 
 module _ {D : Type 0} (on : DiskWords D) (course : Course D) (Uncalled : Type 0) where
-  -- a run ends neither in Usage nor in DoorFault
-  pub own : (status : Status) → Ends on course Uncalled status → (status ≡ Usage → ⊥) × (status ≡ DoorFault → ⊥)
+  -- a run ends with no status of another command
+  pub own : (status : Status) → Ends on course Uncalled status
+      → (status ≡ Usage → ⊥) × (status ≡ DoorFault → ⊥) × (status ≡ MirrorFault → ⊥) × ((count : ℕ) → status ≡ TooMany count → ⊥)
   own status ends = (
     λ is. subst (λ (s : Status). Ends on course Uncalled s) is ends,
     λ is. subst (λ (s : Status). Ends on course Uncalled s) is ends,
+    λ is. subst (λ (s : Status). Ends on course Uncalled s) is ends,
+    λ count is. subst (λ (s : Status). Ends on course Uncalled s) is ends,
   )
 
   -- the count of one of the disks rose where a disk failed
@@ -68,6 +71,8 @@ module _ {D : Type 0} (on : DiskWords D) (course : Course D) (Uncalled : Type 0)
       complete NoMemory ends whole disks reads writes = tt
       complete Usage ends whole disks reads writes = ends
       complete DoorFault ends whole disks reads writes = ends
+      complete MirrorFault ends whole disks reads writes = ends
+      complete (TooMany count) ends whole disks reads writes = ends
       complete (BadFrame offset) ends whole disks reads writes = no_stop ends.0 offset ends.1 whole
       complete DiskFault ends whole disks reads writes = disks refl
       complete (Damaged file offset) ends whole disks reads writes = undamaged file offset ends

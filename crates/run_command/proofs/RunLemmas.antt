@@ -19,7 +19,7 @@ use Rattle.mpc_desk.specs.PairLaws.{both_then}
 use Rattle.run_command.specs.declared.serving.Stop.{Stop}
 use Rattle.run_command.specs.declared.serving.Stop.TheVariants as stop
 use Rattle.command_ends.specs.declared.status.Status.{Status}
-use Rattle.command_ends.specs.declared.status.Status.TheVariants.{Done, Usage, BadFrame, DiskFault, Damaged, ReadFault, WriteFault, NoMemory, DoorFault}
+use Rattle.command_ends.specs.declared.status.Status.TheVariants.{Done, Usage, BadFrame, DiskFault, Damaged, ReadFault, WriteFault, NoMemory, DoorFault, MirrorFault, TooMany}
 use Rattle.act_model.specs.Clocks.{ClockState}
 use Rattle.command_ends.specs.Disks.{DiskWords, DiskRose}
 use Rattle.run_command.specs.Conducted.{LeavesIn, LeavesBoth, Rests, TurnsOn, KeepsEach, TakesTurns}
@@ -218,6 +218,8 @@ module _ (laws : OfficeLaws) {D : Type 0} (on : DiskWords D) (only_now : (disk :
     served_ends stop.Over WriteFault stops ends = absurd ends
     served_ends stop.Over NoMemory stops ends = absurd ends
     served_ends stop.Over DoorFault stops ends = absurd ends
+    served_ends stop.Over MirrorFault stops ends = absurd ends
+    served_ends stop.Over (TooMany count) stops ends = absurd ends
     served_ends (stop.NoFrameAt offset) status stops (is, same) =
         subst (λ (s : Status). Ends on course Uncalled s) (sym is) (turns, stops, not_mended same)
     served_ends stop.ReadFailed status stops (is, same) =
@@ -245,6 +247,8 @@ module _ {D : Type 0} (on : DiskWords D) (founder : Key) (disks now : DiskPair D
   unopened_ends ReadFault ends = absurd ends
   unopened_ends WriteFault ends = absurd ends
   unopened_ends DoorFault ends = absurd ends
+  unopened_ends MirrorFault ends = absurd ends
+  unopened_ends (TooMany count) ends = absurd ends
 
 -- nothing was served
 pub nothing_served : {S : Type 0} (left : S → Option (List ℕ)) (gives : Passes S) (source : S) (taken : Option (List ℕ)) {D : Type 0} (on : DiskWords D) (founder : Key) (disks now : DiskPair D) (clock : ClockState)

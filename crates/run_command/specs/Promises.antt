@@ -6,7 +6,7 @@ use Rattle.act_bodies.specs.declared.key.Key.{Key}
 use Rattle.act_model.specs.declared.entry.Entry.{Entry}
 use Rattle.act_model.specs.Legal.{IsLegal}
 use Rattle.mpc_desk.specs.Pairs.{FilePair, StandBoth, AreRead}
-use Rattle.command_ends.specs.declared.status.Status.TheVariants.{Usage, Damaged, DoorFault}
+use Rattle.command_ends.specs.declared.status.Status.TheVariants.{Usage, Damaged, DoorFault, MirrorFault, TooMany}
 use Rattle.command_ends.specs.Courses.{SourceWords, OutsideWords, Change, IsUncalled, Course, SourceCause, SinkCause}
 use Rattle.command_ends.specs.Courses.{DiskCause, IsFaultless, AreFaultless}
 use Rattle.command_ends.specs.Statuses.{IsDoneOrNoMemory}
@@ -17,7 +17,7 @@ use Rattle.run_command.specs.Runs.{Run, AwaitsNext, Ends, IsWhole}
 --
 -- A whole session, files that stand for a legal history, and no fault give `Done`, or `NoMemory`; and such files aren't
 -- damaged. A fresh first file beside a second one that isn't in force stands for the history without entries. Each
--- fault has its cause. It ends neither with `Usage` nor with `DoorFault`.
+-- fault has its cause. It ends with none of `Usage`, `DoorFault`, `MirrorFault` and `TooMany`.
 pub record KeepsRun {S K D C : Type 0} (read : SourceWords S) (on : OutsideWords K D C) (source : Change S)
     (course : Course K D C) (founder : Key) : Type 0 where
   pub run : Run
@@ -43,4 +43,5 @@ pub record KeepsRun {S K D C : Type 0} (read : SourceWords S) (on : OutsideWords
   pub read_cause : SourceCause read source course.status
   pub write_cause : SinkCause on.sink course.sink course.status
   pub disk_cause : DiskCause on.disk course.disks course.status
-  pub own : (course.status ≡ Usage → ⊥) × (course.status ≡ DoorFault → ⊥)
+  pub own : (course.status ≡ Usage → ⊥) × (course.status ≡ DoorFault → ⊥) × (course.status ≡ MirrorFault → ⊥)
+      × ((count : ℕ) → course.status ≡ TooMany count → ⊥)

@@ -16,7 +16,7 @@ use Rattle.run_command.specs.declared.serving.Stop.{Stop}
 use Rattle.run_command.specs.declared.serving.Stop.TheVariants.{Over, NoFrameAt, ReadFailed, WriteFailed}
 use Rattle.command_ends.specs.declared.status.Status.{Status}
 use Rattle.command_ends.specs.declared.status.Status.TheVariants.{Done, Usage, BadFrame, DiskFault, Damaged, ReadFault}
-use Rattle.command_ends.specs.declared.status.Status.TheVariants.{WriteFault, NoMemory, DoorFault}
+use Rattle.command_ends.specs.declared.status.Status.TheVariants.{WriteFault, NoMemory, DoorFault, MirrorFault, TooMany}
 use Rattle.act_model.specs.Clocks.{ClockState}
 use Rattle.run_command.specs.Serving.{Serves}
 use Rattle.run_command.specs.Conducted.{LeavesBoth, Grows, KeepsEach}
@@ -173,3 +173,5 @@ Ends on course Uncalled (Damaged file offset) = IsNotRun on course Uncalled (Dam
 Ends on course Uncalled NoMemory = IsNotRun on course Uncalled NoMemory
 Ends on course Uncalled Usage = ⊥
 Ends on course Uncalled DoorFault = ⊥
+Ends on course Uncalled MirrorFault = ⊥
+Ends on course Uncalled (TooMany count) = ⊥

@@ -14,7 +14,7 @@ use Rattle.mpc_desk.specs.Pairs.{FilePair, StandBoth, DiskPair, AreRead, EitherR
 use Rattle.mpc_desk.specs.PairLaws.{risen_rises, never_damaged}
 use Rattle.intake_lock.specs.Items.{RisesBy}
 use Rattle.command_ends.specs.declared.status.Status.{Status}
-use Rattle.command_ends.specs.declared.status.Status.TheVariants.{Done, Usage, BadFrame, DiskFault, Damaged, ReadFault, WriteFault, NoMemory, DoorFault}
+use Rattle.command_ends.specs.declared.status.Status.TheVariants.{Done, Usage, BadFrame, DiskFault, Damaged, ReadFault, WriteFault, NoMemory, DoorFault, MirrorFault, TooMany}
 use Rattle.command_ends.specs.Disks.{DiskWords}
 use Rattle.command_ends.specs.Opening.{EndsUnopened}
 use Rattle.command_ends.specs.Closing.{MendsLast}
@@ -54,6 +54,8 @@ lines_end old new lines (Damaged file offset) writes = absurd writes
 lines_end old new lines ReadFault writes = absurd writes
 lines_end old new lines NoMemory writes = absurd writes
 lines_end old new lines DoorFault writes = absurd writes
+lines_end old new lines MirrorFault writes = absurd writes
+lines_end old new lines (TooMany count) writes = absurd writes
 
 -- ---- by why no further link was taken
 
@@ -156,6 +158,12 @@ module _ {D I O : Type 0} (on : DiskWords D) (links : LinkWords I O) (start : Ru
   pub no_frame : (offset : ℕ) → end.status ≡ BadFrame offset → ⊥
   no_frame offset = none_such (BadFrame offset) (λ e. e) (λ e. e) (λ e. absurd cc)
 
+  pub no_mirror : end.status ≡ MirrorFault → ⊥
+  no_mirror = none_such MirrorFault (λ e. e) (λ e. e) (λ e. absurd cc)
+
+  pub no_count : (count : ℕ) → end.status ≡ TooMany count → ⊥
+  no_count count = none_such (TooMany count) (λ e. e) (λ e. e) (λ e. absurd cc)
+
   pub undamaged : Undamaged → (files : FilePair) (history : List Entry) (file offset : ℕ) → AreRead on start.disks files → StandBoth files history → IsLegal start.founder history
       → end.status ≡ Damaged file offset → ⊥
   undamaged law files history file offset reads stands legal =
@@ -178,3 +186,5 @@ module _ {D I O : Type 0} (on : DiskWords D) (links : LinkWords I O) (start : Ru
       by Usage is = no_usage is
       by (BadFrame offset) is = no_frame offset is
       by ReadFault is = no_read is
+      by MirrorFault is = no_mirror is
+      by (TooMany count) is = no_count count is

@@ -16,7 +16,7 @@ use Rattle.intake_lock.specs.Items.{RisesBy, rises}
 use Rattle.http_connection.specs.Calls.{HasCause}
 use Rattle.mpc_desk.specs.Desks.{DeskState, count_of}
 use Rattle.command_ends.specs.declared.status.Status.{Status}
-use Rattle.command_ends.specs.declared.status.Status.TheVariants.{Done, Usage, BadFrame, DiskFault, Damaged, ReadFault, WriteFault, NoMemory, DoorFault}
+use Rattle.command_ends.specs.declared.status.Status.TheVariants.{Done, Usage, BadFrame, DiskFault, Damaged, ReadFault, WriteFault, NoMemory, DoorFault, MirrorFault, TooMany}
 use Rattle.command_ends.specs.Disks.{DiskWords}
 use Rattle.command_ends.specs.Closing.{IsMended, IsStillInDoubt, IsClosed, MendsLast}
 use Rattle.serve_command.specs.declared.accepting.Stop.{Stop}
@@ -45,6 +45,8 @@ closed_so on left last ReadFault mends = absurd mends
 closed_so on left last WriteFault mends = absurd mends
 closed_so on left last NoMemory mends = absurd mends
 closed_so on left last DoorFault mends = absurd mends
+closed_so on left last MirrorFault mends = absurd mends
+closed_so on left last (TooMany count) mends = absurd mends
 
 -- mending settles no less than there was, and stays legal
 pub mends_extends : (past : List Entry) (doubt : Option Entry) (mended : List Entry) → Mends past doubt mended → Extends past mended
@@ -132,6 +134,8 @@ IsFromMending (BadFrame offset) = ⊥
 IsFromMending (Damaged file offset) = ⊥
 IsFromMending ReadFault = ⊥
 IsFromMending WriteFault = ⊥
+IsFromMending MirrorFault = ⊥
+IsFromMending (TooMany count) = ⊥
 
 module _ {D : Type 0} (on : DiskWords D) (left last : DeskState D) where
   mended_so : (mended : Status) → MendsLast on left mended last → IsFromMending mended
@@ -144,6 +148,8 @@ module _ {D : Type 0} (on : DiskWords D) (left last : DeskState D) where
   mended_so WriteFault mends = mends
   mended_so NoMemory mends = tt
   mended_so DoorFault mends = tt
+  mended_so MirrorFault mends = mends
+  mended_so (TooMany count) mends = mends
 
   pub first_so : (stop : Option Stop) (mended : Status) → MendsLast on left mended last → IsFromMending (first_fault stop mended)
   first_so (Some stops.Full) mended mends = mended_so mended mends

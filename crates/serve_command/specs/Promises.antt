@@ -5,6 +5,7 @@ use Rattle.act_model.specs.declared.entry.Entry.{Entry}
 use Rattle.act_model.specs.Legal.{IsLegal}
 use Rattle.mpc_desk.specs.Pairs.{FilePair, StandBoth, AreRead}
 use Rattle.command_ends.specs.declared.status.Status.TheVariants.{Usage, BadFrame, Damaged, ReadFault, DoorFault}
+use Rattle.command_ends.specs.declared.status.Status.TheVariants.{MirrorFault, TooMany}
 use Rattle.command_ends.specs.Courses.{OutsideWords, Change, IsUncalled, Course, HasCause, SinkCause, DiskCause}
 use Rattle.command_ends.specs.Courses.{IsFaultless, AreFaultless}
 use Rattle.command_ends.specs.Statuses.{IsDoneOrNoMemory}
@@ -28,8 +29,8 @@ door_words links faults each = record { links = links; faults = faults; each = e
 --
 -- Files that stand for a legal history, and no fault of the disks, the door or the sink, give `Done`, or `NoMemory`;
 -- and such files aren't damaged. A fresh first file beside a second one that isn't in force stands for the history
--- without entries; faults of links play no part. Each fault has its cause. It ends neither with `Usage`, nor with
--- `BadFrame`, nor with `ReadFault`.
+-- without entries; faults of links play no part. Each fault has its cause. It ends with none of `Usage`, `BadFrame`,
+-- `ReadFault`, `MirrorFault` and `TooMany`.
 pub record KeepsServe {K D C G I O : Type 0} (on : OutsideWords K D C) (doors : DoorWords G I O)
     (course : Course K D C) (door : Change G) (ends : List (LinkEnd I O)) (founder : Key) (connections : ℕ)
     : Type 0 where
@@ -61,4 +62,5 @@ pub record KeepsServe {K D C G I O : Type 0} (on : OutsideWords K D C) (doors : 
   pub door_cause : HasCause doors.faults door DoorFault course.status
   pub write_cause : SinkCause on.sink course.sink course.status
   pub own : (course.status ≡ Usage → ⊥) × (course.status ≡ ReadFault → ⊥)
-      × ((offset : ℕ) → course.status ≡ BadFrame offset → ⊥)
+      × ((offset : ℕ) → course.status ≡ BadFrame offset → ⊥) × (course.status ≡ MirrorFault → ⊥)
+      × ((count : ℕ) → course.status ≡ TooMany count → ⊥)

@@ -12,7 +12,7 @@ use Rattle.mpc_desk.specs.Desks.{DeskState, IsAtRest, count_of}
 use Rattle.mpc_desk.specs.Pairs.{DiskPair, pair, DuringBoth, HaveRisen, EitherRises, PairState, disks_of}
 use Rattle.command_ends.specs.declared.status.Status.{Status}
 use Rattle.command_ends.specs.declared.status.Status.TheVariants.{Done, Usage, BadFrame, DiskFault, Damaged, ReadFault}
-use Rattle.command_ends.specs.declared.status.Status.TheVariants.{WriteFault, NoMemory, DoorFault}
+use Rattle.command_ends.specs.declared.status.Status.TheVariants.{WriteFault, NoMemory, DoorFault, MirrorFault, TooMany}
 use Rattle.command_ends.specs.Disks.{DiskWords, DiskRose}
 use Rattle.command_ends.specs.Opening.{Opens, EndsUnopened}
 use Rattle.command_ends.specs.Closing.{MendsLast}
@@ -50,6 +50,8 @@ WritesLines old new lines (Damaged file offset) = ⊥
 WritesLines old new lines ReadFault = ⊥
 WritesLines old new lines NoMemory = ⊥
 WritesLines old new lines DoorFault = ⊥
+WritesLines old new lines MirrorFault = ⊥
+WritesLines old new lines (TooMany count) = ⊥
 
 -- The lines are written where nothing failed so far; else nothing is, and the status is that of the first fault.
 abbrev pub Writes : Status → Type 0 → Option (List ℕ) → Option (List ℕ) → List ℕ → Status → Type 0

@@ -1,7 +1,7 @@
 -- The ends that the workload can have.
 use Rattle.command_ends.specs.declared.status.Status.{Status}
 use Rattle.command_ends.specs.declared.status.Status.TheVariants.{Done, Usage, BadFrame, DiskFault, Damaged, ReadFault}
-use Rattle.command_ends.specs.declared.status.Status.TheVariants.{WriteFault, NoMemory, DoorFault}
+use Rattle.command_ends.specs.declared.status.Status.TheVariants.{WriteFault, NoMemory, DoorFault, MirrorFault, TooMany}
 
 abbrev pub IsOwn : Status → Type 0
 IsOwn Done = Unit {0}
@@ -13,3 +13,5 @@ IsOwn DiskFault = ⊥
 IsOwn (Damaged file offset) = ⊥
 IsOwn ReadFault = ⊥
 IsOwn DoorFault = ⊥
+IsOwn MirrorFault = ⊥
+IsOwn (TooMany count) = ⊥

@@ -1,6 +1,5 @@
-use Rattle.std.proofs.Common.{refl}
 use Rattle.command_ends.specs.Disks.{disk_words}
-use Rattle.export_command.proofs.ExportLemmas.{disk_rises, own, sound, complete}
+use Rattle.export_command.proofs.ExportLemmas.{disk_rises, own, complete}
 use Rattle.export_command.proofs.exporting.export.Goals as goal
 
 pub returns : goal.returns
@@ -12,10 +11,9 @@ returns g c =
       promises = record {
         exports = did.ends;
         complete = λ key files history plus reads stands legal no_write no_disk.
-            complete on _ _ c.damage.ensures.first c.damage.ensures.second c.damage.ensures.in_force c.any_founder.ensures refl key files history reads stands legal status did.ends
+            complete on _ _ status did.ends (λ file offset is. did.sound key files history file offset plus reads stands legal is)
             (λ is. no_disk (disk_rises on _ _ status did.ends is)) (λ is. no_write (did.write_cause is));
-        sound = λ key files history file offset plus reads stands legal is.
-            sound on _ _ c.damage.ensures.first c.damage.ensures.second c.damage.ensures.in_force c.any_founder.ensures refl key files history reads stands legal status file offset did.ends is;
+        sound = did.sound;
         write_cause = (record { cause = did.write_cause; faultless = did.write_faultless }, record { counts = did.counts; stays = did.stays });
         disk_cause = disk_rises on _ _ status did.ends;
         own = own on _ _ status did.ends;
