@@ -1,5 +1,5 @@
 -- An office that was opened, and is closed again as it was.
-use Rattle.std.proofs.Common.{◌≡◌, ℕ, ◌+◌, ◌-◌, true, List, [], Option, Some, None, refl, sym, ap, subst, inl, inr, arith}
+use Rattle.std.proofs.Common.{◌≡◌, ℕ, ◌+◌, ◌-◌, true, List, [], ◌∷◌, Option, None, refl, sym, ap, subst, inl, inr, arith}
 use Rattle.std.specs.Prelude.{IsSomeAnd, Result, IfErr}
 use Rattle.std.proofs.lemmas.Result.{IfErr-weaker}
 use Rattle.act_bodies.specs.declared.key.Key.{Key}
