@@ -9,8 +9,8 @@ use Rattle.act_model.specs.Conducts.{Extends, EitherWay}
 use Rattle.act_model.specs.Keepers.{RoseBy}
 use Rattle.act_model.specs.Turns.{Mends}
 use Rattle.mpc_desk.specs.Desks.{DeskState, IsAtRest, count_of}
-use Rattle.run_command.specs.declared.serving.Stop.{Stop}
-use Rattle.run_command.specs.declared.serving.Stop.TheVariants as stop
+use Rattle.frame_service.specs.declared.serving.Stop.{Stop}
+use Rattle.frame_service.specs.declared.serving.Stop.TheVariants as stop
 use Rattle.command_ends.specs.declared.status.Status.{Status}
 use Rattle.command_ends.specs.declared.status.Status.TheVariants.{Done, Usage, BadFrame, DiskFault, Damaged, ReadFault, WriteFault, NoMemory, DoorFault, MirrorFault, TooMany}
 use Rattle.command_ends.specs.Disks.{DiskWords}

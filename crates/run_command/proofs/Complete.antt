@@ -1,5 +1,5 @@
 -- What a run's end says of its causes, and that a whole session without a fault is served to its end.
-use Rattle.std.proofs.Common.{◌≡◌, ℕ, ◌+◌, List, [], ◌++◌, length, Option, Some, refl, ap, subst, ◌∙◌, inl, inr, arith}
+use Rattle.std.proofs.Common.{◌≡◌, ℕ, ◌+◌, List, [], ◌++◌, length, Option, Some, refl, sym, ap, subst, inl, inr, arith}
 use Rattle.std.specs.Prelude.{IfSome}
 use Rattle.frame_grammar.specs.Frames.{Frame, IsSession}
 use Rattle.act_bodies.specs.declared.key.Key.{Key}
@@ -15,7 +15,10 @@ use Rattle.command_ends.specs.declared.status.Status.{Status}
 use Rattle.command_ends.specs.declared.status.Status.TheVariants.{Done, Usage, BadFrame, DiskFault, Damaged, ReadFault, WriteFault, NoMemory, DoorFault, MirrorFault, TooMany}
 use Rattle.command_ends.specs.Disks.{DiskWords}
 use Rattle.command_ends.specs.Statuses.{IsDoneOrNoMemory}
-use Rattle.run_command.specs.Runs.{AnswersFrames, StopsAt, IsWhole, Course, Ends}
+use Rattle.frame_service.specs.Exchanges.{frames_of}
+use Rattle.frame_service.specs.Runs.{StopsAt, IsWhole}
+use Rattle.run_command.specs.Serving.{Serves}
+use Rattle.run_command.specs.Runs.{Course, Ends}
 
 -- known bytes are those of the run
 pub known_bytes : (left : Option (List ℕ)) (bytes all : List ℕ) → left ≡ Some bytes → IfSome left (λ known. known ≡ all) → bytes ≡ all
@@ -55,13 +58,10 @@ module _ {D : Type 0} (on : DiskWords D) (course : Course D) (Uncalled : Type 0)
 
     module _ (one_session : (bytes : List ℕ) (fs gs : List Frame) (x y : List ℕ) → IsSession bytes fs x → IsSession bytes gs y → (fs ≡ gs) × (x ≡ y))
         (bytes : List ℕ) (known : bytes ≡ course.run.came ++ course.run.more) where
-      -- the frames that were answered and the rest are the session of the bytes
-      session_of : (rest : List ℕ) (turns : List Turn) (r : AnswersFrames course.clock course.clock_after (course.run.came ++ course.run.more) rest course.run turns) → IsSession bytes r.serves.frames rest
-      session_of rest turns r = record { whole = known ∙ r.serves.stream; each = r.serves.whole; ended = r.ended }
-
-      no_stop : (turns : List Turn) (offset : ℕ) → StopsAt course.clock course.clock_after course.run turns offset → IsWhole bytes → ⊥
-      no_stop turns offset s whole =
-          let rest_is : s.rest ≡ [] = (one_session bytes s.over.serves.frames whole.0 s.rest [] (session_of s.rest turns s.over) whole.1).1 in
+      no_stop : (offset : ℕ) (turns : List Turn) → Serves course.clock course.clock_after (StopsAt course.run offset) turns → IsWhole bytes → ⊥
+      no_stop offset turns (served, s, are) whole =
+          let stopped = subst (λ (b : List ℕ). IsSession b (frames_of served) s.rest) (sym known) s.over.session in
+          let rest_is : s.rest ≡ [] = (one_session bytes (frames_of served) whole.0 s.rest [] stopped whole.1).1 in
           let some = s.some in
           absurd (omega (arith, ap length rest_is))
 
@@ -73,7 +73,7 @@ module _ {D : Type 0} (on : DiskWords D) (course : Course D) (Uncalled : Type 0)
       complete DoorFault ends whole disks reads writes = ends
       complete MirrorFault ends whole disks reads writes = ends
       complete (TooMany count) ends whole disks reads writes = ends
-      complete (BadFrame offset) ends whole disks reads writes = no_stop ends.0 offset ends.1 whole
+      complete (BadFrame offset) ends whole disks reads writes = no_stop offset ends.0 ends.1 whole
       complete DiskFault ends whole disks reads writes = disks refl
       complete (Damaged file offset) ends whole disks reads writes = undamaged file offset ends
       complete ReadFault ends whole disks reads writes = reads refl

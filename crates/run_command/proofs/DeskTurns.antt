@@ -18,7 +18,7 @@ use Rattle.act_model.specs.Replies.{entry_answer}
 use Rattle.act_model.specs.Requests.{is_act}
 use Rattle.act_model.specs.Step.{Adds, outcome, after, step}
 use Rattle.act_model.specs.Turns.{Turn, TakesReading, Answers, Settles, FailsToKeep, IsTurn}
-use Rattle.mpc_desk.specs.Desks.{DeskState, RestsAt, MayLeave, FailsOn, ActsOn, ActsInTurn, count_of, turn_of}
+use Rattle.mpc_desk.specs.Desks.{DeskState, MayLeave, FailsOn, ActsOn, ActsInTurn, count_of, turn_of}
 use Rattle.act_model.specs.Clocks.{ClockState}
 use Rattle.command_ends.specs.Disks.{DiskWords, DiskRose}
 use Rattle.run_command.specs.Conducted.{LeavesInTurn, ActsOrAsks, StaysDesk, TakesTurn}

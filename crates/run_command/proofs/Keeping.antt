@@ -1,13 +1,11 @@
 -- What the turns of a conduct left is kept to the end of a run.
-use Rattle.std.proofs.Common.{◌≡◌, ◌⊎◌, ℕ, ◌≤◌, ℤ, List, [], ◌∷◌, ◌++◌, Bool, true, Option, Some, None, refl, sym, ap, subst, ◌∙◌, inl, inr, ⊎_elim, le_refl}
+use Rattle.std.proofs.Common.{◌≡◌, ◌⊎◌, ℕ, ◌≤◌, ℤ, List, [], ◌∷◌, true, Option, Some, None, refl, sym, ap, subst, inl, inr, ⊎_elim, le_refl}
 use Rattle.std.specs.Prelude.{IfSome, IsSomeAnd}
-use Rattle.obs_time.specs.Instants.{IsInstantNs}
 use Rattle.disk_model.specs.Crashes.{During}
 use Rattle.disk_model.specs.Moments.{during_nothing, during_weaker, during_joined}
 use Rattle.act_bodies.specs.declared.key.Key.{Key}
 use Rattle.act_model.specs.declared.entry.Entry.{Entry}
 use Rattle.act_model.specs.declared.keeper.OfficeState.{OfficeState}
-use Rattle.act_model.specs.declared.reply.Reply.{Reply}
 use Rattle.act_model.specs.declared.reply.Reply.TheVariants.{Done}
 use Rattle.act_model.specs.declared.request.Request.{Request}
 use Rattle.act_model.specs.Conducts.{Extends, EitherWay, IsAcknowledged}
@@ -19,7 +17,7 @@ use Rattle.act_model.specs.Turns.{Turn, TakesReading, Takes, Settles, FailsToKee
 use Rattle.mpc_desk.specs.Desks.{RestsAt}
 use Rattle.mpc_desk.specs.Files.{Stands}
 use Rattle.command_ends.specs.Disks.{DiskWords}
-use Rattle.run_command.specs.Conducted.{InsideTurn, LeavesIn, Rests, TurnOn, TurnsOn, Holds, KeepsEach}
+use Rattle.run_command.specs.Conducted.{InsideTurn, LeavesIn, Rests, TurnsOn, Holds, KeepsEach}
 use Rattle.run_command.proofs.Laws.{KeptLaws}
 use Rattle.run_command.proofs.Closings.{nothing_mended, mended_extends, mended_has}
 use Rattle.run_command.proofs.Conducting.{leaves_first, extends_on}
@@ -130,7 +128,7 @@ module _ (laws : KeptLaws) (founder : Key) (limit : Option ℕ)
 
   module _ {D : Type 0} (on : DiskWords D) (only_now : (disk : D) (image : List ℕ) → on.since disk (on.moment disk) image → on.leaves disk image) where
     -- the images of the turns on a disk
-    turns_during : (before : OfficeState) (turns : List Turn) (after : OfficeState) (c : Conduct founder limit before turns after) (old left : D) → TurnsOn on founder limit before turns after c old left
+    pub turns_during : (before : OfficeState) (turns : List Turn) (after : OfficeState) (c : Conduct founder limit before turns after) (old left : D) → TurnsOn on founder limit before turns after c old left
         → During on.moment on.since old left (LeavesIn founder limit before turns after c)
     turns_during before [] after c old left same =
         subst (λ (d : D). During on.moment on.since old d (LeavesIn founder limit before [] after c)) (sym same) (during_nothing old _)

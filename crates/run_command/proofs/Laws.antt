@@ -1,7 +1,6 @@
--- The laws of frames, of readings and of the office on which the proofs of a run rest, as the crates below ensure them.
-use Rattle.std.proofs.Common.{◌≡◌, true, ℕ, ℤ, List, [], ◌++◌, Option, Some}
+-- The laws of readings and of the office on which the proofs of a run rest, as the crates below ensure them.
+use Rattle.std.proofs.Common.{◌≡◌, true, ℕ, ℤ, List, ◌++◌, Option, Some}
 use Rattle.obs_time.specs.Instants.{IsInstantNs}
-use Rattle.frame_grammar.specs.Frames.{Frame, framed, streamed, NoFrame}
 use Rattle.act_bodies.specs.declared.key.Key.{Key}
 use Rattle.act_model.specs.declared.entry.Entry.{Entry}
 use Rattle.act_model.specs.declared.keeper.OfficeState.{OfficeState}
@@ -22,16 +21,6 @@ use Rattle.act_model.specs.Clocks.{ClockState, Gives}
 use Rattle.mpc_desk.specs.Accepted.{AddsLines}
 use Rattle.act_model.specs.Turns.{Turn, Answers, IsTurn, Mends, Conduct, at_rest}
 
-pub record FrameLaws : Type 0 where
-  -- bytes that come later stand after a frame, and after frames
-  pub frame_goes_on : (f : Frame) (rest more : List ℕ) → framed f rest ++ more ≡ framed f (rest ++ more)
-  pub stream_goes_on : (fs : List Frame) (rest more : List ℕ) → streamed fs rest ++ more ≡ streamed fs (rest ++ more)
-  pub stream_joins : (fs gs : List Frame) (rest : List ℕ) → streamed (fs ++ gs) rest ≡ streamed fs (streamed gs rest)
-  -- no frame stands where nothing does
-  pub nothing : NoFrame []
-  -- a clock that gave some readings and then others gave them all
-  pub readings : (before between after : ClockState) (xs ys : List ℤ) → Gives before between xs → Gives between after ys → Gives before after (xs ++ ys)
-
 -- what is known of legal histories: a turn and a conduct leave them, and what stands for a number in one does in later
 -- ones; an act that was answered stands for its number
 pub record KeptLaws : Type 0 where
@@ -43,6 +32,8 @@ pub record KeptLaws : Type 0 where
 
 pub record OfficeLaws : Type 0 where
   pub keeps : KeptLaws
+  -- a clock that gave some readings and then others gave them all
+  pub readings : (before between after : ClockState) (xs ys : List ℤ) → Gives before between xs → Gives between after ys → Gives before after (xs ++ ys)
   -- histories grow, and keep each number once; a legal history has each number once
   pub grow : (founder : Key) (limit : Option ℕ) (before after : OfficeState) (turns : List Turn) → Conduct founder limit before turns after → Extends before.settled after.settled
   pub once : (founder : Key) (limit : Option ℕ) (before after : OfficeState) (turns : List Turn) → Conduct founder limit before turns after → EitherWay EachNumberOnce before → EitherWay EachNumberOnce after

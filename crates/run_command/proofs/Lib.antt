@@ -4,7 +4,6 @@ pub mod DeskTurns
 pub mod Conducting
 pub mod Served
 pub mod Answered
-pub mod Progress
 pub mod Closings
 pub mod Keeping
 pub mod RunLemmas

@@ -7,6 +7,7 @@ use Rattle.std.proofs.lemmas.List.Sums.{sum_by-cons}
 use Rattle.disk_model.specs.Crashes.{During}
 use Rattle.disk_model.specs.Moments.{during_weaker, during_joined}
 use Rattle.desk_io.specs.Reads.{Passes}
+use Rattle.frame_service.specs.Runs.{Run, AwaitsNext, Stops}
 use Rattle.act_bodies.specs.declared.key.Key.{Key}
 use Rattle.act_model.specs.declared.entry.Entry.{Entry}
 use Rattle.act_model.specs.declared.keeper.OfficeState.{OfficeState}
@@ -16,21 +17,23 @@ use Rattle.act_model.specs.Turns.{Turn, Conduct, Mends, at_rest, rises_of}
 use Rattle.mpc_desk.specs.Desks.{DeskState, count_of}
 use Rattle.mpc_desk.specs.Pairs.{DiskPair, pair, DuringBoth, HaveRisen, EitherRises, PairState, disks_of}
 use Rattle.mpc_desk.specs.PairLaws.{both_then}
-use Rattle.run_command.specs.declared.serving.Stop.{Stop}
-use Rattle.run_command.specs.declared.serving.Stop.TheVariants as stop
+use Rattle.frame_service.specs.declared.serving.Stop.{Stop}
+use Rattle.frame_service.specs.declared.serving.Stop.TheVariants as stop
 use Rattle.command_ends.specs.declared.status.Status.{Status}
 use Rattle.command_ends.specs.declared.status.Status.TheVariants.{Done, Usage, BadFrame, DiskFault, Damaged, ReadFault, WriteFault, NoMemory, DoorFault, MirrorFault, TooMany}
 use Rattle.act_model.specs.Clocks.{ClockState}
 use Rattle.command_ends.specs.Disks.{DiskWords, DiskRose}
-use Rattle.run_command.specs.Conducted.{LeavesIn, LeavesBoth, Rests, TurnsOn, KeepsEach, TakesTurns}
-use Rattle.run_command.specs.Runs.{Run, AwaitsNext, Stops, RunsOn, ServesNothing, Course, Ends}
+use Rattle.run_command.specs.Conducted.{LeavesIn, LeavesBoth, Rests, TurnsOn, KeepsEach}
+use Rattle.run_command.specs.Serving.{Serves}
+use Rattle.run_command.specs.Runs.{RunsOn, ServesNothing, Course, Ends}
 use Rattle.command_ends.specs.Opening.{journal_bytes, Opens, EndsUnopened}
 use Rattle.command_ends.specs.Closing.{IsNotMended, IsMended, IsStillInDoubt, IsClosed}
 use Rattle.run_command.specs.Closing.{Finishes}
 use Rattle.run_command.proofs.Laws.{OfficeLaws}
 use Rattle.run_command.proofs.Conducting.{grows, extends_on, rose_more}
 use Rattle.run_command.proofs.Closings.{never_rose, rise_between, nothing_mended, mended_extends, mended_has, mended_none, closed_as_is}
-use Rattle.run_command.proofs.Keeping.{keeps_each}
+use Rattle.run_command.proofs.Keeping.{turns_during, keeps_each}
+use Rattle.run_command.proofs.Served.{TakesTurns}
 use Rattle.read_ahead.specs.Reading.{Supplies}
 use Rattle.read_ahead.specs.Supplied.{remaining, supplies_nothing}
 
@@ -53,21 +56,21 @@ longer : (first last : List Entry) → Extends first last → (added : ℕ) → 
 longer first last (newer, is) added counted = omega (arith, counted, ap length is, length-append newer first)
 
 module _ (laws : OfficeLaws) {D : Type 0} (on : DiskWords D) (only_now : (disk : D) (image : List ℕ) → on.since disk (on.moment disk) image → on.leaves disk image)
-    (founder : Key) (disks : DiskPair D) (office : PairState D) (served : DeskState D) (turns : List Turn) (opens : Opens on founder disks office) (takes : TakesTurns on office.chained turns served) where
+    (founder : Key) (disks : DiskPair D) (office : PairState D) (served : DeskState D) (turns : List Turn) (opens : Opens on founder disks office) (takes : TakesTurns on founder journal_bytes office.chained turns served) where
   abbrev opened : DeskState D
   opened = office.chained
 
-  -- the turns as a conduct from the history that the disk stood for, and its images
-  record Conducted (k : Key) (limit : ℕ) (start : OfficeState) : Type 0 where
-    conduct : Conduct k (Some limit) start turns served.state
-    each : TurnsOn on k (Some limit) start turns served.state conduct opened.disk served.disk
-    images : During on.moment on.since opened.disk served.disk (LeavesIn k (Some limit) start turns served.state conduct)
+  -- the turns as a conduct from the history that the disk stood for
+  record Conducted (start : OfficeState) : Type 0 where
+    conduct : Conduct founder (Some journal_bytes) start turns served.state
+    each : TurnsOn on founder (Some journal_bytes) start turns served.state conduct opened.disk served.disk
 
-  conducted : Conducted founder journal_bytes (at_rest opened.state.settled)
-  conducted =
-      subst (λ (s : OfficeState). Conducted founder journal_bytes s) (rests_so opened.state opens.settled)
-      (subst (λ (n : ℕ). Conducted founder n opened.state) opens.limit_is
-      (subst (λ (k : Key). Conducted k opened.limit opened.state) opens.founder_is (record { conduct = takes.conduct; each = takes.each; images = takes.images })))
+  conducted : Conducted (at_rest opened.state.settled)
+  conducted = subst Conducted (rests_so opened.state opens.settled) (record { conduct = takes.conduct; each = takes.each })
+
+  turn_images : During on.moment on.since opened.disk served.disk (LeavesIn founder (Some journal_bytes) (at_rest opened.state.settled) turns served.state conducted.conduct)
+  turn_images =
+      turns_during laws.keeps founder (Some journal_bytes) (laws.grow founder (Some journal_bytes)) on only_now (at_rest opened.state.settled) turns served.state conducted.conduct opened.disk served.disk conducted.each
 
   rests : Rests on opened.disk (at_rest opened.state.settled)
   rests = subst (λ (s : OfficeState). Rests on opened.disk s) (rests_so opened.state opens.settled) opens.at_rest
@@ -118,7 +121,7 @@ module _ (laws : OfficeLaws) {D : Type 0} (on : DiskWords D) (only_now : (disk :
     all_images : DuringBoth on disks end (LeavesBoth founder (Some journal_bytes) (at_rest opened.state.settled) turns served.state conducted.conduct)
     all_images =
         both_then (LeavesBoth founder (Some journal_bytes) (at_rest opened.state.settled) turns served.state conducted.conduct) (λ files alike. inl alike.now) (λ files may. inr may) opens.images refl
-        (during_joined conducted.images (during_weaker _ (λ image never. absurd never) closed.no_image))
+        (during_joined turn_images (during_weaker _ (λ image never. absurd never) closed.no_image))
 
     once : EachNumberOnce last.state.settled
     once =
@@ -194,13 +197,13 @@ module _ (laws : OfficeLaws) {D : Type 0} (on : DiskWords D) (only_now : (disk :
     not_mended same =
         runs_on IsNotMended 0 last now added (ap (λ (d : DeskState D). d.state) same, refl)
         (subst (λ (d : DeskState D). Mends served.state.settled served.state.doubt d.state.settled) (sym same) (nothing_mended served.state.settled served.state.doubt))
-        (subst (λ (d : DeskState D). IsClosed on 0 served d) (sym same) (closed_as_is on served (takes.stays.at_rest opens.at_rest)))
+        (subst (λ (d : DeskState D). IsClosed on 0 served d) (sym same) (closed_as_is on served (takes.at_rest opens.at_rest)))
         disks_are counted
 
     abbrev course : Course D
     course = record { founder = founder; disks = disks; disks_after = now; clock = before; clock_after = after; run = run; added = added }
 
-    pub served_ends : (stopped : Stop) (status : Status) → Stops before after run turns stopped → Finishes on served stopped status last → Ends on course Uncalled status
+    pub served_ends : (stopped : Stop) (status : Status) → Serves before after (Stops run stopped) turns → Finishes on served stopped status last → Ends on course Uncalled status
     served_ends stop.Over Done stops (rise, mended, closed) =
         (turns, stops, runs_on IsMended rise last now added mended mended.mends closed disks_are counted)
     served_ends stop.Over DiskFault stops (rise, doubted, closed) =

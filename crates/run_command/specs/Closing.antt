@@ -5,8 +5,8 @@ use Rattle.command_ends.specs.declared.status.Status.{Status}
 use Rattle.command_ends.specs.declared.status.Status.TheVariants.{BadFrame, ReadFault, WriteFault}
 use Rattle.command_ends.specs.Closing.{MendsLast}
 use Rattle.command_ends.specs.Disks.{DiskWords}
-use Rattle.run_command.specs.declared.serving.Stop.{Stop}
-use Rattle.run_command.specs.declared.serving.Stop.TheVariants.{Over, NoFrameAt, ReadFailed, WriteFailed}
+use Rattle.frame_service.specs.declared.serving.Stop.{Stop}
+use Rattle.frame_service.specs.declared.serving.Stop.TheVariants.{Over, NoFrameAt, ReadFailed, WriteFailed}
 
 -- the end of a run where serving stopped so: only where the source was read to its end is an act in doubt mended
 abbrev pub Finishes : {D : Type 0} → DiskWords D → DeskState D → Stop → Status → DeskState D → Type 0

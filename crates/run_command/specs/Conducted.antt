@@ -12,7 +12,7 @@ use Rattle.act_model.specs.Conducts.{Extends, IsAcknowledged}
 use Rattle.act_model.specs.Legal.{IsLegal}
 use Rattle.act_model.specs.Requests.{is_act}
 use Rattle.act_model.specs.Step.{Adds, outcome}
-use Rattle.act_model.specs.Turns.{Turn, TakesReading, Answers, Mends, Takes, IsTurn, Conduct, rises_of}
+use Rattle.act_model.specs.Turns.{Turn, TakesReading, Answers, Mends, Takes, IsTurn, Conduct}
 use Rattle.mpc_desk.specs.Desks.{DeskState, RestsAt, IsAtRest, ActsInTurn}
 use Rattle.mpc_desk.specs.Files.{Stands}
 use Rattle.mpc_desk.specs.Pairs.{FilePair, StandBoth}
@@ -149,14 +149,3 @@ pub record TakesTurn {D : Type 0} (on : DiskWords D) (old : DeskState D) (reques
   pub does : ActsOrAsks on old request reading reply new
   pub stays : StaysDesk on old new
   pub clock : Gives before after (option_to_list reading)
-
--- turns of a desk, one after another: a conduct, each turn on the disk that the one before it left, by how much the
--- disk's count of faults rose in it, and what a crash at some moment of it may leave
-pub record TakesTurns {D : Type 0} (on : DiskWords D) (old : DeskState D) (turns : List Turn) (new : DeskState D)
-    : Type 0 where
-  pub conduct : Conduct old.founder (Some old.limit) old.state turns new.state
-  pub each : TurnsOn on old.founder (Some old.limit) old.state turns new.state conduct old.disk new.disk
-  pub counts : DiskRose on (rises_of turns) old.disk new.disk
-  pub images : During on.moment on.since old.disk new.disk
-      (LeavesIn old.founder (Some old.limit) old.state turns new.state conduct)
-  pub stays : StaysDesk on old new

@@ -1,7 +1,6 @@
-pub mod Serving
 pub mod Conducted
+pub mod Serving
 pub mod Spoken
 pub mod Runs
 pub mod Closing
-pub mod Steps
 pub mod Promises

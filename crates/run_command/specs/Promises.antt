@@ -2,6 +2,7 @@
 use Rattle.std.specs.Prelude.{◌≡◌, ℕ, List, Some}
 use Rattle.std.specs.Io.KnownBytes.{Appends}
 use Rattle.read_ahead.specs.Reading.{Supplies}
+use Rattle.frame_service.specs.Runs.{Run, AwaitsNext, IsWhole}
 use Rattle.act_bodies.specs.declared.key.Key.{Key}
 use Rattle.act_model.specs.declared.entry.Entry.{Entry}
 use Rattle.act_model.specs.Legal.{IsLegal}
@@ -10,7 +11,7 @@ use Rattle.command_ends.specs.declared.status.Status.TheVariants.{Usage, Damaged
 use Rattle.command_ends.specs.Courses.{SourceWords, OutsideWords, Change, IsUncalled, Course, SourceCause, SinkCause}
 use Rattle.command_ends.specs.Courses.{DiskCause, IsFaultless, AreFaultless}
 use Rattle.command_ends.specs.Statuses.{IsDoneOrNoMemory}
-use Rattle.run_command.specs.Runs.{Run, AwaitsNext, Ends, IsWhole}
+use Rattle.run_command.specs.Runs.{Ends}
 
 -- What was read, answered, written and kept at each end: of the bytes that came, whether the source tells its bytes or
 -- not, and of each image that a crash may leave. No read was made but while the next frame was awaited.

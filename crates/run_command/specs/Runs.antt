@@ -1,94 +1,22 @@
 -- What a run of the program leaves, by the status with which it ended.
-use Rattle.std.specs.Prelude.{◌≡◌, ◌⊎◌, ℕ, ◌+◌, ◌-◌, ◌^◌, ◌<◌, ◌≤◌, min, List, [], ◌∷◌, ◌++◌, length, take, Option}
-use Rattle.std.specs.Prelude.{Some}
-use Rattle.frame_grammar.specs.Frames.{Frame, NoFrame, NeverFrame, IsSession, reached}
+use Rattle.std.specs.Prelude.{◌≡◌, ◌⊎◌, ℕ, ◌+◌, List, [], Some}
+use Rattle.frame_service.specs.Runs.{Run, AnswersAll, StopsAt, StopsReading, StopsWriting}
 use Rattle.act_bodies.specs.declared.key.Key.{Key}
 use Rattle.act_model.specs.declared.keeper.OfficeState.{OfficeState}
 use Rattle.act_model.specs.Conducts.{HadMemory, IsStepped}
-use Rattle.act_model.specs.Turns.{Turn, Conduct, at_rest, rises_of, written_reply, written}
+use Rattle.act_model.specs.Turns.{Turn, Conduct, at_rest, rises_of}
 use Rattle.mpc_desk.specs.Desks.{DeskState}
 use Rattle.mpc_desk.specs.Pairs.{DiskPair, pair, DuringBoth, HaveRisen, EitherRises, PairState, disks_of}
 use Rattle.command_ends.specs.Disks.{DiskWords}
 use Rattle.command_ends.specs.Opening.{journal_bytes, Opens, EndsUnopened}
 use Rattle.command_ends.specs.Closing.{IsNotMended, IsMended, IsStillInDoubt, IsClosed}
 use Rattle.command_ends.specs.Left.{IsLeft}
-use Rattle.run_command.specs.declared.serving.Stop.{Stop}
-use Rattle.run_command.specs.declared.serving.Stop.TheVariants.{Over, NoFrameAt, ReadFailed, WriteFailed}
 use Rattle.command_ends.specs.declared.status.Status.{Status}
 use Rattle.command_ends.specs.declared.status.Status.TheVariants.{Done, Usage, BadFrame, DiskFault, Damaged, ReadFault}
 use Rattle.command_ends.specs.declared.status.Status.TheVariants.{WriteFault, NoMemory, DoorFault, MirrorFault, TooMany}
 use Rattle.act_model.specs.Clocks.{ClockState}
 use Rattle.run_command.specs.Serving.{Serves}
 use Rattle.run_command.specs.Conducted.{LeavesBoth, Grows, KeepsEach}
-
--- ---- what a run took from its source and wrote
-
--- The bytes that came from the source, and after them those that are left there, none where that isn't known; how many
--- frames were answered, each with its whole reply; and the bytes that were written.
-pub record Run : Type 0 where
-  pub came : List ℕ
-  pub more : List ℕ
-  pub answered : ℕ
-  pub texts : List ℕ
-
--- after the frames that have come, which were all answered, a further frame may still come
-abbrev pub AwaitsNext : ℕ → List ℕ → Type 0
-AwaitsNext answered came =
-    (frames : List Frame) × (rest : List ℕ) × IsSession came frames rest × (length frames ≤ answered)
-    × ¬ NeverFrame rest
-
--- ---- which frames were answered
-
--- the frames of the bytes' session were answered, up to a rest at which no frame stands, and their replies were written
-pub record AnswersFrames (before after : ClockState) (bytes rest : List ℕ) (run : Run) (turns : List Turn)
-    : Type 0 where
-  pub serves : Serves before after bytes rest turns
-  pub answered : run.answered ≡ length serves.frames
-  pub ended : NoFrame rest
-  pub texts : run.texts ≡ written turns
-
--- the bytes are frames and nothing else
-abbrev pub IsWhole : List ℕ → Type 0
-IsWhole bytes = (frames : List Frame) × IsSession bytes frames []
-
--- an offset is counted up to the greatest that its type has
-abbrev pub offset_at : ℕ → ℕ
-offset_at place = min place (2 ^ 64 - 1)
-
--- the source was read to its end, and its bytes are frames, which were answered
-abbrev pub AnswersAll : ClockState → ClockState → Run → List Turn → Type 0
-AnswersAll before after run turns = (run.more ≡ []) × AnswersFrames before after run.came [] run turns
-
--- the frames before the bytes' first place at which no frame stands were answered, and that place is the offset
-pub record StopsAt (before after : ClockState) (run : Run) (turns : List Turn) (offset : ℕ) : Type 0 where
-  pub rest : List ℕ
-  pub over : AnswersFrames before after (run.came ++ run.more) rest run turns
-  pub some : 0 < length rest
-  pub place : offset ≡ offset_at (reached (run.came ++ run.more) rest)
-
--- the source failed: the frames of the bytes that came were answered
-abbrev pub StopsReading : ClockState → ClockState → Run → List Turn → Type 0
-StopsReading before after run turns = (rest : List ℕ) × AnswersFrames before after run.came rest run turns
-
--- The sink failed inside a reply: the frames before one frame were answered whole, and of the reply of that frame's
--- turn the sink took a front and not all of it.
-pub record StopsWriting (before after : ClockState) (run : Run) (turns : List Turn) : Type 0 where
-  pub whole : List Turn
-  pub last : Turn
-  pub rest : List ℕ
-  pub taken : ℕ
-  pub turns_are : turns ≡ whole ++ last ∷ []
-  pub serves : Serves before after run.came rest turns
-  pub answered : run.answered + 1 ≡ length serves.frames
-  pub part : taken < length (written_reply last.reply)
-  pub texts : run.texts ≡ written whole ++ take taken (written_reply last.reply)
-
--- which frames were answered where serving stopped so
-abbrev pub Stops : ClockState → ClockState → Run → List Turn → Stop → Type 0
-Stops before after run turns Over = AnswersAll before after run turns
-Stops before after run turns (NoFrameAt offset) = StopsAt before after run turns offset
-Stops before after run turns ReadFailed = StopsReading before after run turns
-Stops before after run turns WriteFailed = StopsWriting before after run turns
 
 -- ---- the office
 
@@ -155,19 +83,20 @@ IsNotRun on course Uncalled status =
 -- What stands at each end of a run. `Uncalled` says that the source, the sink and the clock were not called.
 abbrev pub Ends : {D : Type 0} → DiskWords D → Course D → Type 0 → Status → Type 0
 Ends on course Uncalled Done =
-    (turns : List Turn) × AnswersAll course.clock course.clock_after course.run turns × RunsSo on course turns IsMended
+    (turns : List Turn) × Serves course.clock course.clock_after (AnswersAll course.run) turns
+    × RunsSo on course turns IsMended
 Ends on course Uncalled (BadFrame offset) =
-    (turns : List Turn) × StopsAt course.clock course.clock_after course.run turns offset
+    (turns : List Turn) × Serves course.clock course.clock_after (StopsAt course.run offset) turns
     × RunsSo on course turns IsNotMended
 Ends on course Uncalled ReadFault =
-    (turns : List Turn) × StopsReading course.clock course.clock_after course.run turns
+    (turns : List Turn) × Serves course.clock course.clock_after (StopsReading course.run) turns
     × RunsSo on course turns IsNotMended
 Ends on course Uncalled WriteFault =
-    (turns : List Turn) × StopsWriting course.clock course.clock_after course.run turns
+    (turns : List Turn) × Serves course.clock course.clock_after (StopsWriting course.run) turns
     × RunsSo on course turns IsNotMended
 Ends on course Uncalled DiskFault =
     IsNotRun on course Uncalled DiskFault
-    ⊎ ((turns : List Turn) × AnswersAll course.clock course.clock_after course.run turns
+    ⊎ ((turns : List Turn) × Serves course.clock course.clock_after (AnswersAll course.run) turns
     × RunsSo on course turns IsStillInDoubt)
 Ends on course Uncalled (Damaged file offset) = IsNotRun on course Uncalled (Damaged file offset)
 Ends on course Uncalled NoMemory = IsNotRun on course Uncalled NoMemory

@@ -5,7 +5,7 @@ use Rattle.act_model.specs.declared.reply.Refusal.TheVariants.{NoLine, NoMemory}
 use Rattle.act_model.specs.declared.reply.Reply.{Reply}
 use Rattle.act_model.specs.declared.reply.Reply.TheVariants.{Refused}
 use Rattle.act_model.specs.Replies.{status_of, text_of, text_bytes}
-use Rattle.run_command.specs.declared.spoken.Spoken.{Spoken}
+use Rattle.frame_service.specs.declared.spoken.Spoken.{Spoken}
 
 -- the status and the text are those of the reply
 abbrev pub IsSpoken : Reply → Spoken → Type 0

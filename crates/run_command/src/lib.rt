@@ -5,8 +5,8 @@
 //! leave.
 #![tactic(auto)]
 
+mod answering;
 mod running;
-mod serving;
 mod spoken;
 mod turns;
 

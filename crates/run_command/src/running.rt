@@ -7,19 +7,21 @@ ghost use Rattle.read_ahead.specs.Reading.{Supplies};
 ghost use Rattle.act_model.specs.Clocks.{clock_of};
 ghost use Rattle.act_model.specs.Roster.{IsFounder};
 ghost use Rattle.mpc_desk.specs.Pairs.{pair};
+ghost use Rattle.frame_service.specs.Runs.{Run, AwaitsNext};
 ghost use Rattle.command_ends.specs.Courses.{source_words, sink_words, outside_words, change};
 ghost use Rattle.command_ends.specs.Disks.{disk_words};
 ghost use Rattle.run_command.specs.Closing.{Finishes};
 ghost use Rattle.run_command.specs.Promises.{KeepsRun};
-ghost use Rattle.run_command.specs.Runs.{Run, AwaitsNext, Ends};
+ghost use Rattle.run_command.specs.Runs.{Ends};
 
-use crate::serving::{Stop, serve};
+use crate::answering::FrontDesk;
 use act_model::{Keeper, Key, laws as office_laws};
 use command_ends::{Ended, Status, mend_last, not_begun, open_desk};
 use desk_io::{Clock, Sink, Source};
 use disk_model::Disk;
 use frame_grammar::laws as frame_laws;
 use frame_reader::FrameReader;
+use frame_service::{Stop, serve};
 use mpc_desk::{ChainedDesk, laws as desk_laws};
 use std::alloc::Global;
 
@@ -72,6 +74,7 @@ fn run_all<S: Source, K: Sink, D: Disk, C: Clock>(
     ensures counts { (S.faults source.old ≤ S.faults source.new) × (K.faults sink.old ≤ K.faults sink.new) }
     ensures stays { (S.is_open source.new ≡ S.is_open source.old) × (K.is_open sink.new ≡ K.is_open sink.old) }
 {
+    office_laws::readings_go_on();
     office_laws::histories_grow();
     office_laws::histories_are_legal();
     office_laws::acknowledged_acts_are_kept();
@@ -86,12 +89,14 @@ fn run_all<S: Source, K: Sink, D: Disk, C: Clock>(
     let Ok(mut reader) = FrameReader::new(alloc) else {
         return not_begun(Status::NoMemory, disk, second);
     };
-    let (first, mut desk) = match open_desk(alloc, founder, disk, second) {
+    let (first, desk) = match open_desk(alloc, founder, disk, second) {
         Ok(desk) => desk.apart(),
         Err(ended) => return ended,
     };
     let before = desk.entries();
-    let stop = serve(alloc, &mut desk, &mut reader, source, sink, clock);
+    let mut front = FrontDesk { desk };
+    let stop = serve(alloc, &mut front, &mut reader, source, sink, clock);
+    let mut desk = front.desk;
     let status = finish(&mut desk, stop);
     let added = desk.entries() - before;
     Ended {
