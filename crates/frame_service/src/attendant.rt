@@ -10,7 +10,8 @@ use std::alloc::Global;
 
 /// Something that answers frames, one after another.
 pub trait Attendant {
-    /// One frame is answered: the attendant and its clock before, the frame with the bytes of its reply, and both after.
+    /// One frame is answered: the attendant and its clock before it, the frame with the bytes of its reply, and both
+    /// after it.
     ghost answers: { Attending Self → Exchange → Attending Self → Type 0 };
 
     /// Answers a frame, as it was read. It may take memory, and may read the clock.
