@@ -1,0 +1,7 @@
+mod LabelLemmas
+mod NameLemmas
+mod ObjectLemmas
+mod SightLemmas
+mod CountLemmas
+mod Sorting
+mod TimeLemmas
