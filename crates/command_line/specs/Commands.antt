@@ -5,7 +5,7 @@ use Rattle.ascii_text.specs.Reading.{◌>>=◌}
 use Rattle.act_bodies.specs.Keys.{key_of}
 use Rattle.act_model.specs.Roster.{IsFounder}
 use Rattle.command_line.specs.declared.command.Command.{Command}
-use Rattle.command_line.specs.declared.command.Command.TheVariants.{Run, Serve, Export, Workload}
+use Rattle.command_line.specs.declared.command.Command.TheVariants.{Run, Serve, Export, Workload, Mirror}
 use Rattle.command_line.specs.Keys.{founder_key}
 use Rattle.command_line.specs.Numbers.{number_in}
 use Rattle.command_line.specs.Options.{one_value, two_values, if_last}
@@ -37,13 +37,18 @@ workload_of words = do
   count ← number_in 1 20000 values.1
   Some (Workload seed count)
 
+-- `mirror`
+abbrev pub mirror_of : List (List ℕ) → Option Command
+mirror_of words = if_last Mirror words
+
 -- the command of this name with these options
 abbrev pub command_named : List ℕ → List (List ℕ) → Option Command
 command_named name options =
     if bytes_eq name (codes "run") then run_of options
     else (if bytes_eq name (codes "serve") then serve_of options
     else (if bytes_eq name (codes "export") then export_of options
-    else (if bytes_eq name (codes "workload") then workload_of options else None)))
+    else (if bytes_eq name (codes "workload") then workload_of options
+    else (if bytes_eq name (codes "mirror") then mirror_of options else None))))
 
 -- the command that the words of a command line name, and None for all other words
 unfoldable pub command_of : List (List ℕ) → Option Command
@@ -56,3 +61,4 @@ IsInRange (Run key) = IsFounder key
 IsInRange (Serve key connections) = IsFounder key × (1 ≤ connections) × (connections ≤ 1000)
 IsInRange Export = Unit {0}
 IsInRange (Workload seed count) = (seed ≤ 18446744073709551615) × (1 ≤ count) × (count ≤ 20000)
+IsInRange Mirror = Unit {0}

@@ -1,8 +1,8 @@
 //! The commands that words name.
 
 ghost use Rattle.std.specs.Prelude.{◌≡◌, IfSome};
-ghost use Rattle.command_line.specs.Commands.{run_of, serve_of, export_of, workload_of, command_named, command_of};
-ghost use Rattle.command_line.specs.Commands.{IsInRange};
+ghost use Rattle.command_line.specs.Commands.{run_of, serve_of, export_of, workload_of, mirror_of, command_named};
+ghost use Rattle.command_line.specs.Commands.{command_of, IsInRange};
 
 use crate::keys::founder_key;
 use crate::numbers::number_in;
@@ -24,6 +24,8 @@ pub enum Command {
     Export,
     /// To run the made-up requests that this number starts, of so many objects, 1 to 20,000.
     Workload { seed: u64, count: u32 },
+    /// To copy the catalogue into its mirror.
+    Mirror,
 }
 
 fn run_of(options: &[Bytes]) -> Option<Command>
@@ -65,6 +67,17 @@ fn workload_of(options: &[Bytes]) -> Option<Command>
     Some(Command::Workload { seed, count })
 }
 
+fn mirror_of(options: &[Bytes]) -> Option<Command>
+    ensures command { result ≡ mirror_of options.now }
+    ensures range { IfSome result IsInRange }
+{
+    if options.is_empty() {
+        Some(Command::Mirror)
+    } else {
+        None
+    }
+}
+
 fn command_named(name: &[u8], options: &[Bytes]) -> Option<Command>
     ensures command { result ≡ command_named name.now options.now }
     ensures range { IfSome result IsInRange }
@@ -77,6 +90,8 @@ fn command_named(name: &[u8], options: &[Bytes]) -> Option<Command>
         export_of(options)
     } else if name == b"workload".as_slice() {
         workload_of(options)
+    } else if name == b"mirror".as_slice() {
+        mirror_of(options)
     } else {
         None
     }

@@ -29,6 +29,7 @@ fn line_of(alloc: Global, command: Option<Command>) -> Option<String> {
         }
         Some(Command::Export) => format!(in alloc; "export"),
         Some(Command::Workload { seed, count }) => format!(in alloc; "workload {seed} {count}"),
+        Some(Command::Mirror) => format!(in alloc; "mirror"),
         None => format!(in alloc; "usage"),
     };
     told.ok()
@@ -73,6 +74,7 @@ const GOOD: &[(&[&str], &str)] = &[
         &["workload", "--seed=18446744073709551615", "--count", "1"],
         "workload 18446744073709551615 1",
     ),
+    (&["mirror"], "mirror"),
 ];
 
 const BAD: &[&[&str]] = &[
@@ -114,6 +116,8 @@ const BAD: &[&[&str]] = &[
     &["workload", "--seed", "7", "--count", "0"],
     &["workload", "--seed", "7", "--count", "20001"],
     &["workload", "--seed", "", "--count", "3"],
+    &["mirror", "x"],
+    &["Mirror"],
 ];
 
 /// The first words that are taken for another command, counted from 0; None where there are none. So are those below.

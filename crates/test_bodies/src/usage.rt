@@ -11,6 +11,7 @@ fn names_each_command(rt: HostRuntime) -> Result<(), Fail> {
         "Usage: mpc_cli serve --key <K> --connections <N>\n",
         "Usage: mpc_cli export\n",
         "Usage: mpc_cli workload --seed <S> --count <M>\n",
+        "Usage: mpc_cli mirror\n",
         "Example: mpc_cli workload --seed 7 --count 3\n",
         "1 to 1000\n",
         "0 to 18446744073709551615\n",
@@ -18,6 +19,8 @@ fn names_each_command(rt: HostRuntime) -> Result<(), Fail> {
         "on the journal desk.journal2 of the current folder\n",
         "  5  Damaged: file 2, which is desk.journal2, or file 1, desk.journal, is damaged at this offset\n",
         "  9  DoorFault: the port failed\n",
+        " 10  MirrorFault: the mirror failed\n",
+        " 11  TooMany: the catalogue has too many observations or objects for a mirror\n",
         "\nmpc_cli 0.10\n",
     ] {
         assert!(rt; text.as_str().contains(part), "{part} in {text}");
@@ -27,7 +30,7 @@ fn names_each_command(rt: HostRuntime) -> Result<(), Fail> {
 
 #[test]
 fn knows_each_command(rt: HostRuntime) {
-    for name in ["run", "serve", "export", "workload"] {
+    for name in ["run", "serve", "export", "workload", "mirror"] {
         assert!(rt; is_command(name), "{name}");
     }
     for name in ["", "rum", "Run", "run ", "help", "--version"] {

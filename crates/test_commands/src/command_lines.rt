@@ -16,7 +16,7 @@ fn words_of_run(rt: HostRuntime) {
         };
         call_single(rt.alloc(), &call).expect(&rt, "as wanted");
     }
-    let bad: [&[&str]; 7] = [
+    let bad: [&[&str]; 8] = [
         &["run"],
         &[],
         &["tally", "--key", "+founder-1"],
@@ -24,6 +24,7 @@ fn words_of_run(rt: HostRuntime) {
         &["run", "--key", "founder-1"],
         &["run", "--key=", "+founder-1"],
         &["run", "--key", "+founder-1", "--key"],
+        &["mirror", "x"],
     ];
     for words in bad {
         let call = Call {

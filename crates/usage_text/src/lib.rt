@@ -18,6 +18,8 @@ const EXPORT: &str = "export";
 
 const WORKLOAD: &str = "workload";
 
+const MIRROR: &str = "mirror";
+
 const KEY: &str = "The founding officer's key: + and 8 to 32 of A to Z, a to z, 0 to 9 and -";
 
 const STATUSES: &str = concat!(
@@ -30,7 +32,9 @@ const STATUSES: &str = concat!(
     "  6  ReadFault: the input failed\n",
     "  7  WriteFault: the output failed\n",
     "  8  NoMemory: memory was refused\n",
-    "  9  DoorFault: the port failed",
+    "  9  DoorFault: the port failed\n",
+    " 10  MirrorFault: the mirror failed\n",
+    " 11  TooMany: the catalogue has too many observations or objects for a mirror",
 );
 
 /// An option that a command must be given, with a value of this name.
@@ -107,9 +111,18 @@ fn workload<'a>(alloc: Global) -> Result<Command<'a>, AllocError> {
     ))
 }
 
+fn mirror<'a>(alloc: Global) -> Command<'a> {
+    command(
+        alloc,
+        MIRROR,
+        "Copies the catalogue of the journal into its mirror, and writes how much it copied to standard output",
+    )
+    .after_help("Example: mpc_cli mirror")
+}
+
 /// Whether a command of the program has this name.
 pub fn is_command(name: &str) -> bool {
-    name == RUN || name == SERVE || name == EXPORT || name == WORKLOAD
+    name == RUN || name == SERVE || name == EXPORT || name == WORKLOAD || name == MIRROR
 }
 
 /// The program, with what its commands do.
@@ -125,7 +138,8 @@ fn program<'a>(alloc: Global) -> Result<Command<'a>, AllocError> {
     .subcommand(run(alloc)?)?
     .subcommand(serve(alloc)?)?
     .subcommand(export(alloc))?
-    .subcommand(workload(alloc)?)
+    .subcommand(workload(alloc)?)?
+    .subcommand(mirror(alloc))
 }
 
 /// Writes the help of a command under its whole name, after an empty line.
@@ -148,6 +162,7 @@ pub fn usage_text(alloc: Global) -> Result<String, AllocError> {
     push_help(&mut text, serve(alloc)?, "mpc_cli serve")?;
     push_help(&mut text, export(alloc), "mpc_cli export")?;
     push_help(&mut text, workload(alloc)?, "mpc_cli workload")?;
+    push_help(&mut text, mirror(alloc), "mpc_cli mirror")?;
     text.push_str("\n")?;
     text.push_str(program.render_version()?.as_str())?;
     Ok(text)
