@@ -1,5 +1,5 @@
 //! All that `main` does: it reads the words of the command line, makes the real source, sink, disks, clock and door,
-//! hands them to `top` of program_top, says on standard error what the operator must know, and ends with the status's
+//! and a mirror in memory, hands them to `top` of program_top, says on standard error what the operator must know, and ends with the status's
 //! number.
 //!
 //! It stands in a library, so that more than one program can be tried with it. What starts threads and opens sockets
@@ -18,6 +18,7 @@ use command_line::{Command, command_of};
 use desk_io::{NoMemory, StreamSink, StreamSource, SystemClock, TcpDoor};
 use disk_model::{FileDisk, NamedFile};
 use item_list::Bytes;
+use mirror_store::MemMirror;
 use program_door::ServingDoor;
 use program_top::top::top;
 use program_top::{Left, LinkEnds, Status, Words};
@@ -149,6 +150,9 @@ fn run<
     R: Threads + Wait + Sync,
 >(host: HostRuntime, net: N, rt: &R, words: &Words) -> Status {
     let alloc = host.alloc();
+    let Ok(mut mirror) = MemMirror::new(alloc, &[]) else {
+        return Status::NoMemory;
+    };
     let mut source = StreamSource::new(host.stdin());
     let mut sink = StreamSink::new(host.stdout());
     let mut clock = SystemClock::new(host);
@@ -165,6 +169,7 @@ fn run<
         second,
         &mut clock,
         &mut door,
+        &mut mirror,
     );
     tell_left(host, &ends);
     tell_status(host, &ended.status);

@@ -1,5 +1,5 @@
 //! All that the program does, as one call: the words of a command line choose a command, which is done over any source,
-//! sink, disk, clock and door.
+//! sink, disk, clock, door and mirror.
 //!
 //! `top` carries the theorem; the program, mpc_cli, hands it the real ones.
 #![tactic(auto)]

@@ -1,10 +1,11 @@
-//! The whole program, over any source, sink, two disks, clock and door.
+//! The whole program, over any source, sink, two disks, clock, door and mirror.
 
 ghost use Rattle.act_model.specs.Clocks.{clock_of};
 ghost use Rattle.command_line.specs.Commands.{command_of};
 ghost use Rattle.mpc_desk.specs.Pairs.{pair};
 ghost use Rattle.command_ends.specs.Courses.{source_words, sink_words, outside_words, change};
 ghost use Rattle.command_ends.specs.Disks.{disk_words};
+ghost use Rattle.mirror_store.specs.Words.{mirror_words};
 ghost use Rattle.serve_command.specs.Links.{link_words};
 ghost use Rattle.serve_command.specs.Promises.{door_words};
 ghost use Rattle.program_top.specs.Promises.{PromisesAlone, Promises};
@@ -15,6 +16,8 @@ use command_line::{Command, Words, command_of};
 use desk_io::{Clock, Door, Sink, Source};
 use disk_model::Disk;
 use export_command::export;
+use mirror_command::mirror as mirror_out;
+use mirror_store::Mirror;
 use run_command::run;
 use serve_command::serve;
 use std::alloc::Global;
@@ -31,9 +34,10 @@ use workload_command::workload;
 /// conduct from the history that the disks stood for, each request under a caller's number acts at most once, and the
 /// sink takes the texts of the replies and nothing else. A crash at any moment leaves files that stand for a history
 /// of that conduct. `export` writes the catalogue, the written function of the history that the disks stand for.
-/// `workload` writes the summary of a made-up workload, and calls nothing but the sink. What is promised of each stands
+/// `mirror` makes the mirror hold the rows of that history, whole or not at all; no other command calls it. `workload`
+/// writes the summary of a made-up workload, and calls nothing but the sink. What is promised of each stands
 /// in `specs/Promises.antt`.
-pub fn single<S: Source, K: Sink, D: Disk, C: Clock>(
+pub fn single<S: Source, K: Sink, D: Disk, C: Clock, M: Mirror>(
     alloc: Global,
     words: &Words,
     source: &mut S,
@@ -41,10 +45,12 @@ pub fn single<S: Source, K: Sink, D: Disk, C: Clock>(
     disk: D,
     second: D,
     clock: &mut C,
+    mirror: &mut M,
 ) -> Ended<D>
     ensures promises { PromisesAlone (source_words S.left S.gives S.faults S.is_open)
         (outside_words (sink_words K.taken K.faults K.is_open)
         (disk_words D.reads D.leaves D.moment D.since D.faults) (clock_of C.reading C.last))
+        (mirror_words M.told M.faults)
         (change source.old source.new)
         (record {
           sink = change sink.old sink.new;
@@ -53,11 +59,13 @@ pub fn single<S: Source, K: Sink, D: Disk, C: Clock>(
           added = result.added;
           status = result.status;
         })
+        (change mirror.old mirror.new)
         (command_of words.now) }
 {
     match command_of(words) {
         Some(Command::Run { key }) => run(alloc, key, source, sink, disk, second, clock),
         Some(Command::Export) => export(alloc, sink, disk, second),
+        Some(Command::Mirror) => mirror_out(alloc, sink, disk, second, mirror),
         Some(Command::Workload { seed, count }) => {
             let status = workload(alloc, seed, count, sink);
             not_begun(status, disk, second)
@@ -79,6 +87,7 @@ pub fn top<
     D: Disk + Send,
     C: Clock + Send,
     G: Door + Send,
+    M: Mirror,
     R: Threads + Wait + Sync,
 >(
     rt: &R,
@@ -90,10 +99,12 @@ pub fn top<
     second: D,
     clock: &mut C,
     door: &mut G,
+    mirror: &mut M,
 ) -> (Ended<D>, LinkEnds<G::In, G::Out>)
     ensures promises { Promises (source_words S.left S.gives S.faults S.is_open)
         (outside_words (sink_words K.taken K.faults K.is_open)
         (disk_words D.reads D.leaves D.moment D.since D.faults) (clock_of C.reading C.last))
+        (mirror_words M.told M.faults)
         (door_words G.links G.faults
         (link_words G.In.left G.In.gives G.In.faults G.In.is_open G.Out.taken G.Out.faults G.Out.is_open))
         (change source.old source.new)
@@ -104,6 +115,7 @@ pub fn top<
           added = result.0.added;
           status = result.0.status;
         })
+        (change mirror.old mirror.new)
         (record { door = change door.old door.new; ends = result.1 })
         (command_of words.now) }
 {
@@ -122,9 +134,10 @@ pub fn top<
             );
             (ended, LinkEnds::new(ends))
         }
-        Some(Command::Run { .. } | Command::Export | Command::Workload { .. }) | None => {
+        Some(Command::Run { .. } | Command::Export | Command::Mirror | Command::Workload { .. })
+        | None => {
             (
-                single(alloc, words, source, sink, disk, second, clock),
+                single(alloc, words, source, sink, disk, second, clock, mirror),
                 LinkEnds::new(Vec::new(alloc)),
             )
         }

@@ -11,14 +11,13 @@ use Rattle.act_model.specs.declared.keeper.OfficeState.{OfficeState}
 use Rattle.act_model.specs.declared.reply.Reply.{Reply}
 use Rattle.act_model.specs.declared.reply.Reply.TheVariants.{Done}
 use Rattle.act_model.specs.declared.request.Request.{Request}
-use Rattle.act_model.specs.Conducts.{Extends, EitherWay, IsAcknowledged, Makes}
+use Rattle.act_model.specs.Conducts.{Extends, IsAcknowledged, Makes}
 use Rattle.act_model.specs.Keepers.{TakesTurn}
 use Rattle.act_model.specs.Legal.{IsLegal}
 use Rattle.act_model.specs.Requests.{is_act}
 use Rattle.act_model.specs.Replies.{entry_answer}
 use Rattle.act_model.specs.Step.{Adds, outcome, step}
-use Rattle.act_model.specs.Turns.{Turn, Conduct, TakesReading, Answers, Mends, Takes, IsTurn, at_rest}
-use Rattle.act_model.specs.declared.keeper.Office.{Office}
+use Rattle.act_model.specs.Turns.{Turn, Conduct, TakesReading, Answers, Mends, IsTurn, at_rest}
 use Rattle.act_model.specs.declared.keeper.Stamp.{Stamp}
 use Rattle.intake_lock.specs.declared.view.Item.{Item}
 use Rattle.intake_lock.specs.Stamps.{Gave}

@@ -1,9 +1,9 @@
 //! Calls of the program on two empty disks in memory.
 
 use crate::links::{End, Exchanged, Sent, door_of, long_door, wrong_end, wrong_long_end};
-use desk_io::{Clock, Door, MemSink, MemSource, NoMemory, Sink, Source, TcpDoor, TickClock};
+use desk_io::{Clock, Door, NoMemory, Sink, Source, TcpDoor};
 use disk_model::{Disk, MemDisk};
-use obs_time::Instant;
+use mirror_store::{MemMirror, Mirror};
 use program_top::top::{single, top};
 use program_top::{Ended, LinkEnds, Words};
 use std::alloc::Global;
@@ -11,57 +11,17 @@ use std::net::{Net, TcpListener, TcpStream};
 use std::rt::Clock as HostClock;
 use std::sync::Wait;
 use std::thread::Threads;
-use testkit_sessions::{Call, Found, Wrong, words_of};
-
-/// How many bytes the sink has room for at first.
-const SINK_BYTES: usize = 65_536;
+use testkit_sessions::{Call, Devices, Wrong, has_ended};
 
 /// How many bytes a disk has room for.
 const DISK_BYTES: usize = 1_048_576;
-
-/// What the program is called over.
-#[derive(Drop)]
-struct Devices {
-    words: Words,
-    source: MemSource,
-    sink: MemSink,
-    clock: TickClock,
-}
-
-impl Devices {
-    fn new(alloc: Global, call: &Call) -> Result<Devices, Wrong> {
-        let Some(first) = Instant::new(call.start) else {
-            return Err(Wrong {
-                mark: call.mark,
-                found: Found::NoClock,
-            });
-        };
-        Ok(Devices {
-            words: words_of(alloc, call.words)?,
-            source: MemSource::new(alloc, call.bytes, call.greatest.max(1), &[call.read])?,
-            sink: MemSink::new(alloc, SINK_BYTES, &[call.write])?,
-            clock: TickClock::new(first, 1_000_000_000),
-        })
-    }
-}
 
 fn empty_disk(alloc: Global) -> Result<MemDisk, NoMemory> {
     MemDisk::new(alloc, &[], DISK_BYTES, &[])
 }
 
-/// Whether a call that ended so is as wanted.
-fn is_met<D: Disk>(
-    alloc: Global,
-    call: &Call,
-    ended: &Ended<D>,
-    sink: &MemSink,
-) -> Result<(), Wrong> {
-    let status = format!(in alloc; "{}", ended.status)?;
-    call.is_met(status, ended.status.number(), ended.added, sink.bytes())
-}
-
 /// `single`, without its clauses.
-fn called<S: Source, K: Sink, D: Disk, C: Clock>(
+fn called<S: Source, K: Sink, D: Disk, C: Clock, M: Mirror>(
     alloc: Global,
     words: &Words,
     source: &mut S,
@@ -69,8 +29,9 @@ fn called<S: Source, K: Sink, D: Disk, C: Clock>(
     disk: D,
     second: D,
     clock: &mut C,
+    mirror: &mut M,
 ) -> Ended<D> {
-    single(alloc, words, source, sink, disk, second, clock)
+    single(alloc, words, source, sink, disk, second, clock, mirror)
 }
 
 /// `top`, without its clauses.
@@ -80,6 +41,7 @@ fn served<
     D: Disk + Send,
     C: Clock + Send,
     G: Door + Send,
+    M: Mirror,
     R: Threads + Wait + Sync,
 >(
     rt: &R,
@@ -91,8 +53,11 @@ fn served<
     second: D,
     clock: &mut C,
     door: &mut G,
+    mirror: &mut M,
 ) -> (Ended<D>, LinkEnds<G::In, G::Out>) {
-    top(rt, alloc, words, source, sink, disk, second, clock, door)
+    top(
+        rt, alloc, words, source, sink, disk, second, clock, door, mirror,
+    )
 }
 
 /// Calls `single` on two empty disks.
@@ -103,6 +68,7 @@ fn served<
 pub fn call_single(alloc: Global, call: &Call) -> Result<(), Wrong> {
     let (disk, second) = (empty_disk(alloc)?, empty_disk(alloc)?);
     let mut devices = Devices::new(alloc, call)?;
+    let mut mirror = MemMirror::new(alloc, &[])?;
     let ended = called(
         alloc,
         &devices.words,
@@ -111,8 +77,9 @@ pub fn call_single(alloc: Global, call: &Call) -> Result<(), Wrong> {
         disk,
         second,
         &mut devices.clock,
+        &mut mirror,
     );
-    is_met(alloc, call, &ended, &devices.sink)
+    has_ended(alloc, call, &ended, &devices.sink)
 }
 
 /// Calls `top` on two empty disks, with links that come through this door, and gives how they ended.
@@ -128,6 +95,7 @@ pub(crate) fn call_top<G: Door + Send, R: Threads + Wait + Sync>(
 ) -> Result<LinkEnds<G::In, G::Out>, Wrong> {
     let (disk, second) = (empty_disk(alloc)?, empty_disk(alloc)?);
     let mut devices = Devices::new(alloc, call)?;
+    let mut mirror = MemMirror::new(alloc, &[])?;
     let (ended, ends) = served(
         rt,
         alloc,
@@ -138,8 +106,9 @@ pub(crate) fn call_top<G: Door + Send, R: Threads + Wait + Sync>(
         second,
         &mut devices.clock,
         door,
+        &mut mirror,
     );
-    is_met(alloc, call, &ended, &devices.sink)?;
+    has_ended(alloc, call, &ended, &devices.sink)?;
     Ok(ends)
 }
 

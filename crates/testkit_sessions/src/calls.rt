@@ -74,17 +74,7 @@ impl<'a> Call<'a> {
 
     /// Whether a call is as wanted that ended with this status, as it is printed, and its number, after so many
     /// entries, and wrote these bytes.
-    ///
-    /// # Errors
-    ///
-    /// The first of them that isn't.
-    pub fn is_met(
-        &self,
-        status: String,
-        number: u8,
-        added: u64,
-        taken: &[u8],
-    ) -> Result<(), Wrong> {
+    fn is_met(&self, status: String, number: u8, added: u64, taken: &[u8]) -> Result<(), Wrong> {
         if status.as_str() != self.status {
             return self.wrong(Found::Status(status));
         }
@@ -183,6 +173,38 @@ impl<'a> Drives<'a> {
     }
 }
 
+/// What a call is made over beside its disks, all of it in memory.
+#[derive(Drop)]
+pub struct Devices {
+    pub words: Words,
+    pub source: MemSource,
+    pub sink: MemSink,
+    pub clock: TickClock,
+}
+
+impl Devices {
+    /// What this call is made over. Its sink has room for more than is wanted.
+    ///
+    /// # Errors
+    ///
+    /// Memory was refused, or its clock can't begin there.
+    pub fn new(alloc: Global, call: &Call) -> Result<Devices, Wrong> {
+        let Some(first) = Instant::new(call.start) else {
+            return Err(Wrong {
+                mark: call.mark,
+                found: Found::NoClock,
+            });
+        };
+        let room = call.taken.len().saturating_add(65_536);
+        Ok(Devices {
+            words: words_of(alloc, call.words)?,
+            source: MemSource::new(alloc, call.bytes, call.greatest.max(1), &[call.read])?,
+            sink: MemSink::new(alloc, room, &[call.write])?,
+            clock: TickClock::new(first, 1_000_000_000),
+        })
+    }
+}
+
 /// The words of a command line.
 ///
 /// # Errors
@@ -220,35 +242,42 @@ fn called<S: Source, K: Sink, D: Disk, C: Clock>(
 
 /// Makes a call on these two disks, looks whether it is as wanted, and gives them back.
 fn call_on<D: Disk>(alloc: Global, call: &Call, disks: (D, D)) -> Result<(D, D), Wrong> {
-    let words = words_of(alloc, call.words)?;
-    let mut source = MemSource::new(alloc, call.bytes, call.greatest.max(1), &[call.read])?;
-    let room = call.taken.len().saturating_add(65_536);
-    let mut sink = MemSink::new(alloc, room, &[call.write])?;
-    let Some(reading) = Instant::new(call.start) else {
-        return Err(Wrong {
-            mark: call.mark,
-            found: Found::NoClock,
-        });
-    };
-    let mut clock = TickClock::new(reading, 1_000_000_000);
+    let mut devices = Devices::new(alloc, call)?;
     let (disk, second) = disks;
     let ended = called(
         alloc,
-        &words,
-        &mut source,
-        &mut sink,
+        &devices.words,
+        &mut devices.source,
+        &mut devices.sink,
         disk,
         second,
-        &mut clock,
+        &mut devices.clock,
     );
-    let status = format!(in alloc; "{}", ended.status)?;
-    let number = ended.status.number();
-    call.is_met(status, number, ended.added, sink.bytes())?;
+    has_ended(alloc, call, &ended, &devices.sink)?;
     Ok((ended.disk, ended.second))
 }
 
+/// Whether a call that ended so is as wanted.
+///
+/// # Errors
+///
+/// What is wrong with it.
+pub fn has_ended<D: Disk>(
+    alloc: Global,
+    call: &Call,
+    ended: &Ended<D>,
+    sink: &MemSink,
+) -> Result<(), Wrong> {
+    let status = format!(in alloc; "{}", ended.status)?;
+    call.is_met(status, ended.status.number(), ended.added, sink.bytes())
+}
+
 /// The two disks of a call before it was made.
-fn disks_of(alloc: Global, drives: &Drives) -> Result<(MemDisk, MemDisk), NoMemory> {
+///
+/// # Errors
+///
+/// Memory was refused.
+pub fn disks_of(alloc: Global, drives: &Drives) -> Result<(MemDisk, MemDisk), NoMemory> {
     Ok((drives.first.disk(alloc)?, drives.second.disk(alloc)?))
 }
 
@@ -299,8 +328,21 @@ pub fn call_in_turn(alloc: Global, drives: &Drives, calls: &[Call]) -> Result<()
     for call in calls {
         disks = after_crash(call_on(alloc, call, disks)?, call.pick);
     }
+    are_left(alloc, drives, disks, calls.len())
+}
+
+/// Whether the files of the two disks are those that are asked, after so many calls.
+///
+/// # Errors
+///
+/// Which one isn't.
+pub fn are_left<D: Disk>(
+    alloc: Global,
+    drives: &Drives,
+    disks: (D, D),
+    mark: usize,
+) -> Result<(), Wrong> {
     let (first, second) = disks;
-    let mark = calls.len();
     if !is_left(alloc, first, drives.first.left)? {
         let found = Found::File(1);
         return Err(Wrong { mark, found });

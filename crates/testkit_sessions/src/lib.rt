@@ -21,7 +21,9 @@ mod whole_session;
 mod wrong;
 
 pub use batches::BATCHES;
-pub use calls::{Call, Drive, Drives, call_alone, call_in_turn, words_of};
+pub use calls::{
+    Call, Devices, Drive, Drives, are_left, call_alone, call_in_turn, disks_of, has_ended, words_of,
+};
 pub use exchange::{Exchange, Frames};
 pub use journals::{CHAINED, ENROLLED, ENROLS, PLAIN};
 pub use pieces::{

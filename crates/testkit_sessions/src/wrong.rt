@@ -24,6 +24,10 @@ pub enum Found {
     Entries(u64),
     /// From this place on it wrote other bytes, or more, or no more.
     BytesFrom(usize),
+    /// The mirror holds these objects, or these observations; or it doesn't tell what it holds.
+    Objects(String),
+    Sights(String),
+    Untold,
     /// The file of the first disk or the second is another one, or the disk doesn't tell it.
     File(u8),
 }

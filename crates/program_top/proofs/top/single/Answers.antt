@@ -6,7 +6,7 @@ use Rattle.command_ends.specs.declared.status.Status.{Status}
 use Rattle.command_ends.specs.Courses.{sink_words, change}
 use Rattle.workload_command.specs.Promises.{KeepsWorkload}
 use Rattle.program_top.specs.Jobs.{is_done_alone}
-use Rattle.program_top.proofs.Promised.{by_run, by_export, by_workload, by_usage}
+use Rattle.program_top.proofs.Promised.{by_run, by_export, by_mirror, by_workload, by_usage}
 use Rattle.program_top.proofs.top.single.Goals as goal
 
 -- the words name this command
@@ -16,14 +16,21 @@ named words result command one reads some is = cc
 pub returns-in-Some-Run : goal.returns-in-Some-Run
 returns-in-Some-Run g c = record {
   promises =
-      by_run _ _ _ _ (command_of c.args.words.now) c.in-Some-Run.key (named c.args.words.now c.command_of.result c.in-Some-Run.field-0 _ c.command_of.ensures.command c.in-Some-Run.is c.in-Some-Run.field-0-is) c.run.ensures.promises;
+      by_run _ _ _ _ _ _ (command_of c.args.words.now) c.in-Some-Run.key (named c.args.words.now c.command_of.result c.in-Some-Run.field-0 _ c.command_of.ensures.command c.in-Some-Run.is c.in-Some-Run.field-0-is) refl c.run.ensures.promises;
 }
 
 pub returns-in-Some-Export : goal.returns-in-Some-Export
 returns-in-Some-Export g c = record {
   promises =
-      by_export _ _ _ _ (command_of c.args.words.now) (named c.args.words.now c.command_of.result c.in-Some-Export.field-0 _ c.command_of.ensures.command c.in-Some-Export.is c.in-Some-Export.field-0-is)
-      (record { source_rests = refl; clock_rests = refl; keeps = c.export.ensures.promises });
+      by_export _ _ _ _ _ _ (command_of c.args.words.now) (named c.args.words.now c.command_of.result c.in-Some-Export.field-0 _ c.command_of.ensures.command c.in-Some-Export.is c.in-Some-Export.field-0-is)
+      refl (record { source_rests = refl; clock_rests = refl; keeps = c.export.ensures.promises });
+}
+
+pub returns-in-Some-Mirror : goal.returns-in-Some-Mirror
+returns-in-Some-Mirror g c = record {
+  promises =
+      by_mirror _ _ _ _ _ _ (command_of c.args.words.now) (named c.args.words.now c.command_of.result c.in-Some-Mirror.field-0 _ c.command_of.ensures.command c.in-Some-Mirror.is c.in-Some-Mirror.field-0-is)
+      (record { source_rests = refl; clock_rests = refl; keeps = c.mirror.ensures.promises });
 }
 
 pub returns-in-Some-Workload : goal.returns-in-Some-Workload
@@ -32,8 +39,8 @@ returns-in-Some-Workload g c =
     let count = c.in-Some-Workload.count in
     record {
       promises =
-          by_workload _ _ _ _ (command_of c.args.words.now) seed count (named c.args.words.now c.command_of.result c.in-Some-Workload.field-0 _ c.command_of.ensures.command c.in-Some-Workload.is c.in-Some-Workload.field-0-is)
-          (record {
+          by_workload _ _ _ _ _ _ (command_of c.args.words.now) seed count (named c.args.words.now c.command_of.result c.in-Some-Workload.field-0 _ c.command_of.ensures.command c.in-Some-Workload.is c.in-Some-Workload.field-0-is)
+          refl (record {
             source_rests = refl;
             clock_rests = refl;
             disks_rest = same_pair _ _ _ _ c.not_begun.ensures.disk c.not_begun.ensures.second;
@@ -47,4 +54,4 @@ pub returns-in-Some-Serve : goal.returns-in-Some-Serve
 returns-in-Some-Serve g c =
     let none : is_done_alone (command_of c.args.words.now) ≡ false = search rules in
     let begun = c.not_begun-in-Some-Serve.ensures in
-    record { promises = by_usage _ _ _ _ (command_of c.args.words.now) none (record { status = begun.status; uncalled = (refl, refl, refl); disks = same_pair _ _ _ _ begun.disk begun.second; added = begun.added }) }
+    record { promises = by_usage _ _ _ _ _ _ (command_of c.args.words.now) none refl (record { status = begun.status; uncalled = (refl, refl, refl); disks = same_pair _ _ _ _ begun.disk begun.second; added = begun.added }) }

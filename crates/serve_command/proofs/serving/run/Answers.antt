@@ -12,7 +12,7 @@ use Rattle.mpc_desk.specs.PairLaws.{same_pair}
 use Rattle.serve_command.specs.Runs.{HaveRisenBy}
 use Rattle.serve_command.proofs.Gathering.{no_longer}
 use Rattle.serve_command.proofs.Mending.{closed_so, mending_extends, extends_to, ends_legal, rose_between, rises_at_least, counted, no_call_rose, quiet_calls, no_write_so_far, writes_as}
-use Rattle.serve_command.specs.Images.{Answered, AskedBy, WasAsked, WasBetween}
+use Rattle.serve_command.specs.Images.{AskedBy, WasAsked, WasBetween}
 use Rattle.serve_command.proofs.KeptLemmas.{all_weaker, asked_by, kept_calls}
 use Rattle.serve_command.proofs.WatchLemmas.{GrowthLaws, between_more, during_more, service_images}
 use Rattle.serve_command.proofs.serving.run.Goals as goal
