@@ -1,0 +1,14 @@
+pub mod Readings
+pub mod Steps
+pub mod Sightings
+pub mod Designating
+pub mod Findings
+pub mod Names
+pub mod Legal
+pub mod Conducts
+pub mod DiskFaults
+pub mod Acknowledged
+pub mod Lines
+pub mod Examples
+pub mod Worlds
+pub mod Fresh
