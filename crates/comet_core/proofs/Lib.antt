@@ -1,0 +1,5 @@
+mod CometLemmas
+mod SliceLemmas
+mod PlaceLemmas
+mod HearLemmas
+mod WorkLemmas

@@ -1,0 +1,4 @@
+pub mod Comets
+pub mod Book
+pub mod Register
+pub mod Preparing
