@@ -1,0 +1,11 @@
+mod Commands
+mod Rows
+mod Deleting
+mod Adding
+mod Failing
+mod Listing
+mod Codes
+mod Same
+mod Putting
+mod Creating
+mod Back

@@ -1,0 +1,31 @@
+use Rattle.sqlite.specs.Held.{state}
+use Rattle.mirror_sqlite.proofs.Commands.{list_objects, list_objects_is}
+use Rattle.mirror_sqlite.proofs.Failing.{shown_keeps, failed_query_keeps, query_survives}
+use Rattle.mirror_sqlite.proofs.Listing.{lists_objects}
+use Rattle.mirror_sqlite.proofs.texts.objects.Goals as goal
+
+pub returns-in-Ok-clause-lists : goal.returns-in-Ok-clause-lists
+returns-in-Ok-clause-lists g c clean =
+    lists_objects (state g.S.Store c.args.conn.now) (state g.S.Store c.query_all-found.new.self) c.as_slice.result.now
+    c.in-Ok.rows.items c.objects_of.result c.as_slice.ensures.value (c.in-Ok.ensures.ok clean) c.objects_of.ensures.shown
+    c.objects_of.ensures.range
+
+pub returns-in-Ok-clause-kept : goal.returns-in-Ok-clause-kept
+returns-in-Ok-clause-kept g c clean =
+    shown_keeps list_objects _ list_objects_is.2 (state g.S.Store c.args.conn.now) (state g.S.Store c.query_all-found.new.self)
+    c.in-Ok.rows.items (c.in-Ok.ensures.ok clean)
+
+pub returns-in-Ok-clause-survives : goal.returns-in-Ok-clause-survives
+returns-in-Ok-clause-survives g c lists held =
+    query_survives list_objects _ list_objects_is.2 (state g.S.Store c.args.conn.now) (state g.S.Store c.query_all-found.new.self) lists
+    held c.query_all-found.ensures.survives
+
+pub returns-in-Err-clause-kept : goal.returns-in-Err-clause-kept
+returns-in-Err-clause-kept g c clean =
+    failed_query_keeps list_objects _ list_objects_is.2 (state g.S.Store c.args.conn.now) (state g.S.Store c.query_all-found.new.self)
+    c.in-Err.error (c.in-Err.ensures.err clean)
+
+pub returns-in-Err-clause-survives : goal.returns-in-Err-clause-survives
+returns-in-Err-clause-survives g c lists held =
+    query_survives list_objects _ list_objects_is.2 (state g.S.Store c.args.conn.now) (state g.S.Store c.query_all-found.new.self) lists
+    held c.query_all-found.ensures.survives

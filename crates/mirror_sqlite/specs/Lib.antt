@@ -1,0 +1,5 @@
+pub mod Tables
+pub mod Stored
+pub mod Holding
+pub mod Faults
+pub mod SqlMirrors

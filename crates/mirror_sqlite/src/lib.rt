@@ -1,0 +1,11 @@
+//! The mirror of the catalogue in SQLite: its two tables, and the statements on them.
+#![tactic(auto)]
+
+pub mod faults;
+pub mod reading;
+pub mod replacing;
+mod sql_mirror;
+pub mod tables;
+pub mod texts;
+
+pub use sql_mirror::SqlMirror;
