@@ -100,12 +100,17 @@ const MEM_WRITES: Writes = &[
     ("", Some(0)),
 ];
 
+// The first wrong write to a sink in memory with room for five bytes, whose second call fails, and whether it has taken
+// five bytes.
+fn writes_in_memory(alloc: Global) -> Result<(Option<usize>, bool), NoMemory> {
+    let mut sink = MemSink::new(alloc, 5, &[2])?;
+    let wrong = wrong_write(&mut sink, MEM_WRITES);
+    Ok((wrong, sink.bytes() == b"abcde".as_slice()))
+}
+
 #[test]
 fn sink_in_memory(rt: HostRuntime) -> Result<(), Fail> {
-    let mut sink = MemSink::new(rt.alloc(), 5, &[2])?;
-    let wrong = wrong_write(&mut sink, MEM_WRITES);
-    let taken = sink.bytes() == b"abcde".as_slice();
-    assert_eq!(rt; (wrong, taken), (None, true));
+    assert_eq!(rt; writes_in_memory(rt.alloc())?, (None, true));
     Ok(())
 }
 
@@ -142,18 +147,22 @@ fn door_in_memory(rt: HostRuntime) -> Result<(), Fail> {
     Ok(())
 }
 
-// What becomes of two whole writes.
-fn two_writes<K: Sink>(sink: &mut K, one: &[u8], other: &[u8]) -> [Result<(), Failed>; 2] {
-    let first = write_all(sink, one);
-    [first, write_all(sink, other)]
+// Whether the first and the second of two pieces are written whole.
+fn two_writes<K: Sink>(sink: &mut K, one: &[u8], other: &[u8]) -> (bool, bool) {
+    let first = write_all(sink, one).is_ok();
+    (first, write_all(sink, other).is_ok())
+}
+
+// The same of a sink in memory with room for five bytes, and whether it has taken those bytes.
+fn whole_writes(alloc: Global) -> Result<((bool, bool), bool), NoMemory> {
+    let mut sink = MemSink::new(alloc, 5, &[])?;
+    let written = two_writes(&mut sink, b"abc", b"defg");
+    Ok((written, sink.bytes() == b"abcde".as_slice()))
 }
 
 #[test]
 fn whole_writes_in_memory(rt: HostRuntime) -> Result<(), Fail> {
-    let mut narrow = MemSink::new(rt.alloc(), 5, &[])?;
-    let written = two_writes(&mut narrow, b"abc", b"defg");
-    let taken = narrow.bytes() == b"abcde".as_slice();
-    assert_eq!(rt; (written, taken), ([Ok(()), Err(Failed)], true));
+    assert_eq!(rt; whole_writes(rt.alloc())?, ((true, false), true));
     Ok(())
 }
 
@@ -241,13 +250,17 @@ fn takes_until_its_end<K: Sink>(sink: &mut K) -> bool {
     write_all(sink, b"f") == Err(Failed)
 }
 
+// The same of a sink over a writer, and whether the writer has the piece.
+fn writer_takes(alloc: Global) -> (bool, bool) {
+    let mut bytes = Vec::new(alloc);
+    let mut sink = StreamSink::new(&mut bytes);
+    let is_taken = takes_until_its_end(&mut sink);
+    (is_taken, bytes.as_slice() == b"abcde".as_slice())
+}
+
 #[test]
 fn sink_over_a_writer(rt: HostRuntime) {
-    let mut bytes = Vec::new(rt.alloc());
-    let mut sink = StreamSink::new(&mut bytes);
-    let taken = takes_until_its_end(&mut sink);
-    assert!(rt; taken);
-    assert_eq!(rt; bytes.as_slice(), b"abcde".as_slice());
+    assert_eq!(rt; writer_takes(rt.alloc()), (true, true));
 }
 
 const FULL_WRITES: Writes = &[("abcd", Some(3)), ("d", None), ("", Some(0))];
