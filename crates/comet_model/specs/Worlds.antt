@@ -1,5 +1,5 @@
--- Worlds: what may come over a register on a disk beside an office whose history grows, one event after another. Replies
--- are lost, the founding officer sends again, the register stops at any moment and is opened again.
+-- Worlds: what may come over a register on a disk beside an office whose history grows, one event after another.
+-- Replies are lost, the founding officer sends again, the register stops at any moment and is opened again.
 use Rattle.std.specs.Prelude.{◌≡◌, ◌⊎◌, ℕ, ℤ, Bool, true, false, List, [], ◌∷◌, Option, IsSome}
 use Rattle.std.specs.List.{AllByRecursion}
 use Rattle.obs_time.specs.Instants.{IsInstantNs}

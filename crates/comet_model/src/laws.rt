@@ -262,8 +262,8 @@ pub fn no_faults()
 /// In every world from the empty register, whatever is lost, sent again or stopped at any moment, and however the
 /// office's history grows meanwhile: the settled register is legal over the office's history as it is now, with the act
 /// in doubt and without, and each number acts at most once. Each act whose 200 was received is acknowledged by the
-/// register as it is now; sent again, it is answered alike and leaves the register. As a world goes on, what was settled
-/// stays.
+/// register as it is now; sent again, it is answered alike and leaves the register. As a world goes on, what was
+/// settled stays.
 pub fn each_once()
     ensures legal { (founder : Key) (limit : Option ℕ) (history : List Entry) (events : List Event)
         (after : WorldState) → World founder limit (new_register history) events after →

@@ -1,6 +1,6 @@
 //! All that `main` does: it reads the words of the command line, makes the real source, sink, disks, clock and door,
-//! and a mirror in memory, hands them to `top` of program_top, says on standard error what the operator must know, and ends with the status's
-//! number.
+//! and a mirror in memory, hands them to `top` of program_top, says on standard error what the operator must know, and
+//! ends with the status's number.
 //!
 //! It stands in a library, so that more than one program can be tried with it. What starts threads and opens sockets
 //! comes from `main`, which alone has it.
