@@ -48,6 +48,11 @@ impl<D: Disk> Model for ChainedDesk<D> {
     ghost invariant = { λ d. IsDesk D.leaves d.core d.journal d.doubt };
 }
 
+/// Lets an office go. So deep a type is let go in one place, since the proof of that takes long.
+pub(crate) fn let_go(core: Core) {
+    drop(core);
+}
+
 /// Adds the entry of the act in doubt, where its parcel was kept.
 fn settle(core: &mut Core, doubt: Option<Prepared>, settled: Settled)
     requires next { IfSome doubt (IsNext core.old) }
@@ -116,7 +121,8 @@ impl<D: Disk> ChainedDesk<D> {
     pub fn close(self) -> D
         ensures { result ≡ self.disk }
     {
-        let ChainedDesk { journal, .. } = self;
+        let ChainedDesk { journal, core, .. } = self;
+        let_go(core);
         journal.close()
     }
 }

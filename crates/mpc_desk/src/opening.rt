@@ -21,7 +21,7 @@ ghost use Rattle.mpc_desk.specs.Pairs.{pair};
 ghost use Rattle.mpc_desk.specs.Opening.{ComesNext, IsNotNext, StopsIn, IsDamagedFirst, IsDamagedSecond, second_after};
 ghost use Rattle.mpc_desk.specs.Opening.{EndsMove, EndsOpening};
 
-use crate::chained::ChainedDesk;
+use crate::chained::{ChainedDesk, let_go};
 use crate::desk::Desk;
 use crate::laws as desk_laws;
 use act_model::Key;
@@ -111,7 +111,10 @@ fn open_second<D: Disk>(
             limit,
             doubt: None,
         }),
-        Err(fault) => Err((fault, journal.close())),
+        Err(fault) => {
+            let_go(core);
+            return Err((fault, journal.close()));
+        }
     }
 }
 
@@ -164,7 +167,10 @@ fn move_over<D: Disk>(
 {
     let parcels = match take_first(alloc, &mut core, first) {
         Ok(parcels) => parcels,
-        Err(fault) => return Err((fault, second)),
+        Err(fault) => {
+            let_go(core);
+            return Err((fault, second));
+        }
     };
     match Journal::carried(&parcels, second) {
         Ok(journal) => {
@@ -178,7 +184,10 @@ fn move_over<D: Disk>(
                 doubt: None,
             })
         }
-        Err(second) => Err((OpenFault::DiskFault, second)),
+        Err(second) => {
+            let_go(core);
+            return Err((OpenFault::DiskFault, second));
+        }
     }
 }
 
@@ -213,6 +222,7 @@ impl<D: Disk> Desk<D> {
             return Err((OpenFault::NoMemory, disk, second));
         };
         let Ok(is_in_force) = in_force(&mut second) else {
+            let_go(core);
             return Err((OpenFault::DiskFault, disk, second));
         };
         if is_in_force {

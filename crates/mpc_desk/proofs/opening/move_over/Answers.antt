@@ -38,8 +38,8 @@ returns-in-Err-carried g c =
           c.in-Err-carried.second (parcels_of c.in-Ok.parcels) c.in-Ok.ensures.spelled c.in-Err-carried.ensures.any_moment c.in-Err-carried.ensures.counts c.in-Err-carried.ensures.cause;
     }
 
-pub returns-in-Ok-carried : goal.returns-in-Ok-carried
-returns-in-Ok-carried g c =
+pub returns : goal.returns
+returns g c =
     let on = disk_words g.D.Disk.reads g.D.Disk.leaves g.D.Disk.moment g.D.Disk.since g.D.Disk.faults in
     let did = c.take_first.ensures in
     record {

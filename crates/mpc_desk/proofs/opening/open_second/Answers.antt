@@ -16,15 +16,15 @@ invariant_of-result g c =
     (let fits : c.in-Ok.opened.0.reached.position < 2 ^ 64 = omega (arith, c.position.ensures, c.position.type_inv) in fits)
     (c.in-Ok-replay_all.ensures.taken ∙ ap parcels_of c.as_slice.ensures) c.in-Ok-replay_all.ensures.legal c.in-Ok-replay_all.ensures.acts
 
-pub returns-in-Ok-replay_all-clause-at_rest : goal.returns-in-Ok-replay_all-clause-at_rest
-returns-in-Ok-replay_all-clause-at_rest g c =
+pub returns-clause-at_rest : goal.returns-clause-at_rest
+returns-clause-at_rest g c =
     rests_opened g.D.Disk.leaves c.replay_all.new.core c.in-Ok.opened.0
     (opened_desk g.D.Disk.leaves c.replay_all.new.core c.in-Ok.opened.0 (parcels_of c.in-Ok.opened.1) c.in-Ok.ensures.stands
     (let fits : c.in-Ok.opened.0.reached.position < 2 ^ 64 = omega (arith, c.position.ensures, c.position.type_inv) in fits)
     (c.in-Ok-replay_all.ensures.taken ∙ ap parcels_of c.as_slice.ensures) c.in-Ok-replay_all.ensures.legal c.in-Ok-replay_all.ensures.acts)
 
-pub returns-in-Ok-replay_all-clause-stands : goal.returns-in-Ok-replay_all-clause-stands
-returns-in-Ok-replay_all-clause-stands g c =
+pub returns-clause-stands : goal.returns-clause-stands
+returns-clause-stands g c =
     if_some (g.D.Disk.reads c.args.second) (λ file. IsChain file (parcels_of c.in-Ok.opened.1)) (λ file. Stands file c.replay_all.new.core.history)
     (λ file chain. record {
       chained = subst (λ (ps : List _). IsChain file ps) (sym (c.in-Ok-replay_all.ensures.taken ∙ ap parcels_of c.as_slice.ensures)) chain;
