@@ -59,8 +59,8 @@ abbrev pub AreCounted : List Entry → Type 0
 AreCounted history = observations (deeds history) ≤ greatest
 
 -- Done: the mirror holds the rows, and their line was written. WriteFault: it holds them, and the sink took a front of
--- the line and not all of it. MirrorFault: nothing has changed. NoMemory: nothing has, and there aren't too many accepted
--- observations. TooMany: nothing was called.
+-- the line and not all of it. MirrorFault: nothing has changed. NoMemory: nothing has, and there aren't too many
+-- accepted observations. TooMany: nothing was called.
 abbrev pub AtHistory : {K M : Type 0} → SinkWords K → MirrorWords M → Change K → Change M → List Entry → Status → Type 0
 AtHistory write kept sink mirror history Done =
     Holds kept mirror history × Appends (write.taken sink.old) (write.taken sink.new) (line_of_history history)

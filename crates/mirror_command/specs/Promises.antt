@@ -16,8 +16,8 @@ use Rattle.mirror_command.specs.Ends.{Course, Mirrors, IsCounted, IsOwn}
 -- What the mirror holds, what was written and what is kept at each end.
 --
 -- Files that stand for a legal history, under whatever founding officer, and no fault give `Done`, `TooMany` exactly
--- where there are more rows than can be counted, or `NoMemory`; and such files aren't damaged. Each fault has its cause.
--- It ends with none of the statuses of other commands.
+-- where there are more rows than can be counted, or `NoMemory`; and such files aren't damaged. Each fault has its
+-- cause. It ends with none of the statuses of other commands.
 pub record KeepsMirror {K D M : Type 0} (write : SinkWords K) (on : DiskWords D) (kept : MirrorWords M)
     (course : Course K D M) (status : Status) : Type 0 where
   pub mirrors : Mirrors write on kept course status

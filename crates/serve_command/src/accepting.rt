@@ -6,7 +6,8 @@ ghost use denote.Param.Send.{IsSend, IsSync};
 ghost use Rattle.intake_lock.specs.Views.{stem, branch};
 ghost use Rattle.act_model.specs.Clocks.{clock_of};
 ghost use Rattle.serve_command.specs.Links.{link_words, link_start, IsLinkAttended};
-ghost use Rattle.serve_command.specs.Gathering.{door_of, Stops, IsRootFor, IsSamePass, gather_start, gather_end, Gathers};
+ghost use Rattle.serve_command.specs.Gathering.{door_of, Stops, IsRootFor, IsSamePass, gather_start, gather_end};
+ghost use Rattle.serve_command.specs.Gathering.{Gathers};
 
 use crate::attending::attend_link;
 use crate::ends::LinkEnd;
