@@ -3,3 +3,4 @@ pub mod Stored
 pub mod Holding
 pub mod Faults
 pub mod SqlMirrors
+pub mod FileMirrors

@@ -1,6 +1,7 @@
 //! Errors of the database as those of the mirror.
 
-ghost use Rattle.std.specs.Prelude.{◌≡◌};
+ghost use Rattle.std.specs.Prelude.{◌≡◌, ◌≢◌};
+ghost use Rattle.desk_io.specs.Outside.{one_more};
 ghost use Rattle.mirror_sqlite.specs.Faults.{fault_of};
 
 use mirror_store::MirrorErr;
@@ -13,5 +14,16 @@ pub fn fault(error: Error) -> MirrorErr
     match error {
         Error::SqliteFailure(ErrorCode::OutOfMemory) => MirrorErr::NoMemory,
         _ => MirrorErr::Failed,
+    }
+}
+
+/// The count of faults after a call with this answer.
+pub fn faults_after<T>(faults: u64, answer: &Result<T, MirrorErr>) -> u64
+    ensures failed { answer.now ≡ Err MirrorErr.Failed → result ≡ one_more faults }
+    ensures passed { answer.now ≢ Err MirrorErr.Failed → result ≡ faults }
+{
+    match answer {
+        Err(MirrorErr::Failed) => faults.saturating_add(1),
+        Err(MirrorErr::NoMemory) | Ok(_) => faults,
     }
 }

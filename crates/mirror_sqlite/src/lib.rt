@@ -2,10 +2,12 @@
 #![tactic(auto)]
 
 pub mod faults;
+mod file_mirror;
 pub mod reading;
 pub mod replacing;
 mod sql_mirror;
 pub mod tables;
 pub mod texts;
 
+pub use file_mirror::FileMirror;
 pub use sql_mirror::SqlMirror;

@@ -10,6 +10,7 @@ ghost use Rattle.mirror_store.specs.Mirrors.{between, IsReplaced, TellsObjects, 
 ghost use Rattle.mirror_sqlite.specs.Holding.{no_rows};
 ghost use Rattle.mirror_sqlite.specs.SqlMirrors.{tables, IsReady, lists_of};
 
+use crate::faults::faults_after;
 use crate::replacing::replace;
 use crate::tables::empty_tables;
 use crate::texts::{between, objects};
@@ -111,17 +112,6 @@ impl Mirror for SqlMirror {
         self.conn = conn;
         self.faults = faults_after(self.faults, &answer);
         answer
-    }
-}
-
-/// The count of faults after a call with this answer.
-fn faults_after<T>(faults: u64, answer: &Result<T, MirrorErr>) -> u64
-    ensures failed { answer.now ≡ Err MirrorErr.Failed → result ≡ one_more faults }
-    ensures passed { answer.now ≢ Err MirrorErr.Failed → result ≡ faults }
-{
-    match answer {
-        Err(MirrorErr::Failed) => faults.saturating_add(1),
-        Err(MirrorErr::NoMemory) | Ok(_) => faults,
     }
 }
 

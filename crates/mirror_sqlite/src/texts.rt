@@ -21,6 +21,16 @@ use sqlite::types::ValueRef;
 use sqlite::{Alter, Connection, Transaction};
 use std::alloc::Global;
 
+const ADD_OBJECT: &str = "INSERT INTO object VALUES (?1, ?2, ?3, ?4)";
+
+const ADD_SIGHT: &str = "INSERT INTO sight VALUES (?1, ?2, ?3, ?4, ?5, ?6)";
+
+const LIST_OBJECTS: &str =
+    "SELECT place, principal, number, observations FROM object ORDER BY place";
+
+const LIST_SIGHTS: &str =
+    "SELECT id, object, time, ra, dec, station FROM sight WHERE time >= ?1 AND time < ?2 ORDER BY time, id";
+
 /// The text of a label.
 fn name(label: &Label) -> &[u8]
     requires { (text : List ℕ) × IsLabelOf text label.now }
@@ -110,7 +120,7 @@ pub fn add_object<S: Alter>(tx: &mut Transaction<'_, S>, row: &ObjectRow) -> Res
         ValueRef::Int(i64::from(row.number)),
         ValueRef::Int(i64::from(row.observations)),
     ];
-    match tx.execute("INSERT INTO object VALUES (?1, ?2, ?3, ?4)", &values) {
+    match tx.execute(ADD_OBJECT, &values) {
         Ok(_) => Ok(()),
         Err(error) => Err(fault(error)),
     }
@@ -143,7 +153,7 @@ pub fn add_sight<S: Alter>(tx: &mut Transaction<'_, S>, row: &SightRow) -> Resul
         ValueRef::Int(row.dec),
         ValueRef::Text(code(&row.station)),
     ];
-    match tx.execute("INSERT INTO sight VALUES (?1, ?2, ?3, ?4, ?5, ?6)", &values) {
+    match tx.execute(ADD_SIGHT, &values) {
         Ok(_) => Ok(()),
         Err(error) => Err(fault(error)),
     }
@@ -163,10 +173,7 @@ pub fn objects<S: Alter>(alloc: Global, conn: &mut Connection<S>) -> Result<Obje
     ensures survives { (lists : MirrorRows) → Holds (state S.Store conn.old) lists
         → Survives (state S.Store conn.old) (state S.Store conn.new) (λ _. ⊥) }
 {
-    let found = conn.query_all(
-        "SELECT place, principal, number, observations FROM object ORDER BY place",
-        &[],
-    );
+    let found = conn.query_all(LIST_OBJECTS, &[]);
     match found {
         Ok(rows) => objects_of(alloc, rows.as_slice()),
         Err(error) => Err(fault(error)),
@@ -193,12 +200,29 @@ pub fn between<S: Alter>(
     ensures survives { (lists : MirrorRows) → Holds (state S.Store conn.old) lists
         → Survives (state S.Store conn.old) (state S.Store conn.new) (λ _. ⊥) }
 {
-    let found = conn.query_all(
-        "SELECT id, object, time, ra, dec, station FROM sight WHERE time >= ?1 AND time < ?2 ORDER BY time, id",
-        &[ValueRef::Int(from), ValueRef::Int(to)],
-    );
+    let found = conn.query_all(LIST_SIGHTS, &[ValueRef::Int(from), ValueRef::Int(to)]);
     match found {
         Ok(rows) => sights_of(alloc, rows.as_slice()),
         Err(error) => Err(fault(error)),
     }
+}
+
+/// Tries whether a statement can be compiled.
+fn compile<S: Alter>(conn: &mut Connection<S>, text: &str) -> Result<(), MirrorErr> {
+    match conn.prepare(text) {
+        Ok(_) => Ok(()),
+        Err(error) => Err(fault(error)),
+    }
+}
+
+/// Tries whether the tables have the columns that the statements on rows name, and no others. It changes nothing.
+///
+/// # Errors
+///
+/// Those of the database, among them that a table has other columns.
+pub fn compile_all<S: Alter>(conn: &mut Connection<S>) -> Result<(), MirrorErr> {
+    compile(conn, ADD_OBJECT)?;
+    compile(conn, ADD_SIGHT)?;
+    compile(conn, LIST_OBJECTS)?;
+    compile(conn, LIST_SIGHTS)
 }
