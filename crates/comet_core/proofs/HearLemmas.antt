@@ -41,7 +41,7 @@ ok_is x y is = cc
 -- ---- what was heard
 
 -- what a request that was heard asks is what its verb and its body ask
-asked_is : (founder : Key) (q : CometRequest) (bytes : List ℕ) (heard : CometHeard) → hear founder q bytes ≡ Ok heard → asked_of q.verb bytes ≡ Ok heard.asked
+pub asked_is : (founder : Key) (q : CometRequest) (bytes : List ℕ) (heard : CometHeard) → hear founder q bytes ≡ Ok heard → asked_of q.verb bytes ≡ Ok heard.asked
 unfolding hear
 asked_is founder q bytes heard is =
     let with : ℕ → CometAsked → Result CometHeard CometRefusal = λ number asked. unless (first_row (key_rows founder q.key)) (Ok (record { number = number; asked = asked })) in
@@ -49,6 +49,16 @@ asked_is founder q bytes heard is =
     let (asked, asked_is, last) = bound (asked_of q.verb bytes) (with number) heard more in
     let (key, same) = unless_ok (first_row (key_rows founder q.key)) (Ok (record { number = number; asked = asked })) heard last in
     asked_is ∙ ap (λ (h : CometHeard). Ok h.asked) (ok_is _ heard same)
+
+-- and its number is the one that it said
+pub claimed_is : (founder : Key) (q : CometRequest) (bytes : List ℕ) (heard : CometHeard) → hear founder q bytes ≡ Ok heard → claimed q.verb q.number ≡ Ok heard.number
+unfolding hear
+claimed_is founder q bytes heard is =
+    let with : ℕ → CometAsked → Result CometHeard CometRefusal = λ number asked. unless (first_row (key_rows founder q.key)) (Ok (record { number = number; asked = asked })) in
+    let (number, claimed_is, more) = bound (claimed q.verb q.number) (λ number. asked_of q.verb bytes >>= with number) heard is in
+    let (asked, asked_is, last) = bound (asked_of q.verb bytes) (with number) heard more in
+    let (key, same) = unless_ok (first_row (key_rows founder q.key)) (Ok (record { number = number; asked = asked })) heard last in
+    claimed_is ∙ ap (λ (h : CometHeard). Ok h.number) (ok_is _ heard same)
 
 -- an act asks for the name that its body says
 pub record AsksNaming (bytes : List ℕ) (asked : CometAsked) : Type 0 where
@@ -85,10 +95,10 @@ reads bytes naming a = a.read ∙ ap (λ (n : Naming). Some n) (sym (names_is na
 -- ---- what becomes of a request
 
 module _ (founder : Key) (limit : Option ℕ) (desk : List Deed) (past : List Entry) (q : CometRequest) (t : ℤ) where
-  abbrev heard_outcome : List ℕ → CometHeard → Result Outcome CometRefusal
+  abbrev pub heard_outcome : List ℕ → CometHeard → Result Outcome CometRefusal
   heard_outcome bytes heard = Ok (asked_step limit desk past heard.number heard.asked bytes (next_moment past t))
 
-  outcome_is : outcome founder limit desk past q t ≡ unless_unheard (bytes_in q.body >>= (λ bytes. hear founder q bytes >>= heard_outcome bytes))
+  pub outcome_is : outcome founder limit desk past q t ≡ unless_unheard (bytes_in q.body >>= (λ bytes. hear founder q bytes >>= heard_outcome bytes))
   unfolding outcome
   outcome_is = refl
 

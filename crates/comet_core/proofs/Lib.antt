@@ -3,3 +3,6 @@ mod SliceLemmas
 mod PlaceLemmas
 mod HearLemmas
 mod WorkLemmas
+mod OverLemmas
+mod ReplayLemmas
+mod AskLemmas

@@ -170,7 +170,7 @@ impl Register {
     }
 
     /// What becomes of an act under a number that was not used, at this moment.
-    fn prepare_new<V: Shelf>(
+    pub(crate) fn prepare_new<V: Shelf>(
         &mut self,
         alloc: Global,
         shelf: &V,

@@ -1,12 +1,14 @@
 //! The register in memory.
 
-ghost use Rattle.std.specs.Prelude.{◌≡◌, ◌<◌, ◌^◌, ◌∷◌, [], length, IfOk, IfErr, IfSome, OnOk, true};
+ghost use Rattle.std.specs.Prelude.{◌≡◌, ◌<◌, ◌^◌, ◌∷◌, List, [], length, IfOk, IfErr, IfSome, OnOk, true};
 ghost use Rattle.ordered_list.specs.Contents.{UsesOne};
+ghost use Rattle.act_model.specs.declared.deed.Deed.{Deed};
 ghost use Rattle.act_model.specs.Deeds.{deeds};
 ghost use Rattle.act_model.specs.Refusals.{used};
+ghost use Rattle.comet_model.specs.Legal.{IsLegal};
 ghost use Rattle.comet_model.specs.Requests.{is_act};
 ghost use Rattle.comet_model.specs.Step.{outcome};
-ghost use Rattle.comet_core.specs.Register.{IsOver, IsNext};
+ghost use Rattle.comet_core.specs.Register.{IsOver, IsNext, IsReadyAt};
 ghost use Rattle.comet_core.specs.Preparing.{announced, Prepares};
 
 use crate::book::Book;
@@ -110,6 +112,9 @@ impl Register {
         ensures reply { result ≡ CometReply.Done prepared.answer }
         ensures entries { self.new.entries ≡ prepared.entry ∷ self.old.entries }
         ensures comets { self.new.comets ≡ prepared.named ∷ self.old.comets }
+        ensures over { (desk : List Deed) → IsOver desk self.old →
+            IsReadyAt desk self.old.entries self.old.comets prepared →
+            IsLegal self.old.founder desk (prepared.entry ∷ self.old.entries) → IsOver desk self.new }
         ensures founder { self.new.founder ≡ self.old.founder }
         ensures room { UsesOne self.old.room self.new.room }
     {
