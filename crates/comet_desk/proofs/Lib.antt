@@ -1,0 +1,9 @@
+pub mod Entries
+pub mod Mended
+pub mod Acted
+pub mod Turned
+pub mod Replayed
+pub mod OneRegister
+pub mod Ended
+pub mod WorldLemmas
+pub mod BesideLemmas

@@ -1,0 +1,5 @@
+pub mod Files
+pub mod Desks
+pub mod Events
+pub mod Opening
+pub mod Worlds
