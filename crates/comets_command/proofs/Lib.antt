@@ -1,0 +1,11 @@
+pub mod NoRoom
+pub mod Readings
+pub mod RegisterTurns
+pub mod Conducting
+pub mod Served
+pub mod Answered
+pub mod Closings
+pub mod Keeping
+pub mod RunLemmas
+pub mod Complete
+pub mod Unbegun

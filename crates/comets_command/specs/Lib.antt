@@ -1,0 +1,9 @@
+pub mod Terms
+pub mod Conducted
+pub mod Serving
+pub mod Spoken
+pub mod Opening
+pub mod Closing
+pub mod Runs
+pub mod Promises
+pub mod Laws
