@@ -4,8 +4,10 @@ use Rattle.std.specs.Prelude.{ℕ, ◌≤◌, bytes_eq, codes, if◌then◌else�
 use Rattle.ascii_text.specs.Reading.{◌>>=◌}
 use Rattle.act_bodies.specs.Keys.{key_of}
 use Rattle.act_model.specs.Roster.{IsFounder}
+use Rattle.obs_time.specs.Dates.{IsObservedDay}
 use Rattle.command_line.specs.declared.command.Command.{Command}
-use Rattle.command_line.specs.declared.command.Command.TheVariants.{Run, Serve, Export, Workload, Mirror}
+use Rattle.command_line.specs.declared.command.Command.TheVariants.{Run, Serve, Export, Workload, Mirror, Look, Comets}
+use Rattle.command_line.specs.Days.{day_in}
 use Rattle.command_line.specs.Keys.{founder_key}
 use Rattle.command_line.specs.Numbers.{number_in}
 use Rattle.command_line.specs.Options.{one_value, two_values, if_last}
@@ -41,6 +43,21 @@ workload_of words = do
 abbrev pub mirror_of : List (List ℕ) → Option Command
 mirror_of words = if_last Mirror words
 
+-- `look --from A --to B`, two dates
+abbrev pub look_of : List (List ℕ) → Option Command
+look_of words = do
+  values ← two_values (codes "--from") (codes "--to") words
+  from ← day_in values.0
+  to ← day_in values.1
+  Some (Look from to)
+
+-- `comets --key K`
+abbrev pub comets_of : List (List ℕ) → Option Command
+comets_of words = do
+  value ← one_value (codes "--key") words
+  key ← founder_key value
+  Some (Comets (key_of key))
+
 -- the command of this name with these options
 abbrev pub command_named : List ℕ → List (List ℕ) → Option Command
 command_named name options =
@@ -48,17 +65,22 @@ command_named name options =
     else (if bytes_eq name (codes "serve") then serve_of options
     else (if bytes_eq name (codes "export") then export_of options
     else (if bytes_eq name (codes "workload") then workload_of options
-    else (if bytes_eq name (codes "mirror") then mirror_of options else None))))
+    else (if bytes_eq name (codes "mirror") then mirror_of options
+    else (if bytes_eq name (codes "look") then look_of options
+    else (if bytes_eq name (codes "comets") then comets_of options else None))))))
 
 -- the command that the words of a command line name, and None for all other words
 unfoldable pub command_of : List (List ℕ) → Option Command
 command_of [] = None
 command_of (name ∷ options) = command_named name options
 
--- what a command says of its parts: its key is a founding officer's, its numbers lie in their ranges
+-- what a command says of its parts: its key is a founding officer's, its numbers lie in their ranges, its days are of
+-- the years 1800 to 2199
 abbrev pub IsInRange : Command → Type 0
 IsInRange (Run key) = IsFounder key
 IsInRange (Serve key connections) = IsFounder key × (1 ≤ connections) × (connections ≤ 1000)
 IsInRange Export = Unit {0}
 IsInRange (Workload seed count) = (seed ≤ 18446744073709551615) × (1 ≤ count) × (count ≤ 20000)
 IsInRange Mirror = Unit {0}
+IsInRange (Look from to) = IsObservedDay from × IsObservedDay to
+IsInRange (Comets key) = IsFounder key

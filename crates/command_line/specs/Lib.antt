@@ -1,4 +1,5 @@
 pub mod Keys
 pub mod Numbers
+pub mod Days
 pub mod Options
 pub mod Commands

@@ -1,9 +1,10 @@
 //! The commands that words name.
 
 ghost use Rattle.std.specs.Prelude.{◌≡◌, IfSome};
-ghost use Rattle.command_line.specs.Commands.{run_of, serve_of, export_of, workload_of, mirror_of, command_named};
-ghost use Rattle.command_line.specs.Commands.{command_of, IsInRange};
+ghost use Rattle.command_line.specs.Commands.{run_of, serve_of, export_of, workload_of, mirror_of, look_of, comets_of};
+ghost use Rattle.command_line.specs.Commands.{command_named, command_of, IsInRange};
 
+use crate::days::day_in;
 use crate::keys::founder_key;
 use crate::numbers::number_in;
 use crate::options::{one_value, two_values};
@@ -26,6 +27,11 @@ pub enum Command {
     Workload { seed: u64, count: u32 },
     /// To copy the catalogue into its mirror.
     Mirror,
+    /// To write what the mirror holds: all objects, and the observations from the first moment of the day `from` on and
+    /// before the first moment of the day `to`. Both are days since 1970-01-01, of the years 1800 to 2199.
+    Look { from: i32, to: i32 },
+    /// To answer the frames of standard input by the register of comets; the key is the founding officer's.
+    Comets { key: Key },
 }
 
 fn run_of(options: &[Bytes]) -> Option<Command>
@@ -78,6 +84,24 @@ fn mirror_of(options: &[Bytes]) -> Option<Command>
     }
 }
 
+fn look_of(options: &[Bytes]) -> Option<Command>
+    ensures command { result ≡ look_of options.now }
+    ensures range { IfSome result IsInRange }
+{
+    let (from, to) = two_values(b"--from", b"--to", options)?;
+    let from = day_in(from)?;
+    let to = day_in(to)?;
+    Some(Command::Look { from, to })
+}
+
+fn comets_of(options: &[Bytes]) -> Option<Command>
+    ensures command { result ≡ comets_of options.now }
+    ensures range { IfSome result IsInRange }
+{
+    let key = founder_key(one_value(b"--key", options)?)?;
+    Some(Command::Comets { key })
+}
+
 fn command_named(name: &[u8], options: &[Bytes]) -> Option<Command>
     ensures command { result ≡ command_named name.now options.now }
     ensures range { IfSome result IsInRange }
@@ -92,6 +116,10 @@ fn command_named(name: &[u8], options: &[Bytes]) -> Option<Command>
         workload_of(options)
     } else if name == b"mirror".as_slice() {
         mirror_of(options)
+    } else if name == b"look".as_slice() {
+        look_of(options)
+    } else if name == b"comets".as_slice() {
+        comets_of(options)
     } else {
         None
     }

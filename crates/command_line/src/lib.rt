@@ -6,6 +6,7 @@
 #![tactic(auto)]
 
 mod command;
+mod days;
 mod keys;
 mod numbers;
 mod options;

@@ -20,6 +20,10 @@ const WORKLOAD: &str = "workload";
 
 const MIRROR: &str = "mirror";
 
+const LOOK: &str = "look";
+
+const COMETS: &str = "comets";
+
 const KEY: &str = "The founding officer's key: + and 8 to 32 of A to Z, a to z, 0 to 9 and -";
 
 const STATUSES: &str = concat!(
@@ -28,7 +32,7 @@ const STATUSES: &str = concat!(
     "  2  Usage: the words are none of the above\n",
     "  3  BadFrame: from this offset on the input is no frame\n",
     "  4  DiskFault: the disk failed while the journal was opened, or at the end\n",
-    "  5  Damaged: file 2, which is desk.journal2, or file 1, desk.journal, is damaged at this offset\n",
+    "  5  Damaged: file 2, desk.journal2, 1, desk.journal, or 3, desk.comets, is damaged at this offset\n",
     "  6  ReadFault: the input failed\n",
     "  7  WriteFault: the output failed\n",
     "  8  NoMemory: memory was refused\n",
@@ -120,9 +124,46 @@ fn mirror<'a>(alloc: Global) -> Command<'a> {
     .after_help("Example: mpc_cli mirror")
 }
 
+fn look<'a>(alloc: Global) -> Result<Command<'a>, AllocError> {
+    command(
+        alloc,
+        LOOK,
+        "Writes what the mirror holds to standard output: its objects, and its observations of some days",
+    )
+    .after_help("Example: mpc_cli look --from 2024-03-16 --to 2024-03-17")
+    .arg(option(
+        alloc,
+        "from",
+        "A",
+        "The first of the days, as YYYY-MM-DD, of the years 1800 to 2199",
+    ))?
+    .arg(option(
+        alloc,
+        "to",
+        "B",
+        "The day after the last of them, as YYYY-MM-DD, of the years 1800 to 2199",
+    ))
+}
+
+fn comets<'a>(alloc: Global) -> Result<Command<'a>, AllocError> {
+    command(
+        alloc,
+        COMETS,
+        "Answers the request frames of standard input by the register of comets, which is kept in desk.comets",
+    )
+    .after_help("Example: mpc_cli comets --key +founder-1")
+    .arg(option(alloc, "key", "K", KEY))
+}
+
 /// Whether a command of the program has this name.
 pub fn is_command(name: &str) -> bool {
-    name == RUN || name == SERVE || name == EXPORT || name == WORKLOAD || name == MIRROR
+    name == RUN
+        || name == SERVE
+        || name == EXPORT
+        || name == WORKLOAD
+        || name == MIRROR
+        || name == LOOK
+        || name == COMETS
 }
 
 /// The program, with what its commands do.
@@ -139,7 +180,9 @@ fn program<'a>(alloc: Global) -> Result<Command<'a>, AllocError> {
     .subcommand(serve(alloc)?)?
     .subcommand(export(alloc))?
     .subcommand(workload(alloc)?)?
-    .subcommand(mirror(alloc))
+    .subcommand(mirror(alloc))?
+    .subcommand(look(alloc)?)?
+    .subcommand(comets(alloc)?)
 }
 
 /// Writes the help of a command under its whole name, after an empty line.
@@ -163,6 +206,8 @@ pub fn usage_text(alloc: Global) -> Result<String, AllocError> {
     push_help(&mut text, export(alloc), "mpc_cli export")?;
     push_help(&mut text, workload(alloc)?, "mpc_cli workload")?;
     push_help(&mut text, mirror(alloc), "mpc_cli mirror")?;
+    push_help(&mut text, look(alloc)?, "mpc_cli look")?;
+    push_help(&mut text, comets(alloc)?, "mpc_cli comets")?;
     text.push_str("\n")?;
     text.push_str(program.render_version()?.as_str())?;
     Ok(text)
