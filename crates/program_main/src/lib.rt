@@ -1,9 +1,9 @@
-//! All that `main` does: it reads the words of the command line, makes the real source, sink, disks, clock and door,
-//! and a mirror in memory, hands them to `top` of program_top, says on standard error what the operator must know, and
-//! ends with the status's number.
+//! All that `main` does beside its mirror: it reads the words of the command line, makes the real source, sink, disks,
+//! clock and door, hands them and the mirror to `top` of program_top, says on standard error what the operator must
+//! know, and ends with the status's number.
 //!
 //! It stands in a library, so that more than one program can be tried with it. What starts threads and opens sockets
-//! comes from `main`, which alone has it.
+//! comes from `main`, which alone has it, and so does the mirror: only the program itself stands on a database.
 #![tactic(auto)]
 
 ghost use Rattle.std.specs.Prelude.{◌≡◌, ℕ, List, map, IfOk, string_bytes, Some};
@@ -18,7 +18,7 @@ use command_line::{Command, command_of};
 use desk_io::{NoMemory, StreamSink, StreamSource, SystemClock, TcpDoor};
 use disk_model::{FileDisk, NamedFile};
 use item_list::Bytes;
-use mirror_store::MemMirror;
+use mirror_store::Mirror;
 use program_door::ServingDoor;
 use program_top::top::top;
 use program_top::{Left, LinkEnds, Status, Words};
@@ -37,6 +37,9 @@ const JOURNAL: &str = "desk.journal2";
 
 /// The file in which it was kept before. It is read, and carried over, where the journal isn't in force.
 const FIRST_JOURNAL: &str = "desk.journal";
+
+/// The file in which the register of comets is kept.
+const REGISTER: &str = "desk.comets";
 
 /// How much memory is taken and given back at the start, in bytes.
 const KEPT: usize = 1 << 22;
@@ -141,23 +144,22 @@ fn tell_status(rt: HostRuntime, status: &Status) {
     }
 }
 
-/// Runs the program over standard input, standard output, the files `desk.journal` and `desk.journal2` of the current
-/// folder, the system's clock and the port for connections, which are attended in threads. Standard error says when the
-/// port is bound, how the links ended, with which status the program ends, and what the system said of a disk or a port
-/// that failed.
+/// Runs the program over standard input, standard output, the files `desk.journal`, `desk.journal2` and `desk.comets`
+/// of the current folder, the system's clock, the port for connections, which are attended in threads, and this mirror.
+/// Standard error says when the port is bound, how the links ended, with which status the program ends, and what the
+/// system said of a disk or a port that failed.
 fn run<
     N: Net<Listener = TcpListener, Stream = TcpStream> + Clock + Copy + Send + Sync,
     R: Threads + Wait + Sync,
->(host: HostRuntime, net: N, rt: &R, words: &Words) -> Status {
+    M: Mirror,
+>(host: HostRuntime, net: N, rt: &R, words: &Words, mirror: &mut M) -> Status {
     let alloc = host.alloc();
-    let Ok(mut mirror) = MemMirror::new(alloc, &[]) else {
-        return Status::NoMemory;
-    };
     let mut source = StreamSource::new(host.stdin());
     let mut sink = StreamSink::new(host.stdout());
     let mut clock = SystemClock::new(host);
     let disk = FileDisk::new(host, FIRST_JOURNAL);
     let second = FileDisk::new(host, JOURNAL);
+    let comets = FileDisk::new(host, REGISTER);
     let mut door = ServingDoor::new(TcpDoor::new(net, alloc), wanted_links(words), host.stderr());
     let (ended, ends) = top(
         rt,
@@ -169,12 +171,14 @@ fn run<
         second,
         &mut clock,
         &mut door,
-        &mut mirror,
+        mirror,
+        comets,
     );
     tell_left(host, &ends);
     tell_status(host, &ended.status);
     tell_disk(host, FIRST_JOURNAL, &ended.disk);
     tell_disk(host, JOURNAL, &ended.second);
+    tell_disk(host, REGISTER, &ended.comets);
     if let Some(error) = door.last_error() {
         let _ = eprintln!(host; "mpc_cli: the port: {error}");
     }
@@ -207,10 +211,11 @@ fn tell_usage(rt: HostRuntime) {
 fn run_by_words<
     N: Net<Listener = TcpListener, Stream = TcpStream> + Clock + Copy + Send + Sync,
     R: Threads + Wait + Sync,
->(host: HostRuntime, net: N, rt: &R) -> Status {
+    M: Mirror,
+>(host: HostRuntime, net: N, rt: &R, mirror: &mut M) -> Status {
     match words_of(host) {
         Ok(words) => {
-            let status = run(host, net, rt, &words);
+            let status = run(host, net, rt, &words, mirror);
             if matches!(status, Status::Usage) {
                 tell_word(host, &words);
             }
@@ -223,16 +228,17 @@ fn run_by_words<
     }
 }
 
-/// The whole program, over the process that `host` stands for, the sockets of `net` and the threads of `rt`: what it is
-/// to end with, which is the number of its status.
+/// The whole program, over the process that `host` stands for, the sockets of `net`, the threads of `rt` and the
+/// mirror: what it is to end with, which is the number of its status.
 pub fn program<
     N: Net<Listener = TcpListener, Stream = TcpStream> + Clock + Copy + Send + Sync,
     R: Threads + Wait + Sync,
->(host: HostRuntime, net: N, rt: &R) -> ExitCode
+    M: Mirror,
+>(host: HostRuntime, net: N, rt: &R, mirror: &mut M) -> ExitCode
     ensures { (status : Status) × (exit_status result ≡ number_of status) }
 {
     keep_freed_memory(host.alloc());
-    let status = run_by_words(host, net, rt);
+    let status = run_by_words(host, net, rt, mirror);
     if matches!(status, Status::Usage) {
         tell_usage(host);
     }

@@ -1,9 +1,50 @@
-//! How the links of `serve` ended.
+//! How the program ended, and how the links of `serve` did.
 
 ghost use Rattle.std.specs.Prelude.{◌≡◌, ◌≤◌, ◌↔◌, length, IsNone, slice_get, option_copied};
 
+use command_ends::{Ended as CommandEnded, Status};
+use disk_model::Disk;
 use serve_command::LinkEnd;
 use std::marker::Model;
+
+/// How the program ended, and its disks.
+#[derive(Debug, Drop)]
+pub struct Ended<D: Disk> {
+    pub status: Status,
+    /// The first disk, whose file is only read and moved from.
+    pub disk: D,
+    /// The second disk, with the file that counts.
+    pub second: D,
+    /// The disk of the register of comets.
+    pub comets: D,
+    /// By how many entries the history grew; after the command `comets`, the register.
+    pub added: u64,
+}
+
+/// The end of a command, and the disk of the register beside it.
+pub(crate) fn ended_beside<D: Disk>(ended: CommandEnded<D>, comets: D) -> Ended<D>
+    ensures { result ≡ record {
+      status = ended.status;
+      disk = ended.disk;
+      second = ended.second;
+      comets = comets;
+      added = ended.added;
+    } }
+{
+    let CommandEnded {
+        status,
+        disk,
+        second,
+        added,
+    } = ended;
+    Ended {
+        status,
+        disk,
+        second,
+        comets,
+        added,
+    }
+}
 
 /// The ends of the links that a door gave, in the door's order, as [`top`](crate::top::top) gives them. Contracts see
 /// the list of them.

@@ -8,8 +8,8 @@ mod ends;
 pub mod top;
 
 pub use act_model as model;
-pub use command_ends::{Ended, Status};
+pub use command_ends::Status;
 pub use command_line::Words;
-pub use ends::LinkEnds;
+pub use ends::{Ended, LinkEnds};
 pub use http_connection::{Left, answer_one, attend};
 pub use serve_command::LinkEnd;

@@ -1,4 +1,4 @@
-//! The whole program, over any source, sink, two disks, clock, door and mirror.
+//! The whole program, over any source, sink, three disks, clock, door and mirror.
 
 ghost use Rattle.act_model.specs.Clocks.{clock_of};
 ghost use Rattle.command_line.specs.Commands.{command_of};
@@ -10,12 +10,14 @@ ghost use Rattle.serve_command.specs.Links.{link_words};
 ghost use Rattle.serve_command.specs.Promises.{door_words};
 ghost use Rattle.program_top.specs.Promises.{PromisesAlone, Promises};
 
-use crate::ends::LinkEnds;
-use command_ends::{Ended, Status, not_begun};
+use crate::ends::{Ended, LinkEnds, ended_beside};
+use comets_command::comets as serve_comets;
+use command_ends::{Status, not_begun};
 use command_line::{Command, Words, command_of};
 use desk_io::{Clock, Door, Sink, Source};
 use disk_model::Disk;
 use export_command::export;
+use look_command::look;
 use mirror_command::mirror as mirror_out;
 use mirror_store::Mirror;
 use run_command::run;
@@ -28,15 +30,17 @@ use workload_command::workload;
 /// All that the program does without threads: each command but `serve`, for which it ends as for words that name no
 /// command.
 ///
-/// The office is the one that the two disks stand for: the second one where its file is in force, else the first one,
-/// from which it is then carried over. Over every source, however it cuts its bytes into pieces, the
-/// answers of `run` are those of one history: the requests of the frames that came, in their order, are answered by a
+/// The office is the one that the first two disks stand for: the second one where its file is in force, else the first
+/// one, from which it is then carried over. Over every source, however it cuts its bytes into pieces, the answers of
+/// `run` are those of one history: the requests of the frames that came, in their order, are answered by a
 /// conduct from the history that the disks stood for, each request under a caller's number acts at most once, and the
 /// sink takes the texts of the replies and nothing else. A crash at any moment leaves files that stand for a history
 /// of that conduct. `export` writes the catalogue, the written function of the history that the disks stand for.
-/// `mirror` makes the mirror hold the rows of that history, whole or not at all; no other command calls it. `workload`
-/// writes the summary of a made-up workload, and calls nothing but the sink. What is promised of each stands
-/// in `specs/Promises.antt`.
+/// `mirror` makes the mirror hold the rows of that history, whole or not at all. `look` writes the objects that the
+/// mirror holds, and its observations of some days, and leaves it and the disks as they are. No other command calls the
+/// mirror. `workload` writes the summary of a made-up workload, and calls nothing but the sink. `comets` answers as
+/// `run` does, by the register of comets on the third disk, beside the office, whose history stays; no other command
+/// calls that disk. What is promised of each stands in `specs/Promises.antt`.
 pub fn single<S: Source, K: Sink, D: Disk, C: Clock, M: Mirror>(
     alloc: Global,
     words: &Words,
@@ -46,6 +50,7 @@ pub fn single<S: Source, K: Sink, D: Disk, C: Clock, M: Mirror>(
     second: D,
     clock: &mut C,
     mirror: &mut M,
+    comets: D,
 ) -> Ended<D>
     ensures promises { PromisesAlone (source_words S.left S.gives S.faults S.is_open)
         (outside_words (sink_words K.taken K.faults K.is_open)
@@ -60,17 +65,36 @@ pub fn single<S: Source, K: Sink, D: Disk, C: Clock, M: Mirror>(
           status = result.status;
         })
         (change mirror.old mirror.new)
+        (change comets result.comets)
         (command_of words.now) }
 {
     match command_of(words) {
-        Some(Command::Run { key }) => run(alloc, key, source, sink, disk, second, clock),
-        Some(Command::Export) => export(alloc, sink, disk, second),
-        Some(Command::Mirror) => mirror_out(alloc, sink, disk, second, mirror),
+        Some(Command::Run { key }) => {
+            let ended = run(alloc, key, source, sink, disk, second, clock);
+            ended_beside(ended, comets)
+        }
+        Some(Command::Export) => ended_beside(export(alloc, sink, disk, second), comets),
+        Some(Command::Mirror) => {
+            let ended = mirror_out(alloc, sink, disk, second, mirror);
+            ended_beside(ended, comets)
+        }
+        Some(Command::Look { from, to }) => {
+            let ended = not_begun(look(from, to, sink, mirror), disk, second);
+            ended_beside(ended, comets)
+        }
         Some(Command::Workload { seed, count }) => {
             let status = workload(alloc, seed, count, sink);
-            not_begun(status, disk, second)
+            ended_beside(not_begun(status, disk, second), comets)
         }
-        Some(Command::Serve { .. }) | None => not_begun(Status::Usage, disk, second),
+        Some(Command::Comets { key }) => {
+            let (ended, comets) = serve_comets(
+                alloc, key, source, sink, disk, second, comets, clock,
+            );
+            ended_beside(ended, comets)
+        }
+        Some(Command::Serve { .. }) | None => {
+            ended_beside(not_begun(Status::Usage, disk, second), comets)
+        }
     }
 }
 
@@ -100,6 +124,7 @@ pub fn top<
     clock: &mut C,
     door: &mut G,
     mirror: &mut M,
+    comets: D,
 ) -> (Ended<D>, LinkEnds<G::In, G::Out>)
     ensures promises { Promises (source_words S.left S.gives S.faults S.is_open)
         (outside_words (sink_words K.taken K.faults K.is_open)
@@ -116,6 +141,7 @@ pub fn top<
           status = result.0.status;
         })
         (change mirror.old mirror.new)
+        (change comets result.0.comets)
         (record { door = change door.old door.new; ends = result.1 })
         (command_of words.now) }
 {
@@ -132,12 +158,21 @@ pub fn top<
                 clock,
                 door,
             );
-            (ended, LinkEnds::new(ends))
+            (ended_beside(ended, comets), LinkEnds::new(ends))
         }
-        Some(Command::Run { .. } | Command::Export | Command::Mirror | Command::Workload { .. })
+        Some(
+            Command::Run { .. }
+            | Command::Export
+            | Command::Mirror
+            | Command::Look { .. }
+            | Command::Comets { .. }
+            | Command::Workload { .. },
+        )
         | None => {
             (
-                single(alloc, words, source, sink, disk, second, clock, mirror),
+                single(
+                    alloc, words, source, sink, disk, second, clock, mirror, comets,
+                ),
                 LinkEnds::new(Vec::new(alloc)),
             )
         }
