@@ -30,6 +30,8 @@ fn line_of(alloc: Global, command: Option<Command>) -> Option<String> {
         Some(Command::Export) => format!(in alloc; "export"),
         Some(Command::Workload { seed, count }) => format!(in alloc; "workload {seed} {count}"),
         Some(Command::Mirror) => format!(in alloc; "mirror"),
+        Some(Command::Look { from, to }) => format!(in alloc; "look {from} {to}"),
+        Some(Command::Comets { key }) => format!(in alloc; "comets {}", key.len),
         None => format!(in alloc; "usage"),
     };
     told.ok()
@@ -75,6 +77,24 @@ const GOOD: &[(&[&str], &str)] = &[
         "workload 18446744073709551615 1",
     ),
     (&["mirror"], "mirror"),
+    (
+        &["look", "--from", "2024-03-16", "--to", "2024-03-17"],
+        "look 19798 19799",
+    ),
+    (
+        &["look", "--to=2024-02-29", "--from", "2024-03-16"],
+        "look 19798 19782",
+    ),
+    (
+        &["look", "--from=1800-01-01", "--to=2199-12-31"],
+        "look -62091 84005",
+    ),
+    (
+        &["look", "--to", "1970-01-01", "--from", "1969-12-31"],
+        "look -1 0",
+    ),
+    (&["comets", "--key", "+founder-1"], "comets 10"),
+    (&["comets", "--key=+1234567-"], "comets 9"),
 ];
 
 const BAD: &[&[&str]] = &[
@@ -118,6 +138,39 @@ const BAD: &[&[&str]] = &[
     &["workload", "--seed", "", "--count", "3"],
     &["mirror", "x"],
     &["Mirror"],
+    &["look"],
+    &["look", "2024-03-16", "2024-03-17"],
+    &["look", "--from", "2024-03-16"],
+    &["look", "--to", "2024-03-17"],
+    &["look", "--from", "2024-03-16", "--from", "2024-03-17"],
+    &[
+        "look",
+        "--from=2024-03-16",
+        "--to=2024-03-17",
+        "--to=2024-03-17",
+    ],
+    &["look", "--from", "2024-03-16", "--to", "2024-03-17", "x"],
+    &["look", "--from", "2024-02-30", "--to", "2024-03-01"],
+    &["look", "--from", "2023-02-28", "--to", "2023-02-29"],
+    &["look", "--from", "1799-12-31", "--to", "1800-01-01"],
+    &["look", "--from", "2199-12-31", "--to", "2200-01-01"],
+    &["look", "--from", "2024-3-16", "--to", "2024-03-17"],
+    &[
+        "look",
+        "--from",
+        "2024-03-16",
+        "--to",
+        "2024-03-17T00:00:00Z",
+    ],
+    &["look", "--from", "20240316", "--to", "20240317"],
+    &["look", "--from", "", "--to", "2024-03-17"],
+    &["look", "--from", "19798", "--to", "19799"],
+    &["look", "-from", "2024-03-16", "-to", "2024-03-17"],
+    &["comets"],
+    &["comets", "--key", "founder-1"],
+    &["comets", "--key=+founder-1", "--key=+founder-1"],
+    &["comets", "--key", "+founder-1", "--connections", "1"],
+    &["comet", "--key", "+founder-1"],
 ];
 
 /// The first words that are taken for another command, counted from 0; None where there are none. So are those below.

@@ -1,4 +1,4 @@
-//! Tests of the names of comets against values worked out by hand.
+//! Tests of the names of comets, and of sessions of a register of them, against values worked out by hand.
 //!
 //! A crate with tests is proved twice, with and without them, so they stand in a crate above the one that they test.
 #![tactic(auto)]
@@ -7,5 +7,9 @@
 mod faults;
 #[cfg(test)]
 mod forms;
+#[cfg(test)]
+mod register;
+#[cfg(test)]
+mod runs;
 #[cfg(test)]
 mod tables;

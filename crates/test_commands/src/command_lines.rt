@@ -16,7 +16,7 @@ fn words_of_run(rt: HostRuntime) {
         };
         call_single(rt.alloc(), &call).expect(&rt, "as wanted");
     }
-    let bad: [&[&str]; 8] = [
+    let bad: [&[&str]; 14] = [
         &["run"],
         &[],
         &["tally", "--key", "+founder-1"],
@@ -25,6 +25,12 @@ fn words_of_run(rt: HostRuntime) {
         &["run", "--key=", "+founder-1"],
         &["run", "--key", "+founder-1", "--key"],
         &["mirror", "x"],
+        &["look", "--from", "2024-02-30", "--to", "2024-03-01"],
+        &["look", "--from", "1799-12-31", "--to", "2200-01-01"],
+        &["look", "--from=2024-03-16", "--from=2024-03-16"],
+        &["look", "--to", "2024-03-17"],
+        &["comets"],
+        &["comets", "--key", "founder-1"],
     ];
     for words in bad {
         let call = Call {

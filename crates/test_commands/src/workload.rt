@@ -7,7 +7,7 @@ use testkit_sessions::Call;
 
 /// Three objects of four observations each. The catalogue has 56 bytes of a head and a tally, three lines of 42 bytes
 /// for objects, twelve of 81 for observations, and four at its end.
-const SUMMARY: &str = concat!(
+pub(super) const SUMMARY: &str = concat!(
     "workload seed 7 count 3\n",
     "entries 7\n",
     "isolated 0\n",

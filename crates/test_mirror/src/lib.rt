@@ -9,8 +9,4 @@ mod counts;
 #[cfg(test)]
 mod faults;
 #[cfg(test)]
-mod large;
-#[cfg(test)]
 mod offices;
-#[cfg(test)]
-mod windows;

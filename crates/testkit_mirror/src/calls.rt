@@ -45,7 +45,7 @@ fn called<S: Source, K: Sink, D: Disk, C: Clock, M: Mirror>(
 }
 
 /// Makes a call on these two disks, looks whether it is as wanted, and gives them back.
-fn call_on<D: Disk, M: Mirror>(
+pub(crate) fn call_on<D: Disk, M: Mirror>(
     alloc: Global,
     call: &Call,
     disks: (D, D),

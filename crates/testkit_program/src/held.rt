@@ -156,7 +156,7 @@ impl Door for HeldDoor {
     }
 }
 
-/// Calls `top` on two empty disks, with these links, and gives the place of the first that ended otherwise than it is
+/// Calls `top` on three empty disks, with these links, and gives the place of the first that ended otherwise than it is
 /// wanted.
 ///
 /// # Errors

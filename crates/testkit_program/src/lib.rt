@@ -12,7 +12,9 @@ mod links;
 mod meeting;
 mod peer;
 
-pub use calls::{call_over_links, call_over_long_links, call_single};
+pub use calls::{
+    call_beside_register, call_in_turn, call_over_links, call_over_long_links, call_single,
+};
 pub use held::{Held, call_held};
 pub use links::{End, Exchanged, Sent, Text};
 pub use meeting::{Place, call_met};

@@ -248,7 +248,7 @@ impl Door for MetDoor {
     }
 }
 
-/// Calls `top` with two links, on two empty disks. The first link is held at this place until the second was answered
+/// Calls `top` with two links, on three empty disks. The first link is held at this place until the second was answered
 /// whole; the second sends nothing before the first is there. Gives the place of the first that ended otherwise than it
 /// is wanted.
 ///

@@ -62,8 +62,8 @@ pub fn is_free<N: Net<Listener = TcpListener, Stream = TcpStream>>(net: &N) -> b
     false
 }
 
-/// Calls `top` on two empty disks, with links that come through the port, while a peer sends this text there and reads
-/// what is answered.
+/// Calls `top` on three empty disks, with links that come through the port, while a peer sends this text there and
+/// reads what is answered.
 ///
 /// # Errors
 ///

@@ -1,9 +1,10 @@
 //! An office of ordinary size: two batches of 5,000 lines, and 500 objects of a tracklet of each. The rows are worked
 //! out here, from the numbers of the lines.
 
-use mirror_store::MemMirror;
+use crate::calls::mirrored_by;
+use crate::held::Holds;
+use mirror_store::Mirror;
 use std::alloc::Global;
-use testkit_mirror::{Holds, mirrored_by};
 use testkit_sessions::{FOUNDER, NoMemory, OBSERVER, Part, Script, Wrong, put_parts, text_of};
 
 /// How many lines a batch has, and of how many tracklets: the first line of each of them comes first, then the second
@@ -171,19 +172,18 @@ fn sights(alloc: Global) -> Result<Vec<u8>, NoMemory> {
     Ok(text)
 }
 
-fn ordinary(alloc: Global) -> Result<(), Wrong> {
+/// The command `mirror` over that office: 10,000 observations.
+///
+/// # Errors
+///
+/// What is wrong with it.
+pub fn ordinary<M: Mirror>(alloc: Global, mirror: &mut M) -> Result<(), Wrong> {
     let script = session(alloc)?;
     let (objects, sights) = (objects(alloc)?, sights(alloc)?);
     let wanted = Holds {
         objects: str::from_utf8(&objects).unwrap_or(""),
         sights: str::from_utf8(&sights).unwrap_or(""),
     };
-    let mut mirror = MemMirror::new(alloc, &[])?;
     let line = "mirror 507 objects 500 sights 10000\n";
-    mirrored_by(alloc, &mut mirror, &script, 507, line, &wanted, 0)
-}
-
-#[test]
-fn ten_thousand_observations(rt: HostRuntime) {
-    ordinary(rt.alloc()).expect(&rt, "as wanted");
+    mirrored_by(alloc, mirror, &script, 507, line, &wanted, 0)
 }

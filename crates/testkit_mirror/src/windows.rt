@@ -1,8 +1,9 @@
 //! Which observations a mirror gives of some time.
 
-use mirror_store::MemMirror;
+use crate::calls::mirrored_after;
+use crate::held::{Holds, told_between};
+use mirror_store::Mirror;
 use std::alloc::Global;
-use testkit_mirror::{Holds, mirrored_after, told_between};
 use testkit_sessions::{FOUNDER, OBSERVER, Row, Wrong};
 
 /// A station of which there are observations before 1970.
@@ -75,22 +76,19 @@ const WINDOWS: &[(i64, i64, &str)] = &[
     (-5_364_662_400_000_000_000, -631_152_000_000_000_000, ""),
 ];
 
-/// The first window by its place in the table that gives something else; None where each is as wanted.
-fn wrong_window(alloc: Global) -> Result<Option<usize>, Wrong> {
-    let mut mirror = MemMirror::new(alloc, &[])?;
+/// The first window by its place in the table in which a mirror gives something else; None where each is as wanted.
+///
+/// # Errors
+///
+/// What is wrong before that.
+pub fn wrong_window<M: Mirror>(alloc: Global, mirror: &mut M) -> Result<Option<usize>, Wrong> {
     let line = "mirror 7 objects 0 sights 6\n";
-    mirrored_after(alloc, &mut mirror, &[SUBMITTED], 7, line, &ALL, 0)?;
+    mirrored_after(alloc, mirror, &[SUBMITTED], 7, line, &ALL, 0)?;
     for (mark, &(from, to, wanted)) in WINDOWS.iter().enumerate() {
-        let given = told_between(alloc, &mut mirror, from, to)?;
+        let given = told_between(alloc, mirror, from, to)?;
         if given.as_str() != wanted {
             return Ok(Some(mark));
         }
     }
     Ok(None)
-}
-
-#[test]
-fn observations_of_some_time(rt: HostRuntime) {
-    let wrong = wrong_window(rt.alloc()).expect(&rt, "as wanted");
-    assert_eq!(rt; wrong, None);
 }
