@@ -23,6 +23,7 @@ import journal  # noqa: E402: the files of bench/journal.py
 from session import SETUP, columns  # noqa: E402: the lines of bench/session.py
 
 JOURNAL, FIRST = "desk.journal2", "desk.journal"  # the file that counts, and the one that it was moved from
+REGISTER = "desk.comets"  # the file of the register of comets
 BUILT = os.path.join(TOP, "crates/mpc_cli/out/mpc_cli")
 PORT = 8017
 LACKS = 77
