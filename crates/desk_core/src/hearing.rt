@@ -9,6 +9,7 @@ ghost use Rattle.act_model.specs.Queries.{IsReadQuery};
 ghost use Rattle.act_model.specs.Requests.{is_act};
 ghost use Rattle.desk_core.specs.Claims.{claim_of, heard_by, query_heard};
 
+use crate::letting_go::let_go_asked;
 use crate::roster::Roster;
 use act_model::{
     BODY_BYTES, BODY_LINES, Body, Caller, Excess, Heard, Key, Part, Query, Refusal, Verb,
@@ -132,6 +133,7 @@ pub fn hear(alloc: Global, claim: Claim, verb: Verb, bytes: &[u8]) -> Result<Hea
         Err(refusal) => return Err(refusal),
     };
     let Some(caller) = claim.caller else {
+        let_go_asked(asked);
         return Err(Refusal::UnknownKey);
     };
     Ok(Heard {

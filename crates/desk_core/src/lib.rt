@@ -11,6 +11,7 @@ mod holding;
 mod knowing;
 mod known_key;
 mod lending;
+mod letting_go;
 mod limiting;
 mod objects;
 mod office;

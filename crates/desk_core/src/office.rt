@@ -22,6 +22,7 @@ ghost use Rattle.desk_core.specs.Preparing.{Prepares};
 use crate::book::Book;
 use crate::filed::Filed;
 use crate::holding::{few_added, hold};
+use crate::letting_go::{let_go_book, let_go_deed, let_go_file, let_go_roster, let_go_tables};
 use crate::limiting::entry_size;
 use crate::objects::Objects;
 use crate::prepared::{Prep, Prepared};
@@ -102,13 +103,36 @@ impl Core {
         ensures founder { IfOk result (λ core. core.founder ≡ founder) }
         ensures empty { IfOk result (λ core. core.history ≡ []) }
     {
+        let filed = Book::new(alloc)?;
+        let Ok(roster) = Roster::new(alloc) else {
+            let_go_book(filed);
+            return Err(AllocError);
+        };
+        let Ok(tables) = Tables::new(alloc) else {
+            let_go_book(filed);
+            let_go_roster(roster);
+            return Err(AllocError);
+        };
+        let Ok(file) = TrackletFile::new(alloc) else {
+            let_go_book(filed);
+            let_go_roster(roster);
+            let_go_tables(tables);
+            return Err(AllocError);
+        };
+        let Ok(objects) = Objects::new(alloc) else {
+            let_go_book(filed);
+            let_go_roster(roster);
+            let_go_tables(tables);
+            let_go_file(file);
+            return Err(AllocError);
+        };
         Ok(Core {
             founder,
-            filed: Book::new(alloc)?,
-            roster: Roster::new(alloc)?,
-            tables: Tables::new(alloc)?,
-            file: TrackletFile::new(alloc)?,
-            objects: Objects::new(alloc)?,
+            filed,
+            roster,
+            tables,
+            file,
+            objects,
             used: 2,
         })
     }
@@ -187,7 +211,8 @@ impl Core {
         replace(&mut self.tables, tables);
         self.objects.note(&self.file, &deed);
         hold(&mut self.file, receipt, &deed);
-        self.roster.enrol(deed);
+        self.roster.enrol(&deed);
+        let_go_deed(deed);
         Reply::Done(answer)
     }
 

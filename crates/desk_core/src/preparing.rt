@@ -3,6 +3,7 @@
 ghost use Rattle.std.specs.Prelude.{◌≡◌, ◌≤◌, ◌<◌, ◌^◌, length, unwrap_or, true, Some, Ok, Err, IfOk, IfErr};
 ghost use Rattle.std.specs.Prelude.{ℕ, ℤ, ◌+◌, ◌↔◌, Option, option_map, IfSome, IsTrue};
 ghost use Rattle.act_model.specs.declared.request.TheConstants.{BODY_BYTES};
+ghost use Rattle.act_model.specs.declared.roster.TheConstants.{CALLERS};
 ghost use Rattle.act_model.specs.Rows.{IsDue};
 ghost use Rattle.act_model.specs.Requests.{is_act};
 ghost use Rattle.act_model.specs.Acts.{IsReadAsked};
@@ -22,6 +23,7 @@ ghost use Rattle.desk_core.specs.Preparing.{IsPrepared, IsReplied};
 
 use crate::filed::{Filed, is_resent, kept_answer, next_moment, receipt_at};
 use crate::hearing::{Claim, bytes_in, claim_of, hear};
+use crate::letting_go::{let_go_deed, let_go_entry, let_go_heard};
 use crate::office::Core;
 use crate::prepared::{Prep, Prepared};
 use act_model::{
@@ -39,6 +41,15 @@ fn are_numbered(before: u64, more: u64) -> bool
     ensures { IsTrue result ↔ (before + more < 2 ^ 64) }
 {
     more <= u64::MAX - before
+}
+
+/// What an entry needs beside its deed: its answer, the copy of it that is filed, and the tables with the deed, or None
+/// where they stay.
+#[derive(Drop)]
+struct Provision {
+    answer: Bytes,
+    kept: Bytes,
+    tables: Option<Tables>,
 }
 
 impl Core {
@@ -151,9 +162,12 @@ impl Core {
             };
         }
         match hear(alloc, claim, verb, bytes) {
-            Ok(_) => Ok(Reply::Refused(Refusal::OtherRequest {
-                receipt: receipt_at(filed, place),
-            })),
+            Ok(heard) => {
+                let_go_heard(heard);
+                Ok(Reply::Refused(Refusal::OtherRequest {
+                    receipt: receipt_at(filed, place),
+                }))
+            }
             Err(refusal) => Err(refusal),
         }
     }
@@ -190,9 +204,11 @@ impl Core {
             Err(refusal) => return Err(refusal),
         };
         if let Some(refusal) = self.full_refusal(limit, bytes) {
+            let_go_deed(deed);
             return Err(refusal);
         }
         let Ok(body) = Bytes::from_slice(alloc, bytes) else {
+            let_go_deed(deed);
             return Err(Refusal::NoMemory);
         };
         let entry = Entry {
@@ -220,15 +236,49 @@ impl Core {
         ensures history { self.new.history ≡ self.old.history }
         ensures founder { self.new.founder ≡ self.old.founder }
     {
-        let answer = self.answer_to(alloc, &deed)?;
-        let kept = Bytes::from_slice(alloc, answer.as_slice())?;
-        let tables = self.tables_with(&deed)?;
-        self.reserve_for(&deed)?;
+        let provision = match self.provide(alloc, &deed) {
+            Ok(provision) => provision,
+            Err(fault) => {
+                let_go_entry(entry);
+                let_go_deed(deed);
+                return Err(fault);
+            }
+        };
+        let Provision {
+            answer,
+            kept,
+            tables,
+        } = provision;
         let filed = Filed {
             entry,
             reply: Reply::Done(kept),
         };
         Ok(Prepared::new(filed, answer, deed, tables))
+    }
+
+    /// What an entry that does this deed needs beside it, and room for the entry. The tables come last, since nothing
+    /// that is refused after them has to let them go.
+    fn provide(&mut self, alloc: Global, deed: &Deed) -> Result<Provision, NoMemory>
+        requires fits { Fits (deeds self.old.history) deed.now }
+        ensures answer { IfOk result (λ p.
+            p.answer ≡ deed_answer (next_receipt self.old.history) (deeds self.old.history) deed.now) }
+        ensures kept { IfOk result (λ p. p.kept ≡ p.answer) }
+        ensures tables { IfOk result (λ p. unwrap_or p.tables (tables_of (deeds self.old.history))
+            ≡ with_row deed.now (tables_of (deeds self.old.history))) }
+        ensures room { IfOk result (λ _. IsRoomFor deed.now self.new.spare) }
+        ensures callers { length (members (deeds self.old.history)) < CALLERS }
+        ensures history { self.new.history ≡ self.old.history }
+        ensures founder { self.new.founder ≡ self.old.founder }
+    {
+        self.reserve_for(deed)?;
+        let answer = self.answer_to(alloc, deed)?;
+        let kept = Bytes::from_slice(alloc, answer.as_slice())?;
+        let tables = self.tables_with(deed)?;
+        Ok(Provision {
+            answer,
+            kept,
+            tables,
+        })
     }
 
     /// The answer to a deed that comes next.

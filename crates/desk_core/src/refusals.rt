@@ -6,6 +6,7 @@ ghost use Rattle.act_model.specs.declared.roster.TheConstants.{CALLERS};
 ghost use Rattle.act_model.specs.Rows.{first_row, unless};
 ghost use Rattle.act_model.specs.Doing.{enrol_rows, row_rows, batch_rows, retract_rows};
 
+use crate::letting_go::let_go_deed;
 use crate::roster::Roster;
 use act_model::{CALLERS, Deed, Key, Refusal, TakenLines, Thing, faults_in};
 use item_list::NoMemory;
@@ -21,7 +22,10 @@ pub fn unless(refusal: Option<Refusal>, deed: Deed) -> Result<Deed, Refusal>
     ensures { result ≡ unless refusal (Ok deed) }
 {
     match refusal {
-        Some(refusal) => Err(refusal),
+        Some(refusal) => {
+            let_go_deed(deed);
+            Err(refusal)
+        }
         None => Ok(deed),
     }
 }

@@ -109,14 +109,14 @@ impl Roster {
     }
 
     /// Puts the caller of an enrolment on the roster. It takes no memory: `reserve` has left room.
-    pub fn enrol(&mut self, deed: Deed)
+    pub fn enrol(&mut self, deed: &Deed)
         requires few { length self.old.items < CALLERS }
         requires room { 0 < self.old.room }
-        ensures items { reverse self.new.items ≡ with_enrolled deed (reverse self.old.items) }
+        ensures items { reverse self.new.items ≡ with_enrolled deed.now (reverse self.old.items) }
         ensures room { UsesOne self.old.room self.new.room }
     {
         if let Deed::Enrolled(member) = deed {
-            self.add(member);
+            self.add(*member);
         }
     }
 

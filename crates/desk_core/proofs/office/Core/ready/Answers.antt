@@ -13,7 +13,7 @@ returns-clause-at c =
     ready_at past c.new.result c.args.deed
     (ap (λ (e : Entry). deed_of (deeds past) e) c.new.ensures.entry ∙ c.requires.deed)
     c.new.ensures.deed
-    (c.new.ensures.answer ∙ c.in_ok-answer.ensures)
-    (ap (λ (tables : Option TableRows). unwrap_or tables (tables_of (deeds past))) c.new.ensures.tables ∙ c.in_ok-tables.ensures)
+    (c.new.ensures.answer ∙ c.in-Ok.ensures.answer)
+    (ap (λ (tables : Option TableRows). unwrap_or tables (tables_of (deeds past))) c.new.ensures.tables ∙ c.in-Ok.ensures.tables)
     c.requires.fits
-    c.in_ok-reserve_for.ensures.callers
+    c.provide.ensures.callers

@@ -31,5 +31,5 @@ returns-in-Ok-hear c = λ limit moment.
     let past = c.args.self.now.history in
     let stands : StandsAt filed past c.args.claim c.args.place = stands_at filed past c.args.claim c.args.place c.filed-filed.ensures.history c.requires.used in
     let other : is_resend c.args.verb c.args.bytes.now stands.k.entry ≡ false = sym (c.is_resent.ensures stands.k stands.at) ∙ c.if-is_resent.false in
-    act_other limit past c.args.claim c.args.verb c.args.bytes.now moment c.in-Ok-hear.field-0 c.in-Ok-hear.ensures.due stands.k stands.kept_is other
+    act_other limit past c.args.claim c.args.verb c.args.bytes.now moment c.in-Ok-hear.heard c.in-Ok-hear.ensures.due stands.k stands.kept_is other
     ∙ ap (λ (n : ℕ). Keeps (Refused (OtherRequest n))) (sym (c.receipt_at.ensures stands.k stands.at))
