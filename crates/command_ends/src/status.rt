@@ -65,7 +65,7 @@ impl Status {
     }
 }
 
-/// How a call ended, the two disks, and by how many entries the office's history grew.
+/// How a call ended, the two disks, and how many entries were added.
 #[derive(Debug, Drop)]
 pub struct Ended<D: Disk> {
     pub status: Status,
@@ -73,5 +73,6 @@ pub struct Ended<D: Disk> {
     pub disk: D,
     /// The second disk, with the file that counts.
     pub second: D,
+    /// How many entries were added to the office's history, or to the register of a command that keeps one.
     pub added: u64,
 }
