@@ -1,14 +1,12 @@
 -- The indexes of the comets, with one comet more.
-use Rattle.std.proofs.Common.{◌≡◌, ◌≢◌, ℕ, ◌+◌, Bool, true, false, cond, List, [], ◌∷◌, length, Option, Some, None, nat_cmp, nat_eq, refl, ap, sym, subst, ◌∙◌, arith}
+use Rattle.std.proofs.Common.{◌≡◌, ◌≢◌, ℕ, ◌+◌, Bool, true, false, cond, List, [], ◌∷◌, length, Option, Some, None, nat_eq, refl, ap, sym, subst, ◌∙◌, arith}
 use Rattle.std.specs.Prelude.{bytes_eq}
-use Rattle.std.specs.Ordering.{eq_by_cmp, is_eq, on}
+use Rattle.std.specs.Ordering.{eq_by_cmp, is_eq}
 use Rattle.std.specs.declared.cmp.Ordering.{Ordering}
-use Rattle.std.specs.Cmp.Lexicographic.{slice_cmp}
 use Rattle.std.proofs.lemmas.Bool.Decides.{nat_tests}
 use Rattle.std.proofs.lemmas.Slice.Eq.{bytes_eq-Decides}
-use Rattle.std.proofs.lemmas.Map.Text.{is_eq-slice_cmp}
 use Rattle.ascii_text.specs.Digits.{digits_text}
-use Rattle.ordered_list.specs.Orders.{ties, found}
+use Rattle.ordered_list.specs.Orders.{found}
 use Rattle.packed_names.specs.declared.half_month.HalfMonth.{HalfMonth}
 use Rattle.packed_names.specs.declared.name.Designation.{Designation}
 use Rattle.packed_names.specs.contracts.name.DesignationOrd.TheImpl as derived
@@ -24,11 +22,9 @@ use Rattle.comet_model.specs.Texts.{packed_comet_text}
 use Rattle.comet_model.specs.Translation.{object_named}
 use Rattle.comet_core.specs.declared.index.Count.{Count}
 use Rattle.comet_core.specs.declared.index.KnownObject.{KnownObject}
-use Rattle.comet_core.specs.declared.index.KnownName.{KnownName}
-use Rattle.comet_core.specs.Comets.{count_key, count_by, object_key, comet_by, name_key, object_by, AreKept, AreLong}
-
-abbrev by_text : KnownName → KnownName → Ordering
-by_text = on (λ n. n.text) (slice_cmp nat_cmp)
+use Rattle.comet_core.specs.declared.names.KnownName.{KnownName}
+use Rattle.comet_core.specs.Names.{object_of}
+use Rattle.comet_core.specs.Comets.{count_key, count_by, object_key, comet_by, AreKept, AreLong}
 
 -- ---- packed names
 
@@ -70,13 +66,8 @@ comet_either : (b : Bool) (new : KnownObject) (other : Option KnownObject) (olde
 comet_either true new other older is = refl
 comet_either false new other older is = is
 
-object_either : (b : Bool) (new : KnownName) (other : Option KnownName) (older : Option Designation) → object_by other ≡ older
-    → object_by (cond b (Some new) other) ≡ cond b (Some new.object) older
-object_either true new other older is = refl
-object_either false new other older is = is
-
 module _ (orders : OrderLaws) (count_cmp : Count → Count → Ordering) (object_cmp : KnownObject → KnownObject → Ordering) (past : List NamedComet) (named : NamedComet)
-    (counts counts' : List Count) (objects objects' : List KnownObject) (names names' : List KnownName) (kept : AreKept count_cmp object_cmp by_text past counts objects names) where
+    (counts counts' : List Count) (objects objects' : List KnownObject) (names names' : List KnownName) (kept : AreKept count_cmp object_cmp past counts objects names) where
   counted_more : (n : ℕ) → n ≡ count_in named.comet.half past + 1
       → ((half : HalfMonth) → found count_cmp (count_key half 0) counts' ≡ cond (eq_by_cmp half_cmp named.comet.half half) (Some (count_key named.comet.half n)) (found count_cmp (count_key half 0) counts))
       → (half : HalfMonth) → count_by (found count_cmp (count_key half 0) counts') ≡ count_in half (named ∷ past)
@@ -96,23 +87,22 @@ module _ (orders : OrderLaws) (count_cmp : Count → Count → Ordering) (object
       ∙ ap (λ (o : Ordering). cond (is_eq o) (Some named.comet) (comet_of d past)) (orders.compared named.object d)
 
   by_name_more : (packed : List ℕ) → packed ≡ packed_comet_text named.comet
-      → ((key : KnownName) → found by_text key names' ≡ cond (ties by_text key (name_key packed named.object)) (Some (name_key packed named.object)) (found by_text key names))
-      → (text : List ℕ) (d : Designation) → object_by (found by_text (name_key text d) names') ≡ object_named (named ∷ past) text
-  by_name_more packed is finds text d =
-      ap object_by (finds (name_key text d))
-      ∙ object_either (ties by_text (name_key text d) (name_key packed named.object)) (name_key packed named.object) (found by_text (name_key text d) names) (object_named past text) (kept.by_name text d)
-      ∙ ap (λ (b : Bool). cond b (Some named.object) (object_named past text)) (is_eq-slice_cmp packed text)
+      → ((text : List ℕ) → object_of names' text ≡ cond (bytes_eq packed text) (Some named.object) (object_of names text))
+      → (text : List ℕ) → object_of names' text ≡ object_named (named ∷ past) text
+  by_name_more packed is finds text =
+      finds text
+      ∙ ap (cond (bytes_eq packed text) (Some named.object)) (kept.by_name text)
       ∙ ap (λ (p : List ℕ). cond (bytes_eq p text) (Some named.object) (object_named past text)) is
 
   pub kept_more : (longer : List NamedComet) → longer ≡ named ∷ past → IsComet named.comet → (n : ℕ) → n ≡ count_in named.comet.half past + 1 → (packed : List ℕ) → packed ≡ packed_comet named.comet
       → ((half : HalfMonth) → found count_cmp (count_key half 0) counts' ≡ cond (eq_by_cmp half_cmp named.comet.half half) (Some (count_key named.comet.half n)) (found count_cmp (count_key half 0) counts))
       → ((d : Designation) (comet : Comet) → found object_cmp (object_key d comet) objects'
       ≡ cond (is_eq ((derived.ghosts).cmp named.object d)) (Some (object_key named.object named.comet)) (found object_cmp (object_key d comet) objects))
-      → ((key : KnownName) → found by_text key names' ≡ cond (ties by_text key (name_key packed named.object)) (Some (name_key packed named.object)) (found by_text key names))
-      → AreKept count_cmp object_cmp by_text longer counts' objects' names'
+      → ((text : List ℕ) → object_of names' text ≡ cond (bytes_eq packed text) (Some named.object) (object_of names text))
+      → AreKept count_cmp object_cmp longer counts' objects' names'
   kept_more longer pushed comet n counts_is packed packed_as finds_counts finds_objects finds_names =
       let text : packed ≡ packed_comet_text named.comet = packed_as ∙ sym (packed_is named.comet comet) in
-      subst (λ (all : List NamedComet). AreKept count_cmp object_cmp by_text all counts' objects' names') (sym pushed)
+      subst (λ (all : List NamedComet). AreKept count_cmp object_cmp all counts' objects' names') (sym pushed)
       (record {
         long = (ap length (packed_is named.comet comet) ∙ packed_long named.comet, kept.long);
         counted = counted_more n counts_is finds_counts;

@@ -1,3 +1,4 @@
+mod NameLemmas
 mod CometLemmas
 mod SliceLemmas
 mod PlaceLemmas

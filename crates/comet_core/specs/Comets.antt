@@ -13,7 +13,8 @@ use Rattle.comet_model.specs.Texts.{packed_comet_text}
 use Rattle.comet_model.specs.Translation.{object_named}
 use Rattle.comet_core.specs.declared.index.Count.{Count}
 use Rattle.comet_core.specs.declared.index.KnownObject.{KnownObject}
-use Rattle.comet_core.specs.declared.index.KnownName.{KnownName}
+use Rattle.comet_core.specs.declared.names.KnownName.{KnownName}
+use Rattle.comet_core.specs.Names.{object_of}
 
 -- the comets, the newest first, and for how many more there is room
 pub record CometsValue : Type 0 where
@@ -36,14 +37,6 @@ object_key object comet = record { object = object; comet = comet }
 abbrev pub comet_by : Option KnownObject → Option Comet
 comet_by item = option_map (λ known. known.comet) item
 
--- the item of a packed name that this designation has
-abbrev pub name_key : List ℕ → Designation → KnownName
-name_key text object = record { text = text; object = object }
-
--- the designation that an item tells of
-abbrev pub object_by : Option KnownName → Option Designation
-object_by item = option_map (λ known. known.object) item
-
 -- each packed name has eight characters
 abbrev pub AreLong : List NamedComet → Type 0
 AreLong named = AllByRecursion (λ n. length (packed_comet_text n.comet) ≡ 8) named
@@ -51,11 +44,10 @@ AreLong named = AllByRecursion (λ n. length (packed_comet_text n.comet) ≡ 8) 
 -- Each packed name has eight characters. Each half-month finds how many comets it has, each designation its name, and
 -- each packed name its designation; what else is in the key plays no part.
 pub record AreKept (count_cmp : Count → Count → Ordering) (object_cmp : KnownObject → KnownObject → Ordering)
-    (name_cmp : KnownName → KnownName → Ordering) (named : List NamedComet) (counts : List Count)
-    (objects : List KnownObject) (names : List KnownName) : Type 0 where
+    (named : List NamedComet) (counts : List Count) (objects : List KnownObject) (names : List KnownName)
+    : Type 0 where
   pub long : AreLong named
   pub counted : (half : HalfMonth) → count_by (found count_cmp (count_key half 0) counts) ≡ count_in half named
   pub by_object : (d : Designation) (comet : Comet) → comet_by (found object_cmp (object_key d comet) objects)
       ≡ comet_of d named
-  pub by_name : (text : List ℕ) (d : Designation) → object_by (found name_cmp (name_key text d) names)
-      ≡ object_named named text
+  pub by_name : (text : List ℕ) → object_of names text ≡ object_named named text

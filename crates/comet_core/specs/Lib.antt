@@ -1,3 +1,4 @@
+pub mod Names
 pub mod Comets
 pub mod Book
 pub mod Register

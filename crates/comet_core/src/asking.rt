@@ -111,7 +111,7 @@ impl Register {
     /// The answer to a query, a request whose verb isn't that of the act, beside an office that is read. To `register`
     /// it is a line for each comet in the order in which they were named, with the principal designation that the
     /// office has for its object now; to `translate` the batch in which designations stand in the place of the comets'
-    /// names. Each name is found by halving.
+    /// names. Each name is found by its mark.
     ///
     /// The request is refused with `TooLarge` for its body, `Unread` for the verb, the number and the body, in this
     /// order, and `UnknownKey` for a key that isn't the founding officer's; with `NoMemory` where memory was refused

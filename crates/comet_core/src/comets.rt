@@ -8,14 +8,16 @@ ghost use Rattle.comet_names.specs.declared.comet.Comet.{Comet};
 ghost use Rattle.comet_names.specs.Ranges.{IsComet};
 ghost use Rattle.comet_model.specs.Comets.{count_in, comet_of};
 ghost use Rattle.comet_model.specs.Translation.{object_named};
-ghost use Rattle.comet_core.specs.Comets.{count_key, count_by, object_key, comet_by, name_key, object_by};
+ghost use Rattle.comet_core.specs.Comets.{count_key, count_by, object_key, comet_by};
+ghost use Rattle.comet_core.specs.Names.{object_of};
 
-use crate::index::{Count, KnownName, KnownObject};
+use crate::index::{Count, KnownObject};
+use crate::names::{KnownName, Names};
 use comet_model::NamedComet;
 use comet_names::{Comet, CometKind, pack_comet};
 use item_list::NoMemory;
 use ordered_list::OrderedList;
-use packed_names::{Designation, HalfMonth, Provisional};
+use packed_names::{Designation, HalfMonth};
 use std::alloc::Global;
 use std::marker::Model;
 
@@ -28,7 +30,7 @@ pub struct Comets {
     named: Vec<NamedComet>,
     counts: OrderedList<Count>,
     objects: OrderedList<KnownObject>,
-    names: OrderedList<KnownName>,
+    names: Names,
 }
 
 impl Model for Comets {
@@ -43,8 +45,8 @@ impl Model for Comets {
     } };
 
     ghost invariant = { λ c.
-        AreKept ⟦<Count as Ord>⟧.cmp ⟦<KnownObject as Ord>⟧.cmp ⟦<KnownName as Ord>⟧.cmp (reverse c.named.items)
-        c.counts.items c.objects.items c.names.items };
+        AreKept ⟦<Count as Ord>⟧.cmp ⟦<KnownObject as Ord>⟧.cmp (reverse c.named.items) c.counts.items
+        c.objects.items c.names.names };
 }
 
 /// How many comets an index has in a half-month.
@@ -74,21 +76,12 @@ fn comet_of(objects: &OrderedList<KnownObject>, object: Designation) -> Option<C
 }
 
 /// The designation that an index has of a packed name. None for a text that isn't of eight bytes.
-fn object_named(names: &OrderedList<KnownName>, name: &[u8]) -> Option<Designation>
-    ensures found { length name.now ≡ 8 → (object : Designation) → result
-        ≡ object_by (found ⟦<KnownName as Ord>⟧.cmp (name_key name.now object) names.now.items) }
+fn object_named(names: &Names, name: &[u8]) -> Option<Designation>
+    ensures found { length name.now ≡ 8 → result ≡ object_of names.now.names name.now }
     ensures none { length name.now ≢ 8 → result ≡ None }
 {
     let text: &[u8; 8] = name.as_array()?;
-    // what stands beside the name plays no part in the search
-    let half = HalfMonth { year: 0, index: 0 };
-    let object = Designation::Provisional(Provisional { half, order: 0 });
-    names
-        .find(&KnownName {
-            text: *text,
-            object,
-        })
-        .map(|known| known.object)
+    names.find(text)
 }
 
 impl Comets {
@@ -104,7 +97,7 @@ impl Comets {
             named: Vec::new(alloc),
             counts: OrderedList::new(alloc)?,
             objects: OrderedList::new(alloc)?,
-            names: OrderedList::new(alloc)?,
+            names: Names::new(alloc)?,
         })
     }
 
@@ -129,7 +122,7 @@ impl Comets {
         comet_of(&self.objects, object)
     }
 
-    /// The designation beside which the comet with this packed name has it. It is found by halving.
+    /// The designation beside which the comet with this packed name has it. It is found by the name's mark.
     pub fn object_named(&self, name: &[u8]) -> Option<Designation>
         ensures { result ≡ object_named self.now.items name.now }
     {
@@ -149,7 +142,7 @@ impl Comets {
         self.named.reserve(1)?;
         self.counts.reserve(1)?;
         self.objects.reserve(1)?;
-        self.names.reserve(1)
+        self.names.reserve()
     }
 
     /// Adds a comet of a half-month that isn't full. It takes no memory: `reserve` has left room.
@@ -168,7 +161,7 @@ impl Comets {
             object: named.object,
             comet: named.comet,
         });
-        self.names.insert(KnownName {
+        self.names.set(KnownName {
             text: pack_comet(named.comet),
             object: named.object,
         });

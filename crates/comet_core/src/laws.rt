@@ -7,8 +7,8 @@ ghost use Rattle.act_model.specs.Deeds.{deeds};
 ghost use Rattle.comet_model.specs.Legal.{IsLegal};
 ghost use Rattle.comet_core.specs.Register.{RegisterValue, IsOver, Ready, IsReadyAt};
 
-/// A register of an office stays one of it as the office's history grows, and an act that was worked out at the register
-/// stays as it was worked out.
+/// A register of an office stays one of it as the office's history grows, and an act that was worked out at the
+/// register stays as it was worked out.
 pub fn longer()
     ensures over { (register : RegisterValue) (earlier later : List Entry) → Extends earlier later →
         IsOver (deeds earlier) register → IsOver (deeds later) register }

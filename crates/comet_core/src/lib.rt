@@ -7,6 +7,7 @@ mod book;
 mod comets;
 mod index;
 pub mod laws;
+mod names;
 mod prepared;
 mod preparing;
 mod register;

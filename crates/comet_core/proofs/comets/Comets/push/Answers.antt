@@ -11,7 +11,7 @@ invariant_of-self c =
     let named = c.args.named in
     let older = c.self.inside.named.items in
     let counted = c.count_in-comets.ensures ∙ ap (λ (v : CometsValue). count_in named.comet.half v.items) (sym c.self.view_is) in
-    kept_more c.orders.ensures _ _ (reverse older) named c.self.inside.counts.items c.insert.new.self.items c.self.inside.objects.items c.insert-2.new.self.items c.self.inside.names.items c.insert-3.new.self.items c.self.invariant
+    kept_more c.orders.ensures _ _ (reverse older) named c.self.inside.counts.items c.insert.new.self.items c.self.inside.objects.items c.insert-2.new.self.items c.self.inside.names.names c.set.new.self.names c.self.invariant
     (reverse c.push_reserved.new.self.items) (ap reverse c.push_reserved.ensures.items ∙ reverse-append older (named ∷ []))
     c.requires.comet (c.count_in-comets.result + 1) (ap (λ (n : ℕ). n + 1) counted) c.pack_comet.result c.pack_comet.ensures
-    (λ half. c.insert.ensures.finds (count_key half 0)) (λ d comet. c.insert-2.ensures.finds (object_key d comet)) c.insert-3.ensures.finds
+    (λ half. c.insert.ensures.finds (count_key half 0)) (λ d comet. c.insert-2.ensures.finds (object_key d comet)) c.set.ensures.finds
