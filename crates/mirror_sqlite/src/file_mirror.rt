@@ -8,12 +8,12 @@ ghost use Rattle.mirror_store.specs.Mirrors.{IsReplaced, TellsObjects, TellsBetw
 ghost use Rattle.mirror_sqlite.specs.FileMirrors.{untold};
 
 use crate::faults::{fault, faults_after};
-use crate::replacing::replace;
+use crate::keeping::{between_by, objects_by, replace_by};
 use crate::tables::{make_objects, make_sights};
-use crate::texts::{between, compile_all, objects};
+use crate::texts::compile_all;
 use mirror_store::{Mirror, MirrorErr, MirrorRows, ObjectRows, SightRows};
 use obs_time::Instant;
-use sqlite::{Connection, File, FileStore};
+use sqlite::{Alter, Connection, File, FileStore};
 use std::marker::Model;
 use std::rt::HostRuntime;
 
@@ -79,49 +79,60 @@ impl FileMirror {
         requires { AreReplaceable rows.now }
         ensures { self.new ≡ self.old }
     {
-        let mut conn = self.take()?;
-        let answer = replace(&mut conn, rows);
-        self.conn = Some(conn);
-        answer
+        let conn = self.take()?;
+        replace_by(&mut self.conn, conn, rows)
     }
 
     fn try_objects(&mut self) -> Result<ObjectRows, MirrorErr>
         ensures in_range { IfOk result (AllByRecursion IsObjectRow) }
         ensures same { self.new ≡ self.old }
     {
-        let mut conn = self.take()?;
-        let answer = objects(self.host.alloc(), &mut conn);
-        self.conn = Some(conn);
-        answer
+        let conn = self.take()?;
+        objects_by(self.host.alloc(), &mut self.conn, conn)
     }
 
     fn try_between(&mut self, from: Instant, to: Instant) -> Result<SightRows, MirrorErr>
         ensures in_range { IfOk result (AllByRecursion IsSightRow) }
         ensures same { self.new ≡ self.old }
     {
-        let mut conn = self.take()?;
-        let answer = between(self.host.alloc(), &mut conn, from.ns(), to.ns());
-        self.conn = Some(conn);
-        answer
+        let conn = self.take()?;
+        between_by(self.host.alloc(), &mut self.conn, conn, from.ns(), to.ns())
     }
 }
 
-/// The file with both tables, which are made where they aren't there. Tables of other columns are refused, before
-/// anything is done to their rows.
+/// The file with both tables.
 fn opened(host: HostRuntime) -> Result<Connection<FileStore<File>>, MirrorErr>
     ensures { IfOk result (λ conn. conn.in_transaction ≡ false) }
 {
-    let mut conn = match Connection::open(&host, FILE) {
-        Ok(conn) => conn,
-        Err(error) => return Err(fault(error)),
-    };
-    make_objects(&mut conn)?;
-    make_sights(&mut conn)?;
-    compile_all(&mut conn)?;
+    match Connection::open(&host, FILE) {
+        Ok(conn) => with_tables(conn),
+        Err(error) => Err(fault(error)),
+    }
+}
+
+/// Makes both tables where they aren't there. Tables of other columns are refused, before anything is done to their
+/// rows.
+fn make_tables<S: Alter>(conn: &mut Connection<S>) -> Result<(), MirrorErr>
+    ensures { OnOk result (conn.new.in_transaction ≡ false) }
+{
+    make_objects(conn)?;
+    make_sights(conn)?;
+    compile_all(conn)?;
     if conn.is_autocommit() {
-        Ok(conn)
+        Ok(())
     } else {
         Err(MirrorErr::Failed)
+    }
+}
+
+/// The connection, once both tables are there. It is over any store, since each call at a file's store, and each way on
+/// which such a connection is let go, makes the proof of a function longer.
+fn with_tables<S: Alter + Drop>(mut conn: Connection<S>) -> Result<Connection<S>, MirrorErr>
+    ensures { IfOk result (λ conn. conn.in_transaction ≡ false) }
+{
+    match make_tables(&mut conn) {
+        Ok(()) => Ok(conn),
+        Err(error) => Err(error),
     }
 }
 

@@ -3,6 +3,7 @@
 
 pub mod faults;
 mod file_mirror;
+mod keeping;
 pub mod reading;
 pub mod replacing;
 mod sql_mirror;

@@ -11,6 +11,7 @@ ghost use Rattle.mirror_sqlite.specs.Holding.{no_rows};
 ghost use Rattle.mirror_sqlite.specs.SqlMirrors.{tables, IsReady, lists_of};
 
 use crate::faults::faults_after;
+use crate::keeping::keep;
 use crate::replacing::replace;
 use crate::tables::empty_tables;
 use crate::texts::{between, objects};
@@ -71,7 +72,7 @@ impl Mirror for SqlMirror {
         ensures faultless { result ≢ Err MirrorErr.Failed → self.new.faults ≡ self.old.faults }
     {
         let (conn, answer) = replaced(self.alloc, self.conn.take(), rows);
-        self.conn = conn;
+        keep(&mut self.conn, conn);
         self.faults = faults_after(self.faults, &answer);
         answer
     }
@@ -90,7 +91,7 @@ impl Mirror for SqlMirror {
         ensures faultless { result ≢ Err MirrorErr.Failed → self.new.faults ≡ self.old.faults }
     {
         let (conn, answer) = listed(self.alloc, self.conn.take());
-        self.conn = conn;
+        keep(&mut self.conn, conn);
         self.faults = faults_after(self.faults, &answer);
         answer
     }
@@ -109,7 +110,7 @@ impl Mirror for SqlMirror {
         ensures faultless { result ≢ Err MirrorErr.Failed → self.new.faults ≡ self.old.faults }
     {
         let (conn, answer) = listed_between(self.alloc, self.conn.take(), from.ns(), to.ns());
-        self.conn = conn;
+        keep(&mut self.conn, conn);
         self.faults = faults_after(self.faults, &answer);
         answer
     }
