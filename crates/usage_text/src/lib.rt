@@ -10,20 +10,6 @@ use std::alloc::{AllocError, Global};
 /// The version of the program.
 pub const VERSION: &str = "0.10";
 
-const RUN: &str = "run";
-
-const SERVE: &str = "serve";
-
-const EXPORT: &str = "export";
-
-const WORKLOAD: &str = "workload";
-
-const MIRROR: &str = "mirror";
-
-const LOOK: &str = "look";
-
-const COMETS: &str = "comets";
-
 const KEY: &str = "The founding officer's key: + and 8 to 32 of A to Z, a to z, 0 to 9 and -";
 
 const STATUSES: &str = concat!(
@@ -41,8 +27,114 @@ const STATUSES: &str = concat!(
     " 11  TooMany: the catalogue has too many observations or objects for a mirror",
 );
 
-/// An option that a command must be given, with a value of this name.
-fn option<'a>(alloc: Global, name: &'a str, value: &'a str, help: &'a str) -> Arg<'a> {
+/// An option that a command must be given: its name, the name of its value, and what that is.
+type Given = (&'static str, &'static str, &'static str);
+
+/// A command: its name, the one that it is called by, what it does, an example, and its options.
+struct Form {
+    name: &'static str,
+    called: &'static str,
+    about: &'static str,
+    example: &'static str,
+    options: &'static [Given],
+}
+
+/// The commands, in the order in which they are told.
+const FORMS: &[Form] = &[
+    Form {
+        name: "run",
+        called: "mpc_cli run",
+        about: "Answers the request frames of standard input on standard output",
+        example: "Example: mpc_cli run --key +founder-1",
+        options: &[("key", "K", KEY)],
+    },
+    Form {
+        name: "serve",
+        called: "mpc_cli serve",
+        about: "Attends connections at port 8017 of this machine",
+        example: "Example: mpc_cli serve --key +founder-1 --connections 100",
+        options: &[
+            ("key", "K", KEY),
+            (
+                "connections",
+                "N",
+                "How many connections are attended, 1 to 1000",
+            ),
+        ],
+    },
+    Form {
+        name: "export",
+        called: "mpc_cli export",
+        about: "Writes the catalogue of the journal to standard output",
+        example: "Example: mpc_cli export",
+        options: &[],
+    },
+    Form {
+        name: "workload",
+        called: "mpc_cli workload",
+        about: "Runs made-up requests on an office in memory, and writes a summary of it to standard output",
+        example: "Example: mpc_cli workload --seed 7 --count 3",
+        options: &[
+            (
+                "seed",
+                "S",
+                "The number that starts the requests, 0 to 18446744073709551615",
+            ),
+            ("count", "M", "How many objects the office gets, 1 to 20000"),
+        ],
+    },
+    Form {
+        name: "mirror",
+        called: "mpc_cli mirror",
+        about: "Copies the catalogue of the journal into its mirror, and writes how much it copied to standard output",
+        example: "Example: mpc_cli mirror",
+        options: &[],
+    },
+    Form {
+        name: "look",
+        called: "mpc_cli look",
+        about: "Writes what the mirror holds to standard output: its objects, and its observations of some days",
+        example: "Example: mpc_cli look --from 2024-03-16 --to 2024-03-17",
+        options: &[
+            (
+                "from",
+                "A",
+                "The first of the days, as YYYY-MM-DD, of the years 1800 to 2199",
+            ),
+            (
+                "to",
+                "B",
+                "The day after the last of them, as YYYY-MM-DD, of the years 1800 to 2199",
+            ),
+        ],
+    },
+    Form {
+        name: "comets",
+        called: "mpc_cli comets",
+        about: "Answers the request frames of standard input by the register of comets, which is kept in desk.comets",
+        example: "Example: mpc_cli comets --key +founder-1",
+        options: &[("key", "K", KEY)],
+    },
+];
+
+/// The commands. Each further use of the constant itself would be dear to prove.
+fn forms() -> &'static [Form] {
+    FORMS
+}
+
+/// Whether a command of the program has this name.
+pub fn is_command(name: &str) -> bool {
+    for form in forms() {
+        if form.name == name {
+            return true;
+        }
+    }
+    false
+}
+
+/// An option with a value.
+fn option<'a>(alloc: Global, given: &Given) -> Arg<'a> {
+    let (name, value, help) = *given;
     Arg::new(alloc, name)
         .long(name)
         .value_name(value)
@@ -52,145 +144,63 @@ fn option<'a>(alloc: Global, name: &'a str, value: &'a str, help: &'a str) -> Ar
 }
 
 /// A command without its options; nothing asks it for help.
-fn command<'a>(alloc: Global, name: &'a str, about: &'a str) -> Command<'a> {
+fn command<'a>(alloc: Global, name: &'a str, about: &'a str, after: &'a str) -> Command<'a> {
     Command::new(alloc, name)
         .about(about)
         .disable_help_flag(true)
         .disable_help_subcommand(true)
+        .after_help(after)
 }
 
-fn run<'a>(alloc: Global) -> Result<Command<'a>, AllocError> {
-    command(
-        alloc,
-        RUN,
-        "Answers the request frames of standard input on standard output",
-    )
-    .after_help("Example: mpc_cli run --key +founder-1")
-    .arg(option(alloc, "key", "K", KEY))
+/// A command with its options.
+fn command_of<'a>(alloc: Global, form: &Form) -> Result<Command<'a>, AllocError> {
+    let mut command = command(alloc, form.name, form.about, form.example);
+    for given in form.options {
+        command = command.arg(option(alloc, given))?;
+    }
+    Ok(command)
 }
 
-fn serve<'a>(alloc: Global) -> Result<Command<'a>, AllocError> {
-    command(
-        alloc,
-        SERVE,
-        "Attends connections at port 8017 of this machine",
-    )
-    .after_help("Example: mpc_cli serve --key +founder-1 --connections 100")
-    .arg(option(alloc, "key", "K", KEY))?
-    .arg(option(
-        alloc,
-        "connections",
-        "N",
-        "How many connections are attended, 1 to 1000",
-    ))
-}
-
-fn export<'a>(alloc: Global) -> Command<'a> {
-    command(
-        alloc,
-        EXPORT,
-        "Writes the catalogue of the journal to standard output",
-    )
-    .after_help("Example: mpc_cli export")
-}
-
-fn workload<'a>(alloc: Global) -> Result<Command<'a>, AllocError> {
-    command(
-        alloc,
-        WORKLOAD,
-        "Runs made-up requests on an office in memory, and writes a summary of it to standard output",
-    )
-    .after_help("Example: mpc_cli workload --seed 7 --count 3")
-    .arg(option(
-        alloc,
-        "seed",
-        "S",
-        "The number that starts the requests, 0 to 18446744073709551615",
-    ))?
-    .arg(option(
-        alloc,
-        "count",
-        "M",
-        "How many objects the office gets, 1 to 20000",
-    ))
-}
-
-fn mirror<'a>(alloc: Global) -> Command<'a> {
-    command(
-        alloc,
-        MIRROR,
-        "Copies the catalogue of the journal into its mirror, and writes how much it copied to standard output",
-    )
-    .after_help("Example: mpc_cli mirror")
-}
-
-fn look<'a>(alloc: Global) -> Result<Command<'a>, AllocError> {
-    command(
-        alloc,
-        LOOK,
-        "Writes what the mirror holds to standard output: its objects, and its observations of some days",
-    )
-    .after_help("Example: mpc_cli look --from 2024-03-16 --to 2024-03-17")
-    .arg(option(
-        alloc,
-        "from",
-        "A",
-        "The first of the days, as YYYY-MM-DD, of the years 1800 to 2199",
-    ))?
-    .arg(option(
-        alloc,
-        "to",
-        "B",
-        "The day after the last of them, as YYYY-MM-DD, of the years 1800 to 2199",
-    ))
-}
-
-fn comets<'a>(alloc: Global) -> Result<Command<'a>, AllocError> {
-    command(
-        alloc,
-        COMETS,
-        "Answers the request frames of standard input by the register of comets, which is kept in desk.comets",
-    )
-    .after_help("Example: mpc_cli comets --key +founder-1")
-    .arg(option(alloc, "key", "K", KEY))
-}
-
-/// Whether a command of the program has this name.
-pub fn is_command(name: &str) -> bool {
-    name == RUN
-        || name == SERVE
-        || name == EXPORT
-        || name == WORKLOAD
-        || name == MIRROR
-        || name == LOOK
-        || name == COMETS
+/// A program with one more command, where memory was there for that.
+fn with_command<'a>(
+    program: Command<'a>,
+    next: Result<Command<'a>, AllocError>,
+) -> Result<Command<'a>, AllocError> {
+    program.subcommand(next?)
 }
 
 /// The program, with what its commands do.
 fn program<'a>(alloc: Global) -> Result<Command<'a>, AllocError> {
-    command(
-        alloc,
-        "mpc_cli",
-        "A clearing house for minor planet astrometry, on the journal desk.journal2 of the current folder",
-    )
-    .version(VERSION)
-    .disable_version_flag(true)
-    .after_help(STATUSES)
-    .subcommand(run(alloc)?)?
-    .subcommand(serve(alloc)?)?
-    .subcommand(export(alloc))?
-    .subcommand(workload(alloc)?)?
-    .subcommand(mirror(alloc))?
-    .subcommand(look(alloc)?)?
-    .subcommand(comets(alloc)?)
+    let about =
+        "A clearing house for minor planet astrometry, on the journal desk.journal2 of the current folder";
+    let mut program = command(alloc, "mpc_cli", about, STATUSES)
+        .version(VERSION)
+        .disable_version_flag(true);
+    for form in forms() {
+        program = with_command(program, command_of(alloc, form))?;
+    }
+    Ok(program)
 }
 
-/// Writes the help of a command under its whole name, after an empty line.
-fn push_help(out: &mut String, command: Command<'_>, name: &str) -> Result<(), AllocError> {
-    let mut named = command.bin_name(name)?;
-    let help = named.render_help()?;
+/// The help of the program, and its version.
+fn program_texts(alloc: Global) -> Result<(String, String), AllocError> {
+    let mut program = program(alloc)?;
+    let help = program.render_help()?;
+    let version = program.render_version()?;
+    Ok((help, version))
+}
+
+/// The help of a command under the name that it is called by.
+fn help_of(alloc: Global, form: &Form) -> Result<String, AllocError> {
+    let mut named = command_of(alloc, form)?.bin_name(form.called)?;
+    named.render_help()
+}
+
+/// Writes a text on a line of its own, after others; where memory was refused for the text, nothing.
+fn push_text(out: &mut String, text: Result<String, AllocError>) -> Result<(), AllocError> {
+    let text = text?;
     out.push_str("\n")?;
-    out.push_str(help.as_str())
+    out.push_str(text.as_str())
 }
 
 /// The usage of the program, and its version in the last line. It takes memory.
@@ -199,16 +209,10 @@ fn push_help(out: &mut String, command: Command<'_>, name: &str) -> Result<(), A
 ///
 /// Memory was refused.
 pub fn usage_text(alloc: Global) -> Result<String, AllocError> {
-    let mut program = program(alloc)?;
-    let mut text = program.render_help()?;
-    push_help(&mut text, run(alloc)?, "mpc_cli run")?;
-    push_help(&mut text, serve(alloc)?, "mpc_cli serve")?;
-    push_help(&mut text, export(alloc), "mpc_cli export")?;
-    push_help(&mut text, workload(alloc)?, "mpc_cli workload")?;
-    push_help(&mut text, mirror(alloc), "mpc_cli mirror")?;
-    push_help(&mut text, look(alloc)?, "mpc_cli look")?;
-    push_help(&mut text, comets(alloc)?, "mpc_cli comets")?;
-    text.push_str("\n")?;
-    text.push_str(program.render_version()?.as_str())?;
+    let (mut text, version) = program_texts(alloc)?;
+    for form in forms() {
+        push_text(&mut text, help_of(alloc, form))?;
+    }
+    push_text(&mut text, Ok(version))?;
     Ok(text)
 }
