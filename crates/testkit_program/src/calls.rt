@@ -1,8 +1,12 @@
 //! Calls of the program on three disks in memory.
+//!
+//! What owns disks, a mirror or a door is generic in them: it takes each as the answer of what makes it, so that no
+//! function lets a device go of which it knows the type.
 
-use crate::links::{End, Exchanged, Sent, door_of, long_door, wrong_end, wrong_long_end};
+use crate::links::{End, Exchanged, Sent, Took, door_of, long_door, wrong_end, wrong_long_end};
+use crate::parts::{both, let_go};
 use command_ends::Ended as CommandEnded;
-use desk_io::{Clock, Door, NoMemory, Sink, Source, TcpDoor};
+use desk_io::{Clock, Door, MemDoor, NoMemory, Sink, Source, TcpDoor};
 use disk_model::{Disk, MemDisk};
 use mirror_store::{MemMirror, Mirror};
 use program_top::top::{single, top};
@@ -13,13 +17,6 @@ use std::rt::Clock as HostClock;
 use std::sync::Wait;
 use std::thread::Threads;
 use testkit_sessions::{Call, Devices, Drive, Drives, Found, Wrong, are_left, disks_of, has_ended};
-
-/// How many bytes a disk has room for.
-const DISK_BYTES: usize = 1_048_576;
-
-fn empty_disk(alloc: Global) -> Result<MemDisk, NoMemory> {
-    MemDisk::new(alloc, &[], DISK_BYTES, &[])
-}
 
 /// `single`, without its clauses.
 fn called<S: Source, K: Sink, D: Disk, C: Clock, M: Mirror>(
@@ -65,8 +62,46 @@ fn served<
     )
 }
 
-/// The end of a call as that of a command, and the register's disk.
-fn parted<D: Disk>(ended: Ended<D>) -> (CommandEnded<D>, D) {
+/// The disks of a call: the office's two, and the register's.
+#[derive(Drop)]
+struct Disks<D: Disk> {
+    office: (D, D),
+    comets: D,
+}
+
+/// The disks of an office, and of two others the second one as the register's.
+///
+/// # Errors
+///
+/// Memory was refused for one of them.
+fn disks_beside<D: Disk>(
+    office: Result<(D, D), NoMemory>,
+    others: Result<(D, D), NoMemory>,
+) -> Result<Disks<D>, NoMemory> {
+    let (office, (_, comets)) = both(office, others)?;
+    Ok(Disks { office, comets })
+}
+
+/// Two empty disks.
+fn two_disks(alloc: Global) -> Result<(MemDisk, MemDisk), NoMemory> {
+    disks_of(alloc, &Drives::EMPTY)
+}
+
+fn empty_disks(alloc: Global) -> Result<Disks<MemDisk>, NoMemory> {
+    disks_beside(two_disks(alloc), two_disks(alloc))
+}
+
+/// The disks after a call that ended so.
+///
+/// # Errors
+///
+/// What is wrong with the call.
+fn judged<D: Disk>(
+    alloc: Global,
+    call: &Call,
+    ended: Ended<D>,
+    devices: &Devices,
+) -> Result<Disks<D>, Wrong> {
     let Ended {
         status,
         disk,
@@ -80,53 +115,45 @@ fn parted<D: Disk>(ended: Ended<D>) -> (CommandEnded<D>, D) {
         second,
         added,
     };
-    (command, comets)
+    has_ended(alloc, call, &command, &devices.sink)?;
+    Ok(Disks {
+        office: (command.disk, command.second),
+        comets,
+    })
 }
 
-/// Calls `single` on three empty disks.
-///
-/// # Errors
-///
-/// What is wrong with the call.
-pub fn call_single(alloc: Global, call: &Call) -> Result<(), Wrong> {
-    let (disk, second) = (empty_disk(alloc)?, empty_disk(alloc)?);
-    let comets = empty_disk(alloc)?;
-    let mut devices = Devices::new(alloc, call)?;
-    let mut mirror = MemMirror::new(alloc, &[])?;
-    let ended = called(
+/// Calls `single` over these devices.
+fn called_on<D: Disk, M: Mirror>(
+    alloc: Global,
+    devices: &mut Devices,
+    disks: Disks<D>,
+    mirror: &mut M,
+) -> Ended<D> {
+    let Disks { office, comets } = disks;
+    called(
         alloc,
         &devices.words,
         &mut devices.source,
         &mut devices.sink,
-        disk,
-        second,
+        office.0,
+        office.1,
         &mut devices.clock,
-        &mut mirror,
+        mirror,
         comets,
-    );
-    let (ended, _) = parted(ended);
-    has_ended(alloc, call, &ended, &devices.sink)
+    )
 }
 
-/// The disks of a call: the office's two, and the register's.
-#[derive(Drop)]
-struct Disks<D: Disk> {
-    office: (D, D),
-    comets: D,
-}
-
-/// Calls `top` on these disks with this mirror, and gives the disks back. No link comes.
-fn call_on<D: Disk + Send, M: Mirror, R: Threads + Wait + Sync>(
+/// Calls `top` over these devices.
+fn served_on<D: Disk + Send, M: Mirror, G: Door + Send, R: Threads + Wait + Sync>(
     rt: &R,
     alloc: Global,
-    call: &Call,
+    devices: &mut Devices,
     disks: Disks<D>,
     mirror: &mut M,
-) -> Result<Disks<D>, Wrong> {
-    let mut devices = Devices::new(alloc, call)?;
-    let mut door = door_of(alloc, &[], 0)?;
+    door: &mut G,
+) -> (Ended<D>, LinkEnds<G::In, G::Out>) {
     let Disks { office, comets } = disks;
-    let (ended, _) = served(
+    served(
         rt,
         alloc,
         &devices.words,
@@ -135,15 +162,94 @@ fn call_on<D: Disk + Send, M: Mirror, R: Threads + Wait + Sync>(
         office.0,
         office.1,
         &mut devices.clock,
-        &mut door,
+        door,
         mirror,
         comets,
-    );
-    let (ended, comets) = parted(ended);
-    has_ended(alloc, call, &ended, &devices.sink)?;
-    Ok(Disks {
-        office: (ended.disk, ended.second),
-        comets,
+    )
+}
+
+/// Calls `single` on these disks with this mirror.
+fn call_alone<D: Disk, M: Mirror>(
+    alloc: Global,
+    call: &Call,
+    disks: Result<Disks<D>, NoMemory>,
+    mirror: Result<M, NoMemory>,
+) -> Result<(), Wrong> {
+    let (disks, mut mirror) = both(disks, mirror)?;
+    let mut devices = Devices::new(alloc, call)?;
+    let ended = called_on(alloc, &mut devices, disks, &mut mirror);
+    judged(alloc, call, ended, &devices)?;
+    Ok(())
+}
+
+/// Calls `single` on three empty disks.
+///
+/// # Errors
+///
+/// What is wrong with the call.
+pub fn call_single(alloc: Global, call: &Call) -> Result<(), Wrong> {
+    call_alone(alloc, call, empty_disks(alloc), MemMirror::new(alloc, &[]))
+}
+
+/// Calls `top` on these disks with this mirror, and links that come through this door. Gives the disks back, and how the
+/// links ended.
+fn call_on<D: Disk + Send, M: Mirror, G: Door + Send, R: Threads + Wait + Sync>(
+    rt: &R,
+    alloc: Global,
+    call: &Call,
+    disks: Disks<D>,
+    mirror: &mut M,
+    door: &mut G,
+) -> Result<(Disks<D>, LinkEnds<G::In, G::Out>), Wrong> {
+    let mut devices = Devices::new(alloc, call)?;
+    let (ended, ends) = served_on(rt, alloc, &mut devices, disks, mirror, door);
+    Ok((judged(alloc, call, ended, &devices)?, ends))
+}
+
+/// What calls are made over one after another: disks, a mirror and a door.
+#[derive(Drop)]
+struct Machine<T, M: Mirror, G: Door> {
+    disks: T,
+    mirror: M,
+    door: G,
+}
+
+/// A machine of these, where memory was there for each.
+fn machine_of<T: Drop, M: Mirror, G: Door>(
+    disks: Result<T, NoMemory>,
+    mirror: Result<M, NoMemory>,
+    door: Result<G, NoMemory>,
+) -> Result<Machine<T, M, G>, NoMemory> {
+    let ((disks, mirror), door) = both(both(disks, mirror), door)?;
+    Ok(Machine {
+        disks,
+        mirror,
+        door,
+    })
+}
+
+/// A door through which no link comes.
+fn shut_door(alloc: Global) -> Result<MemDoor, NoMemory> {
+    door_of(alloc, &[], 0)
+}
+
+/// Calls `top` over this machine, and gives it back.
+fn call_over<D: Disk + Send, M: Mirror, G: Door + Send, R: Threads + Wait + Sync>(
+    rt: &R,
+    alloc: Global,
+    call: &Call,
+    machine: Machine<Disks<D>, M, G>,
+) -> Result<Machine<Disks<D>, M, G>, Wrong> {
+    let Machine {
+        disks,
+        mut mirror,
+        mut door,
+    } = machine;
+    let (disks, _) = call_on(rt, alloc, call, disks, &mut mirror, &mut door)?;
+    Ok(Machine {
+        disks,
+        mirror,
+        door,
     })
 }
 
@@ -159,14 +265,12 @@ pub fn call_in_turn<R: Threads + Wait + Sync>(
     fails: &[u64],
     calls: &[Call],
 ) -> Result<(), Wrong> {
-    let mut disks = Disks {
-        office: (empty_disk(alloc)?, empty_disk(alloc)?),
-        comets: empty_disk(alloc)?,
-    };
-    let mut mirror = MemMirror::new(alloc, fails)?;
+    let mirror = MemMirror::new(alloc, fails);
+    let mut machine = machine_of(empty_disks(alloc), mirror, shut_door(alloc))?;
     for call in calls {
-        disks = call_on(rt, alloc, call, disks, &mut mirror)?;
+        machine = call_over(rt, alloc, call, machine)?;
     }
+    let_go(machine);
     Ok(())
 }
 
@@ -176,25 +280,31 @@ fn is_at_rest<D: Disk>(alloc: Global, drives: &Drives, mark: usize, other: D, co
     comets.len().is_err() && are_left(alloc, drives, (other, comets), mark).is_ok()
 }
 
-/// Calls `top` on these disks of the office, beside a disk of the register that has this file and fails at its first
-/// call, and gives the office's disks back. No link comes.
-fn call_beside<M: Mirror, R: Threads + Wait + Sync>(
+/// Calls `top` over this machine, which has the office's disks, beside the second of two disks as the register's, which
+/// must stay as these drives have it. Gives the machine back. No link comes.
+fn call_beside<D: Disk + Send, M: Mirror, G: Door + Send, R: Threads + Wait + Sync>(
     rt: &R,
     alloc: Global,
-    file: &[u8],
     call: &Call,
-    office: (MemDisk, MemDisk),
-    mirror: &mut M,
-) -> Result<(MemDisk, MemDisk), Wrong> {
-    let drives = Drives::with_second(Drive {
-        fails: &[1],
-        ..Drive::kept(file)
-    });
-    let (other, comets) = disks_of(alloc, &drives)?;
-    let disks = call_on(rt, alloc, call, Disks { office, comets }, mirror)?;
+    machine: Machine<(D, D), M, G>,
+    drives: &Drives,
+    beside: Result<(D, D), NoMemory>,
+) -> Result<Machine<(D, D), M, G>, Wrong> {
+    let (machine, (other, comets)) = both(Ok(machine), beside)?;
+    let Machine {
+        disks: office,
+        mut mirror,
+        mut door,
+    } = machine;
+    let disks = Disks { office, comets };
+    let (disks, _) = call_on(rt, alloc, call, disks, &mut mirror, &mut door)?;
     let Disks { office, comets } = disks;
-    if is_at_rest(alloc, &drives, call.mark, other, comets) {
-        return Ok(office);
+    if is_at_rest(alloc, drives, call.mark, other, comets) {
+        return Ok(Machine {
+            disks: office,
+            mirror,
+            door,
+        });
     }
     let found = Found::File(3);
     Err(Wrong {
@@ -215,45 +325,64 @@ pub fn call_beside_register<R: Threads + Wait + Sync>(
     file: &[u8],
     calls: &[Call],
 ) -> Result<(), Wrong> {
-    let mut office = (empty_disk(alloc)?, empty_disk(alloc)?);
-    let mut mirror = MemMirror::new(alloc, &[])?;
+    let drives = Drives::with_second(Drive {
+        fails: &[1],
+        ..Drive::kept(file)
+    });
+    let mirror = MemMirror::new(alloc, &[]);
+    let mut machine = machine_of(two_disks(alloc), mirror, shut_door(alloc))?;
     for call in calls {
-        office = call_beside(rt, alloc, file, call, office, &mut mirror)?;
+        let beside = disks_of(alloc, &drives);
+        machine = call_beside(rt, alloc, call, machine, &drives, beside)?;
     }
+    let_go(machine);
     Ok(())
 }
 
+/// Calls `top` on these disks with this mirror, and gives how the links ended that came through this door.
+fn ends_on<D: Disk + Send, M: Mirror, G: Door + Send, R: Threads + Wait + Sync>(
+    rt: &R,
+    alloc: Global,
+    call: &Call,
+    disks: Result<Disks<D>, NoMemory>,
+    mirror: Result<M, NoMemory>,
+    door: &mut G,
+) -> Result<LinkEnds<G::In, G::Out>, Wrong> {
+    let (disks, mut mirror) = both(disks, mirror)?;
+    let (_, ends) = call_on(rt, alloc, call, disks, &mut mirror, door)?;
+    Ok(ends)
+}
+
 /// Calls `top` on three empty disks, with links that come through this door, and gives how they ended.
-///
-/// # Errors
-///
-/// What is wrong with the call.
-pub(crate) fn call_top<G: Door + Send, R: Threads + Wait + Sync>(
+fn ends_through<G: Door + Send, R: Threads + Wait + Sync>(
     rt: &R,
     alloc: Global,
     call: &Call,
     door: &mut G,
 ) -> Result<LinkEnds<G::In, G::Out>, Wrong> {
-    let (disk, second) = (empty_disk(alloc)?, empty_disk(alloc)?);
-    let comets = empty_disk(alloc)?;
-    let mut devices = Devices::new(alloc, call)?;
-    let mut mirror = MemMirror::new(alloc, &[])?;
-    let (ended, ends) = served(
-        rt,
-        alloc,
-        &devices.words,
-        &mut devices.source,
-        &mut devices.sink,
-        disk,
-        second,
-        &mut devices.clock,
-        door,
-        &mut mirror,
-        comets,
-    );
-    let (ended, _) = parted(ended);
-    has_ended(alloc, call, &ended, &devices.sink)?;
-    Ok(ends)
+    let mirror = MemMirror::new(alloc, &[]);
+    ends_on(rt, alloc, call, empty_disks(alloc), mirror, door)
+}
+
+/// Calls `top` on three empty disks, with links that come through this door, and gives the place of the first link that
+/// ended otherwise than it is wanted.
+///
+/// # Errors
+///
+/// Memory was refused for the door, or what is wrong with the call.
+pub(crate) fn call_through<G: Door + Send, R: Threads + Wait + Sync>(
+    rt: &R,
+    alloc: Global,
+    call: &Call,
+    door: Result<G, NoMemory>,
+    wanted: &[End],
+) -> Result<Option<usize>, Wrong>
+where
+    G::Out: Took,
+{
+    let mut door = door?;
+    let ends = ends_through(rt, alloc, call, &mut door)?;
+    Ok(wrong_end(&ends, wanted))
 }
 
 /// Calls `top` on three empty disks, with these links through a door in memory, of which the call with the number
@@ -270,9 +399,24 @@ pub fn call_over_links<R: Threads + Wait + Sync>(
     fails: u64,
     wanted: &[End],
 ) -> Result<Option<usize>, Wrong> {
-    let mut door = door_of(alloc, links, fails)?;
-    let ends = call_top(rt, alloc, call, &mut door)?;
-    Ok(wrong_end(&ends, wanted))
+    call_through(rt, alloc, call, door_of(alloc, links, fails), wanted)
+}
+
+/// Calls `top` on three empty disks, with links that come through this door, and gives the place of the first link that
+/// ended otherwise than these are to.
+fn call_through_long<G: Door + Send, R: Threads + Wait + Sync>(
+    rt: &R,
+    alloc: Global,
+    call: &Call,
+    door: Result<G, NoMemory>,
+    links: &[Exchanged],
+) -> Result<Option<usize>, Wrong>
+where
+    G::Out: Took,
+{
+    let mut door = door?;
+    let ends = ends_through(rt, alloc, call, &mut door)?;
+    Ok(wrong_long_end(alloc, &ends, links)?)
 }
 
 /// Calls `top` on three empty disks, with these links through a door in memory, and gives the place of the first link
@@ -287,9 +431,19 @@ pub fn call_over_long_links<R: Threads + Wait + Sync>(
     call: &Call,
     links: &[Exchanged],
 ) -> Result<Option<usize>, Wrong> {
-    let mut door = long_door(alloc, links)?;
-    let ends = call_top(rt, alloc, call, &mut door)?;
-    Ok(wrong_long_end(alloc, &ends, links)?)
+    call_through_long(rt, alloc, call, long_door(alloc, links), links)
+}
+
+/// Calls `top` on three empty disks, with links that come through this door, and gives how many came.
+fn count_through<G: Door + Send, R: Threads + Wait + Sync>(
+    rt: &R,
+    alloc: Global,
+    call: &Call,
+    door: G,
+) -> Result<u64, Wrong> {
+    let mut door = door;
+    let ends = ends_through(rt, alloc, call, &mut door)?;
+    Ok(ends.len())
 }
 
 /// Calls `top` on three empty disks, with links that come through port 8017 of this machine, and gives how many came.
@@ -301,7 +455,5 @@ pub(crate) fn call_over_port<
     R: Threads + Wait + Sync,
     N: Net<Listener = TcpListener, Stream = TcpStream> + HostClock + Copy + Send + Sync,
 >(rt: &R, net: N, alloc: Global, call: &Call) -> Result<u64, Wrong> {
-    let mut door = TcpDoor::new(net, alloc);
-    let ends = call_top(rt, alloc, call, &mut door)?;
-    Ok(ends.len())
+    count_through(rt, alloc, call, TcpDoor::new(net, alloc))
 }

@@ -2,8 +2,9 @@
 
 ghost use Rattle.std.specs.Prelude.{length, None};
 
-use crate::calls::call_top;
-use crate::links::{End, Took, wrong_end};
+use crate::calls::call_through;
+use crate::links::{End, Took};
+use crate::parts::{both, let_go, with_next};
 use desk_io::{Door, Failed, MemSink, MemSource, Next, NoMemory, Sink, Source};
 use std::alloc::Global;
 use std::collections::VecDeque;
@@ -114,28 +115,61 @@ struct HeldDoor {
     links: VecDeque<(HeldSource, HeldSink)>,
 }
 
+/// The source of a link: what is sent on it, and how many bytes it awaits.
+fn source_of(
+    alloc: Global,
+    answered: &Answered,
+    sent: &str,
+    awaited: u64,
+) -> Result<HeldSource, NoMemory> {
+    let (source, answered) = both(
+        MemSource::new(alloc, sent.as_bytes(), 7, &[]),
+        Arc::try_clone(answered),
+    )?;
+    Ok(HeldSource {
+        source,
+        answered,
+        awaited,
+        has_begun: false,
+        faults: 0,
+    })
+}
+
+/// The sink of a link, and how many bytes it awaits.
+fn sink_of(alloc: Global, answered: &Answered, awaited: u64) -> Result<HeldSink, NoMemory> {
+    let (sink, answered) = both(MemSink::new(alloc, 4_096, &[]), Arc::try_clone(answered))?;
+    Ok(HeldSink {
+        sink,
+        answered,
+        awaited,
+        faults: 0,
+    })
+}
+
+/// A link for each of these.
+fn links_of(
+    alloc: Global,
+    answered: &Answered,
+    links: &[Held],
+) -> Result<Vec<(HeldSource, HeldSink)>, NoMemory> {
+    let mut made = Vec::new(alloc);
+    for &(sent, read_awaits, write_awaits) in links {
+        let source = source_of(alloc, answered, sent, read_awaits);
+        let sink = sink_of(alloc, answered, write_awaits);
+        made = with_next(made, both(source, sink))?;
+    }
+    Ok(made)
+}
+
 impl HeldDoor {
     /// A door with a link for each of these.
     fn new(alloc: Global, links: &[Held]) -> Result<HeldDoor, NoMemory> {
         let answered = Arc::new(alloc, AtomicU64::new(0))?;
-        let mut made = VecDeque::new(alloc);
-        for (sent, read_awaits, write_awaits) in links {
-            let source = HeldSource {
-                source: MemSource::new(alloc, sent.as_bytes(), 7, &[])?,
-                answered: Arc::try_clone(&answered)?,
-                awaited: *read_awaits,
-                has_begun: false,
-                faults: 0,
-            };
-            let sink = HeldSink {
-                sink: MemSink::new(alloc, 4_096, &[])?,
-                answered: Arc::try_clone(&answered)?,
-                awaited: *write_awaits,
-                faults: 0,
-            };
-            made.push_back((source, sink))?;
-        }
-        Ok(HeldDoor { links: made })
+        let links = links_of(alloc, &answered, links);
+        let_go(answered);
+        Ok(HeldDoor {
+            links: VecDeque::from(links?),
+        })
     }
 }
 
@@ -169,7 +203,5 @@ pub fn call_held<R: Threads + Wait + Sync>(
     links: &[Held],
     wanted: &[End],
 ) -> Result<Option<usize>, Wrong> {
-    let mut door = HeldDoor::new(alloc, links)?;
-    let ends = call_top(rt, alloc, call, &mut door)?;
-    Ok(wrong_end(&ends, wanted))
+    call_through(rt, alloc, call, HeldDoor::new(alloc, links), wanted)
 }

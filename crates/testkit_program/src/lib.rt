@@ -10,6 +10,7 @@ mod calls;
 mod held;
 mod links;
 mod meeting;
+mod parts;
 mod peer;
 
 pub use calls::{

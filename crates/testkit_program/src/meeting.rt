@@ -2,8 +2,9 @@
 
 ghost use Rattle.std.specs.Prelude.{◌<◌, ◌≤◌, length, None};
 
-use crate::calls::call_top;
-use crate::links::{End, Took, wrong_end};
+use crate::calls::call_through;
+use crate::links::{End, Took};
+use crate::parts::{both, let_go, with_next};
 use desk_io::{Door, Failed, MemSink, MemSource, Next, NoMemory, Sink, Source};
 use std::alloc::Global;
 use std::collections::VecDeque;
@@ -72,9 +73,10 @@ struct Meeting {
 
 impl Meeting {
     fn again(&self) -> Result<Meeting, NoMemory> {
+        let (there, answered) = both(Arc::try_clone(&self.there), Arc::try_clone(&self.answered))?;
         Ok(Meeting {
-            there: Arc::try_clone(&self.there)?,
-            answered: Arc::try_clone(&self.answered)?,
+            there,
+            answered,
             whole: self.whole,
         })
     }
@@ -183,28 +185,63 @@ struct MetDoor {
     links: VecDeque<(MetSource, MetSink)>,
 }
 
-fn link_of(
+fn source_of(
     alloc: Global,
     meeting: &Meeting,
     sent: &str,
-    reads: Part,
-    writes: Part,
-) -> Result<(MetSource, MetSink), NoMemory> {
-    let source = MetSource {
-        source: MemSource::new(alloc, sent.as_bytes(), 7, &[])?,
-        meeting: meeting.again()?,
-        part: reads,
+    part: Part,
+) -> Result<MetSource, NoMemory> {
+    let source = MemSource::new(alloc, sent.as_bytes(), 7, &[]);
+    let (source, meeting) = both(source, meeting.again())?;
+    Ok(MetSource {
+        source,
+        meeting,
+        part,
         place: 0,
         faults: 0,
-    };
-    let sink = MetSink {
-        sink: MemSink::new(alloc, 4_096, &[])?,
-        meeting: meeting.again()?,
-        part: writes,
+    })
+}
+
+fn sink_of(alloc: Global, meeting: &Meeting, part: Part) -> Result<MetSink, NoMemory> {
+    let (sink, meeting) = both(MemSink::new(alloc, 4_096, &[]), meeting.again())?;
+    Ok(MetSink {
+        sink,
+        meeting,
+        part,
         place: 0,
         faults: 0,
-    };
-    Ok((source, sink))
+    })
+}
+
+fn no_count(alloc: Global) -> Result<Count, NoMemory> {
+    Ok(Arc::new(alloc, AtomicU64::new(0))?)
+}
+
+// What two links share of which the other is answered so many bytes.
+fn meeting_of(alloc: Global, whole: u64) -> Result<Meeting, NoMemory> {
+    let (there, answered) = both(no_count(alloc), no_count(alloc))?;
+    Ok(Meeting {
+        there,
+        answered,
+        whole,
+    })
+}
+
+// The one link, with what it does where it reads and where it writes, and the other one after it.
+fn links_of(
+    alloc: Global,
+    meeting: &Meeting,
+    held: &str,
+    does: (Part, Part),
+    other: &str,
+) -> Result<Vec<(MetSource, MetSink)>, NoMemory> {
+    let (reads, writes) = does;
+    let source = source_of(alloc, meeting, held, reads);
+    let link = both(source, sink_of(alloc, meeting, writes));
+    let links = with_next(Vec::new(alloc), link)?;
+    let source = source_of(alloc, meeting, other, Part::Follows);
+    let link = both(source, sink_of(alloc, meeting, Part::Follows));
+    with_next(links, link)
 }
 
 impl MetDoor {
@@ -215,19 +252,16 @@ impl MetDoor {
         other: &str,
         whole: u64,
     ) -> Result<MetDoor, NoMemory> {
-        let meeting = Meeting {
-            there: Arc::new(alloc, AtomicU64::new(0))?,
-            answered: Arc::new(alloc, AtomicU64::new(0))?,
-            whole,
-        };
-        let (reads, writes) = match place {
+        let meeting = meeting_of(alloc, whole)?;
+        let does = match place {
             Place::Sent(at) => (Part::HoldsAt(at), Part::GoesOn),
             Place::Answered(at) => (Part::GoesOn, Part::HoldsAt(at)),
         };
-        let mut links = VecDeque::new(alloc);
-        links.push_back(link_of(alloc, &meeting, held, reads, writes)?)?;
-        links.push_back(link_of(alloc, &meeting, other, Part::Follows, Part::Follows)?)?;
-        Ok(MetDoor { links })
+        let links = links_of(alloc, &meeting, held, does, other);
+        let_go(meeting);
+        Ok(MetDoor {
+            links: VecDeque::from(links?),
+        })
     }
 }
 
@@ -265,7 +299,6 @@ pub fn call_met<R: Threads + Wait + Sync>(
     wanted: &[End],
 ) -> Result<Option<usize>, Wrong> {
     let (sent, whole) = other;
-    let mut door = MetDoor::new(alloc, held, place, sent, whole)?;
-    let ends = call_top(rt, alloc, call, &mut door)?;
-    Ok(wrong_end(&ends, wanted))
+    let door = MetDoor::new(alloc, held, place, sent, whole);
+    call_through(rt, alloc, call, door, wanted)
 }
