@@ -6,7 +6,17 @@
 #[cfg(test)]
 mod faults;
 #[cfg(test)]
+mod files;
+#[cfg(test)]
 mod forms;
+#[cfg(test)]
+mod half_month;
+#[cfg(test)]
+mod limits;
+#[cfg(test)]
+mod office;
+#[cfg(test)]
+mod refusals;
 #[cfg(test)]
 mod register;
 #[cfg(test)]

@@ -1,6 +1,7 @@
 //! A register of comets beside an office, in whole sessions: what the founding officer is answered, lines that are
 //! translated, what is refused, and an object that is identified with another.
 
+use crate::office::comets_of;
 use std::alloc::Global;
 use testkit_comets::comets_in_turn;
 use testkit_sessions::{Call, Drive, FOUNDER, NoMemory, OBSERVER, Row, Script, Wrong};
@@ -527,15 +528,6 @@ fn session_of(alloc: Global, tables: &[&[Row]]) -> Result<Script, NoMemory> {
         script.add_rows(rows)?;
     }
     Ok(script)
-}
-
-/// The call of `comets` over a session, by which the register grows by so many entries.
-fn comets_of<'a>(mark: usize, script: &'a Script, added: u64) -> Call<'a> {
-    Call {
-        mark,
-        words: &["comets", "--key", "+founder-1"],
-        ..script.call(added)
-    }
 }
 
 fn told(alloc: Global) -> Result<(), Wrong> {

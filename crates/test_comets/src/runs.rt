@@ -1,106 +1,11 @@
-//! The register on a disk that fails at each of its calls in turn: at that one alone, or at it and all later ones,
-//! after which a crash comes. Then a run opens, each act is sent again, and the register opens once more.
+//! The register on a disk that fails at each of its calls in turn: at that one alone, at it and one of those that
+//! settle a doubt, or at it and all later ones; with crashes after that. Then a run opens, each act is sent again, and
+//! the register opens once more.
 
+use crate::office::{add_act, add_register, comets_of, office_call, office_with};
 use std::alloc::Global;
 use testkit_comets::comets_in_turn;
-use testkit_sessions::{Call, Drive, FOUNDER, NoMemory, OBSERVER, Row, Script, Wrong};
-
-/// Six tracklets of the first half of March 2024, of one observation each.
-const BATCH: &str = concat!(
-    "# version=2017\n",
-    "# observatory\n",
-    "! mpcCode 703\n",
-    "trkSub|mode|stn|obsTime|ra|dec|astCat\n",
-    "A1|CCD|703|2024-03-01T00:00:00Z|10.0|1.0|Gaia3\n",
-    "A1|CCD|703|2024-03-01T00:10:00Z|10.1|1.0|Gaia3\n",
-    "A2|CCD|703|2024-03-01T13:00:00Z|11.0|1.0|Gaia3\n",
-    "A2|CCD|703|2024-03-01T13:10:00Z|11.1|1.0|Gaia3\n",
-    "B1|CCD|703|2024-03-02T00:00:00Z|12.0|1.0|Gaia3\n",
-    "B1|CCD|703|2024-03-02T00:10:00Z|12.1|1.0|Gaia3\n",
-    "B2|CCD|703|2024-03-02T13:00:00Z|13.0|1.0|Gaia3\n",
-    "B2|CCD|703|2024-03-02T13:10:00Z|13.1|1.0|Gaia3\n",
-    "C1|CCD|703|2024-03-14T00:00:00Z|14.0|1.0|Gaia3\n",
-    "C1|CCD|703|2024-03-14T00:10:00Z|14.1|1.0|Gaia3\n",
-    "C2|CCD|703|2024-03-14T13:00:00Z|15.0|1.0|Gaia3\n",
-    "C2|CCD|703|2024-03-14T13:10:00Z|15.1|1.0|Gaia3\n",
-);
-
-const BATCH_TEXT: &str = concat!(
-    "receipt 6\n",
-    "accepted 12 refused 0\n",
-    "line 5 obs 1 track 1\n",
-    "line 6 obs 2 track 1\n",
-    "line 7 obs 3 track 2\n",
-    "line 8 obs 4 track 2\n",
-    "line 9 obs 5 track 3\n",
-    "line 10 obs 6 track 3\n",
-    "line 11 obs 7 track 4\n",
-    "line 12 obs 8 track 4\n",
-    "line 13 obs 9 track 5\n",
-    "line 14 obs 10 track 5\n",
-    "line 15 obs 11 track 6\n",
-    "line 16 obs 12 track 6\n",
-);
-
-/// Three objects of that half-month.
-const OFFICE: &[Row] = &[
-    (OBSERVER, 1, "submitpsv", BATCH, "200 ", BATCH_TEXT),
-    (
-        FOUNDER,
-        6,
-        "designate",
-        "{\"tracklets\":[1,2]}",
-        "200 ",
-        "receipt 7\nobject 2024 EA K24E00A\n",
-    ),
-    (
-        FOUNDER,
-        7,
-        "designate",
-        "{\"tracklets\":[3,4]}",
-        "200 ",
-        "receipt 8\nobject 2024 EB K24E00B\n",
-    ),
-    (
-        FOUNDER,
-        8,
-        "designate",
-        "{\"tracklets\":[5,6]}",
-        "200 ",
-        "receipt 9\nobject 2024 EC K24E00C\n",
-    ),
-];
-
-const DOUBT: &str = "refused 16 DiskFault doubt\n";
-
-const UNTOUCHED: &str = "refused 16 DiskFault untouched\n";
-
-/// The objects of the acts with the numbers 1, 2 and 3, each with the kind of comet that it is.
-const NAMED: [(&str, &str); 3] = [("C", "2024 EA"), ("P", "2024 EB"), ("C", "2024 EC")];
-
-fn named(number: u64) -> (&'static str, &'static str) {
-    let place = number.saturating_sub(1) as usize;
-    *NAMED.get(place).unwrap_or(&("C", "2024 EZ"))
-}
-
-/// The act with this number, and what it is answered: `?` that it is in doubt, `-` that it left nothing, or a digit,
-/// which is the place of its entry in the register and so the number of the comet.
-fn add_act(alloc: Global, script: &mut Script, number: u64, answer: u8) -> Result<(), NoMemory> {
-    let (kind, object) = named(number);
-    let body = format!(in alloc; "{{\"kind\":\"{kind}\",\"object\":\"{object}\"}}")?;
-    let body = body.as_bytes();
-    match answer {
-        b'?' => script.add(FOUNDER, number, "comet", body, "503 ", DOUBT.as_bytes()),
-        b'-' => script.add(FOUNDER, number, "comet", body, "503 ", UNTOUCHED.as_bytes()),
-        digit => {
-            let place = digit.saturating_sub(b'0');
-            let text = format!(in alloc;
-                "receipt {place}\ncomet {kind}/2024 E{place} {kind}K24E0{place}0\n"
-            )?;
-            script.add(FOUNDER, number, "comet", body, "200 ", text.as_bytes())
-        }
-    }
-}
+use testkit_sessions::{Call, Drive, NoMemory, Script, Wrong};
 
 /// The three acts, with these answers.
 fn first_day(alloc: Global, answers: &str) -> Result<Script, NoMemory> {
@@ -109,27 +14,6 @@ fn first_day(alloc: Global, answers: &str) -> Result<Script, NoMemory> {
         add_act(alloc, &mut script, (place as u64).saturating_add(1), answer)?;
     }
     Ok(script)
-}
-
-/// The register, in which the acts with these numbers came one after another.
-fn add_register(alloc: Global, script: &mut Script, numbers: &str) -> Result<(), NoMemory> {
-    let mut text = String::new(alloc);
-    for (place, number) in numbers.bytes().enumerate() {
-        let (kind, object) = named(u64::from(number.saturating_sub(b'0')));
-        let count = place.saturating_add(1);
-        let line = format!(in alloc;
-            "comet {kind}/2024 E{count} {kind}K24E0{count}0 object {object} principal {object}\n"
-        )?;
-        text.push_str(line.as_str())?;
-    }
-    script.add(
-        FOUNDER,
-        0,
-        "register",
-        b"",
-        "200 ",
-        text.as_str().as_bytes(),
-    )
 }
 
 /// The register of these acts; the acts again, the last one first, with these answers; and the register of these acts.
@@ -144,21 +28,10 @@ fn second_day(alloc: Global, kept: &str, answers: &str, all: &str) -> Result<Scr
     Ok(script)
 }
 
-const COMETS: &[&str] = &["comets", "--key", "+founder-1"];
-
-/// A call of `comets` over this session, by which the register grows by so many entries.
-fn comets_of<'a>(mark: usize, script: &'a Script, added: u64) -> Call<'a> {
-    Call {
-        mark,
-        words: COMETS,
-        ..script.call(added)
-    }
-}
-
-/// A row of a table: the call of the disk that fails, alone or with all later ones; the answers to the acts, none where
-/// the register can't be opened; by how many entries it grows, and the status's number, 0 or that of a fault of the
-/// disk. Then, after the crash where one comes, the numbers of the acts that are in the register, in their order; the
-/// answers to the acts when they are sent again, the last one first; and their numbers in the order of the register.
+/// A row of a table: the call of the disk that fails, alone or with later ones; the answers to the acts, none where the
+/// register can't be opened; by how many entries it grows, and the status's number, 0 or that of a fault of the disk.
+/// Then, after the crash where one comes, the numbers of the acts that are in the register, in their order; the answers
+/// to the acts when they are sent again, the last one first; and their numbers in the order of the register.
 type Case = (
     u64,
     &'static str,
@@ -174,8 +47,7 @@ type Case = (
 fn stopped(alloc: Global, fails: &[u64], case: &Case, pick: Option<u64>) -> Result<(), Wrong> {
     let &(call, answers, added, number, kept, again, all) = case;
     let mark = call as usize;
-    let mut office = Script::begun(alloc)?;
-    office.add_rows(OFFICE)?;
+    let office = office_with(alloc, 3)?;
     let day = first_day(alloc, if answers.is_empty() { "123" } else { answers })?;
     let later = second_day(alloc, kept, again, all)?;
     let mut last = Script::new(alloc);
@@ -195,7 +67,7 @@ fn stopped(alloc: Global, fails: &[u64], case: &Case, pick: Option<u64>) -> Resu
     };
     let grown = (all.len() as u64).saturating_sub(kept.len() as u64);
     let calls: [Call; 4] = [
-        office.call(9),
+        office_call(&office, 3),
         first,
         comets_of(mark.saturating_add(1_000), &later, grown),
         comets_of(mark.saturating_add(2_000), &last, 0),
@@ -235,10 +107,18 @@ const ALONE: &[Case] = &[
     (21, "12?", 3, 0, "123", "321", "123"),
 ];
 
+/// Four picks of a crash. A gate that was written and isn't safe is lost by the first two, and left by the others. Each
+/// digit in base 5, the lowest first, says what is left of one deed since the last sync that was done: none of it, all,
+/// the front half, the back half, the last byte; the front half of one byte is nothing, and the back half is all.
+const LOSES: &[u64] = &[0, 117];
+
+const LEAVES: &[u64] = &[1, 298];
+
+const PICKS: &[u64] = &[0, 117, 1, 298];
+
 fn each_alone(alloc: Global) -> Result<(), Wrong> {
     for case in ALONE {
-        let fails = [case.0];
-        stopped(alloc, &fails, case, None)?;
+        stopped(alloc, &[case.0], case, None)?;
     }
     Ok(())
 }
@@ -248,26 +128,92 @@ fn each_call_of_the_register_fails_alone(rt: HostRuntime) {
     each_alone(rt.alloc()).expect(&rt, "as wanted");
 }
 
-/// From that call on all fail, and the crash takes what isn't safe: the gate of an act in doubt is lost.
-const LOST: &[Case] = &[
+fn each_pick(alloc: Global, fails: &[u64], case: &Case, picks: &[u64]) -> Result<(), Wrong> {
+    for pick in picks {
+        stopped(alloc, fails, case, Some(*pick))?;
+    }
+    Ok(())
+}
+
+fn each_crash(alloc: Global, picks: &[u64]) -> Result<(), Wrong> {
+    for case in ALONE {
+        each_pick(alloc, &[case.0], case, picks)?;
+    }
+    Ok(())
+}
+
+/// What a crash may then take belongs to acts that weren't kept.
+#[test]
+fn a_crash_comes_after_a_call_that_failed(rt: HostRuntime) {
+    each_crash(rt.alloc(), LOSES).expect(&rt, "as wanted");
+}
+
+#[test]
+fn another_comes_after_a_call_that_failed(rt: HostRuntime) {
+    each_crash(rt.alloc(), LEAVES).expect(&rt, "as wanted");
+}
+
+/// A doubt, and one of the two calls fails by which it is settled: the file is synced, and the gate is read. Then the
+/// doubt stays, and an act that comes is untouched. The next act, or the end of the run, settles it; at the end of the
+/// run it is left to the next opening.
+const TWICE: &[(u64, Case)] = &[
+    (13, (12, "?-1", 1, 0, "3", "123", "321")),
+    (14, (12, "?-1", 1, 0, "3", "123", "321")),
+    (14, (13, "?-2", 2, 0, "13", "231", "132")),
+    (15, (13, "?-2", 2, 0, "13", "231", "132")),
+    (17, (16, "1?-", 1, 0, "1", "231", "132")),
+    (18, (16, "1?-", 1, 0, "1", "231", "132")),
+    (18, (17, "1?-", 2, 0, "12", "321", "123")),
+    (19, (17, "1?-", 2, 0, "12", "321", "123")),
+    (21, (20, "12?", 2, 4, "12", "321", "123")),
+    (22, (20, "12?", 2, 4, "12", "321", "123")),
+    (22, (21, "12?", 2, 4, "123", "321", "123")),
+    (23, (21, "12?", 2, 4, "123", "321", "123")),
+];
+
+fn each_settling(alloc: Global) -> Result<(), Wrong> {
+    for (second, case) in TWICE {
+        stopped(alloc, &[case.0, *second], case, None)?;
+    }
+    Ok(())
+}
+
+#[test]
+fn each_call_of_a_settling_fails(rt: HostRuntime) {
+    each_settling(rt.alloc()).expect(&rt, "as wanted");
+}
+
+/// From that call on all fail, and the crash takes what isn't safe. Here no gate is in doubt, so that each crash leaves
+/// the same acts.
+const STOPPED: &[Case] = &[
     (1, "", 0, 4, "", "123", "321"),
+    (2, "", 0, 4, "", "123", "321"),
+    (3, "", 0, 4, "", "123", "321"),
+    (4, "", 0, 4, "", "123", "321"),
     (5, "", 0, 4, "", "123", "321"),
+    (6, "", 0, 4, "", "123", "321"),
+    (7, "", 0, 4, "", "123", "321"),
+    (8, "", 0, 4, "", "123", "321"),
     (9, "", 0, 4, "", "123", "321"),
     (10, "---", 0, 0, "", "123", "321"),
     (11, "---", 0, 0, "", "123", "321"),
-    (12, "?--", 0, 4, "", "123", "321"),
-    (13, "?--", 0, 4, "", "123", "321"),
     (14, "1--", 1, 0, "1", "231", "132"),
     (15, "1--", 1, 0, "1", "231", "132"),
-    (16, "1?-", 1, 4, "1", "231", "132"),
-    (17, "1?-", 1, 4, "1", "231", "132"),
     (18, "12-", 2, 0, "12", "321", "123"),
     (19, "12-", 2, 0, "12", "321", "123"),
+];
+
+/// The gate of an act in doubt is lost.
+const LOST: &[Case] = &[
+    (12, "?--", 0, 4, "", "123", "321"),
+    (13, "?--", 0, 4, "", "123", "321"),
+    (16, "1?-", 1, 4, "1", "231", "132"),
+    (17, "1?-", 1, 4, "1", "231", "132"),
     (20, "12?", 2, 4, "12", "321", "123"),
     (21, "12?", 2, 4, "12", "321", "123"),
 ];
 
-/// The same where the gate of the act in doubt is left.
+/// The same where it is left.
 const LEFT: &[Case] = &[
     (12, "?--", 0, 4, "1", "231", "132"),
     (13, "?--", 0, 4, "1", "231", "132"),
@@ -277,31 +223,63 @@ const LEFT: &[Case] = &[
     (21, "12?", 2, 4, "123", "321", "123"),
 ];
 
+/// A doubt whose settling syncs the file and then reads no gate, since from there on all calls fail: each crash leaves
+/// what the sync made safe.
+const SYNCED: &[(u64, Case)] = &[
+    (14, (12, "?--", 0, 4, "", "123", "321")),
+    (15, (13, "?--", 0, 4, "1", "231", "132")),
+    (18, (16, "1?-", 1, 4, "1", "231", "132")),
+    (19, (17, "1?-", 1, 4, "12", "321", "123")),
+    (22, (20, "12?", 2, 4, "12", "321", "123")),
+    (23, (21, "12?", 2, 4, "123", "321", "123")),
+];
+
 /// The calls that fail where all from the first on do. No run makes more.
 const ALL: &[u64] = &[
     1, 2, 3, 4, 5, 6, 7, 8, 9, 10, 11, 12, 13, 14, 15, 16, 17, 18, 19, 20, 21, 22, 23, 24, 25, 26,
     27, 28, 29, 30, 31, 32,
 ];
 
-/// Two picks for each: a gate that was written and isn't safe is lost by the first two, and left by the others. Each
-/// digit in base 5, the lowest first, says what is left of one deed since the last sync that was done: none of it, all,
-/// the front half, the back half, the last byte; the front half of one byte is nothing, and the back half is all.
-const LOSES: [u64; 2] = [0, 117];
+/// All calls from this one on.
+fn from_on(call: u64) -> &'static [u64] {
+    ALL.get(call.saturating_sub(1) as usize..).unwrap_or(&[])
+}
 
-const LEAVES: [u64; 2] = [1, 298];
-
-fn each_from_on(alloc: Global, cases: &[Case], picks: [u64; 2]) -> Result<(), Wrong> {
+fn each_from_on(alloc: Global, cases: &[Case], picks: &[u64]) -> Result<(), Wrong> {
     for case in cases {
-        let fails = ALL.get(case.0.saturating_sub(1) as usize..).unwrap_or(&[]);
-        for pick in picks {
-            stopped(alloc, fails, case, Some(pick))?;
-        }
+        each_pick(alloc, from_on(case.0), case, picks)?;
     }
     Ok(())
 }
 
 #[test]
 fn the_disk_of_the_register_fails_from_on(rt: HostRuntime) {
+    each_from_on(rt.alloc(), STOPPED, PICKS).expect(&rt, "as wanted");
+}
+
+#[test]
+fn the_disk_of_the_register_fails_in_a_doubt(rt: HostRuntime) {
     each_from_on(rt.alloc(), LOST, LOSES).expect(&rt, "as wanted");
     each_from_on(rt.alloc(), LEFT, LEAVES).expect(&rt, "as wanted");
+}
+
+/// This call, and all from the other on.
+fn and_from_on(alloc: Global, call: u64, then: u64) -> Result<Vec<u64>, NoMemory> {
+    let mut fails = Vec::new(alloc);
+    fails.push(call)?;
+    fails.extend_from_slice(from_on(then))?;
+    Ok(fails)
+}
+
+fn each_synced(alloc: Global) -> Result<(), Wrong> {
+    for (then, case) in SYNCED {
+        let fails = and_from_on(alloc, case.0, *then)?;
+        each_pick(alloc, &fails, case, PICKS)?;
+    }
+    Ok(())
+}
+
+#[test]
+fn the_disk_of_the_register_fails_in_settling(rt: HostRuntime) {
+    each_synced(rt.alloc()).expect(&rt, "as wanted");
 }

@@ -11,9 +11,9 @@ use testkit_sessions::{Call, Devices, Drive, Drives, Wrong, are_left, disks_of, 
 
 /// The three disks of a call: the office's two, and the register's.
 #[derive(Drop)]
-struct Disks<D: Disk> {
-    office: (D, D),
-    register: D,
+pub(crate) struct Disks<D: Disk> {
+    pub(crate) office: (D, D),
+    pub(crate) register: D,
 }
 
 /// The call that all others go through: `run` or `comets`, as the words name it.
@@ -48,7 +48,11 @@ fn called<S: Source, K: Sink, D: Disk, C: Clock>(
 }
 
 /// Makes a call on these disks, looks whether it is as wanted, and gives them back.
-fn call_on<D: Disk>(alloc: Global, call: &Call, disks: Disks<D>) -> Result<Disks<D>, Wrong> {
+pub(crate) fn call_on<D: Disk>(
+    alloc: Global,
+    call: &Call,
+    disks: Disks<D>,
+) -> Result<Disks<D>, Wrong> {
     let mut devices = Devices::new(alloc, call)?;
     let Disks { office, register } = disks;
     let (ended, register) = called(
