@@ -3,8 +3,9 @@
 a comet of a register that is made by bench/journal.py, 99 to a half-month. For each the best of five turns of
 
 - `comets` over no input, beside `run` over no input, which opens the same office: the difference opens the register;
-- `comets` over ten batches of 10,000 lines under comets' names, which are translated, beside `run` over the same lines as
-  ten batches, in which it refuses each line: of both the opening is taken off, and a tenth of what is left is told.
+- `comets` over two hundred batches of 10,000 lines under comets' names, which are translated, beside `run` over the same
+  lines as two hundred batches, in which it refuses each line: of both the opening is taken off, and the time of one batch
+  is told.
 
 The seconds are those of a processor, with the system's. Of each batch the answer is compared with what Python makes of it.
 
@@ -20,7 +21,7 @@ from session import PROGRAM, ran
 
 KEY = "+founder-1"
 COUNTS = [5_000, 10_000, 20_000]
-TURNS, BATCHES, LINES = 5, 10, 10_000
+TURNS, BATCHES, LINES = 5, 200, 10_000
 HALVES = "ABCDEFGHJKLMNOPQRSTUVWXY"
 ORDERS = "ABCDEFGHJKLMNOPQRSTUVWXYZ"
 ONE_HALF = 99
