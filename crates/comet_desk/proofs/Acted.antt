@@ -3,7 +3,7 @@ use Rattle.std.proofs.Common.{◌≡◌, ◌⊎◌, ℕ, ◌+◌, ◌<◌, ◌�
 use Rattle.std.specs.Prelude.{◌^◌, IfErr, option_map}
 use Rattle.act_bodies.specs.declared.key.Key.{Key}
 use Rattle.obs_time.specs.Instants.{IsInstantNs}
-use Rattle.disk_model.specs.Counts.{Rises}
+use Rattle.call_log.specs.Counts.{Rises}
 use Rattle.disk_model.specs.Crashes.{During}
 use Rattle.disk_model.specs.Moments.{during_nothing, during_weaker}
 use Rattle.obs_journal.specs.Parcels.{RawParcel}

@@ -1,7 +1,7 @@
 -- How opening a register ends.
 use Rattle.std.proofs.Common.{◌≡◌, ℕ, ◌≤◌, List, [], Option, Some, None, Result, Ok, Err, refl, sym, subst, ◌∙◌, ⊎_elim, le_trans, arith}
 use Rattle.std.specs.Prelude.{IfSome, IsSome, IfOk, IfErr}
-use Rattle.disk_model.specs.Counts.{Rises}
+use Rattle.call_log.specs.Counts.{Rises}
 use Rattle.disk_model.specs.Crashes.{During}
 use Rattle.disk_model.specs.Moments.{during_joined, during_weaker}
 use Rattle.obs_journal.specs.declared.fault.OpenFault.{OpenFault}

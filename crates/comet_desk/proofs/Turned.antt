@@ -3,7 +3,7 @@ use Rattle.std.proofs.Common.{◌≡◌, ◌⊎◌, ℕ, ◌-◌, ◌<◌, ◌�
 use Rattle.std.specs.Prelude.{max, IfErr, IfSome, IsSome, IsSomeAnd}
 use Rattle.obs_time.specs.Instants.{IsInstantNs}
 use Rattle.act_bodies.specs.declared.key.Key.{Key}
-use Rattle.disk_model.specs.Counts.{Rises}
+use Rattle.call_log.specs.Counts.{Rises}
 use Rattle.disk_model.specs.Crashes.{During}
 use Rattle.disk_model.specs.Moments.{during_joined, during_weaker}
 use Rattle.act_model.specs.declared.deed.Deed.{Deed}

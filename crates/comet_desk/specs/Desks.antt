@@ -1,7 +1,7 @@
 -- The register of comets on a disk of its own, beside an office.
 use Rattle.std.specs.Prelude.{◌≡◌, ◌⊎◌, true, ℕ, ◌+◌, ◌^◌, ◌<◌, ℤ, List, ◌∷◌, Option, Some, None}
 use Rattle.std.specs.Prelude.{option_map, IfSome}
-use Rattle.disk_model.specs.Counts.{Rises}
+use Rattle.call_log.specs.Counts.{Rises}
 use Rattle.disk_model.specs.Crashes.{During}
 use Rattle.obs_journal.specs.declared.journal.Settled.{Settled}
 use Rattle.obs_journal.specs.declared.journal.Settled.TheVariants.{Added}

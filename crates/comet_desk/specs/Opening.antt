@@ -1,7 +1,7 @@
 -- What opening a register finds, and what it leaves.
 use Rattle.std.specs.Prelude.{◌≡◌, ◌≢◌, ◌⊎◌, ℕ, ◌≤◌, List, ◌∷◌, ◌++◌, Option, Some, None, IfSome, IsSome}
 use Rattle.std.specs.Prelude.{Result, Ok, Err}
-use Rattle.disk_model.specs.Counts.{Rises}
+use Rattle.call_log.specs.Counts.{Rises}
 use Rattle.disk_model.specs.Crashes.{During}
 use Rattle.obs_journal.specs.declared.fault.OpenFault.{OpenFault}
 use Rattle.obs_journal.specs.declared.fault.OpenFault.TheVariants.{DiskFault, Damaged}

@@ -3,7 +3,7 @@
 
 ghost use Rattle.std.specs.Prelude.{◌≡◌, ◌⊎◌, ◌≤◌, Bool, true, false, ℕ, pos, List, length, Some, None, IfErr, IfOk};
 ghost use Rattle.std.specs.Prelude.{IsSomeAnd};
-ghost use Rattle.disk_model.specs.Counts.{Rises};
+ghost use Rattle.call_log.specs.Counts.{Rises};
 ghost use Rattle.obs_time.specs.Instants.{IsInstantNs};
 ghost use Rattle.act_model.specs.declared.request.TheConstants.{BODY_BYTES};
 ghost use Rattle.act_model.specs.Conducts.{EitherWay, Extends};

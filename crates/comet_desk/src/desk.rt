@@ -2,7 +2,7 @@
 
 ghost use Rattle.std.specs.Prelude.{◌≡◌, ◌≢◌, ◌↔◌, ◌-◌, ◌≤◌, ◌∷◌, List, length, slice_index, Ok, None, IfOk, IfSome};
 ghost use Rattle.std.specs.Prelude.{IsSomeAnd, OnErr};
-ghost use Rattle.disk_model.specs.Counts.{Rises};
+ghost use Rattle.call_log.specs.Counts.{Rises};
 ghost use Rattle.obs_journal.specs.Journals.{IsUnwritten};
 ghost use Rattle.act_model.specs.declared.deed.Deed.{Deed};
 ghost use Rattle.act_model.specs.Refusals.{used};

@@ -3,7 +3,7 @@
 
 ghost use Rattle.std.specs.Prelude.{◌≡◌, ◌≢◌, ◌≤◌, ℕ, List, [], IfErr, IfOk, IfSome, IsErrOf, OnOk};
 ghost use Rattle.std.specs.Prelude.{Err, None, Some};
-ghost use Rattle.disk_model.specs.Counts.{Rises};
+ghost use Rattle.call_log.specs.Counts.{Rises};
 ghost use Rattle.disk_model.specs.Crashes.{During};
 ghost use Rattle.obs_journal.specs.Chains.{IsInForce};
 ghost use Rattle.obs_journal.specs.Journals.{IsUnwritten};

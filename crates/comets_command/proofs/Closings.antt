@@ -1,7 +1,7 @@
 -- The last mending, and what it does to a register.
 use Rattle.std.proofs.Common.{◌≡◌, ℕ, ◌-◌, ◌<◌, ◌≤◌, List, [], ◌∷◌, Option, Some, None, refl, sym, subst, inl, inr, ⊎_elim, zero, suc, arith}
 use Rattle.std.specs.Prelude.{IfSome, IsSome}
-use Rattle.disk_model.specs.Counts.{Rises}
+use Rattle.call_log.specs.Counts.{Rises}
 use Rattle.disk_model.specs.Crashes.{During}
 use Rattle.disk_model.specs.Moments.{during_nothing}
 use Rattle.frame_service.specs.declared.serving.Stop.{Stop}

@@ -1,7 +1,7 @@
 -- What the end of a run says of its causes, and that a whole session without a fault is served to its end.
 use Rattle.std.proofs.Common.{◌≡◌, ◌⊎◌, ℕ, ◌+◌, List, [], ◌++◌, length, Option, Some, refl, sym, ap, subst, inl, inr, ⊎_elim, arith}
 use Rattle.std.specs.Prelude.{IfSome}
-use Rattle.disk_model.specs.Counts.{Rises}
+use Rattle.call_log.specs.Counts.{Rises}
 use Rattle.frame_grammar.specs.Frames.{Frame, IsSession}
 use Rattle.frame_service.specs.Exchanges.{Exchange, frames_of}
 use Rattle.frame_service.specs.Runs.{StopsAt, IsWhole}

@@ -1,7 +1,7 @@
 -- What `comets` promises, over every source, sink, disk and clock.
 use Rattle.std.specs.Prelude.{◌≡◌, ◌⊎◌, true, ℕ, List, Some}
 use Rattle.std.specs.Io.KnownBytes.{Appends}
-use Rattle.disk_model.specs.Counts.{Rises}
+use Rattle.call_log.specs.Counts.{Rises}
 use Rattle.read_ahead.specs.Reading.{Supplies}
 use Rattle.frame_service.specs.Runs.{Run, AwaitsNext, IsWhole}
 use Rattle.act_bodies.specs.declared.key.Key.{Key}

@@ -3,7 +3,7 @@
 
 ghost use Rattle.std.specs.Prelude.{◌≡◌, ◌≤◌};
 ghost use Rattle.std.specs.Io.KnownBytes.{Appends};
-ghost use Rattle.desk_io.specs.Outside.{Rises};
+ghost use Rattle.call_log.specs.Counts.{Rises};
 ghost use Rattle.read_ahead.specs.Reading.{Supplies};
 ghost use Rattle.act_model.specs.Clocks.{clock_of};
 ghost use Rattle.mpc_desk.specs.Pairs.{pair};

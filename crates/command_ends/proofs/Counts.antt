@@ -1,7 +1,7 @@
 -- Counts of faults that rose.
 use Rattle.std.proofs.Common.{ℕ, ◌-◌, ◌<◌, ◌≤◌, arith}
 use Rattle.std.specs.Prelude.{max}
-use Rattle.disk_model.specs.Counts.{Rises}
+use Rattle.call_log.specs.Counts.{Rises}
 use Rattle.act_model.specs.Keepers.{RoseBy}
 use Rattle.mpc_desk.specs.Desks.{count_of}
 

@@ -1,7 +1,7 @@
 -- The last mending, and what it does to a desk.
 use Rattle.std.proofs.Common.{◌≡◌, ◌-◌, ◌≤◌, Option, Some, None, refl, sym, subst}
 use Rattle.std.specs.Prelude.{IsSome}
-use Rattle.disk_model.specs.Counts.{Rises}
+use Rattle.call_log.specs.Counts.{Rises}
 use Rattle.disk_model.specs.Crashes.{During}
 use Rattle.act_model.specs.declared.entry.Entry.{Entry}
 use Rattle.act_model.specs.Turns.{Mends}

@@ -1,7 +1,7 @@
 -- What a command finds outside and what it leaves there: each thing before it and after it, and how each tells of
 -- itself.
 use Rattle.std.specs.Prelude.{◌≡◌, ◌≤◌, ℕ, List, Option, Bool}
-use Rattle.desk_io.specs.Outside.{Rises}
+use Rattle.call_log.specs.Counts.{Rises}
 use Rattle.desk_io.specs.Reads.{Passes}
 use Rattle.act_model.specs.Clocks.{ClockState}
 use Rattle.mpc_desk.specs.Pairs.{DiskPair, EitherRises}

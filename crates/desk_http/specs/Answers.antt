@@ -2,7 +2,7 @@
 -- after them.
 use Rattle.std.specs.Prelude.{◌≡◌, ℕ, Bool, ◌<◌, ◌≤◌, List, length, Result, Ok, Err}
 use Rattle.std.specs.declared.option.Option.{Option}
-use Rattle.desk_io.specs.Outside.{Rises}
+use Rattle.call_log.specs.Counts.{Rises}
 use Rattle.read_ahead.specs.declared.body.Body.{Body}
 use Rattle.read_ahead.specs.declared.body.Body.TheVariants as bodies
 use Rattle.act_model.specs.declared.request.Request.{Request}

@@ -3,7 +3,8 @@
 ghost use Rattle.std.specs.Prelude.{◌≡◌, ◌≢◌, ◌+◌, ◌≤◌, ◌++◌, length, decimal, Err, OnOk, OnErr};
 ghost use Rattle.ascii_text.specs.ArrayVec.{array_vec_len};
 ghost use Rattle.std.specs.Io.KnownBytes.{Appends};
-ghost use Rattle.desk_io.specs.Outside.{Rises, AppendsPart};
+ghost use Rattle.call_log.specs.Counts.{Rises};
+ghost use Rattle.desk_io.specs.Outside.{AppendsPart};
 ghost use Rattle.act_model.specs.Replies.{refusal_status, refusal_text};
 ghost use Rattle.desk_http.specs.ReplyTexts.{reason_of, closing_field, answer_head, answer_text, answer_of};
 ghost use Rattle.desk_http.specs.ReplyTexts.{unread_text, unread_answer};

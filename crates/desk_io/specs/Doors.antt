@@ -5,8 +5,8 @@ use Rattle.std.specs.declared.net.socket_addr.SocketAddr.{SocketAddr}
 use Rattle.std.specs.Net.Addr.{ipv4_octets, IsV4And}
 use Rattle.std.specs.Net.Socket.{socket_ip, socket_port}
 use Rattle.std.proofs.Common.{sym, ap, ◌∙◌, append_assoc}
-use Rattle.desk_io.specs.Outside.{Rises, one_more}
-use Rattle.desk_io.specs.Calls.{Calls, passed, failed}
+use Rattle.call_log.specs.Counts.{Rises, one_more}
+use Rattle.call_log.specs.Calls.{Calls, passed, failed}
 use Rattle.desk_io.specs.Memory.{SourceState, SinkState}
 use Rattle.desk_io.specs.Streams.{StreamSourceState, StreamSinkState}
 use Rattle.desk_io.specs.declared.doors.Next.{Next}

@@ -1,6 +1,5 @@
 pub mod Outside
 pub mod Reads
-pub mod Calls
 pub mod Memory
 pub mod Ticks
 pub mod Streams

@@ -1,6 +1,6 @@
 -- A source and a sink in memory.
 use Rattle.std.specs.Prelude.{◌≡◌, ℕ, Bool, ◌-◌, ◌<◌, ◌⊎◌, min, List, [], ◌++◌, length, drop}
-use Rattle.desk_io.specs.Calls.{Calls, FailsNext, passed, failed}
+use Rattle.call_log.specs.Calls.{Calls, FailsNext, passed, failed}
 
 -- the bytes that a source still gives, the most that one read gives, its calls, and whether it is open
 pub record SourceState : Type 0 where

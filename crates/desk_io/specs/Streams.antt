@@ -1,6 +1,6 @@
 -- A source and a sink over streams, of whose content nothing is known.
 use Rattle.std.specs.Prelude.{◌≡◌, ◌⊎◌, ℕ, Bool, ◌-◌, ◌==◌, if◌then◌else◌, List, [], length}
-use Rattle.desk_io.specs.Outside.{one_more}
+use Rattle.call_log.specs.Counts.{one_more}
 
 -- whether a source still has its stream, how often it failed, and how many reads can still give bytes
 pub record StreamSourceState : Type 0 where

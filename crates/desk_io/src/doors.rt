@@ -1,12 +1,12 @@
 //! Where links come from, and a door in memory.
 
 ghost use Rattle.std.specs.Prelude.{◌≡◌, ℕ, ◌≤◌, ◌↔◌, List, Option, Some, IfOk};
-ghost use Rattle.desk_io.specs.Calls.{no_calls, FailsNext};
+ghost use Rattle.call_log.specs.Calls.{no_calls, FailsNext};
 ghost use Rattle.desk_io.specs.Doors.{LinksAfter, FaultsAfter, AnswersOnce};
 ghost use Rattle.desk_io.specs.declared.doors.Next.TheVariants as answers;
 
-use crate::calls::CallLog;
 use crate::{MemSink, MemSource, NoMemory, Sink, Source};
+use call_log::CallLog;
 use std::alloc::Global;
 use std::collections::VecDeque;
 use std::marker::Model;

@@ -2,7 +2,6 @@
 #![tactic(auto)]
 
 mod accepting;
-mod calls;
 mod clocks;
 mod doors;
 mod links;
@@ -11,9 +10,9 @@ mod outside;
 mod streams;
 mod tcp;
 
-pub use calls::NoMemory;
 pub use clocks::{SystemClock, TickClock};
 pub use doors::{Door, MemDoor, Next};
+pub use item_list::NoMemory;
 pub use links::{HalfStream, LinkLimits};
 pub use memory::{MemSink, MemSource};
 pub use outside::{Clock, Failed, Sink, Source, write_all};

@@ -3,12 +3,12 @@
 ghost use Rattle.std.specs.Prelude.{◌≡◌, ℕ, ◌<◌, ◌≤◌, ◌↔◌, ◌⊎◌, ◌++◌, [], List, length, take, drop, min, true, false};
 ghost use Rattle.std.specs.Prelude.{IsTrue, IsErr, IfOk, OnOk, OnErr, Some};
 ghost use Rattle.std.specs.Io.KnownBytes.{ReadConsumes, WriteAppends, Keeps};
-ghost use Rattle.desk_io.specs.Outside.{Rises};
-ghost use Rattle.desk_io.specs.Calls.{no_calls, FailsNext, passed, failed};
+ghost use Rattle.call_log.specs.Counts.{Rises};
+ghost use Rattle.call_log.specs.Calls.{no_calls, FailsNext, passed, failed};
 ghost use Rattle.desk_io.specs.Memory.{given_length, after_giving, GivesOnce, room, WriteFails, after_taking};
 
-use crate::calls::CallLog;
 use crate::{Failed, NoMemory, Sink, Source};
+use call_log::CallLog;
 use std::alloc::Global;
 use std::marker::Model;
 

@@ -5,7 +5,8 @@
 ghost use Rattle.std.specs.Prelude.{◌≡◌, ℕ, ◌<◌, ◌≤◌, ◌+◌, ℤ, Bool, false, List, [], length, take, IfOk, OnOk, OnErr};
 ghost use Rattle.std.specs.Prelude.{IfSome, Option};
 ghost use Rattle.std.specs.Io.KnownBytes.{ReadConsumes, WriteAppends, Appends, Keeps};
-ghost use Rattle.desk_io.specs.Outside.{Rises, AppendsPart};
+ghost use Rattle.call_log.specs.Counts.{Rises};
+ghost use Rattle.desk_io.specs.Outside.{AppendsPart};
 ghost use Rattle.obs_time.specs.Instants.{IsInstantNs};
 
 use obs_time::Instant;

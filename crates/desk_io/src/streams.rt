@@ -3,7 +3,7 @@
 ghost use Rattle.std.specs.Prelude.{◌≡◌, ◌<◌, ◌≤◌, ◌^◌, ◌-◌, [], length, take, true, false, IsErr, IfOk, OnOk, OnErr};
 ghost use Rattle.std.specs.Prelude.{Ok, None};
 ghost use Rattle.std.specs.Io.KnownBytes.{ReadConsumes, WriteAppends, Keeps};
-ghost use Rattle.desk_io.specs.Outside.{Rises, one_more};
+ghost use Rattle.call_log.specs.Counts.{Rises, one_more};
 ghost use Rattle.desk_io.specs.Streams.{after_read, GivesOnce};
 
 use crate::{Failed, Sink, Source};

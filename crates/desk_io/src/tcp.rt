@@ -2,7 +2,7 @@
 //! their peers is trusted.
 
 ghost use Rattle.std.specs.Prelude.{◌≡◌, ◌≤◌, true, false, IfOk, OnOk, OnErr, None};
-ghost use Rattle.desk_io.specs.Outside.{one_more};
+ghost use Rattle.call_log.specs.Counts.{one_more};
 ghost use Rattle.desk_io.specs.declared.doors.Next.TheVariants as answers;
 ghost use Rattle.desk_io.specs.Doors.{LinksAfter, FaultsAfter, AcceptsOnce, IsPlaceOf};
 
@@ -55,9 +55,10 @@ fn listen<R: Net<Listener = TcpListener, Stream = TcpStream>>(
 
 /// The door on a port of 127.0.0.1. It is bound to its port at the first call, and never shut.
 ///
-/// It tells nothing of its links, counts each error as a fault, and keeps the last one for people to read. After a failure to bind, the next call tries again.
-/// A peer that is gone before it is taken is no failure; where descriptors or memory of the system are short it tries
-/// again for 10 seconds before it fails. Each link has limits to the time that its peer may take.
+/// It tells nothing of its links, counts each error as a fault, and keeps the last one for people to read. After a
+/// failure to bind, the next call tries again. A peer that is gone before it is taken is no failure; where descriptors
+/// or memory of the system are short it tries again for 10 seconds before it fails. Each link has limits to the time
+/// that its peer may take.
 #[derive(Debug, Drop)]
 pub struct TcpDoor<R: Net<Listener = TcpListener, Stream = TcpStream> + Clock + Copy> {
     system: R,

@@ -1,4 +1,3 @@
-pub mod Counts
 pub mod Files
 pub mod Crashes
 pub mod Moments

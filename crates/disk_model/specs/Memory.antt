@@ -1,6 +1,6 @@
 -- A disk in memory: its record of writes, cuts and syncs, the file after them, and what a crash may leave.
 use Rattle.std.specs.Prelude.{◌≡◌, ◌⊎◌, ℕ, ◌+◌, ◌≤◌, max, Bool, true, false, List, [], ◌∷◌, length, drop}
-use Rattle.disk_model.specs.Counts.{Calls, no_calls, FailsNext, passed, failed}
+use Rattle.call_log.specs.Calls.{Calls, no_calls, FailsNext, passed, failed}
 use Rattle.disk_model.specs.Files.{written, cut_to}
 use Rattle.disk_model.specs.Crashes.{Torn, CutTo, After}
 

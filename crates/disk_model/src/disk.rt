@@ -4,7 +4,7 @@
 //! known, as a real file, no read is known and no image; its count of faults is always known.
 
 ghost use Rattle.std.specs.Prelude.{◌≡◌, ℕ, ◌≤◌, List, length, IfOk, OnOk, OnErr, IfSome, IsSome, Option, Some};
-ghost use Rattle.disk_model.specs.Counts.{Rises};
+ghost use Rattle.call_log.specs.Counts.{Rises};
 ghost use Rattle.disk_model.specs.Files.{Gives, written, cut_to};
 ghost use Rattle.disk_model.specs.Crashes.{Torn, CutTo, After, Passes, EachSince};
 

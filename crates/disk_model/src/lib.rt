@@ -1,7 +1,6 @@
 //! One file on a disk, and what a crash at any moment may leave of it.
 #![tactic(auto)]
 
-mod calls;
 mod disk;
 mod file;
 mod memory;
@@ -11,9 +10,7 @@ mod real;
 mod record;
 
 pub use disk::{Disk, Failed};
+pub use item_list::NoMemory;
 pub use memory::MemDisk;
 pub use named_file::{NamedFile, Seen, SystemFile};
 pub use real::FileDisk;
-
-/// Memory was refused.
-pub type NoMemory = std::alloc::AllocError;

@@ -3,7 +3,8 @@
 ghost use Rattle.std.specs.Prelude.{◌≡◌, ℕ, ◌+◌, ◌-◌, ◌*◌, ◌^◌, ◌<◌, ◌≤◌, ◌↔◌, ◌⊎◌, ◌++◌, [], ◌∷◌, List, Bool, true};
 ghost use Rattle.std.specs.Prelude.{false, length, take, drop, min, max, vec_capacity, IsTrue, IsErr, IfOk, IfSome};
 ghost use Rattle.std.specs.Prelude.{OnOk, OnErr, Some, refl};
-ghost use Rattle.disk_model.specs.Counts.{Rises, FailsNext};
+ghost use Rattle.call_log.specs.Counts.{Rises};
+ghost use Rattle.call_log.specs.Calls.{FailsNext};
 ghost use Rattle.disk_model.specs.Files.{Gives, written, cut_to};
 ghost use Rattle.disk_model.specs.Crashes.{Torn, CutTo, After, Passes, EachSince};
 ghost use Rattle.disk_model.specs.Memory.{Wrote, Cut, Synced, new_disk, file_of, HasRoom, Fails, after_passed};
@@ -11,10 +12,10 @@ ghost use Rattle.disk_model.specs.Memory.{after_fault, after_done, after_failed,
 ghost use Rattle.disk_model.specs.Memory.{Records, record_size, last_synced};
 ghost use Rattle.disk_model.specs.MemoryLaws.{as_read, is_image_since, only_image_now};
 
-use crate::calls::CallLog;
 use crate::file::write_over;
 use crate::record::Record;
 use crate::{Disk, Failed, NoMemory};
+use call_log::CallLog;
 use std::alloc::Global;
 use std::marker::Model;
 

@@ -1,7 +1,7 @@
 //! A disk over a real file. Nothing of its content is known to a proof: that it keeps the model is trusted.
 
 ghost use Rattle.std.specs.Prelude.{◌≡◌, ℕ, ◌≤◌, List, length, true, false, IfOk, IfSome, OnOk, OnErr, IsErr, Ok, Some};
-ghost use Rattle.disk_model.specs.Counts.{Rises, one_more};
+ghost use Rattle.call_log.specs.Counts.{Rises, one_more};
 ghost use Rattle.disk_model.specs.Files.{Gives, written, cut_to};
 ghost use Rattle.disk_model.specs.Crashes.{Torn, CutTo, After, Passes, EachSince};
 ghost use Rattle.disk_model.specs.Real.{untold, unread, no_image, no_image_since, no_moment};

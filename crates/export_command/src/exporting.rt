@@ -1,7 +1,7 @@
 //! Writing out the catalogue.
 
 ghost use Rattle.std.specs.Prelude.{◌≡◌, ◌≤◌};
-ghost use Rattle.desk_io.specs.Outside.{Rises};
+ghost use Rattle.call_log.specs.Counts.{Rises};
 ghost use Rattle.act_model.specs.Catalogue.{catalogue};
 ghost use Rattle.mpc_desk.specs.Pairs.{pair};
 ghost use Rattle.command_ends.specs.Courses.{sink_words, change};

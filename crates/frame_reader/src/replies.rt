@@ -2,7 +2,8 @@
 
 ghost use Rattle.std.specs.Prelude.{◌≡◌, ◌≤◌, [], ◌∷◌, ◌++◌, OnOk, OnErr, decimal};
 ghost use Rattle.std.specs.Io.KnownBytes.{Appends};
-ghost use Rattle.desk_io.specs.Outside.{Rises, AppendsPart};
+ghost use Rattle.call_log.specs.Counts.{Rises};
+ghost use Rattle.desk_io.specs.Outside.{AppendsPart};
 ghost use Rattle.frame_grammar.specs.Replies.{reply_frame};
 
 use arrayvec::ArrayVec;

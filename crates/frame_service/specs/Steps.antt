@@ -1,7 +1,8 @@
 -- One step of serving: the next frame of the source is read and answered, or it is told why there is none.
 use Rattle.std.specs.Prelude.{◌≡◌, ℕ, ◌-◌, ◌≤◌, ◌<◌, List, [], ◌++◌, length, Option, Result, Ok, Err}
 use Rattle.std.specs.Io.KnownBytes.{Appends, Keeps}
-use Rattle.desk_io.specs.Outside.{Rises, AppendsPart}
+use Rattle.call_log.specs.Counts.{Rises}
+use Rattle.desk_io.specs.Outside.{AppendsPart}
 use Rattle.desk_io.specs.Reads.{Passes, Comes}
 use Rattle.desk_io.specs.declared.outside.Failed.{Failed}
 use Rattle.frame_grammar.specs.Frames.{Frame, IsFrame, framed, NoFrame}

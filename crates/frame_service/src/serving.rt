@@ -2,7 +2,7 @@
 
 ghost use Rattle.std.specs.Prelude.{◌≡◌, ◌≤◌, ◌<◌, ℕ, List, [], IfOk, OnOk, OnErr};
 ghost use Rattle.std.specs.Io.KnownBytes.{Appends};
-ghost use Rattle.desk_io.specs.Outside.{Rises};
+ghost use Rattle.call_log.specs.Counts.{Rises};
 ghost use Rattle.frame_reader.specs.Frames.{IsFrameRead};
 ghost use Rattle.read_ahead.specs.Reading.{Supplies, work};
 ghost use Rattle.frame_service.specs.Exchanges.{Exchange, attending, Attends};

@@ -2,7 +2,8 @@
 
 ghost use Rattle.std.specs.Prelude.{◌≡◌, ◌≤◌, OnOk, OnErr};
 ghost use Rattle.std.specs.Io.KnownBytes.{Appends};
-ghost use Rattle.desk_io.specs.Outside.{Rises, AppendsPart};
+ghost use Rattle.call_log.specs.Counts.{Rises};
+ghost use Rattle.desk_io.specs.Outside.{AppendsPart};
 ghost use Rattle.frame_service.specs.Exchanges.{spoken_bytes};
 
 use act_model::Text;

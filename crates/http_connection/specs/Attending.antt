@@ -3,7 +3,7 @@ use Rattle.std.specs.Prelude.{◌≡◌, ◌⊎◌, ℕ, ◌+◌, ◌<◌, ◌�
 use Rattle.std.specs.Prelude.{filter_map, reverse, take, Option}
 use Rattle.std.specs.List.{AllByRecursion}
 use Rattle.std.specs.Io.KnownBytes.{Appends}
-use Rattle.desk_io.specs.Outside.{Rises}
+use Rattle.call_log.specs.Counts.{Rises}
 use Rattle.desk_io.specs.Reads.{Passes}
 use Rattle.read_ahead.specs.Reading.{Supplies}
 use Rattle.act_model.specs.declared.reply.Fault.{Fault}

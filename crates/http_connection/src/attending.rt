@@ -1,7 +1,7 @@
 //! A connection, request after request.
 
 ghost use Rattle.std.specs.Prelude.{◌≡◌, ◌<◌, ℕ, List, Some};
-ghost use Rattle.desk_io.specs.Outside.{Rises};
+ghost use Rattle.call_log.specs.Counts.{Rises};
 ghost use Rattle.act_model.specs.Clocks.{clock_of};
 ghost use Rattle.http_connection.specs.Streams.{HasNoHeadFault};
 ghost use Rattle.http_connection.specs.Attending.{is_last, IsAttended, ReadCounts, WriteCounts, IsEndedOrWanting};

@@ -4,7 +4,8 @@ ghost use Rattle.std.specs.Prelude.{◌≡◌, ◌≢◌, ◌≤◌, IfOk, OnOk,
 ghost use Rattle.std.specs.List.{AllByRecursion};
 ghost use Rattle.std.specs.Io.KnownBytes.{Appends};
 ghost use Rattle.obs_time.specs.Dates.{IsObservedDay};
-ghost use Rattle.desk_io.specs.Outside.{Rises, AppendsPart};
+ghost use Rattle.call_log.specs.Counts.{Rises};
+ghost use Rattle.desk_io.specs.Outside.{AppendsPart};
 ghost use Rattle.command_ends.specs.Courses.{sink_words, change};
 ghost use Rattle.command_ends.specs.declared.status.Status.{Status};
 ghost use Rattle.mirror_store.specs.declared.mirror.MirrorErr.{MirrorErr};

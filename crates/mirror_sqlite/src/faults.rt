@@ -1,7 +1,7 @@
 //! Errors of the database as those of the mirror.
 
 ghost use Rattle.std.specs.Prelude.{◌≡◌, ◌≢◌};
-ghost use Rattle.desk_io.specs.Outside.{one_more};
+ghost use Rattle.call_log.specs.Counts.{one_more};
 ghost use Rattle.mirror_sqlite.specs.Faults.{fault_of};
 
 use mirror_store::MirrorErr;

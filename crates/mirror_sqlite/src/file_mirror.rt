@@ -2,7 +2,7 @@
 
 ghost use Rattle.std.specs.Prelude.{◌≡◌, ◌≢◌, ◌≤◌, false, IfOk, OnOk, OnErr};
 ghost use Rattle.std.specs.List.{AllByRecursion};
-ghost use Rattle.desk_io.specs.Outside.{one_more, Rises};
+ghost use Rattle.call_log.specs.Counts.{one_more, Rises};
 ghost use Rattle.mirror_store.specs.Rows.{IsObjectRow, IsSightRow, AreReplaceable};
 ghost use Rattle.mirror_store.specs.Mirrors.{IsReplaced, TellsObjects, TellsBetween};
 ghost use Rattle.mirror_sqlite.specs.FileMirrors.{untold};

@@ -4,7 +4,6 @@
 //! A [`Mirror`] keeps two lists of rows. [`refresh`] replaces them by those of an office, whole or not at all.
 #![tactic(auto)]
 
-mod calls;
 mod labels;
 pub mod laws;
 mod mem;

@@ -2,7 +2,7 @@
 
 ghost use Rattle.std.specs.Prelude.{◌≡◌, ◌≢◌, ℕ, ◌≤◌, Option, IfOk, OnOk, OnErr};
 ghost use Rattle.std.specs.List.{AllByRecursion};
-ghost use Rattle.desk_io.specs.Outside.{Rises};
+ghost use Rattle.call_log.specs.Counts.{Rises};
 ghost use Rattle.mirror_store.specs.declared.rows.MirrorRows.{MirrorRows};
 ghost use Rattle.mirror_store.specs.Rows.{IsObjectRow, IsSightRow, AreReplaceable};
 ghost use Rattle.mirror_store.specs.Mirrors.{IsReplaced, TellsObjects, TellsBetween};

@@ -1,7 +1,7 @@
 //! A mirror made to hold the rows of an office.
 
 ghost use Rattle.std.specs.Prelude.{◌≡◌, ◌≢◌, ◌≤◌, ◌<◌, Err, IfOk, OnOk, OnErr, IsSome, length};
-ghost use Rattle.desk_io.specs.Outside.{Rises};
+ghost use Rattle.call_log.specs.Counts.{Rises};
 ghost use Rattle.act_model.specs.Deeds.{deeds};
 ghost use Rattle.act_model.specs.Designations.{links_of, principals};
 ghost use Rattle.act_model.specs.Observations.{observations};

@@ -1,7 +1,7 @@
 -- How opening ends: on the second disk where it is in force, else on the first, which is carried over.
 use Rattle.std.proofs.Common.{◌≡◌, ◌≢◌, ◌⊎◌, ℕ, ◌≤◌, List, Option, Some, None, refl, sym, ap, subst, ◌∙◌, inl, inr, ⊎_elim, le_refl, le_trans, arith}
 use Rattle.std.specs.Prelude.{IfSome, IsSome}
-use Rattle.disk_model.specs.Counts.{Rises}
+use Rattle.call_log.specs.Counts.{Rises}
 use Rattle.disk_model.specs.Crashes.{During}
 use Rattle.disk_model.specs.Moments.{during_nothing, during_joined, during_weaker}
 use Rattle.obs_journal.specs.declared.fault.OpenFault.{OpenFault}

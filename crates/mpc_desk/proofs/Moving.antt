@@ -1,7 +1,7 @@
 -- How an office is carried over.
 use Rattle.std.proofs.Common.{◌≡◌, ◌≢◌, ◌⊎◌, ℕ, ◌<◌, ◌≤◌, List, Option, Some, None, Result, Err, refl, sym, ap, subst, ◌∙◌, inl, inr, le_refl, arith}
 use Rattle.std.specs.Prelude.{◌^◌, IfSome, IsSome}
-use Rattle.disk_model.specs.Counts.{Rises}
+use Rattle.call_log.specs.Counts.{Rises}
 use Rattle.disk_model.specs.Crashes.{During}
 use Rattle.obs_journal.specs.declared.fault.OpenFault.{OpenFault}
 use Rattle.obs_journal.specs.declared.fault.OpenFault.TheVariants.{DiskFault, Damaged}

@@ -1,7 +1,7 @@
 -- The desk: the office on the second disk.
 use Rattle.std.specs.Prelude.{◌≡◌, ◌⊎◌, ℕ, ◌+◌, ◌-◌, ◌^◌, ◌<◌, min, ℤ, List, ◌∷◌, Option, Some, option_map, IfSome}
 use Rattle.std.specs.Prelude.{IsSomeAnd, None}
-use Rattle.disk_model.specs.Counts.{Rises}
+use Rattle.call_log.specs.Counts.{Rises}
 use Rattle.disk_model.specs.Crashes.{During}
 use Rattle.obs_journal.specs.Journals.{JournalState, StandsFor}
 use Rattle.obs_journal.specs.declared.journal.Settled.{Settled}

@@ -1,6 +1,6 @@
 -- Two files, and two disks with a file each: the second file counts where it is in force, and else the first one does.
 use Rattle.std.specs.Prelude.{◌≡◌, ◌⊎◌, ℕ, ◌+◌, ◌≤◌, List, ◌∷◌, Some, IfSome, IsSomeAnd}
-use Rattle.disk_model.specs.Counts.{Rises}
+use Rattle.call_log.specs.Counts.{Rises}
 use Rattle.obs_journal.specs.Parcels.{RawParcel}
 use Rattle.obs_journal.specs.Chains.{IsInForce, IsChain}
 use Rattle.obs_journal.specs.Moves.{IsIdle}

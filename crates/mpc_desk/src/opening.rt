@@ -4,7 +4,7 @@
 ghost use Rattle.std.specs.Prelude.{◌≡◌, ◌≢◌, ◌+◌, ◌<◌, ◌≤◌, ◌^◌, ℕ, List, [], IfOk, IfErr, IfSome, IsErr, IsErrOf};
 ghost use Rattle.std.specs.Prelude.{IsSome, OnOk, Err};
 ghost use Rattle.std.specs.Prelude.{None, Some};
-ghost use Rattle.disk_model.specs.Counts.{Rises};
+ghost use Rattle.call_log.specs.Counts.{Rises};
 ghost use Rattle.disk_model.specs.Crashes.{During};
 ghost use Rattle.obs_journal.specs.Chains.{IsInForce, chained};
 ghost use Rattle.obs_journal.specs.Files.{Spells};

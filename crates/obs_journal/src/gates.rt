@@ -3,7 +3,7 @@
 ghost use Rattle.std.specs.Prelude.{◌≡◌, ◌≢◌, ◌↔◌, ◌+◌, ◌-◌, ◌<◌, ◌≤◌, ◌^◌, ◌++◌, ◌∷◌, [], ℕ, List, length, take, drop};
 ghost use Rattle.std.specs.Prelude.{min, IfOk, IfSome, IsErrOf, IsNone, IsTrue, Ok, Err};
 ghost use Rattle.std.specs.Int.{w32, w64, to_be_bytes};
-ghost use Rattle.disk_model.specs.Counts.{Rises};
+ghost use Rattle.call_log.specs.Counts.{Rises};
 ghost use Rattle.obs_journal.specs.Parcels.{RawParcel, IsParcel};
 ghost use Rattle.obs_journal.specs.Formats.{seal, seal_length, kept};
 ghost use Rattle.obs_journal.specs.Files.{NoParcelIn};

@@ -4,7 +4,7 @@
 ghost use Rattle.std.specs.Prelude.{◌≡◌, ◌≢◌, ◌⊎◌, ◌↔◌, ◌+◌, ◌-◌, ◌<◌, ◌≤◌, ◌^◌, ℕ, List, [], ◌∷◌, ◌++◌, slice_index};
 ghost use Rattle.std.specs.Prelude.{if◌then◌else◌, IfOk, IfErr, IfSome, IsSome, OnOk, OnErr, IsErrOf, is_ok, Ok};
 ghost use Rattle.std.specs.Prelude.{Some, None};
-ghost use Rattle.disk_model.specs.Counts.{Rises};
+ghost use Rattle.call_log.specs.Counts.{Rises};
 ghost use Rattle.disk_model.specs.Crashes.{During};
 ghost use Rattle.obs_journal.specs.Parcels.{RawParcel};
 ghost use Rattle.obs_journal.specs.Formats.{room_in, row_length_in, file_of};

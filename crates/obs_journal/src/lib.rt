@@ -25,9 +25,10 @@ mod second;
 mod writing;
 
 pub use fault::OpenFault;
+pub use item_list::NoMemory;
 pub use journal::{AppendFault, Journal, Settled};
 pub use opening::{Parcels, Placed, open_first};
-pub use parcel::{NoMemory, Parcel};
+pub use parcel::Parcel;
 pub use second::{carried_length, carry, in_force};
 
 /// The longest body of a parcel, in bytes.

@@ -2,7 +2,7 @@
 
 ghost use Rattle.std.specs.Prelude.{◌≡◌, ◌≢◌, ◌↔◌, ◌+◌, ◌<◌, ◌≤◌, ◌∷◌, [], ℕ, List, length, IfOk, IfSome, IsErr};
 ghost use Rattle.std.specs.Prelude.{IsErrOf, IsSome, OnErr, OnOk, IsTrue, true, false, Ok, Err, Some};
-ghost use Rattle.disk_model.specs.Counts.{Rises};
+ghost use Rattle.call_log.specs.Counts.{Rises};
 ghost use Rattle.disk_model.specs.Crashes.{During};
 ghost use Rattle.obs_journal.specs.Files.{IsFresh, IsRow, IsRowIn, Spells, HasHead, IsBrokenIn, IsDamagedAt};
 ghost use Rattle.obs_journal.specs.Parcels.{RawParcel};

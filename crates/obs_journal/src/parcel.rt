@@ -5,13 +5,10 @@ ghost use Rattle.sha2.specs.Sha256.{sha256};
 ghost use Rattle.obs_journal.specs.Parcels.{IsParcel, parcel_bytes, room};
 ghost use Rattle.obs_journal.specs.Stored.{body_of};
 
-use crate::{CLOSED, DIGEST_BYTES};
+use crate::{CLOSED, DIGEST_BYTES, NoMemory};
 use sha2::{Digest, Sha256};
-use std::alloc::{AllocError, Global};
+use std::alloc::Global;
 use std::marker::Model;
-
-/// Memory was refused.
-pub type NoMemory = AllocError;
 
 // The bytes of a parcel before its body: the length and the fields that it counts.
 const HEAD_BYTES: usize = 25;

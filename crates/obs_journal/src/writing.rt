@@ -1,7 +1,7 @@
 //! Writes that are safe once they are done.
 
 ghost use Rattle.std.specs.Prelude.{ℕ, List, [], ◌∷◌, ◌≡◌, ◌≤◌, length, IfSome, OnOk, OnErr, Some};
-ghost use Rattle.disk_model.specs.Counts.{Rises};
+ghost use Rattle.call_log.specs.Counts.{Rises};
 ghost use Rattle.disk_model.specs.Files.{written};
 ghost use Rattle.disk_model.specs.Crashes.{Torn, After, Passes, EachSince};
 ghost use Rattle.obs_journal.specs.Writing.{IsSafe};

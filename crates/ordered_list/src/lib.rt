@@ -16,4 +16,5 @@ mod merging;
 mod places;
 mod searches;
 
-pub use list::{NoMemory, OrderedList};
+pub use item_list::NoMemory;
+pub use list::OrderedList;

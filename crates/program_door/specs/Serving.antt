@@ -1,6 +1,6 @@
 -- A door that is open as long as links are wanted of it.
 use Rattle.std.specs.Prelude.{◌≡◌, ℕ, ◌-◌, ◌<◌}
-use Rattle.desk_io.specs.Outside.{one_more}
+use Rattle.call_log.specs.Counts.{one_more}
 use Rattle.desk_io.specs.Doors.{IsUncalled}
 use Rattle.desk_io.specs.Streams.{StreamSourceState, StreamSinkState}
 use Rattle.desk_io.specs.declared.doors.Next.{Next}

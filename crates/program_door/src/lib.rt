@@ -4,7 +4,7 @@
 
 ghost use Rattle.std.specs.Prelude.{◌≡◌, ◌-◌, ◌<◌, ◌≤◌, None};
 ghost use Rattle.desk_io.specs.Doors.{LinksAfter, FaultsAfter};
-ghost use Rattle.desk_io.specs.Outside.{one_more};
+ghost use Rattle.call_log.specs.Counts.{one_more};
 ghost use Rattle.desk_io.specs.declared.doors.Next.TheVariants as answers;
 ghost use Rattle.program_door.specs.Serving.{ServesOnce};
 

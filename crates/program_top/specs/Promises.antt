@@ -1,7 +1,7 @@
 -- What the program promises of each command, over every source, sink, three disks, clock, mirror and door. What it
 -- promises of one command stands in that command's own `specs/Promises.antt`.
 use Rattle.std.specs.Prelude.{◌≡◌, ◌↔◌, ◌≤◌, ◌⊎◌, true, false, ℕ, ℤ, List, [], Option, Some, None}
-use Rattle.disk_model.specs.Counts.{Rises}
+use Rattle.call_log.specs.Counts.{Rises}
 use Rattle.mpc_desk.specs.Pairs.{DiskPair, EitherRises}
 use Rattle.command_line.specs.declared.command.Command.{Command}
 use Rattle.command_line.specs.declared.command.Command.TheVariants.{Run, Serve, Export, Mirror, Look, Workload, Comets}

@@ -3,7 +3,7 @@
 ghost use Rattle.std.specs.Prelude.{◌≡◌, ◌≢◌, ℕ, ◌+◌, ◌-◌, ◌<◌, ◌≤◌, List, [], ◌++◌, length, take, drop, slice_range};
 ghost use Rattle.std.specs.Prelude.{Option, Ok, Err, IfOk, IfErr, OnOk, OnErr, IfSome, IsSomeAnd};
 ghost use Rattle.std.specs.Io.KnownBytes.{IsAtEnd};
-ghost use Rattle.desk_io.specs.Outside.{Rises};
+ghost use Rattle.call_log.specs.Counts.{Rises};
 ghost use Rattle.desk_io.specs.Reads.{Comes};
 ghost use Rattle.read_ahead.specs.Reading.{LacksText, ReadsOnce, ReadsAhead, ReadsText, IsAllOf, IsBody, IsCut};
 ghost use Rattle.read_ahead.specs.Reading.{Counted, work, halt_at_end};

@@ -3,7 +3,7 @@ use Rattle.std.proofs.Common.{◌≡◌, ℕ, zero, suc, ◌+◌, ◌-◌, ◌�
 use Rattle.std.specs.Prelude.{◌⊎◌}
 use Rattle.std.specs.List.{AllByRecursion}
 use Rattle.std.proofs.lemmas.List.Sums.{sum_by-cons}
-use Rattle.disk_model.specs.Counts.{Rises}
+use Rattle.call_log.specs.Counts.{Rises}
 use Rattle.act_bodies.specs.declared.key.Key.{Key}
 use Rattle.act_model.specs.declared.entry.Entry.{Entry}
 use Rattle.act_model.specs.declared.keeper.OfficeState.{OfficeState}

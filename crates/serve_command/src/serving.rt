@@ -1,7 +1,7 @@
 //! The whole service of a door, over one journal.
 
 ghost use Rattle.std.specs.Prelude.{◌≡◌, ◌≤◌, []};
-ghost use Rattle.desk_io.specs.Outside.{Rises};
+ghost use Rattle.call_log.specs.Counts.{Rises};
 ghost use Rattle.act_model.specs.Clocks.{clock_of};
 ghost use Rattle.act_model.specs.Roster.{IsFounder};
 ghost use Rattle.intake_lock.specs.Rule.{MOST};

@@ -3,7 +3,8 @@
 ghost use Rattle.std.specs.Prelude.{◌≡◌, ◌+◌, ◌≤◌, ◌++◌, length, OnOk, OnErr, decimal};
 ghost use Rattle.std.specs.Io.KnownBytes.{Appends};
 ghost use Rattle.arrayvec.specs.ArrayVec.{array_vec_len};
-ghost use Rattle.desk_io.specs.Outside.{Rises, AppendsPart};
+ghost use Rattle.call_log.specs.Counts.{Rises};
+ghost use Rattle.desk_io.specs.Outside.{AppendsPart};
 ghost use Rattle.serve_command.specs.Summaries.{summary};
 
 use arrayvec::ArrayVec;

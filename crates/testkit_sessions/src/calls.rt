@@ -1,13 +1,12 @@
 //! Calls of `run` and of `export` over a source, a sink, two disks and a clock in memory.
 
-use crate::pieces::NoMemory;
 use crate::wrong::{Found, Wrong};
 use command_ends::{Ended, Status};
 use command_line::{Command, Words, command_of};
 use desk_io::{Clock, MemSink, MemSource, Sink, Source, TickClock};
 use disk_model::{Disk, MemDisk};
 use export_command::export;
-use item_list::Bytes;
+use item_list::{Bytes, NoMemory};
 use obs_time::Instant;
 use run_command::run;
 use std::alloc::Global;

@@ -1,6 +1,7 @@
 //! A frame and its answer, and sessions of them.
 
-use crate::pieces::{NoMemory, put};
+use crate::pieces::put;
+use item_list::NoMemory;
 use std::alloc::Global;
 
 /// A frame, the answer to it, and how many entries the history has after it.

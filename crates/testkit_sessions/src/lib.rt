@@ -25,10 +25,9 @@ pub use calls::{
     Call, Devices, Drive, Drives, are_left, call_alone, call_in_turn, disks_of, has_ended, words_of,
 };
 pub use exchange::{Exchange, Frames};
+pub use item_list::NoMemory;
 pub use journals::{CHAINED, ENROLLED, ENROLS, PLAIN};
-pub use pieces::{
-    NoMemory, Part, put, put_lines, put_number, put_parts, put_reply, put_taken, text_of,
-};
+pub use pieces::{Part, put, put_lines, put_number, put_parts, put_reply, put_taken, text_of};
 pub use rows::{FOUNDER, OBSERVER, Row, catalogue_alone, catalogue_of, session};
 pub use scripts::{Script, call_days};
 pub use setup::{BATCH, ENROLMENT, FIRST, FIRST_ANSWER, MODE, SETUP, STATION, begun};

@@ -1,9 +1,7 @@
 //! What the bytes of a session and the replies to it are put together from.
 
+use item_list::NoMemory;
 use std::alloc::Global;
-
-/// Memory was refused.
-pub type NoMemory = std::alloc::AllocError;
 
 /// A text after other bytes.
 ///

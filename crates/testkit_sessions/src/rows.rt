@@ -1,9 +1,9 @@
 //! Requests with their replies as rows of a table, and sessions of them.
 
 use crate::calls::{Call, Drives, call_alone, call_in_turn};
-use crate::pieces::NoMemory;
 use crate::scripts::Script;
 use crate::wrong::Wrong;
+use item_list::NoMemory;
 use std::alloc::Global;
 
 /// A request, by whom it is sent, its number, its verb and its body; and the status and the text of its reply.

@@ -1,10 +1,11 @@
 //! Sessions that are written request by request, with the replies to them.
 
 use crate::calls::{Call, Drive, Drives, call_in_turn};
-use crate::pieces::{NoMemory, put, put_number, put_reply};
+use crate::pieces::{put, put_number, put_reply};
 use crate::rows::Row;
 use crate::setup::begun;
 use crate::wrong::Wrong;
+use item_list::NoMemory;
 use std::alloc::Global;
 
 /// A session: the bytes of its frames, and those of the replies to them.

@@ -1,7 +1,8 @@
 //! The founder sets the office up: a station, the words of a mode, a band and a catalogue, and an observer.
 
 use crate::exchange::Exchange;
-use crate::pieces::{NoMemory, put};
+use crate::pieces::put;
+use item_list::NoMemory;
 use std::alloc::Global;
 
 /// The founder's five requests: a station, a letter and word of a mode, of a band and of a catalogue, and an observer.

@@ -1,6 +1,6 @@
 //! What is wrong with a call.
 
-use crate::pieces::NoMemory;
+use item_list::NoMemory;
 
 /// The first thing in which a call was not as wanted, and the mark of the call.
 #[derive(Debug, Drop)]

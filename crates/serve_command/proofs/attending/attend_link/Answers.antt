@@ -1,6 +1,6 @@
 use Rattle.std.proofs.Common.{ℕ, sym, subst}
 use Rattle.http_connection.specs.Attending.{ReadCounts, WriteCounts}
-use Rattle.desk_io.specs.Outside.{Rises}
+use Rattle.call_log.specs.Counts.{Rises}
 use Rattle.serve_command.proofs.attending.attend_link.Goals as goal
 
 pub returns-clause-attended : goal.returns-clause-attended

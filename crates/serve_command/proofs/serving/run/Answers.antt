@@ -5,7 +5,7 @@ use Rattle.command_ends.specs.Opening.{Opens}
 use Rattle.command_ends.specs.Parts.{of_parts, put_together}
 use Rattle.intake_lock.specs.Items.{rises}
 use Rattle.serve_command.specs.Links.{calls_in}
-use Rattle.disk_model.specs.Counts.{Rises}
+use Rattle.call_log.specs.Counts.{Rises}
 use Rattle.mpc_desk.specs.Desks.{count_of}
 use Rattle.mpc_desk.specs.Pairs.{pair, HaveRisen, disks_of}
 use Rattle.mpc_desk.specs.PairLaws.{same_pair}

@@ -1,6 +1,6 @@
 -- The calls of an object in memory, some of which are to fail.
 use Rattle.std.specs.Prelude.{ℕ, List, Contains}
-use Rattle.desk_io.specs.Outside.{one_more}
+use Rattle.call_log.specs.Counts.{one_more}
 
 -- which calls are to fail, counted from 1, how many were made, and how many of them failed
 pub record Calls : Type 0 where

@@ -1,13 +1,15 @@
-//! The calls of a disk in memory, some of which are to fail.
+//! The calls that an object in memory saw, and which of them are to fail.
+#![tactic(auto)]
 
-ghost use Rattle.std.specs.Prelude.{◌≡◌, ◌≤◌, ◌↔◌, [], IsTrue, IfOk};
-ghost use Rattle.disk_model.specs.Counts.{no_calls, FailsNext, passed, failed};
+ghost use Rattle.std.specs.Prelude.{◌≡◌, ◌≤◌, ◌↔◌, [], IsTrue, IfOk, if◌then◌else◌};
+ghost use Rattle.call_log.specs.Calls.{no_calls, FailsNext, passed, failed};
 
-use crate::NoMemory;
+use item_list::NoMemory;
 use std::alloc::Global;
 use std::marker::Model;
 
-// The calls so far, and those that are to fail.
+/// The calls so far, counted from 1, and those that are to fail. The object that has the log asks it at each of its
+/// calls, and tells it how the call went.
 #[derive(Debug, Drop)]
 pub struct CallLog {
     fails: Vec<u64>,
@@ -16,7 +18,7 @@ pub struct CallLog {
 }
 
 impl Model for CallLog {
-    ghost use Rattle.disk_model.specs.Counts.{Calls};
+    ghost use Rattle.call_log.specs.Calls.{Calls};
 
     ghost Value = { Calls };
 
@@ -24,6 +26,8 @@ impl Model for CallLog {
 }
 
 impl CallLog {
+    /// No call was made yet, and those that `fails` lists are to fail.
+    ///
     /// # Errors
     ///
     /// Memory was refused.
@@ -37,18 +41,21 @@ impl CallLog {
         })
     }
 
+    /// Whether the next call is one that is to fail.
     pub fn fails_next(&self) -> bool
         ensures { IsTrue result ↔ FailsNext self.now }
     {
         self.fails.contains(&self.made.saturating_add(1))
     }
 
+    /// Counts a call that did what it could.
     pub fn pass(&mut self)
         ensures { self.new ≡ passed self.old }
     {
         self.made = self.made.saturating_add(1);
     }
 
+    /// Counts a call that failed.
     pub fn fail(&mut self)
         ensures after { self.new ≡ failed self.old }
         ensures counts { self.old.faults ≤ self.new.faults }
@@ -57,7 +64,22 @@ impl CallLog {
         self.faults = self.faults.saturating_add(1);
     }
 
-    // No call was made, and none is to fail.
+    /// Counts a call, which fails where it is to, and says whether it does.
+    pub fn is_failing(&mut self) -> bool
+        ensures fails { IsTrue result ↔ FailsNext self.old }
+        ensures after { self.new ≡ (if result then failed self.old else passed self.old) }
+        ensures counts { self.old.faults ≤ self.new.faults }
+    {
+        let is_failing = self.fails_next();
+        if is_failing {
+            self.fail();
+        } else {
+            self.pass();
+        }
+        is_failing
+    }
+
+    /// No call was made, and none is to fail.
     pub fn start_again(&mut self)
         ensures { self.new ≡ no_calls [] }
     {
