@@ -191,8 +191,8 @@ pub fn call_single(alloc: Global, call: &Call) -> Result<(), Wrong> {
     call_alone(alloc, call, empty_disks(alloc), MemMirror::new(alloc, &[]))
 }
 
-/// Calls `top` on these disks with this mirror, and links that come through this door. Gives the disks back, and how the
-/// links ended.
+/// Calls `top` on these disks with this mirror, and links that come through this door. Gives the disks back, and how
+/// the links ended.
 fn call_on<D: Disk + Send, M: Mirror, G: Door + Send, R: Threads + Wait + Sync>(
     rt: &R,
     alloc: Global,
