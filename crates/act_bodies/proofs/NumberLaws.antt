@@ -6,6 +6,7 @@ use Rattle.std.proofs.lemmas.Option.{cond_some}
 use Rattle.serde_json.specs.Data.{Data}
 use Rattle.ascii_text.specs.Reading.{◌>>=◌}
 use Rattle.ascii_text.specs.Reading.{bind_some}
+use Rattle.packed_names.specs.declared.number.TheConstants.{GREATEST_NUMBER}
 use Rattle.packed_names.specs.Ranges.{IsNumber}
 use Rattle.act_bodies.specs.declared.number.Number.{Number}
 use Rattle.act_bodies.specs.Members.{object_of, whole_in, bounded_in}
@@ -24,10 +25,10 @@ bounded_in-within least greatest name value n found =
 number_in-first : (value : Data) (number : Number) → number_in value ≡ Some number → IsNumber number.first
 unfolding number_in
 number_in-first value number found =
-    let a = bind_some (bounded_in 1 15396335 (codes "first") value) (λ first. bounded_in 1 1000 (codes "most") value >>= λ most. Some (record { first = first; most = most })) number found in
+    let a = bind_some (bounded_in 1 GREATEST_NUMBER (codes "first") value) (λ first. bounded_in 1 1000 (codes "most") value >>= λ most. Some (record { first = first; most = most })) number found in
     let b = bind_some (bounded_in 1 1000 (codes "most") value) (λ most. Some (record { first = a.0; most = most })) number a.2 in
     let same : a.0 ≡ number.first = cc in
-    subst IsNumber same (bounded_in-within 1 15396335 (codes "first") value a.0 a.1)
+    subst IsNumber same (bounded_in-within 1 GREATEST_NUMBER (codes "first") value a.0 a.1)
 
 -- the first number of the body of `number` is one that a minor planet can have
 pub number_of_body-first : (bytes : List ℕ) (number : Number) → number_of_body bytes ≡ Some number → IsNumber number.first

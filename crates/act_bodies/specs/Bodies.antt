@@ -3,6 +3,7 @@ use Rattle.std.specs.Prelude.{ℕ, ◌≤◌, List, length, codes, if◌then◌e
 use Rattle.std.specs.List.{AllByRecursion, IsDistinct}
 use Rattle.serde_json.specs.Data.{Data}
 use Rattle.ascii_text.specs.Reading.{◌>>=◌}
+use Rattle.packed_names.specs.declared.number.TheConstants.{GREATEST_NUMBER}
 use Rattle.packed_names.specs.Ranges.{IsHalfMonth, limit_of}
 use Rattle.act_bodies.specs.declared.attribute.Attribute.{Attribute}
 use Rattle.act_bodies.specs.declared.code.Code.{Code}
@@ -124,7 +125,7 @@ verdict_of bytes = object_of 3 bytes >>= verdict_in
 -- what the members `first` and `most` of an object say
 unfoldable pub number_in : Data → Option Number
 number_in value = do
-  first ← bounded_in 1 15396335 (codes "first") value
+  first ← bounded_in 1 GREATEST_NUMBER (codes "first") value
   most ← bounded_in 1 1000 (codes "most") value
   Some (record { first = first; most = most })
 

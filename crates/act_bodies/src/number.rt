@@ -2,11 +2,13 @@
 
 ghost use Rattle.std.specs.Prelude.{◌≡◌, ◌≤◌, Some, None, IfOk, IfSome};
 ghost use Rattle.serde_json.specs.View.{view};
+ghost use Rattle.packed_names.specs.declared.number.TheConstants.{GREATEST_NUMBER};
 ghost use Rattle.act_bodies.specs.Members.{bounded_in};
 ghost use Rattle.act_bodies.specs.Bodies.{number_in, number_of_body};
 
 use crate::fault::BodyFault;
 use crate::members::{bounded_in, object_of};
+use packed_names::GREATEST_NUMBER;
 use serde_json::Value;
 use std::alloc::Global;
 
@@ -23,10 +25,10 @@ pub struct Number {
 #[tactic(auto, unfolding(crate::specs::Bodies::number_in))]
 fn number_in(value: &Value) -> Option<Number>
     ensures value { result ≡ number_in (view value.now) }
-    ensures first { IfSome result (λ number. (1 ≤ number.first) × (number.first ≤ 15396335)) }
+    ensures first { IfSome result (λ number. (1 ≤ number.first) × (number.first ≤ GREATEST_NUMBER)) }
     ensures most { IfSome result (λ number. (1 ≤ number.most) × (number.most ≤ 1000)) }
 {
-    let first = bounded_in(1, 15_396_335, "first", value)?;
+    let first = bounded_in(1, u64::from(GREATEST_NUMBER), "first", value)?;
     let most = bounded_in(1, 1000, "most", value)?;
     Some(Number {
         first: first as u32,
@@ -44,7 +46,7 @@ fn number_in(value: &Value) -> Option<Number>
 pub fn read_number(alloc: Global, body: &[u8]) -> Result<Number, BodyFault>
     ensures read { IfOk result (λ number. number_of_body body.now ≡ Some number) }
     ensures unread { result ≡ Err BodyFault.Unread → number_of_body body.now ≡ None }
-    ensures first { IfOk result (λ number. (1 ≤ number.first) × (number.first ≤ 15396335)) }
+    ensures first { IfOk result (λ number. (1 ≤ number.first) × (number.first ≤ GREATEST_NUMBER)) }
     ensures most { IfOk result (λ number. (1 ≤ number.most) × (number.most ≤ 1000)) }
 {
     let value = object_of(alloc, 2, body)?;

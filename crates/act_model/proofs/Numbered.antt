@@ -7,6 +7,7 @@ use Rattle.std.proofs.lemmas.List.{reverse-append}
 use Rattle.std.proofs.lemmas.Bool.Decides.{nat_tests}
 use Rattle.packed_names.specs.declared.name.Designation.{Designation}
 use Rattle.packed_names.specs.declared.number.Number.{Number}
+use Rattle.packed_names.specs.declared.number.TheConstants.{GREATEST_NUMBER}
 use Rattle.packed_names.specs.Ranges.{IsNumber}
 use Rattle.identify_core.specs.Acts.{LinkAct, given_in_order}
 use Rattle.identify_core.specs.Principals.{IsBefore, IsAscending}
@@ -18,7 +19,7 @@ use Rattle.act_model.specs.Rows.{first_row}
 use Rattle.act_model.specs.Holdings.{Holdings}
 use Rattle.act_model.specs.Designations.{is_principal, principals}
 use Rattle.act_model.specs.Numbers.{is_eligible, eligible, numbered_from, last_number}
-use Rattle.act_model.specs.Doing.{next_rows, greatest_number, number_rows}
+use Rattle.act_model.specs.Doing.{next_rows, number_rows}
 use Rattle.act_model.proofs.RowLemmas.{AreOff, rows_off, behind_off, not_off}
 
 -- ---- designations without numbers
@@ -88,7 +89,7 @@ module _ (held : Holdings) (acts : List LinkAct) (verdicts : List VerdictAct) (n
 
 -- ---- numbers one after the other
 
-row_more : (ds : List Designation) (first : ℕ) (past : List Numbering) → IsUnbroken past → IfSome (next_number past) (λ next. first ≡ next) → 1 ≤ first → first + length ds ≤ 15396336
+row_more : (ds : List Designation) (first : ℕ) (past : List Numbering) → IsUnbroken past → IfSome (next_number past) (λ next. first ≡ next) → 1 ≤ first → first + length ds ≤ GREATEST_NUMBER + 1
     → IsAscending ds → AreFree past ds → IsUnbroken (reverse (numbered_from first ds) ++ past)
 row_more [] first past unbroken next from to up free = unbroken
 row_more (d ∷ ds) first past unbroken next from to up free =
@@ -103,7 +104,7 @@ first_is_next : (next : Option ℕ) (first : ℕ) (others : List (Bool × Refusa
 first_is_next None first others off = tt
 first_is_next (Some next) first others off = let is = not_off (first == next) off.0 in grind (arith, nat_tests)
 
-not_full : (first : ℕ) (ds : List Designation) → nat_lt greatest_number (last_number first ds) ≡ false → first + length ds ≤ 15396336
+not_full : (first : ℕ) (ds : List Designation) → nat_lt GREATEST_NUMBER (last_number first ds) ≡ false → first + length ds ≤ GREATEST_NUMBER + 1
 not_full first ds off = grind (arith, nat_tests)
 
 pub numbers_go_on : (held : Holdings) (acts : List LinkAct) (verdicts : List VerdictAct) (numbered : List Numbering) (first most : ℕ) → IsAscending (given_in_order acts) → IsUnbroken numbered → IsNumber first

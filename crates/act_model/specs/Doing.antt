@@ -7,6 +7,7 @@ use Rattle.act_bodies.specs.declared.enrol.Rank.{Rank}
 use Rattle.act_bodies.specs.declared.key.Key.{Key}
 use Rattle.packed_names.specs.declared.half_month.HalfMonth.{HalfMonth}
 use Rattle.packed_names.specs.declared.name.Designation.{Designation}
+use Rattle.packed_names.specs.declared.number.TheConstants.{GREATEST_NUMBER}
 use Rattle.packed_names.specs.Order.{designation_cmp}
 use Rattle.packed_names.specs.Ranges.{limit_of}
 use Rattle.designate_core.specs.Takes.{RowAct, given_in, is_begun, next_in}
@@ -142,16 +143,12 @@ abbrev pub next_rows : Option ℕ → ℕ → List (Bool × Refusal)
 next_rows None first = []
 next_rows (Some next) first = (not (first == next), NotNext next) ∷ []
 
--- the greatest number that a minor planet can have
-abbrev pub greatest_number : ℕ
-greatest_number = 15396335
-
 -- numbers from the first on for at most so many of the objects that can be numbered
 abbrev pub number_rows : List Numbering → (first most : ℕ) → List Designation → List (Bool × Refusal)
 number_rows numbered first most objects =
     next_rows (next_number numbered) first
     ++ ((length objects == 0, NoneEligible) ∷ (
-      nat_lt greatest_number (last_number first (take most objects)),
+      nat_lt GREATEST_NUMBER (last_number first (take most objects)),
       NumbersFull,
     ) ∷ [])
 

@@ -13,13 +13,10 @@ ghost use Rattle.mirror_sqlite.specs.Stored.{name_text, code_text, shown_object,
 use mirror_store::{MirrorErr, ObjectRow, ObjectRows, SightRow, SightRows};
 use obs_record::Short;
 use obs_time::Instant;
-use packed_names::{Label, Name, print, read};
+use packed_names::{GREATEST_NUMBER, Label, Name, print, read};
 use sqlite::Row;
 use sqlite::types::ValueRef;
 use std::alloc::Global;
-
-/// The greatest number that an object may have.
-const LAST_NUMBER: u32 = 15_396_335;
 
 /// The greatest right ascension, in units of 1/9,000,000,000,000 degree.
 const LAST_RA: i64 = 3_239_999_999_999_999;
@@ -152,7 +149,7 @@ pub fn object_of(row: &Row) -> Option<ObjectRow>
     let principal = designation_label(text_at(row, 1)?)?;
     let number = count_at(row, 2)?;
     let observations = count_at(row, 3)?;
-    if number > LAST_NUMBER {
+    if number > GREATEST_NUMBER {
         return None;
     }
     Some(ObjectRow {

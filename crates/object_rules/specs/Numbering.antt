@@ -2,6 +2,7 @@
 use Rattle.std.specs.Prelude.{ℕ, Bool, nat_lt, ◌&&◌, ◌==◌, List, [], ◌∷◌, filter, length, Result, Ok}
 use Rattle.std.specs.List.{list_any}
 use Rattle.packed_names.specs.declared.name.Designation.{Designation}
+use Rattle.packed_names.specs.declared.number.TheConstants.{GREATEST_NUMBER}
 use Rattle.tracklet_file.specs.declared.observation.Observation.{Observation}
 use Rattle.tracklet_file.specs.Observations.{is_live}
 use Rattle.act_model.specs.declared.deed.Deed.{Deed}
@@ -13,7 +14,6 @@ use Rattle.act_model.specs.Holdings.{holdings}
 use Rattle.act_model.specs.Designations.{links_of, is_principal}
 use Rattle.act_model.specs.Verdicts.{verdicts_of}
 use Rattle.act_model.specs.Numbers.{numbers_of, is_eligible, numbered_from, last_number}
-use Rattle.act_model.specs.Doing.{greatest_number}
 
 -- one of the observations with these numbers is live
 abbrev pub is_any_live : List Observation → List ℕ → Bool
@@ -31,7 +31,7 @@ eligible_among past designations =
 -- there are some objects to number, and their numbers are some that a minor planet can have
 abbrev pub chosen_rows : ℕ → List Designation → List (Bool × Refusal)
 chosen_rows first chosen =
-    (length chosen == 0, NoneEligible) ∷ (nat_lt greatest_number (last_number first chosen), NumbersFull) ∷ []
+    (length chosen == 0, NoneEligible) ∷ (nat_lt GREATEST_NUMBER (last_number first chosen), NumbersFull) ∷ []
 
 -- numbers from the first on for these objects
 abbrev pub numbers_for : ℕ → List Designation → Result Deed Refusal

@@ -1,6 +1,7 @@
 //! Numbers for the objects that can be numbered.
 
 ghost use Rattle.std.specs.Prelude.{◌≡◌, ◌≤◌, ◌+◌, ◌++◌, ◌∷◌, [], IfOk, OnOk, IfSome, Err, length, take, true};
+ghost use Rattle.packed_names.specs.declared.number.TheConstants.{GREATEST_NUMBER};
 ghost use Rattle.packed_names.specs.Ranges.{IsNumber};
 ghost use Rattle.numbering_core.specs.Numbers.{next_number};
 ghost use Rattle.act_model.specs.Rows.{first_row, IsDue};
@@ -22,11 +23,8 @@ use numbering_core::Numbering;
 use ordered_list::OrderedList;
 use ordered_list::laws::same_items;
 use packed_names::laws::orders;
-use packed_names::{Designation, Number};
+use packed_names::{Designation, GREATEST_NUMBER, Number};
 use std::alloc::Global;
-
-/// The greatest number that a minor planet can have.
-const GREATEST_NUMBER: u64 = 15_396_335;
 
 /// Whether the object has no number, a live observation, and a good verdict that is in force.
 fn is_eligible<L: Ledger>(office: &L, p: Designation) -> bool
@@ -115,7 +113,7 @@ fn numbered_from(
     first: u32,
     designations: &[Designation],
 ) -> Result<ItemList<Numbering>, NoMemory>
-    requires { first + length designations.now ≤ 15396336 }
+    requires { first + length designations.now ≤ GREATEST_NUMBER + 1 }
     ensures { IfOk result (λ pairs. pairs ≡ numbered_from first designations.now) }
 {
     let mut pairs = ItemList::new(alloc);
@@ -138,7 +136,7 @@ fn numbers_refusal(first: u32, chosen: &[Designation]) -> Option<Refusal>
     if chosen.is_empty() {
         return Some(Refusal::NoneEligible);
     }
-    if last_number(first, chosen) > GREATEST_NUMBER {
+    if last_number(first, chosen) > u64::from(GREATEST_NUMBER) {
         return Some(Refusal::NumbersFull);
     }
     None

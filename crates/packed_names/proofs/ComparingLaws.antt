@@ -22,7 +22,7 @@ numbers_same x y same = by_ranked _ _ _ (nat_cmp x y) (ranked x y _ refl) (λ e 
 number_itself : (x : ℕ) → nat_cmp x x ≡ Equal
 number_itself x = tied_itself nat_cmp_total x
 
-then_parts : (o p : Ordering) → is_eq (ordering_then o p) ≡ true → (is_eq o ≡ true) × (is_eq p ≡ true)
+pub then_parts : (o p : Ordering) → is_eq (ordering_then o p) ≡ true → (is_eq o ≡ true) × (is_eq p ≡ true)
 then_parts Less p h = cc
 then_parts Equal p h = (refl, h)
 then_parts Greater p h = cc
@@ -64,7 +64,7 @@ designation_same (designations.Survey survey number) (designations.Survey other_
     ap (λ (s : Survey). let d : Designation = designations.Survey s number in d) surveys ∙ ap (λ (n : ℕ). let d : Designation = designations.Survey other_survey n in d) numbers
 
 -- an order that compares as another one does is total where that one is
-total_too : {K : Type 0} (R S : K → K → Ordering) → ((x y : K) → R x y ≡ S x y) → IsTotalOrder R → IsTotalOrder S
+pub total_too : {K : Type 0} (R S : K → K → Ordering) → ((x y : K) → R x y ≡ S x y) → IsTotalOrder R → IsTotalOrder S
 total_too R S same total = record {
   antisymm = λ x y. sym (same x y) ∙ total.antisymm x y ∙ ap ordering_reverse (same y x);
   trans = λ x y z one two. sym (same x z) ∙ total.trans x y z (same x y ∙ one) (same y z ∙ two);

@@ -8,6 +8,7 @@ use Rattle.ascii_text.specs.Judged.{Answers, IsReader}
 use Rattle.ascii_text.specs.Answering.{it_answers, one_answer, one_spelling}
 use Rattle.packed_names.specs.Spellings.{Spells, SpellsOne}
 use Rattle.packed_names.specs.declared.half_month.HalfMonth.{HalfMonth}
+use Rattle.packed_names.specs.declared.number.TheConstants.{GREATEST_NUMBER}
 use Rattle.packed_names.specs.declared.name.Designation.TheVariants as designations
 use Rattle.packed_names.specs.declared.name.Name.{Name}
 use Rattle.packed_names.specs.declared.name.Name.TheVariants as names
@@ -28,7 +29,7 @@ within_test : (from to number : ℕ) → Decides (is_within from to number) ((fr
 within_test from to number = (λ e. (grind (arith, nat_tests), grind (arith, nat_tests)), λ h. grind (arith, nat_tests, h.0, h.1))
 
 pub name_test : (name : Name) → Decides (is_in_range name) (IsName name)
-name_test (names.Number number) = within_test 1 15396335 number.0
+name_test (names.Number number) = within_test 1 GREATEST_NUMBER number.0
 name_test (names.Designation (designations.Provisional provisional)) =
     let half = provisional.half in
     let order = provisional.order in

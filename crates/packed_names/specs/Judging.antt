@@ -2,6 +2,7 @@
 use Rattle.std.specs.Prelude.{ℕ, Bool, nat_le, nat_lt, ◌&&◌, if◌then◌else◌, Option, Result, Ok, Err}
 use Rattle.ascii_text.specs.Judged.{answer_of}
 use Rattle.packed_names.specs.declared.half_month.HalfMonth.{HalfMonth}
+use Rattle.packed_names.specs.declared.number.TheConstants.{GREATEST_NUMBER}
 use Rattle.packed_names.specs.declared.provisional.Provisional.{Provisional}
 use Rattle.packed_names.specs.declared.name.Designation.TheVariants as designations
 use Rattle.packed_names.specs.declared.name.Name.{Name}
@@ -25,7 +26,7 @@ is_provisional provisional =
 
 -- whether the fields of a name are in their ranges
 abbrev pub is_in_range : Name → Bool
-is_in_range (names.Number number) = is_within 1 15396335 number.0
+is_in_range (names.Number number) = is_within 1 GREATEST_NUMBER number.0
 is_in_range (names.Designation (designations.Provisional provisional)) = is_provisional provisional
 is_in_range (names.Designation (designations.Survey survey number)) = is_within 1 9999 number
 

@@ -4,6 +4,7 @@ use Rattle.std.specs.Prelude.{◌⊎◌, ℕ, ◌+◌, ◌-◌, ◌/◌, ◌%◌
 use Rattle.std.specs.Prelude.{codes}
 use Rattle.ascii_text.specs.declared.digits.Radix.TheVariants.{Ten, SixtyTwo}
 use Rattle.ascii_text.specs.Digits.{digit_byte, digits_text}
+use Rattle.packed_names.specs.declared.number.TheConstants.{GREATEST_NUMBER, FIRST_LARGE}
 use Rattle.packed_names.specs.declared.provisional.Provisional.{Provisional}
 use Rattle.packed_names.specs.declared.survey.Survey.{Survey}
 use Rattle.packed_names.specs.declared.survey.Survey.TheVariants.{PalomarLeiden, T1, T2, T3}
@@ -20,8 +21,8 @@ use Rattle.packed_names.specs.Spellings.{Spells, SpellsOne}
 unfoldable pub number_text : ℕ → List ℕ
 number_text number =
     if nat_lt number 100000 then digits_text Ten 5 number
-    else (if nat_lt number 620000 then digit_byte SixtyTwo (number / 10000) ∷ digits_text Ten 4 (number % 10000)
-    else 126 ∷ digits_text SixtyTwo 4 (number - 620000))
+    else (if nat_lt number FIRST_LARGE then digit_byte SixtyTwo (number / 10000) ∷ digits_text Ten 4 (number % 10000)
+    else 126 ∷ digits_text SixtyTwo 4 (number - FIRST_LARGE))
 
 -- Century letter (I for 18, J for 19, K for 20), two digits of the year, half-month letter, the cycle with its tens as
 -- one digit of base 62 and its units as one of base 10, order letter.
@@ -90,7 +91,7 @@ pub record HasExtendedShape (provisional : Provisional) : Type 0 where
 -- Values that a packed text can show. Of them 0 as a number, 0 as a survey's number, and the years before 1925 are out
 -- of the ranges of names.
 abbrev pub FitsPacked : Name → Type 0
-FitsPacked (names.Number number) = number.0 ≤ 15396335
+FitsPacked (names.Number number) = number.0 ≤ GREATEST_NUMBER
 FitsPacked (names.Designation (designations.Provisional provisional)) =
     HasCenturyShape provisional ⊎ HasExtendedShape provisional
 FitsPacked (names.Designation (designations.Survey survey number)) = number ≤ 9999

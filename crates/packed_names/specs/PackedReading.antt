@@ -4,6 +4,7 @@ use Rattle.std.specs.Prelude.{None, option_map}
 use Rattle.ascii_text.specs.declared.digits.Radix.TheVariants.{Ten, SixtyTwo}
 use Rattle.ascii_text.specs.Reading.{◌>>=◌, digits_at, behind}
 use Rattle.packed_names.specs.declared.half_month.HalfMonth.{HalfMonth}
+use Rattle.packed_names.specs.declared.number.TheConstants.{FIRST_LARGE}
 use Rattle.packed_names.specs.declared.provisional.Provisional.{Provisional}
 use Rattle.packed_names.specs.declared.survey.Survey.{Survey}
 use Rattle.packed_names.specs.declared.survey.Survey.TheVariants.{PalomarLeiden, T1, T2, T3}
@@ -27,7 +28,7 @@ unfoldable pub large_number_in : List ℕ → Option ℕ
 large_number_in text = do
   digits ← behind 126 text
   number ← digits_at SixtyTwo 4 digits
-  whole (620000 + number.0) number.1
+  whole (FIRST_LARGE + number.0) number.1
 
 unfoldable pub number_in : List ℕ → Option ℕ
 number_in text = first_of (small_number_in text) (large_number_in text)

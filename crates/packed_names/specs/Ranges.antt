@@ -1,6 +1,7 @@
 -- Which values are names.
 use Rattle.std.specs.Prelude.{ℕ, ◌≤◌, ◌<◌, nat_le, ◌&&◌, if◌then◌else◌}
 use Rattle.packed_names.specs.declared.half_month.HalfMonth.{HalfMonth}
+use Rattle.packed_names.specs.declared.number.TheConstants.{GREATEST_NUMBER}
 use Rattle.packed_names.specs.declared.provisional.Provisional.{Provisional}
 use Rattle.packed_names.specs.declared.name.Designation.{Designation}
 use Rattle.packed_names.specs.declared.name.Designation.TheVariants as designations
@@ -26,7 +27,7 @@ pub record IsProvisional (provisional : Provisional) : Type 0 where
 
 -- a number that a minor planet can have
 abbrev pub IsNumber : ℕ → Type 0
-IsNumber number = (1 ≤ number) × (number ≤ 15396335)
+IsNumber number = (1 ≤ number) × (number ≤ GREATEST_NUMBER)
 
 -- a number that a survey gave
 abbrev pub IsSurveyNumber : ℕ → Type 0

@@ -33,7 +33,7 @@ mod survey;
 pub use half_month::HalfMonth;
 pub use label::Label;
 pub use name::{Designation, Name, NameFault, is_half_month, is_name};
-pub use number::Number;
+pub use number::{GREATEST_NUMBER, Number};
 pub use packed::{pack, unpack};
 pub use printed::{print, print_half, read, read_half};
 pub use provisional::{Provisional, limit};

@@ -5,7 +5,7 @@ ghost use Rattle.packed_names.specs.Ranges.{IsName, IsHalfMonth};
 ghost use Rattle.packed_names.specs.Judging.{is_half_month, is_provisional, is_in_range, judge};
 
 use crate::half_month::HalfMonth;
-use crate::number::Number;
+use crate::number::{GREATEST_NUMBER, Number};
 use crate::provisional::{Provisional, limit};
 use crate::survey::Survey;
 use std::error::Error;
@@ -76,7 +76,7 @@ pub fn is_name(name: Name) -> bool
     ensures name { IsTrue result ↔ IsName name }
 {
     match name {
-        Name::Number(number) => number.0 >= 1 && number.0 <= 15_396_335,
+        Name::Number(number) => number.0 >= 1 && number.0 <= GREATEST_NUMBER,
         Name::Designation(Designation::Provisional(provisional)) => is_provisional(provisional),
         Name::Designation(Designation::Survey(_, number)) => number >= 1 && number <= 9999,
     }

@@ -13,7 +13,7 @@ ghost use Rattle.packed_names.specs.declared.name.Name.TheVariants as names;
 use crate::half_month::HalfMonth;
 use crate::label::Label;
 use crate::name::{Designation, Name, NameFault, is_half_month, judged};
-use crate::number::Number;
+use crate::number::{GREATEST_NUMBER, Number};
 use crate::survey::Survey;
 use reading::{half_in, number_in, provisional_in, survey_in};
 use writing::{half_text, number_text, provisional_text, survey_text};
@@ -26,7 +26,7 @@ fn number_judged(number: u64) -> Result<Name, NameFault>
     ensures exact { result ≡ judge is_in_range (names.Number (record { 0 = number })) }
     ensures in_range { IfOk result IsName }
 {
-    if number >= 1 && number <= 15_396_335 {
+    if number >= 1 && number <= u64::from(GREATEST_NUMBER) {
         Ok(Name::Number(Number(number as u32)))
     } else {
         Err(NameFault::OutOfRange)

@@ -9,7 +9,7 @@ ghost use Rattle.packed_names.specs.PackedReading.{designation_in, packed_in};
 use crate::half_month::HalfMonth;
 use crate::letters::letter_at;
 use crate::name::{Designation, Name};
-use crate::number::Number;
+use crate::number::{FIRST_LARGE, Number};
 use crate::provisional::Provisional;
 use crate::survey::Survey;
 use ascii_text::digits::Radix;
@@ -37,7 +37,7 @@ fn large_number_in(text: &[u8]) -> Option<u32>
     let digits = behind(b'~', text)?;
     let (number, rest) = digits_at(Radix::SixtyTwo, 4, digits)?;
     if rest.is_empty() {
-        Some(620_000 + number as u32)
+        Some(FIRST_LARGE + number as u32)
     } else {
         None
     }

@@ -1,11 +1,13 @@
 //! Writing packed names.
 
 ghost use Rattle.std.specs.Prelude.{◌≡◌, ◌≤◌};
+ghost use Rattle.packed_names.specs.declared.number.TheConstants.{GREATEST_NUMBER};
 ghost use Rattle.packed_names.specs.Ranges.{IsProvisional};
 ghost use Rattle.packed_names.specs.Packed.{number_text, century_text, extended_text, provisional_text, prefix};
 ghost use Rattle.packed_names.specs.Packed.{survey_text, HasCenturyShape, HasExtendedShape};
 
 use crate::letters::letter_of;
+use crate::number::FIRST_LARGE;
 use crate::provisional::Provisional;
 use crate::survey::Survey;
 use arrayvec::ArrayVec;
@@ -15,18 +17,23 @@ use ascii_text::writing::put_digits;
 /// The packed form of a number.
 #[tactic(auto, unfolding(crate::specs::Packed::number_text))]
 pub(crate) fn number_text(number: u32) -> ArrayVec<u8, 13>
-    requires { number ≤ 15396335 }
+    requires { number ≤ GREATEST_NUMBER }
     ensures { result.items ≡ number_text number }
 {
     let mut text = ArrayVec::new();
     if number < 100_000 {
         put_digits(&mut text, Radix::Ten, 5, u64::from(number));
-    } else if number < 620_000 {
+    } else if number < FIRST_LARGE {
         text.push(byte_of(Radix::SixtyTwo, (number / 10_000) as u8));
         put_digits(&mut text, Radix::Ten, 4, u64::from(number % 10_000));
     } else {
         text.push(b'~');
-        put_digits(&mut text, Radix::SixtyTwo, 4, u64::from(number - 620_000));
+        put_digits(
+            &mut text,
+            Radix::SixtyTwo,
+            4,
+            u64::from(number - FIRST_LARGE),
+        );
     }
     text
 }

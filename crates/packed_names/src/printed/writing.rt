@@ -2,6 +2,7 @@
 
 ghost use Rattle.std.specs.Prelude.{◌≡◌, ◌+◌, ◌^◌, ◌<◌, ◌≤◌, ◌++◌, decimal};
 ghost use Rattle.arrayvec.specs.ArrayVec.{array_vec_len};
+ghost use Rattle.packed_names.specs.declared.number.TheConstants.{GREATEST_NUMBER};
 ghost use Rattle.packed_names.specs.Ranges.{IsProvisional};
 ghost use Rattle.packed_names.specs.Printed.{FitsPrintedHalf, half_text, cycle_text, provisional_text, suffix};
 ghost use Rattle.packed_names.specs.Printed.{survey_text};
@@ -17,7 +18,7 @@ use ascii_text::writing::{put_decimal, put_digits};
 /// The printed form of a number.
 #[tactic(auto, using(crate::proofs::DecimalLengths::length_decimal_eight))]
 pub(crate) fn number_text(number: u32) -> ArrayVec<u8, 13>
-    requires { number ≤ 15396335 }
+    requires { number ≤ GREATEST_NUMBER }
     ensures { result.items ≡ decimal number }
 {
     let mut text = ArrayVec::new();
