@@ -14,7 +14,7 @@ mod fault;
 mod identify;
 mod key;
 pub mod laws;
-mod members;
+pub mod members;
 mod number;
 mod opening;
 mod release;

@@ -38,7 +38,7 @@ fn has_members(count: usize, value: &Value) -> bool
 
 /// The object of so many members that a body is.
 #[tactic(auto, unfolding(crate::specs::Members::object_of))]
-pub(crate) fn object_of(alloc: Global, count: usize, body: &[u8]) -> Result<Value, BodyFault>
+pub fn object_of(alloc: Global, count: usize, body: &[u8]) -> Result<Value, BodyFault>
     ensures read { IfOk result (λ value. object_of count body.now ≡ Some (view value)) }
     ensures unread { result ≡ Err BodyFault.Unread → object_of count body.now ≡ None }
 {
@@ -51,7 +51,7 @@ pub(crate) fn object_of(alloc: Global, count: usize, body: &[u8]) -> Result<Valu
 }
 
 /// The text of a member that is a string.
-pub(crate) fn text_in<'v>(name: &str, value: &'v Value) -> Option<&'v [u8]>
+pub fn text_in<'v>(name: &str, value: &'v Value) -> Option<&'v [u8]>
     ensures { option_map (λ text. text.now) result ≡ text_in name.now (view value.now) }
 {
     match value.get(name).and_then(Value::as_str) {
@@ -95,7 +95,7 @@ fn designation_of(text: &[u8]) -> Option<Designation>
 
 /// The designation of a member that is a string, the printed form of one.
 #[tactic(auto, unfolding(crate::specs::Members::designation_in))]
-pub(crate) fn designation_in(name: &str, value: &Value) -> Option<Designation>
+pub fn designation_in(name: &str, value: &Value) -> Option<Designation>
     ensures value { result ≡ designation_in name.now (view value.now) }
     ensures named { IfSome result (λ designation. IsName (names.Designation designation)) }
 {

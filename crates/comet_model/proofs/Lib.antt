@@ -1,4 +1,3 @@
-pub mod Readings
 pub mod Steps
 pub mod Sightings
 pub mod Designating

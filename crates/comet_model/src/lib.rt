@@ -10,7 +10,6 @@
 //! `ItemList`, whose value is the list.
 #![tactic(auto)]
 
-mod body;
 mod finding;
 mod heard;
 pub mod laws;

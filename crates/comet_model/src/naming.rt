@@ -6,8 +6,8 @@ ghost use Rattle.packed_names.specs.declared.name.Name.TheVariants as names;
 ghost use Rattle.packed_names.specs.Ranges.{IsName};
 ghost use Rattle.comet_model.specs.Namings.{kind_by, kind_in, naming_in, naming_of};
 
-use crate::body::{designation_in, object_of, text_in};
 use act_bodies::BodyFault;
+use act_bodies::members::{designation_in, object_of, text_in};
 use comet_names::CometKind;
 use packed_names::Designation;
 use serde_json::Value;
