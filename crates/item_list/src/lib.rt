@@ -5,10 +5,11 @@
 ghost use Rattle.std.specs.Prelude.{◌≡◌, ◌+◌, ◌<◌, ◌≤◌, ◌↔◌, List, [], ◌∷◌, ◌++◌, length, take, IsTrue, IsNone, IfOk};
 ghost use Rattle.std.specs.Prelude.{OnOk, OnErr, slice_get, option_copied};
 ghost use Rattle.std.specs.Slice.Iter.{iter_rest};
+ghost use Rattle.std.specs.Vec.Iter.{into_iter_items};
 
 use std::alloc::{AllocError, Global};
 use std::marker::Model;
-use std::slice;
+use std::{slice, vec};
 
 /// Out of memory, the answer that a call which takes memory may always give.
 pub type NoMemory = AllocError;
@@ -89,6 +90,13 @@ impl<T> ItemList<T> {
 }
 
 impl<T: Drop> ItemList<T> {
+    /// The items one after the other, each handed over: what one holds can be let go before the next is taken.
+    pub fn into_iter(self) -> vec::IntoIter<T>
+        ensures { into_iter_items result ≡ self }
+    {
+        self.items.into_iter()
+    }
+
     /// Keeps so many items from the front, all of them where there are no more.
     pub fn truncate(&mut self, count: u64)
         ensures { self.new ≡ take count self.old }
@@ -163,6 +171,10 @@ mod tests {
         assert_eq!(rt; copy.iter().copied().max(), Some(9));
         let none: ItemList<u16> = ItemList::new(rt.alloc());
         assert_eq!(rt; none.as_slice().len(), 0);
+        let mut handed_over = list.into_iter();
+        for wanted in [Some(7), Some(8), Some(9), Some(1), Some(2), None] {
+            assert_eq!(rt; handed_over.next(), wanted);
+        }
         Ok(())
     }
 }
