@@ -21,7 +21,7 @@ use Rattle.act_model.specs.Deeds.{deeds}
 use Rattle.act_model.specs.History.{Kept, kept, next_moment, IsUnused, EachNumberOnce}
 use Rattle.act_model.specs.Hearing.{bytes_in, hear}
 use Rattle.act_model.specs.Refusals.{full_rows, work_out, work_within}
-use Rattle.act_model.specs.Step.{Outcome, Refuses, Keeps, Tells, Adds, step, outcome, after, unless_unheard, heard_step, query_step, query_in, told, tells, unless_kept, unless_refused, new_entry}
+use Rattle.act_model.specs.Step.{Outcome, Refuses, Adds, step, outcome, after, unless_unheard, heard_step, query_step, query_in, told, tells, unless_kept, unless_refused, new_entry}
 use Rattle.act_model.specs.Turns.{Turn, TakesReading, Answers, at_rest, unless_untouched, Mends, Settles, FailsToKeep, Takes, IsTurn, Conduct}
 use Rattle.act_model.specs.Conducts.{Extends, HadMemory, HadNoFault, IsStepped, IsAnswered, EitherWay, Makes}
 
@@ -144,16 +144,12 @@ abbrev pub Leaves : List Entry → List Entry → Type 0
 Leaves past next = (next ≡ past) ⊎ ((entry : Entry) × (next ≡ entry ∷ past) × IsUnused past entry)
 
 makes : (past : List Entry) (o : Outcome) (reply : Reply) (next : List Entry) → after past o ≡ (reply, next) → Makes past o reply next
-makes past (Refuses r) reply next is = inl (sym (ap (λ (p : Reply × List Entry). p.1) is))
-makes past (Keeps kept) reply next is = inl (sym (ap (λ (p : Reply × List Entry). p.1) is))
-makes past (Tells text) reply next is = inl (sym (ap (λ (p : Reply × List Entry). p.1) is))
 makes past (Adds e) reply next is = inr (e, refl, sym (ap (λ (p : Reply × List Entry). p.0) is), sym (ap (λ (p : Reply × List Entry). p.1) is))
+makes past _ reply next is = inl (sym (ap (λ (p : Reply × List Entry). p.1) is))
 
 refused_leaves : (past : List Entry) (o : Outcome) (r : Refusal) (next : List Entry) → after past o ≡ (Refused r, next) → next ≡ past
-refused_leaves past (Refuses x) r next is = sym (ap (λ (p : Reply × List Entry). p.1) is)
-refused_leaves past (Keeps kept) r next is = sym (ap (λ (p : Reply × List Entry). p.1) is)
-refused_leaves past (Tells text) r next is = sym (ap (λ (p : Reply × List Entry). p.1) is)
 refused_leaves past (Adds e) r next is = let reply = ap (λ (p : Reply × List Entry). p.0) is in absurd cc
+refused_leaves past _ r next is = sym (ap (λ (p : Reply × List Entry). p.1) is)
 
 module _ (founder : Key) (limit : Option ℕ) where
   -- what a step makes

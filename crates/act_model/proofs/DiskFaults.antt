@@ -226,13 +226,9 @@ thing_other what text None = tt
 told_other : (past : List Entry) (caller : ℕ) (q : Query) → ErrsOther (told past caller q)
 unfolding told
 told_other past caller (query.Receipt number) = receipt_other number (kept past caller number)
-told_other past caller query.Tally = tt
 told_other past caller (query.Object d) = thing_other (thing.Designation d) _ _
 told_other past caller (query.Tracklet t) = thing_other (thing.Tracklet t) _ _
-told_other past caller query.Isolated = tt
-told_other past caller (query.HalfMonth half) = tt
-told_other past caller (query.Name name) = tt
-told_other past caller query.Catalogue = tt
+told_other past caller _ = tt
 
 query_other : (a : Asked) → ErrsOther (query_in a)
 query_other (asked.Query q) = tt

@@ -14,8 +14,7 @@ use Rattle.obs_record.specs.declared.short.Short.{Short}
 use Rattle.obs_record.specs.declared.sighting.Sighting.{Sighting}
 use Rattle.obs_record.specs.Filed.{IsOwnName, IsTrackName, IsStated, AreStated, IsFiled}
 use Rattle.station_tables.specs.Rows.{StationRow, TableRows}
-use Rattle.station_tables.specs.Stations.{is_code, rows_with_code, serving_by, serving_of, overlaps}
-use Rattle.station_tables.specs.Codes.{has_code}
+use Rattle.station_tables.specs.Stations.{is_code, rows_with_code, serving_by, serving_of}
 use Rattle.act_bodies.specs.Members.{is_station_code}
 use Rattle.tracklet_file.specs.declared.observation.Observation.{Observation}
 use Rattle.tracklet_file.specs.declared.tracklet.Tracklet.{Tracklet}
@@ -25,27 +24,24 @@ use Rattle.tracklet_file.specs.Tracklets.{with_tracklet, with_home}
 use Rattle.act_model.specs.declared.act.Act.{Act}
 use Rattle.act_model.specs.declared.act.Act.TheVariants as act
 use Rattle.act_model.specs.declared.deed.Deed.{Deed}
-use Rattle.act_model.specs.declared.deed.Deed.TheVariants.{Enrolled, Stationed, Coded, Submitted, Attributed, Released, Identified, Separated, Judged, Numbered, Retracted, Opened}
+use Rattle.act_model.specs.declared.deed.Deed.TheVariants.{Submitted}
 use Rattle.act_model.specs.declared.entry.Entry.{Entry}
-use Rattle.act_model.specs.declared.reply.Refusal.{Refusal}
 use Rattle.act_model.specs.declared.taken.Placed.{Placed}
 use Rattle.act_model.specs.declared.taken.Taken.{Taken}
-use Rattle.act_model.specs.Rows.{first_row, unless}
+use Rattle.act_model.specs.Rows.{first_row}
 use Rattle.act_model.specs.Known.{KnownOffice}
 use Rattle.act_model.specs.Knowing.{known_of}
 use Rattle.act_model.specs.Ruling.{is_unknown_station}
 use Rattle.act_model.specs.BatchRules.{name_among, name_of, line_rules, unless_broken, checked_reading, with_passed, checked_lines, passed_in, group_fault, reading_fault, ruling_among, batch_rulings}
 use Rattle.act_model.specs.Taken.{track_of_group, found_in, tracks_with, taken_lines}
-use Rattle.act_model.specs.Roster.{members}
 use Rattle.act_model.specs.OfficeTables.{tables_of}
 use Rattle.act_model.specs.Holdings.{Holdings, with_begun, with_found, with_batch, with_homes, with_deed, holdings}
-use Rattle.act_model.specs.Designations.{row_acts_of, links_of}
-use Rattle.act_model.specs.Numbers.{numbers_of, numbered_from}
-use Rattle.act_model.specs.Doing.{enrol_rows, row_rows, batch_rows, attribute_rows, release_rows, identify_rows, separate_rows, verdict_rows, number_rows, retract_rows, opening_rows, eligible_after, taken_after, does}
+use Rattle.act_model.specs.Designations.{row_acts_of}
+use Rattle.act_model.specs.Doing.{taken_after, does}
 use Rattle.act_model.specs.Deeds.{deeds}
 use Rattle.act_model.proofs.DeedCases.{deed_cases}
 use Rattle.act_model.proofs.Designating.{designated}
-use Rattle.act_model.proofs.Legal.{same_deed}
+use Rattle.act_model.proofs.Legal.{by_deed}
 use Rattle.act_model.proofs.Letters.{AreCodes, all_sound}
 use Rattle.act_model.proofs.Read.{IsSound, IsSoundlyRead, EightyStated, PsvStated, LettersPrinted, StationsCoded, sound_read}
 use Rattle.act_model.proofs.RowLemmas.{rows_off}
@@ -212,36 +208,20 @@ module _ (past : List Deed) (moment : ℤ) (all : AreHeld (holdings past)) (code
   abbrev keeps_held : Deed → Type 0
   keeps_held deed = AreHeld (with_deed (next_number past) deed (holdings past))
 
-  held_unless : (o : Option Refusal) (done deed : Deed) → keeps_held done → unless o (Ok done) ≡ Ok deed → keeps_held deed
-  held_unless o done deed keeps is = subst keeps_held (same_deed o done deed is).1 keeps
-
   submit_held : (lines : List Line) → AreStated lines → keeps_held (Submitted (taken_after past moment lines))
   submit_held lines stated = batch_held (next_number past) (taken_after past moment lines) (holdings past) (taken_filed past moment lines codes stated) all
 
   act_held : (a : Act) (deed : Deed) → IsSound a → does past moment a ≡ Ok deed → keeps_held deed
   unfolding does
-  act_held (act.Enrol k name role) deed sound is = held_unless (first_row (enrol_rows (members past) k)) (Enrolled (record { key = k; rank = role })) deed all is
-  act_held (act.Station code name from to) deed sound is = held_unless (first_row (row_rows (overlaps (tables_of past).stations code from to))) (Stationed code from to) deed all is
-  act_held (act.Code kind letter word) deed sound is = held_unless (first_row (row_rows (has_code (tables_of past).codes kind letter word))) (Coded kind letter word) deed all is
-  act_held (act.Submit80 lines) deed sound is = held_unless (first_row (batch_rows (taken_after past moment lines))) (Submitted (taken_after past moment lines)) deed (submit_held lines sound) is
-  act_held (act.SubmitPsv lines) deed sound is = held_unless (first_row (batch_rows (taken_after past moment lines))) (Submitted (taken_after past moment lines)) deed (submit_held lines sound) is
+  act_held (act.Submit80 lines) deed sound is = by_deed keeps_held _ _ deed (submit_held lines sound) is
+  act_held (act.SubmitPsv lines) deed sound is = by_deed keeps_held _ _ deed (submit_held lines sound) is
   act_held (act.Designate tracklets) deed sound is =
       let d = designated (holdings past) (row_acts_of past) tracklets deed is in
       subst keeps_held d.deed_is (record { filed = all.filed; named = all_homed (holdings past).tracklets tracklets _ all.named })
-  act_held (act.Attribute t to) deed sound is =
-      held_unless (first_row (attribute_rows (holdings past) (links_of past) t to)) (Attributed t to) deed
-      (record { filed = all.filed; named = named_homed (holdings past).tracklets t (Some to) all.named }) is
-  act_held (act.Release t) deed sound is =
-      held_unless (first_row (release_rows (holdings past) t)) (Released t) deed
-      (record { filed = all.filed; named = named_homed (holdings past).tracklets t None all.named }) is
-  act_held (act.Identify p s) deed sound is = held_unless (first_row (identify_rows (links_of past) (numbers_of past) p s)) (Identified p s) deed all is
-  act_held (act.Separate s) deed sound is = held_unless (first_row (separate_rows (links_of past) s)) (Separated s) deed all is
-  act_held (act.Verdict d u oppositions) deed sound is = held_unless (first_row (verdict_rows (links_of past) d)) (Judged d u oppositions) deed all is
-  act_held (act.Number first most) deed sound is = held_unless (first_row (number_rows (numbers_of past) first most (eligible_after past))) (Numbered (numbered_from first (take most (eligible_after past)))) deed all is
-  act_held (act.Opening half given carried) deed sound is = held_unless (first_row (opening_rows (row_acts_of past) half)) (Opened half given carried) deed all is
-  act_held (act.Retract k) deed sound is =
-      held_unless (first_row (retract_rows (holdings past).observations k)) (Retracted k) deed
-      (record { filed = filed_retracted (holdings past).observations k all.filed; named = all.named }) is
+  act_held (act.Attribute t to) deed sound is = by_deed keeps_held _ _ deed (record { filed = all.filed; named = named_homed (holdings past).tracklets t (Some to) all.named }) is
+  act_held (act.Release t) deed sound is = by_deed keeps_held _ _ deed (record { filed = all.filed; named = named_homed (holdings past).tracklets t None all.named }) is
+  act_held (act.Retract k) deed sound is = by_deed keeps_held _ _ deed (record { filed = filed_retracted (holdings past).observations k all.filed; named = all.named }) is
+  act_held _ deed sound is = by_deed keeps_held _ _ deed all is
 
 -- ---- histories
 

@@ -1,13 +1,11 @@
 -- An act that is done fits what was done before.
-use Rattle.std.proofs.Common.{◌≡◌, ◌≢◌, ℕ, ℤ, ◌<◌, List, [], ◌∷◌, map, take, true, false, Option, Some, None, IsSome, Ok, refl, ap, subst, ◌∙◌, arith}
+use Rattle.std.proofs.Common.{◌≡◌, ◌≢◌, ℕ, ℤ, ◌<◌, List, [], ◌∷◌, map, true, false, Option, Some, None, IsSome, Ok, refl, ap, subst, ◌∙◌, arith}
 use Rattle.std.specs.Prelude.{is_none}
 use Rattle.std.specs.Ordering.{eq_by_cmp}
 use Rattle.packed_names.specs.declared.half_month.HalfMonth.{HalfMonth}
 use Rattle.packed_names.specs.declared.name.Designation.{Designation}
 use Rattle.packed_names.specs.Order.{designation_cmp}
 use Rattle.packed_names.specs.Ranges.{IsHalfMonth, limit_of}
-use Rattle.station_tables.specs.Stations.{overlaps}
-use Rattle.station_tables.specs.Codes.{has_code}
 use Rattle.designate_core.specs.Takes.{given_in, next_in}
 use Rattle.designate_core.specs.Unbroken.{NoneBeforeBegun, CountsGrow}
 use Rattle.identify_core.specs.Acts.{LinkAct, is_principal_of, principal, given_in_order}
@@ -19,20 +17,18 @@ use Rattle.tracklet_file.specs.Numbering.{numbered}
 use Rattle.act_model.specs.declared.act.Act.{Act}
 use Rattle.act_model.specs.declared.act.Act.TheVariants as act
 use Rattle.act_model.specs.declared.deed.Deed.{Deed}
-use Rattle.act_model.specs.declared.deed.Deed.TheVariants.{Enrolled, Stationed, Coded, Submitted, Designated, Attributed, Released, Identified, Separated, Judged, Numbered, Retracted, Opened, Nothing}
+use Rattle.act_model.specs.declared.deed.Deed.TheVariants.{Numbered}
 use Rattle.act_model.specs.declared.entry.Entry.{Entry}
 use Rattle.act_model.specs.declared.reply.Refusal.{Refusal}
 use Rattle.act_model.specs.Acts.{act_of, IsRead}
-use Rattle.act_model.specs.Rows.{first_row, unless}
-use Rattle.act_model.specs.Roster.{members}
-use Rattle.act_model.specs.OfficeTables.{tables_of}
+use Rattle.act_model.specs.Rows.{unless}
 use Rattle.act_model.specs.BatchRules.{is_in_years}
 use Rattle.act_model.specs.Holdings.{holdings}
 use Rattle.act_model.specs.Designations.{row_acts_of, links_of, is_given, is_principal}
 use Rattle.act_model.specs.Discoveries.{earliest, span, half_of}
 use Rattle.act_model.specs.Verdicts.{verdicts_of}
-use Rattle.act_model.specs.Numbers.{with_numbers, numbers_of, numbered_from}
-use Rattle.act_model.specs.Doing.{enrol_rows, row_rows, batch_rows, tracklet_row, designate_rows, attribute_rows, release_rows, identify_rows, separate_rows, verdict_rows, number_rows, retract_rows, opening_rows, eligible_after, taken_after, does}
+use Rattle.act_model.specs.Numbers.{with_numbers, numbers_of}
+use Rattle.act_model.specs.Doing.{tracklet_row, designate_rows, attribute_rows, release_rows, identify_rows, separate_rows, verdict_rows, opening_rows, does}
 use Rattle.act_model.specs.Fitting.{IsNew, AreTracklets, FitsObjects}
 use Rattle.act_model.specs.Deeds.{deeds}
 use Rattle.act_model.proofs.DeedCases.{deed_cases}
@@ -99,59 +95,35 @@ module _ (same : AreSame) (itself : IsItself) (none_before : NoneBeforeBegun) (g
 
     act_fits : (a : Act) (deed : Deed) → IsInRange a → does past moment a ≡ Ok deed → FitsObjects past deed
     unfolding does
-    act_fits (act.Enrol k name role) deed range is = fits_unless (first_row (enrol_rows (members past) k)) (Enrolled (record { key = k; rank = role })) deed (λ _. tt) is
-    act_fits (act.Station code name from to) deed range is = fits_unless (first_row (row_rows (overlaps (tables_of past).stations code from to))) (Stationed code from to) deed (λ _. tt) is
-    act_fits (act.Code kind letter word) deed range is = fits_unless (first_row (row_rows (has_code (tables_of past).codes kind letter word))) (Coded kind letter word) deed (λ _. tt) is
-    act_fits (act.Submit80 lines) deed range is = fits_unless (first_row (batch_rows (taken_after past moment lines))) (Submitted (taken_after past moment lines)) deed (λ _. tt) is
-    act_fits (act.SubmitPsv lines) deed range is = fits_unless (first_row (batch_rows (taken_after past moment lines))) (Submitted (taken_after past moment lines)) deed (λ _. tt) is
     act_fits (act.Designate tracklets) deed range is = designate_fits tracklets deed is
     act_fits (act.Attribute t to) deed range is =
-        fits_unless (first_row (attribute_rows (holdings past) (links_of past) t to)) (Attributed t to) deed
-        (λ none. let off = rows_off (attribute_rows (holdings past) (links_of past) t to) none in
+        fits_unless _ _ deed (λ none. let off = rows_off (attribute_rows (holdings past) (links_of past) t to) none in
         (is_there (numbered (holdings past).tracklets t) off.0, not_off (is_given (links_of past) to) off.1.0)) is
     act_fits (act.Release t) deed range is =
-        fits_unless (first_row (release_rows (holdings past) t)) (Released t) deed
-        (λ none. is_there (numbered (holdings past).tracklets t) (rows_off (release_rows (holdings past) t) none).0) is
+        fits_unless _ _ deed (λ none. is_there (numbered (holdings past).tracklets t) (rows_off (release_rows (holdings past) t) none).0) is
     act_fits (act.Identify p s) deed range is =
-        fits_unless (first_row (identify_rows (links_of past) (numbers_of past) p s)) (Identified p s) deed
-        (λ none. let off = rows_off (identify_rows (links_of past) (numbers_of past) p s) none in (
+        fits_unless _ _ deed (λ none. let off = rows_off (identify_rows (links_of past) (numbers_of past) p s) none in (
           own p (principal (links_of past) p) (not_off (is_principal (links_of past) p) off.1.1.0),
           own s (principal (links_of past) s) (not_off (is_principal (links_of past) s) off.1.1.1.0),
           apart p s off.1.1.1.1.0,
         )) is
     act_fits (act.Separate s) deed range is =
-        fits_unless (first_row (separate_rows (links_of past) s)) (Separated s) deed
-        (λ none. let off = rows_off (separate_rows (links_of past) s) none in
+        fits_unless _ _ deed (λ none. let off = rows_off (separate_rows (links_of past) s) none in
         (not_off (is_given (links_of past) s) off.0, not_own s (principal (links_of past) s) off.1.0)) is
     act_fits (act.Verdict d u oppositions) deed range is =
-        fits_unless (first_row (verdict_rows (links_of past) d)) (Judged d u oppositions) deed
-        (λ none. own d (principal (links_of past) d) (not_off (is_principal (links_of past) d) (rows_off (verdict_rows (links_of past) d) none).1.0)) is
+        fits_unless _ _ deed (λ none. own d (principal (links_of past) d) (not_off (is_principal (links_of past) d) (rows_off (verdict_rows (links_of past) d) none).1.0)) is
     act_fits (act.Number first_number most) deed range is =
-        fits_unless (first_row (number_rows (numbers_of past) first_number most (eligible_after past))) (Numbered (numbered_from first_number (take most (eligible_after past)))) deed
-        (λ none. numbers_go_on (holdings past) (links_of past) (verdicts_of past) (numbers_of past) first_number most (up (links_of past)) unbroken range none) is
+        fits_unless _ _ deed (λ none. numbers_go_on (holdings past) (links_of past) (verdicts_of past) (numbers_of past) first_number most (up (links_of past)) unbroken range none) is
     act_fits (act.Opening half given carried) deed range is =
-        fits_unless (first_row (opening_rows (row_acts_of past) half)) (Opened half given carried) deed
-        (λ none. let unbegun = (rows_off (opening_rows (row_acts_of past) half) none).0 in
+        fits_unless _ _ deed (λ none. let unbegun = (rows_off (opening_rows (row_acts_of past) half) none).0 in
         record { unbegun = unbegun; ranges = range; unknown = carried_new same itself none_before grow past next half given carried unbegun range }) is
-    act_fits (act.Retract k) deed range is = fits_unless (first_row (retract_rows (holdings past).observations k)) (Retracted k) deed (λ _. tt) is
+    act_fits _ deed range is = fits_unless _ _ deed (λ _. tt) is
 
   -- ---- histories
 
   unbroken_with : (past : List Deed) (deed : Deed) → IsUnbroken (numbers_of past) → FitsObjects past deed → IsUnbroken (with_numbers deed (numbers_of past))
   unbroken_with past (Numbered pairs) before fits = fits
-  unbroken_with past (Enrolled member) before fits = before
-  unbroken_with past (Stationed code from to) before fits = before
-  unbroken_with past (Coded kind letter word) before fits = before
-  unbroken_with past (Submitted lines) before fits = before
-  unbroken_with past (Designated tracklets given discovery) before fits = before
-  unbroken_with past (Attributed t to) before fits = before
-  unbroken_with past (Released t) before fits = before
-  unbroken_with past (Identified p s) before fits = before
-  unbroken_with past (Separated s) before fits = before
-  unbroken_with past (Judged p u oppositions) before fits = before
-  unbroken_with past (Opened half given carried) before fits = before
-  unbroken_with past (Retracted k) before fits = before
-  unbroken_with past Nothing before fits = before
+  unbroken_with past _ before fits = before
 
   module _ (up : AllAscend) (firsts : AreFirst) (openings : AreOpenings) where
     pub numbers_unbroken : (history : List Entry) → IsUnbroken (numbers_of (deeds history))

@@ -20,28 +20,22 @@ use Rattle.designate_core.specs.Takes.RowAct.{Opened as OpenedRow, Took}
 use Rattle.designate_core.specs.Unbroken.{NoneBeforeBegun, CountsGrow}
 use Rattle.identify_core.specs.Acts.{LinkAct, is_principal_of, principal}
 use Rattle.identify_core.specs.Acts.LinkAct.{Given}
-use Rattle.station_tables.specs.Stations.{overlaps}
-use Rattle.station_tables.specs.Codes.{has_code}
 use Rattle.act_model.specs.declared.act.Act.{Act}
 use Rattle.act_model.specs.declared.act.Act.TheVariants as act
 use Rattle.act_model.specs.declared.deed.Deed.{Deed}
-use Rattle.act_model.specs.declared.deed.Deed.TheVariants.{Enrolled, Stationed, Coded, Submitted, Designated, Attributed, Released, Identified, Separated, Judged, Numbered, Retracted, Opened, Nothing}
+use Rattle.act_model.specs.declared.deed.Deed.TheVariants.{Designated, Identified, Separated, Opened}
 use Rattle.act_model.specs.declared.entry.Entry.{Entry}
-use Rattle.act_model.specs.declared.reply.Refusal.{Refusal}
-use Rattle.act_model.specs.Rows.{first_row, unless}
-use Rattle.act_model.specs.Roster.{members}
-use Rattle.act_model.specs.OfficeTables.{tables_of}
+use Rattle.act_model.specs.Rows.{first_row}
 use Rattle.act_model.specs.Holdings.{holdings}
 use Rattle.act_model.specs.Designations.{row_acts_of, links_of, with_order, with_orders, with_all_given}
 use Rattle.act_model.specs.Discoveries.{earliest, span, half_of}
-use Rattle.act_model.specs.Numbers.{numbers_of, numbered_from}
-use Rattle.act_model.specs.Doing.{enrol_rows, row_rows, batch_rows, object_rows, attribute_rows, release_rows, identify_rows, separate_rows, verdict_rows, number_rows, retract_rows, opening_rows, eligible_after, taken_after, does}
+use Rattle.act_model.specs.Doing.{object_rows, opening_rows, does}
 use Rattle.act_model.specs.Deeds.{deeds}
 use Rattle.act_model.specs.Fitting.{AreNew}
 use Rattle.act_model.proofs.DeedCases.{deed_cases}
 use Rattle.act_model.proofs.Designating.{designated}
 use Rattle.act_model.proofs.InRange.{IsInRange, IsInRangeRead, AreFirst, AreOpenings, read_in_range}
-use Rattle.act_model.proofs.Legal.{same_deed}
+use Rattle.act_model.proofs.Legal.{same_deed, by_deed}
 use Rattle.act_model.proofs.RowLemmas.{rows_off, not_off}
 
 -- ---- what a designation that is given is sure of, and a half-month that is taken over
@@ -67,29 +61,15 @@ has_more rows time half none =
     grind (arith, nat_tests)
 
 module _ (past : List Deed) (moment : ℤ) where
-  next_unless : (o : Option Refusal) (done deed : Deed) → IsGivenNext past done → unless o (Ok done) ≡ Ok deed → IsGivenNext past deed
-  next_unless o done deed fits is = subst (IsGivenNext past) (same_deed o done deed is).1 fits
-
   pub act_next : (a : Act) (deed : Deed) → IsInRange a → does past moment a ≡ Ok deed → IsGivenNext past deed
   unfolding does
-  act_next (act.Enrol k name role) deed range is = next_unless (first_row (enrol_rows (members past) k)) (Enrolled (record { key = k; rank = role })) deed tt is
-  act_next (act.Station code name from to) deed range is = next_unless (first_row (row_rows (overlaps (tables_of past).stations code from to))) (Stationed code from to) deed tt is
-  act_next (act.Code kind letter word) deed range is = next_unless (first_row (row_rows (has_code (tables_of past).codes kind letter word))) (Coded kind letter word) deed tt is
-  act_next (act.Submit80 lines) deed range is = next_unless (first_row (batch_rows (taken_after past moment lines))) (Submitted (taken_after past moment lines)) deed tt is
-  act_next (act.SubmitPsv lines) deed range is = next_unless (first_row (batch_rows (taken_after past moment lines))) (Submitted (taken_after past moment lines)) deed tt is
   act_next (act.Designate tracklets) deed range is =
       let d = designated (holdings past) (row_acts_of past) tracklets deed is in
       subst (IsGivenNext past) d.deed_is (refl, has_more (row_acts_of past) (span d.first d.more) (half_of (earliest d.first d.more).time) d.allowed)
-  act_next (act.Attribute t to) deed range is = next_unless (first_row (attribute_rows (holdings past) (links_of past) t to)) (Attributed t to) deed tt is
-  act_next (act.Release t) deed range is = next_unless (first_row (release_rows (holdings past) t)) (Released t) deed tt is
-  act_next (act.Identify p s) deed range is = next_unless (first_row (identify_rows (links_of past) (numbers_of past) p s)) (Identified p s) deed tt is
-  act_next (act.Separate s) deed range is = next_unless (first_row (separate_rows (links_of past) s)) (Separated s) deed tt is
-  act_next (act.Verdict d u oppositions) deed range is = next_unless (first_row (verdict_rows (links_of past) d)) (Judged d u oppositions) deed tt is
-  act_next (act.Number first most) deed range is = next_unless (first_row (number_rows (numbers_of past) first most (eligible_after past))) (Numbered (numbered_from first (take most (eligible_after past)))) deed tt is
   act_next (act.Opening half given carried) deed range is =
       let done = same_deed (first_row (opening_rows (row_acts_of past) half)) (Opened half given carried) deed is in
       subst (IsGivenNext past) done.1 ((rows_off (opening_rows (row_acts_of past) half) done.0).0, range)
-  act_next (act.Retract k) deed range is = next_unless (first_row (retract_rows (holdings past).observations k)) (Retracted k) deed tt is
+  act_next _ deed range is = by_deed (IsGivenNext past) _ _ deed tt is
 
 module _ (firsts : AreFirst) (openings : AreOpenings) where
   pub given_next : (history : List Entry) → AreGivenNext (deeds history)
@@ -200,16 +180,7 @@ module _ (same : AreSame) (itself : IsItself) where
         known_within past next.1 p (λ unknown. known (ap (λ (o : Option Designation). cond (is_principal_of s o) (Some q) o) unknown))
     known_within (Separated s ∷ past) next p known =
         known_within past next.1 p (λ unknown. known (parted_none (eq_by_cmp designation_cmp (Provisional p) s) s (principal (links_of past) (Provisional p)) unknown))
-    known_within (Enrolled member ∷ past) next p known = known_within past next.1 p known
-    known_within (Stationed code from to ∷ past) next p known = known_within past next.1 p known
-    known_within (Coded kind letter word ∷ past) next p known = known_within past next.1 p known
-    known_within (Submitted lines ∷ past) next p known = known_within past next.1 p known
-    known_within (Attributed t to ∷ past) next p known = known_within past next.1 p known
-    known_within (Released t ∷ past) next p known = known_within past next.1 p known
-    known_within (Judged d u oppositions ∷ past) next p known = known_within past next.1 p known
-    known_within (Numbered pairs ∷ past) next p known = known_within past next.1 p known
-    known_within (Retracted k ∷ past) next p known = known_within past next.1 p known
-    known_within (Nothing ∷ past) next p known = known_within past next.1 p known
+    known_within (_ ∷ past) next p known = known_within past next.1 p known
 
     -- a designation whose order is above the count is unknown
     unknown_above : (past : List Deed) → AreGivenNext past → (p : ProvisionalName) → given_in p.half (row_acts_of past) < p.order → principal (links_of past) (Provisional p) ≡ None

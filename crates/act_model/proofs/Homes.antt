@@ -9,7 +9,6 @@ use Rattle.packed_names.specs.declared.name.Designation.TheVariants.{Provisional
 use Rattle.packed_names.specs.declared.name.Name.{Name}
 use Rattle.packed_names.specs.declared.name.Name.TheVariants as names
 use Rattle.packed_names.specs.Order.{designation_cmp}
-use Rattle.designate_core.specs.Takes.{next_in}
 use Rattle.identify_core.specs.Acts.{LinkAct, principal, principal_after, is_principal_of, given_in_order}
 use Rattle.identify_core.specs.Acts.LinkAct.{Given, Joined, Parted}
 use Rattle.identify_core.specs.Principals.{FitsLinks, AreTheirOwn}
@@ -18,59 +17,37 @@ use Rattle.numbering_core.specs.Numbers.{named}
 use Rattle.obs_record.specs.declared.line.Line.{Line}
 use Rattle.obs_record.specs.declared.name.TrackName.{TrackName}
 use Rattle.obs_record.specs.declared.name.TrackName.TheVariants as tracks
-use Rattle.obs_record.specs.declared.rule.HeaderFault.{HeaderFault}
 use Rattle.obs_record.specs.declared.rule.RuleCode.{RuleCode}
 use Rattle.obs_record.specs.declared.sighting.Sighting.{Sighting}
-use Rattle.act_bodies.specs.declared.code.Code.{Code as CodeBody}
-use Rattle.act_bodies.specs.declared.enrol.Enrol.{Enrol as EnrolBody}
-use Rattle.act_bodies.specs.declared.station.Station.{Station as StationBody}
-use Rattle.act_bodies.specs.declared.designate.Designate.{Designate as DesignateBody}
-use Rattle.act_bodies.specs.declared.attribute.Attribute.{Attribute as AttributeBody}
-use Rattle.act_bodies.specs.declared.release.Release.{Release as ReleaseBody}
-use Rattle.act_bodies.specs.declared.identify.Identify.{Identify as IdentifyBody}
-use Rattle.act_bodies.specs.declared.separate.Separate.{Separate as SeparateBody}
-use Rattle.act_bodies.specs.declared.verdict.Verdict.{Verdict as VerdictBody}
-use Rattle.act_bodies.specs.declared.number.Number.{Number as NumberBody}
-use Rattle.act_bodies.specs.declared.retract.Retract.{Retract as RetractBody}
-use Rattle.act_bodies.specs.declared.opening.Opening.{Opening as OpeningBody}
-use Rattle.act_bodies.specs.Bodies.{enrol_of, station_of, code_of, designate_of, attribute_of, release_of, identify_of, separate_of, verdict_of, number_of_body, retract_of, opening_of}
-use Rattle.station_tables.specs.Stations.{overlaps}
-use Rattle.station_tables.specs.Codes.{has_code}
 use Rattle.tracklet_file.specs.declared.tracklet.Tracklet.{Tracklet}
 use Rattle.tracklet_file.specs.Numbering.{next_number, numbered}
 use Rattle.tracklet_file.specs.Tracklets.{with_tracklet, with_home, home_of}
-use Rattle.col80_format.specs.Batch.{lines_of}
-use Rattle.ades_psv.specs.Batch.{psv_lines_of}
 use Rattle.act_model.specs.declared.act.Act.{Act}
 use Rattle.act_model.specs.declared.act.Act.TheVariants as act
 use Rattle.act_model.specs.declared.deed.Deed.{Deed}
-use Rattle.act_model.specs.declared.deed.Deed.TheVariants.{Enrolled, Stationed, Coded, Submitted, Designated, Attributed, Released, Identified, Separated, Judged, Numbered, Retracted, Opened, Nothing}
+use Rattle.act_model.specs.declared.deed.Deed.TheVariants.{Submitted, Designated, Attributed, Released, Identified, Separated, Numbered, Opened}
 use Rattle.act_model.specs.declared.entry.Entry.{Entry}
 use Rattle.act_model.specs.declared.reply.Refusal.{Refusal}
 use Rattle.act_model.specs.declared.reply.Refusal.TheVariants.{NotPrincipal, SameObject, BothNumbered, NumberedSecondary, NotSecondary}
-use Rattle.act_model.specs.declared.request.Verb.{Verb}
-use Rattle.act_model.specs.declared.request.Verb.TheVariants.{Enrol, Station, Code, Submit80, SubmitPsv, Designate, Attribute, Release, Identify, Separate, Verdict, Number, Retract, Opening, Receipt, Tally, Unknown}
-use Rattle.act_model.specs.declared.request.Verb.TheVariants as verbs
 use Rattle.act_model.specs.declared.ruling.Ruling.{Ruling}
-use Rattle.act_model.specs.declared.seen.Seen.{Seen}
 use Rattle.act_model.specs.declared.taken.Placed.{Placed}
 use Rattle.act_model.specs.declared.taken.Taken.{Taken}
-use Rattle.act_model.specs.Acts.{read_as, enrol_act, station_act, code_act, designate_act, attribute_act, release_act, identify_act, separate_act, verdict_act, number_act, retract_act, opening_act, psv_act, act_of}
 use Rattle.act_model.specs.BatchRules.{name_of, batch_rulings}
-use Rattle.act_model.specs.Deeds.{unless_refused_deed, done_if_read, deed_of, deeds}
+use Rattle.act_model.specs.Deeds.{deed_of, deeds}
 use Rattle.act_model.specs.Designations.{links_of, is_given, is_principal, principals, row_acts_of, with_orders}
-use Rattle.act_model.specs.Discoveries.{seen_in, earliest, span, half_of}
-use Rattle.act_model.specs.Doing.{does, designation_row, enrol_rows, row_rows, batch_rows, retract_rows, opening_rows, designate_rows, object_rows, attribute_rows, release_rows, identify_rows, separate_rows, verdict_rows, number_rows, free_rows, is_numbered, eligible_after, taken_after, designates_seen}
+use Rattle.act_model.specs.Doing.{does, designation_row, attribute_rows, identify_rows, separate_rows, free_rows, is_numbered, eligible_after, taken_after}
 use Rattle.act_model.specs.Holdings.{Holdings, holdings, with_begun, with_found, with_batch, with_homes}
 use Rattle.act_model.specs.Known.{KnownOffice}
 use Rattle.act_model.specs.Knowing.{stands_for, known_of}
 use Rattle.act_model.specs.Numbers.{numbers_of, numbered_from, is_eligible}
 use Rattle.act_model.specs.OfficeTables.{tables_of}
-use Rattle.act_model.specs.Roster.{members}
 use Rattle.act_model.specs.Rows.{first_row, unless}
 use Rattle.act_model.specs.Taken.{first_home, found_in, taken_lines, tracks_with, track_of_group}
 use Rattle.act_model.specs.Verdicts.{verdicts_of}
 use Rattle.act_model.proofs.Carried.{all_keep}
+use Rattle.act_model.proofs.DeedCases.{deed_cases}
+use Rattle.act_model.proofs.Designating.{designated}
+use Rattle.act_model.proofs.Legal.{same_deed}
 
 -- ---- what other crates say
 
@@ -305,12 +282,7 @@ module _ (equal : EqualIsSame) (stay : StayOwn) where
         numbers = all_keep (λ acts. All (NumberGiven acts) (numbers_of past)) (λ d acts is. still_numbers (Given (Provisional d)) acts (numbers_of past) is) names acts s.numbers;
         own = all_keep (λ acts. AreTheirOwn acts) (λ d acts is. stay (Given (Provisional d)) acts tt is) names acts s.own;
       }
-  sound_more past (Judged p u oppositions) s fits = record { homes = s.homes; numbers = s.numbers; own = s.own }
-  sound_more past (Retracted k) s fits = record { homes = s.homes; numbers = s.numbers; own = s.own }
-  sound_more past (Enrolled member) s fits = record { homes = s.homes; numbers = s.numbers; own = s.own }
-  sound_more past (Stationed code from to) s fits = record { homes = s.homes; numbers = s.numbers; own = s.own }
-  sound_more past (Coded kind letter word) s fits = record { homes = s.homes; numbers = s.numbers; own = s.own }
-  sound_more past Nothing s fits = record { homes = s.homes; numbers = s.numbers; own = s.own }
+  sound_more past _ s fits = record { homes = s.homes; numbers = s.numbers; own = s.own }
 
   -- ---- what isn't refused fits
 
@@ -332,81 +304,18 @@ module _ (equal : EqualIsSame) (stay : StayOwn) where
   apart : (p s : Designation) → eq_by_cmp designation_cmp p s ≡ false → p ≢ s
   apart p s not_equal same = let equal_too : eq_by_cmp designation_cmp p s ≡ true = (equal p s).1 same in cc
 
-  fits_unless : (past : List Deed) (o : Option Refusal) (deed : Deed) → (o ≡ None → Fits past deed) → Fits past (unless_refused_deed (unless o (Ok deed)))
-  fits_unless past None deed fits = fits refl
-  fits_unless past (Some r) deed fits = tt
+  fits_unless : (past : List Deed) (o : Option Refusal) (done deed : Deed) → (o ≡ None → Fits past done) → unless o (Ok done) ≡ Ok deed → Fits past deed
+  fits_unless past o done deed fits is = let s = same_deed o done deed is in subst (Fits past) s.1 (fits s.0)
 
   module _ (past : List Deed) (moment : ℤ) (s : Sound past) where
-    abbrev FitsAct : Act → Type 0
-    FitsAct a = Fits past (unless_refused_deed (does past moment a))
-
-    enrolment_fits : (read : Option EnrolBody) → Fits past (done_if_read past moment (read_as enrol_act read))
-    unfolding does
-    enrolment_fits (Some body) = fits_unless past (first_row (enrol_rows (members past) body.key)) (Enrolled (record { key = body.key; rank = body.role })) (λ _. tt)
-    enrolment_fits None = tt
-
-    station_fits : (read : Option StationBody) → Fits past (done_if_read past moment (read_as station_act read))
-    unfolding does
-    station_fits (Some body) = fits_unless past (first_row (row_rows (overlaps (tables_of past).stations body.code body.from body.to))) (Stationed body.code body.from body.to) (λ _. tt)
-    station_fits None = tt
-
-    code_fits : (read : Option CodeBody) → Fits past (done_if_read past moment (read_as code_act read))
-    unfolding does
-    code_fits (Some body) = fits_unless past (first_row (row_rows (has_code (tables_of past).codes body.kind body.letter body.word))) (Coded body.kind body.letter body.word) (λ _. tt)
-    code_fits None = tt
-
-    retraction_fits : (read : Option RetractBody) → Fits past (done_if_read past moment (read_as retract_act read))
-    unfolding does
-    retraction_fits (Some body) = fits_unless past (first_row (retract_rows (holdings past).observations body.observation)) (Retracted body.observation) (λ _. tt)
-    retraction_fits None = tt
-
-    opening_fits : (read : Option OpeningBody) → Fits past (done_if_read past moment (read_as opening_act read))
-    unfolding does
-    opening_fits (Some body) = fits_unless past (first_row (opening_rows (row_acts_of past) body.half)) (Opened body.half body.given body.carried) (λ _. tt)
-    opening_fits None = tt
-
     taken_given : (lines : List Line) → BatchGiven (links_of past) (taken_after past moment lines)
     taken_given lines =
         batch_given (links_of past) (known_of past) (stands_given (links_of past) (numbers_of past) s.numbers) _ _ lines (batch_rulings (known_of past) (tables_of past) moment lines)
 
-    batch_fits : (lines : List Line) → FitsAct (act.Submit80 lines)
-    unfolding does
-    batch_fits lines = fits_unless past (first_row (batch_rows (taken_after past moment lines))) (Submitted (taken_after past moment lines)) (λ _. taken_given lines)
-
-    psv_fits : (read : Result (List Line) (HeaderFault × ℕ)) → Fits past (done_if_read past moment (psv_act read))
-    unfolding does
-    psv_fits (Ok lines) = fits_unless past (first_row (batch_rows (taken_after past moment lines))) (Submitted (taken_after past moment lines)) (λ _. taken_given lines)
-    psv_fits (Err fault) = tt
-
-    object_fits : (tracklets : List ℕ) → FitsAct (act.Designate tracklets)
-    unfolding does
-    object_fits tracklets = by (first_row (designate_rows (holdings past) tracklets)) (seen_in (holdings past).observations tracklets)
-      where
-        by : (o : Option Refusal) (seen : List Seen) → Fits past (unless_refused_deed (unless o (designates_seen (row_acts_of past) tracklets seen)))
-        by (Some r) seen = tt
-        by None [] = tt
-        by None (first ∷ more) =
-            fits_unless past (first_row (object_rows (row_acts_of past) (span first more) (half_of (earliest first more).time)))
-            (Designated tracklets (next_in (half_of (earliest first more).time) (row_acts_of past)) (earliest first more).number)
-            (λ _. tt)
-
-    designation_fits : (read : Option DesignateBody) → Fits past (done_if_read past moment (read_as designate_act read))
-    designation_fits (Some body) = object_fits body.tracklets
-    designation_fits None = tt
-
-    attribution_fits : (read : Option AttributeBody) → Fits past (done_if_read past moment (read_as attribute_act read))
-    unfolding does
-    attribution_fits (Some body) =
-        fits_unless past (first_row (attribute_rows (holdings past) (links_of past) body.tracklet body.to)) (Attributed body.tracklet body.to)
-        (λ is.
-        let there = passed _ _ (designation_row (links_of past) body.to ∷ free_rows (holdings past) body.tracklet) is in
-        negated (is_given (links_of past) body.to) (passed _ _ (free_rows (holdings past) body.tracklet) there.1).0)
-    attribution_fits None = tt
-
-    release_fits : (read : Option ReleaseBody) → Fits past (done_if_read past moment (read_as release_act read))
-    unfolding does
-    release_fits (Some body) = fits_unless past (first_row (release_rows (holdings past) body.tracklet)) (Released body.tracklet) (λ _. tt)
-    release_fits None = tt
+    attributed : (t : ℕ) (to : Designation) → first_row (attribute_rows (holdings past) (links_of past) t to) ≡ None → IsGivenTo (links_of past) to
+    attributed t to is =
+        let there = passed _ _ (designation_row (links_of past) to ∷ free_rows (holdings past) t) is in
+        negated (is_given (links_of past) to) (passed _ _ (free_rows (holdings past) t) there.1).0
 
     identified : (p q : Designation) → first_row (identify_rows (links_of past) (numbers_of past) p q) ≡ None → FitsLinks (Joined p q) (links_of past)
     identified p q is =
@@ -423,13 +332,6 @@ module _ (equal : EqualIsSame) (stay : StayOwn) where
         let five = passed (eq_by_cmp designation_cmp p q) SameObject last four.1 in
         (is_own p (principal acts p) (negated (is_principal acts p) three.0), is_own q (principal acts q) (negated (is_principal acts q) four.0), apart p q five.0)
 
-    identification_fits : (read : Option IdentifyBody) → Fits past (done_if_read past moment (read_as identify_act read))
-    unfolding does
-    identification_fits (Some body) =
-        fits_unless past (first_row (identify_rows (links_of past) (numbers_of past) body.principal body.secondary)) (Identified body.principal body.secondary)
-        (λ is. identified body.principal body.secondary is)
-    identification_fits None = tt
-
     separated : (q : Designation) → first_row (separate_rows (links_of past) q) ≡ None → FitsLinks (Parted q) (links_of past)
     separated q is =
         let rows : List (Bool × Refusal) = (is_principal (links_of past) q, NotSecondary q) ∷ [] in
@@ -437,57 +339,24 @@ module _ (equal : EqualIsSame) (stay : StayOwn) where
         let two = passed (is_principal (links_of past) q) (NotSecondary q) [] one.1 in
         own_is q (principal (links_of past) q) two.0
 
-    separation_fits : (read : Option SeparateBody) → Fits past (done_if_read past moment (read_as separate_act read))
-    unfolding does
-    separation_fits (Some body) = fits_unless past (first_row (separate_rows (links_of past) body.secondary)) (Separated body.secondary) (λ is. separated body.secondary is)
-    separation_fits None = tt
-
-    verdict_fits : (read : Option VerdictBody) → Fits past (done_if_read past moment (read_as verdict_act read))
-    unfolding does
-    verdict_fits (Some body) = fits_unless past (first_row (verdict_rows (links_of past) body.object)) (Judged body.object body.u body.oppositions) (λ _. tt)
-    verdict_fits None = tt
-
     eligible_given : (most : ℕ) → All (IsGivenTo (links_of past)) (take most (eligible_after past))
     eligible_given most =
         All-take (IsGivenTo (links_of past)) most (eligible_after past)
         (All-filter (is_eligible (holdings past) (links_of past) (verdicts_of past) (numbers_of past)) (IsGivenTo (links_of past)) (principals (links_of past)) (principals_given (links_of past)))
 
-    numbering_fits : (read : Option NumberBody) → Fits past (done_if_read past moment (read_as number_act read))
+    act_fits : (a : Act) (deed : Deed) → does past moment a ≡ Ok deed → Fits past deed
     unfolding does
-    numbering_fits (Some body) =
-        fits_unless past (first_row (number_rows (numbers_of past) body.first body.most (eligible_after past))) (Numbered (numbered_from body.first (take body.most (eligible_after past))))
-        (λ _. numbered_given (links_of past) body.first (take body.most (eligible_after past)) (eligible_given body.most))
-    numbering_fits None = tt
-
-    act_fits : (verb : Verb) (body : List ℕ) → Fits past (done_if_read past moment (act_of verb body))
-    unfolding act_of
-    act_fits Enrol body = enrolment_fits (enrol_of body)
-    act_fits Station body = station_fits (station_of body)
-    act_fits Code body = code_fits (code_of body)
-    act_fits Submit80 body = batch_fits (lines_of body)
-    act_fits SubmitPsv body = psv_fits (psv_lines_of body)
-    act_fits Designate body = designation_fits (designate_of body)
-    act_fits Attribute body = attribution_fits (attribute_of body)
-    act_fits Release body = release_fits (release_of body)
-    act_fits Identify body = identification_fits (identify_of body)
-    act_fits Separate body = separation_fits (separate_of body)
-    act_fits Verdict body = verdict_fits (verdict_of body)
-    act_fits Number body = numbering_fits (number_of_body body)
-    act_fits Retract body = retraction_fits (retract_of body)
-    act_fits Opening body = opening_fits (opening_of body)
-    act_fits Receipt body = tt
-    act_fits Tally body = tt
-    act_fits verbs.Object body = tt
-    act_fits verbs.Tracklet body = tt
-    act_fits verbs.Isolated body = tt
-    act_fits verbs.HalfMonth body = tt
-    act_fits verbs.Name body = tt
-    act_fits verbs.Catalogue body = tt
-    act_fits Unknown body = tt
+    act_fits (act.Submit80 lines) deed is = fits_unless past _ _ deed (λ _. taken_given lines) is
+    act_fits (act.SubmitPsv lines) deed is = fits_unless past _ _ deed (λ _. taken_given lines) is
+    act_fits (act.Designate tracklets) deed is = (let d = designated (holdings past) (row_acts_of past) tracklets deed is in subst (Fits past) d.deed_is tt)
+    act_fits (act.Attribute t to) deed is = fits_unless past _ _ deed (attributed t to) is
+    act_fits (act.Identify p q) deed is = fits_unless past _ _ deed (identified p q) is
+    act_fits (act.Separate q) deed is = fits_unless past _ _ deed (separated q) is
+    act_fits (act.Number first most) deed is = fits_unless past _ _ deed (λ _. numbered_given (links_of past) first (take most (eligible_after past)) (eligible_given most)) is
+    act_fits _ deed is = fits_unless past _ _ deed (λ _. tt) is
 
   deed_fits : (past : List Deed) (e : Entry) → Sound past → Fits past (deed_of past e)
-  unfolding deed_of
-  deed_fits past e s = act_fits past e.moment s e.verb e.body
+  deed_fits past e s = deed_cases (Fits past) past e tt (λ a deed read done. act_fits past e.moment s a deed done)
 
   pub sound : (history : List Entry) → Sound (deeds history)
   sound [] = record { homes = tt; numbers = All-nil (NumberGiven []); own = λ d p none. absurd cc }

@@ -1,37 +1,20 @@
 -- What the step adds is legal, and what follows for legal histories.
-use Rattle.std.proofs.Common.{◌≡◌, ℕ, ℤ, pos, List, [], ◌∷◌, ◌++◌, length, Bool, true, false, cond, Option, Some, None, Result, Ok, Err, refl, sym, ap, subst, ◌∙◌, append_assoc, inl, inr, arith}
-use Rattle.std.specs.Prelude.{take, unwrap_or, int_lt, bytes_eq, ◌==◌, ◌&&◌}
+use Rattle.std.proofs.Common.{IfOk, ◌≡◌, ℕ, ℤ, pos, List, [], ◌∷◌, ◌++◌, length, Bool, true, false, cond, Option, Some, None, Result, Ok, refl, sym, ap, subst, ◌∙◌, append_assoc, inl, inr, arith}
+use Rattle.std.specs.Prelude.{unwrap_or, int_lt, bytes_eq, ◌==◌, ◌&&◌}
 use Rattle.std.proofs.lemmas.Int.{ints}
 use Rattle.std.proofs.lemmas.Bool.Decides.{nat_tests}
 use Rattle.std.proofs.lemmas.Slice.Eq.{bytes_eq-Decides}
-use Rattle.designate_core.specs.Takes.{next_in}
 use Rattle.obs_time.specs.Instants.{IsInstantNs}
-use Rattle.obs_record.specs.declared.line.Line.{Line}
-use Rattle.obs_record.specs.declared.rule.HeaderFault.{HeaderFault}
-use Rattle.act_bodies.specs.declared.code.Code.{Code as CodeBody}
 use Rattle.act_bodies.specs.declared.enrol.Enrol.{Enrol as EnrolBody}
-use Rattle.act_bodies.specs.declared.station.Station.{Station as StationBody}
 use Rattle.act_bodies.specs.declared.key.Key.{Key}
-use Rattle.act_bodies.specs.declared.enrol.Rank.{Rank}
-use Rattle.act_bodies.specs.declared.designate.Designate.{Designate as DesignateBody}
-use Rattle.act_bodies.specs.declared.attribute.Attribute.{Attribute as AttributeBody}
-use Rattle.act_bodies.specs.declared.release.Release.{Release as ReleaseBody}
-use Rattle.act_bodies.specs.declared.identify.Identify.{Identify as IdentifyBody}
-use Rattle.act_bodies.specs.declared.separate.Separate.{Separate as SeparateBody}
-use Rattle.act_bodies.specs.declared.verdict.Verdict.{Verdict as VerdictBody}
-use Rattle.act_bodies.specs.declared.number.Number.{Number as NumberBody}
-use Rattle.act_bodies.specs.declared.retract.Retract.{Retract as RetractBody}
-use Rattle.act_bodies.specs.declared.opening.Opening.{Opening as OpeningBody}
 use Rattle.act_bodies.specs.Bodies.{enrol_of, station_of, code_of, designate_of, attribute_of, release_of, identify_of, separate_of, verdict_of, number_of_body, retract_of, opening_of}
 use Rattle.act_bodies.specs.Keys.{key_text, begins_with_plus}
-use Rattle.station_tables.specs.Stations.{overlaps}
-use Rattle.station_tables.specs.Codes.{has_code}
-use Rattle.col80_format.specs.Batch.{lines_of}
 use Rattle.ades_psv.specs.Batch.{psv_lines_of}
 use Rattle.act_model.specs.declared.act.Act.{Act}
 use Rattle.act_model.specs.declared.act.Act.TheVariants as act
+use Rattle.act_model.specs.declared.act.ActFault.{ActFault}
 use Rattle.act_model.specs.declared.deed.Deed.{Deed}
-use Rattle.act_model.specs.declared.deed.Deed.TheVariants.{Enrolled, Stationed, Coded, Submitted, Designated, Attributed, Released, Identified, Separated, Judged, Numbered, Retracted, Opened, Nothing}
+use Rattle.act_model.specs.declared.deed.Deed.TheVariants.{Enrolled}
 use Rattle.act_model.specs.declared.entry.Entry.{Entry}
 use Rattle.act_model.specs.declared.keeper.OfficeState.{OfficeState}
 use Rattle.act_model.specs.declared.reply.Refusal.{Refusal}
@@ -40,20 +23,16 @@ use Rattle.act_model.specs.declared.reply.Reply.{Reply}
 use Rattle.act_model.specs.declared.reply.Reply.TheVariants.{Done, Refused}
 use Rattle.act_model.specs.declared.request.Request.{Request}
 use Rattle.act_model.specs.declared.request.Verb.{Verb}
-use Rattle.act_model.specs.declared.request.Verb.TheVariants.{Enrol, Station, Code, Submit80, SubmitPsv, Designate, Attribute, Release, Identify, Separate, Verdict, Number, Retract, Opening, Receipt, Tally, Object, Tracklet, Isolated, HalfMonth, Name, Catalogue, Unknown}
+use Rattle.act_model.specs.declared.request.Verb.TheVariants.{Enrol, Station, Code, SubmitPsv, Designate, Attribute, Release, Identify, Separate, Verdict, Number, Retract, Opening}
 use Rattle.act_model.specs.declared.roster.Caller.{Caller}
-use Rattle.act_model.specs.declared.seen.Seen.{Seen}
 use Rattle.act_model.specs.declared.roster.Member.{Member}
 use Rattle.act_model.specs.Requests.{verb_code, is_act}
-use Rattle.act_model.specs.Acts.{read_as, enrol_act, station_act, code_act, designate_act, attribute_act, release_act, identify_act, separate_act, verdict_act, number_act, retract_act, opening_act, psv_act, act_of}
-use Rattle.act_model.specs.OfficeTables.{tables_of}
+use Rattle.act_model.specs.Acts.{enrol_act, station_act, code_act, designate_act, attribute_act, release_act, identify_act, separate_act, verdict_act, number_act, retract_act, opening_act, act_of}
 use Rattle.act_model.specs.Holdings.{holdings}
-use Rattle.act_model.specs.Designations.{row_acts_of, links_of}
-use Rattle.act_model.specs.Discoveries.{seen_in, earliest, span, half_of}
-use Rattle.act_model.specs.Numbers.{numbers_of, numbered_from}
-use Rattle.act_model.specs.Doing.{enrol_rows, row_rows, batch_rows, designate_rows, object_rows, attribute_rows, release_rows, identify_rows, separate_rows, verdict_rows, number_rows, retract_rows, opening_rows, designates_seen, eligible_after, taken_after, does}
+use Rattle.act_model.specs.Designations.{row_acts_of}
+use Rattle.act_model.specs.Doing.{enrol_rows, does}
 use Rattle.act_model.specs.Roster.{members, with_enrolled, caller_of, key_at}
-use Rattle.act_model.specs.Deeds.{unless_refused_deed, done_if_read, deed_of, deeds}
+use Rattle.act_model.specs.Deeds.{deed_of, deeds}
 use Rattle.act_model.specs.History.{Kept, kept, next_moment, next_receipt, is_numbered, IsUnused, EachNumberOnce}
 use Rattle.act_model.specs.Hearing.{bytes_in, asked_of, hear}
 use Rattle.act_model.specs.Refusals.{work_out}
@@ -64,6 +43,7 @@ use Rattle.act_model.specs.Turns.{Turn, TakesReading, Answers, at_rest, Takes, I
 use Rattle.act_model.specs.Conducts.{Extends, EitherWay, Makes}
 use Rattle.act_model.specs.Legal.{entry_request, IsAdded, IsLegal}
 use Rattle.act_model.proofs.Callers.{ArePlain, caller_again, caller_stays, caller_under}
+use Rattle.act_model.proofs.DeedCases.{of_body, of_psv, deed_cases}
 use Rattle.act_model.proofs.Designating.{designated}
 use Rattle.act_model.proofs.Conducts.{ok_is, Added, adds, adds_again, keeps, step_is, step_makes, conduct_more, conduct_holds}
 use Rattle.act_model.proofs.Hearing.{hears, hear_again, whole_again, number_some, worked, deed_is}
@@ -265,12 +245,13 @@ pub same_deed : (o : Option Refusal) (done deed : Deed) → unless o (Ok done) �
 same_deed None done deed is = (refl, ok_is done deed is)
 same_deed (Some r) done deed is = absurd cc
 
+-- what holds of the deed that is done holds of the deed
+pub by_deed : (P : Deed → Type 0) (o : Option Refusal) (done deed : Deed) → P done → unless o (Ok done) ≡ Ok deed → P deed
+by_deed P o done deed holds is = subst P (same_deed o done deed is).1 holds
+
 module _ (founder : Key) (past : List Deed) (moment : ℤ) (key : Key) (caller : Caller) (found : caller_of founder (members past) key ≡ Some caller) where
   abbrev keeps_caller : Deed → Type 0
   keeps_caller deed = caller_of founder (with_enrolled deed (members past)) key ≡ Some caller
-
-  by_deed : (o : Option Refusal) (done deed : Deed) → keeps_caller done → unless o (Ok done) ≡ Ok deed → keeps_caller deed
-  by_deed o done deed keeps is = subst keeps_caller (same_deed o done deed is).1 keeps
 
   -- what an act does takes nobody's place
   deed_keeps_callers : (a : Act) (deed : Deed) → does past moment a ≡ Ok deed → keeps_caller deed
@@ -278,21 +259,10 @@ module _ (founder : Key) (past : List Deed) (moment : ℤ) (key : Key) (caller :
   deed_keeps_callers (act.Enrol k name role) deed is =
       let done = same_deed (first_row (enrol_rows (members past) k)) (Enrolled (record { key = k; rank = role })) deed is in
       subst keeps_caller done.1 (caller_stays founder (members past) (record { key = k; rank = role }) key caller (first_false _ _ _ done.0) found)
-  deed_keeps_callers (act.Station code name from to) deed is = by_deed (first_row (row_rows (overlaps (tables_of past).stations code from to))) (Stationed code from to) deed found is
-  deed_keeps_callers (act.Code kind letter word) deed is = by_deed (first_row (row_rows (has_code (tables_of past).codes kind letter word))) (Coded kind letter word) deed found is
-  deed_keeps_callers (act.Submit80 lines) deed is = by_deed (first_row (batch_rows (taken_after past moment lines))) (Submitted (taken_after past moment lines)) deed found is
-  deed_keeps_callers (act.SubmitPsv lines) deed is = by_deed (first_row (batch_rows (taken_after past moment lines))) (Submitted (taken_after past moment lines)) deed found is
   deed_keeps_callers (act.Designate tracklets) deed is =
       let d = designated (holdings past) (row_acts_of past) tracklets deed is in
       subst keeps_caller d.deed_is found
-  deed_keeps_callers (act.Attribute t to) deed is = by_deed (first_row (attribute_rows (holdings past) (links_of past) t to)) (Attributed t to) deed found is
-  deed_keeps_callers (act.Release t) deed is = by_deed (first_row (release_rows (holdings past) t)) (Released t) deed found is
-  deed_keeps_callers (act.Identify p s) deed is = by_deed (first_row (identify_rows (links_of past) (numbers_of past) p s)) (Identified p s) deed found is
-  deed_keeps_callers (act.Separate s) deed is = by_deed (first_row (separate_rows (links_of past) s)) (Separated s) deed found is
-  deed_keeps_callers (act.Verdict d u oppositions) deed is = by_deed (first_row (verdict_rows (links_of past) d)) (Judged d u oppositions) deed found is
-  deed_keeps_callers (act.Number first most) deed is = by_deed (first_row (number_rows (numbers_of past) first most (eligible_after past))) (Numbered (numbered_from first (take most (eligible_after past)))) deed found is
-  deed_keeps_callers (act.Opening half given carried) deed is = by_deed (first_row (opening_rows (row_acts_of past) half)) (Opened half given carried) deed found is
-  deed_keeps_callers (act.Retract k) deed is = by_deed (first_row (retract_rows (holdings past).observations k)) (Retracted k) deed found is
+  deed_keeps_callers _ deed is = by_deed keeps_caller _ _ deed found is
 
 module _ (founder : Key) where
   added_callers : (past : List Entry) (e : Entry) (key : Key) (caller : Caller) → IsAdded founder past e → caller_of founder (members (deeds past)) key ≡ Some caller → caller_of founder (members (deeds (e ∷ past))) key ≡ Some caller
@@ -406,140 +376,43 @@ abbrev pub IsPlain : Deed → Type 0
 IsPlain (Enrolled member) = begins_with_plus (key_text member.key) ≡ false
 IsPlain _ = Unit {0}
 
-plain_unless : (o : Option Refusal) (deed : Deed) → IsPlain deed → IsPlain (unless_refused_deed (unless o (Ok deed)))
-plain_unless None deed plain = plain
-plain_unless (Some r) deed plain = tt
+-- the act of such an enrolment, or another act
+abbrev IsPlainAct : Act → Type 0
+IsPlainAct (act.Enrol key name role) = begins_with_plus (key_text key) ≡ false
+IsPlainAct _ = Unit {0}
 
-module _ (plain : Plain) (past : List Deed) (moment : ℤ) where
-  abbrev is_plain_act : Act → Type 0
-  is_plain_act a = IsPlain (unless_refused_deed (does past moment a))
+plain_read : Plain → (verb : Verb) (body : List ℕ) → IfOk (act_of verb body) IsPlainAct
+unfolding act_of
+plain_read plain Enrol body = of_body IsPlainAct enrol_act (enrol_of body) (plain body)
+plain_read plain Station body = of_body IsPlainAct station_act (station_of body) (λ _ _. tt)
+plain_read plain Code body = of_body IsPlainAct code_act (code_of body) (λ _ _. tt)
+plain_read plain SubmitPsv body = of_psv IsPlainAct (psv_lines_of body) (λ _ _. tt)
+plain_read plain Designate body = of_body IsPlainAct designate_act (designate_of body) (λ _ _. tt)
+plain_read plain Attribute body = of_body IsPlainAct attribute_act (attribute_of body) (λ _ _. tt)
+plain_read plain Release body = of_body IsPlainAct release_act (release_of body) (λ _ _. tt)
+plain_read plain Identify body = of_body IsPlainAct identify_act (identify_of body) (λ _ _. tt)
+plain_read plain Separate body = of_body IsPlainAct separate_act (separate_of body) (λ _ _. tt)
+plain_read plain Verdict body = of_body IsPlainAct verdict_act (verdict_of body) (λ _ _. tt)
+plain_read plain Number body = of_body IsPlainAct number_act (number_of_body body) (λ _ _. tt)
+plain_read plain Retract body = of_body IsPlainAct retract_act (retract_of body) (λ _ _. tt)
+plain_read plain Opening body = of_body IsPlainAct opening_act (opening_of body) (λ _ _. tt)
+plain_read plain _ body = tt
 
-  enrol_plain : (key : Key) (name : List ℕ) (role : Rank) → begins_with_plus (key_text key) ≡ false → is_plain_act (act.Enrol key name role)
-  unfolding does
-  enrol_plain key name role is = plain_unless (first_row (enrol_rows (members past) key)) (Enrolled (record { key = key; rank = role })) is
-
-  enrolment_plain : (body : List ℕ) (read : Option EnrolBody) → enrol_of body ≡ read → IsPlain (done_if_read past moment (read_as enrol_act read))
-  enrolment_plain body (Some enrol) is = enrol_plain enrol.key enrol.name enrol.role (plain body enrol is)
-  enrolment_plain body None is = tt
-
-  station_plain : (read : Option StationBody) → IsPlain (done_if_read past moment (read_as station_act read))
-  unfolding does
-  station_plain (Some station) = plain_unless (first_row (row_rows (overlaps (tables_of past).stations station.code station.from station.to))) (Stationed station.code station.from station.to) tt
-  station_plain None = tt
-
-  code_plain : (read : Option CodeBody) → IsPlain (done_if_read past moment (read_as code_act read))
-  unfolding does
-  code_plain (Some code) = plain_unless (first_row (row_rows (has_code (tables_of past).codes code.kind code.letter code.word))) (Coded code.kind code.letter code.word) tt
-  code_plain None = tt
-
-  submit_plain : (lines : List Line) → is_plain_act (act.Submit80 lines)
-  unfolding does
-  submit_plain lines = plain_unless (first_row (batch_rows (taken_after past moment lines))) (Submitted (taken_after past moment lines)) tt
-
-  psv_plain : (read : Result (List Line) (HeaderFault × ℕ)) → IsPlain (done_if_read past moment (psv_act read))
-  unfolding does
-  psv_plain (Ok lines) = plain_unless (first_row (batch_rows (taken_after past moment lines))) (Submitted (taken_after past moment lines)) tt
-  psv_plain (Err fault) = tt
-
-  retraction_plain : (read : Option RetractBody) → IsPlain (done_if_read past moment (read_as retract_act read))
-  unfolding does
-  retraction_plain (Some retract) = plain_unless (first_row (retract_rows (holdings past).observations retract.observation)) (Retracted retract.observation) tt
-  retraction_plain None = tt
-
-  opening_plain : (read : Option OpeningBody) → IsPlain (done_if_read past moment (read_as opening_act read))
-  unfolding does
-  opening_plain (Some opening) = plain_unless (first_row (opening_rows (row_acts_of past) opening.half)) (Opened opening.half opening.given opening.carried) tt
-  opening_plain None = tt
-
-  plain_designation : (tracklets : List ℕ) → is_plain_act (act.Designate tracklets)
-  unfolding does
-  plain_designation tracklets = by (first_row (designate_rows (holdings past) tracklets)) (seen_in (holdings past).observations tracklets)
-    where
-      by : (o : Option Refusal) (seen : List Seen) → IsPlain (unless_refused_deed (unless o (designates_seen (row_acts_of past) tracklets seen)))
-      by (Some r) seen = tt
-      by None [] = tt
-      by None (first ∷ more) = plain_unless (first_row (object_rows (row_acts_of past) (span first more) (half_of (earliest first more).time))) (Designated tracklets (next_in (half_of (earliest first more).time) (row_acts_of past)) (earliest first more).number) tt
-
-  designation_plain : (read : Option DesignateBody) → IsPlain (done_if_read past moment (read_as designate_act read))
-  designation_plain (Some body) = plain_designation body.tracklets
-  designation_plain None = tt
-
-  attribution_plain : (read : Option AttributeBody) → IsPlain (done_if_read past moment (read_as attribute_act read))
-  unfolding does
-  attribution_plain (Some body) = plain_unless (first_row (attribute_rows (holdings past) (links_of past) body.tracklet body.to)) (Attributed body.tracklet body.to) tt
-  attribution_plain None = tt
-
-  release_plain : (read : Option ReleaseBody) → IsPlain (done_if_read past moment (read_as release_act read))
-  unfolding does
-  release_plain (Some body) = plain_unless (first_row (release_rows (holdings past) body.tracklet)) (Released body.tracklet) tt
-  release_plain None = tt
-
-  identification_plain : (read : Option IdentifyBody) → IsPlain (done_if_read past moment (read_as identify_act read))
-  unfolding does
-  identification_plain (Some body) = plain_unless (first_row (identify_rows (links_of past) (numbers_of past) body.principal body.secondary)) (Identified body.principal body.secondary) tt
-  identification_plain None = tt
-
-  separation_plain : (read : Option SeparateBody) → IsPlain (done_if_read past moment (read_as separate_act read))
-  unfolding does
-  separation_plain (Some body) = plain_unless (first_row (separate_rows (links_of past) body.secondary)) (Separated body.secondary) tt
-  separation_plain None = tt
-
-  verdict_plain : (read : Option VerdictBody) → IsPlain (done_if_read past moment (read_as verdict_act read))
-  unfolding does
-  verdict_plain (Some body) = plain_unless (first_row (verdict_rows (links_of past) body.object)) (Judged body.object body.u body.oppositions) tt
-  verdict_plain None = tt
-
-  numbering_plain : (read : Option NumberBody) → IsPlain (done_if_read past moment (read_as number_act read))
-  unfolding does
-  numbering_plain (Some body) = plain_unless (first_row (number_rows (numbers_of past) body.first body.most (eligible_after past))) (Numbered (numbered_from body.first (take body.most (eligible_after past)))) tt
-  numbering_plain None = tt
-
-  act_plain : (verb : Verb) (body : List ℕ) → IsPlain (done_if_read past moment (act_of verb body))
-  unfolding act_of
-  act_plain Enrol body = enrolment_plain body (enrol_of body) refl
-  act_plain Station body = station_plain (station_of body)
-  act_plain Code body = code_plain (code_of body)
-  act_plain Submit80 body = submit_plain (lines_of body)
-  act_plain SubmitPsv body = psv_plain (psv_lines_of body)
-  act_plain Designate body = designation_plain (designate_of body)
-  act_plain Attribute body = attribution_plain (attribute_of body)
-  act_plain Release body = release_plain (release_of body)
-  act_plain Identify body = identification_plain (identify_of body)
-  act_plain Separate body = separation_plain (separate_of body)
-  act_plain Verdict body = verdict_plain (verdict_of body)
-  act_plain Number body = numbering_plain (number_of_body body)
-  act_plain Opening body = opening_plain (opening_of body)
-  act_plain Retract body = retraction_plain (retract_of body)
-  act_plain Receipt body = tt
-  act_plain Tally body = tt
-  act_plain Object body = tt
-  act_plain Tracklet body = tt
-  act_plain Isolated body = tt
-  act_plain HalfMonth body = tt
-  act_plain Name body = tt
-  act_plain Catalogue body = tt
-  act_plain Unknown body = tt
+does_plain : (past : List Deed) (moment : ℤ) (a : Act) (deed : Deed) → IsPlainAct a → does past moment a ≡ Ok deed → IsPlain deed
+unfolding does
+does_plain past moment (act.Enrol key name role) deed plain is = by_deed IsPlain _ _ deed plain is
+does_plain past moment (act.Designate tracklets) deed plain is = (let d = designated (holdings past) (row_acts_of past) tracklets deed is in subst IsPlain d.deed_is tt)
+does_plain past moment _ deed plain is = by_deed IsPlain _ _ deed tt is
 
 with_plain : (deed : Deed) (enrolled : List Member) → IsPlain deed → ArePlain enrolled → ArePlain (with_enrolled deed enrolled)
 with_plain (Enrolled member) enrolled plain others = (plain, others)
-with_plain (Stationed code from to) enrolled plain others = others
-with_plain (Coded kind letter word) enrolled plain others = others
-with_plain (Submitted lines) enrolled plain others = others
-with_plain (Designated tracklets given discovery) enrolled plain others = others
-with_plain (Attributed t to) enrolled plain others = others
-with_plain (Released t) enrolled plain others = others
-with_plain (Identified p s) enrolled plain others = others
-with_plain (Separated s) enrolled plain others = others
-with_plain (Judged p u oppositions) enrolled plain others = others
-with_plain (Numbered pairs) enrolled plain others = others
-with_plain (Opened half given carried) enrolled plain others = others
-with_plain (Retracted k) enrolled plain others = others
-with_plain Nothing enrolled plain others = others
+with_plain _ enrolled plain others = others
 
 module _ (plain : Plain) where
   deed_plain : (past : List Deed) (e : Entry) → IsPlain (deed_of past e)
-  unfolding deed_of
-  deed_plain past e = act_plain plain past e.moment e.verb e.body
+  deed_plain past e =
+      deed_cases IsPlain past e tt
+      (λ a deed read done. does_plain past e.moment a deed (subst (λ (r : Result Act ActFault). IfOk r IsPlainAct) read (plain_read plain e.verb e.body)) done)
 
   members_plain : (history : List Entry) → ArePlain (members (deeds history))
   members_plain [] = tt

@@ -1,34 +1,28 @@
 -- Every letter in the office's tables is printed, and no mode has one of those of refused records. Every station there
 -- is 3 letters or digits.
-use Rattle.std.proofs.Common.{◌≡◌, ℕ, ℤ, List, [], ◌∷◌, ◌++◌, Bool, true, false, cond, Option, Some, Ok, refl, subst}
-use Rattle.std.specs.Prelude.{take, find}
+use Rattle.std.proofs.Common.{◌≡◌, ℕ, ℤ, List, [], ◌∷◌, ◌++◌, Bool, true, false, cond, Some, Ok, refl, subst}
+use Rattle.std.specs.Prelude.{find}
 use Rattle.std.specs.Option.{option_map}
 use Rattle.std.proofs.lemmas.Bool.{and_parts}
 use Rattle.obs_record.specs.declared.short.Short.{Short}
 use Rattle.station_tables.specs.declared.kind.Kind.{Kind}
 use Rattle.station_tables.specs.declared.kind.Kind.TheVariants.{Catalogue, Band, Mode}
 use Rattle.station_tables.specs.Rows.{StationRow, CodeRow, TableRows}
-use Rattle.station_tables.specs.Stations.{overlaps}
-use Rattle.station_tables.specs.Codes.{same_kind, has_word, letter_of, has_code}
+use Rattle.station_tables.specs.Codes.{same_kind, has_word, letter_of}
 use Rattle.station_tables.specs.Letters.{IsLetterOf}
 use Rattle.act_bodies.specs.Members.{is_station_code}
 use Rattle.act_model.specs.declared.act.Act.{Act}
 use Rattle.act_model.specs.declared.act.Act.TheVariants as act
 use Rattle.act_model.specs.declared.deed.Deed.{Deed}
-use Rattle.act_model.specs.declared.deed.Deed.TheVariants.{Enrolled, Stationed, Coded, Submitted, Attributed, Released, Identified, Separated, Judged, Numbered, Retracted, Opened}
 use Rattle.act_model.specs.declared.entry.Entry.{Entry}
-use Rattle.act_model.specs.declared.reply.Refusal.{Refusal}
-use Rattle.act_model.specs.Rows.{first_row, unless}
-use Rattle.act_model.specs.Roster.{members}
 use Rattle.act_model.specs.OfficeTables.{with_row, tables_of}
 use Rattle.act_model.specs.Holdings.{holdings}
-use Rattle.act_model.specs.Designations.{row_acts_of, links_of}
-use Rattle.act_model.specs.Numbers.{numbers_of, numbered_from}
-use Rattle.act_model.specs.Doing.{enrol_rows, row_rows, batch_rows, attribute_rows, release_rows, identify_rows, separate_rows, verdict_rows, number_rows, retract_rows, opening_rows, eligible_after, taken_after, does}
+use Rattle.act_model.specs.Designations.{row_acts_of}
+use Rattle.act_model.specs.Doing.{does}
 use Rattle.act_model.specs.Deeds.{deeds}
 use Rattle.act_model.proofs.DeedCases.{deed_cases}
 use Rattle.act_model.proofs.Designating.{designated}
-use Rattle.act_model.proofs.Legal.{same_deed}
+use Rattle.act_model.proofs.Legal.{by_deed}
 use Rattle.act_model.proofs.Read.{IsSound, IsSoundlyRead, EightyStated, PsvStated, LettersPrinted, StationsCoded, sound_read}
 
 -- ---- rows
@@ -85,31 +79,16 @@ module _ (past : List Deed) (moment : ℤ) (all : AreSound (tables_of past)) whe
   abbrev keeps_letters : Deed → Type 0
   keeps_letters deed = AreSound (with_row deed (tables_of past))
 
-  letters_unless : (o : Option Refusal) (done deed : Deed) → keeps_letters done → unless o (Ok done) ≡ Ok deed → keeps_letters deed
-  letters_unless o done deed keeps is = subst keeps_letters (same_deed o done deed is).1 keeps
-
   act_letters : (a : Act) (deed : Deed) → IsSound a → does past moment a ≡ Ok deed → keeps_letters deed
   unfolding does
-  act_letters (act.Enrol k name role) deed sound is = letters_unless (first_row (enrol_rows (members past) k)) (Enrolled (record { key = k; rank = role })) deed all is
   act_letters (act.Station code name from to) deed sound is =
-      letters_unless (first_row (row_rows (overlaps (tables_of past).stations code from to))) (Stationed code from to) deed
-      (all.0, codes_with (tables_of past).stations (record { code = code; from = from; to = to }) all.1 sound) is
+      by_deed keeps_letters _ _ deed (all.0, codes_with (tables_of past).stations (record { code = code; from = from; to = to }) all.1 sound) is
   act_letters (act.Code kind letter word) deed sound is =
-      letters_unless (first_row (row_rows (has_code (tables_of past).codes kind letter word))) (Coded kind letter word) deed
-      (letters_with (tables_of past).codes (record { kind = kind; letter = letter; word = word }) all.0 sound, all.1) is
-  act_letters (act.Submit80 lines) deed sound is = letters_unless (first_row (batch_rows (taken_after past moment lines))) (Submitted (taken_after past moment lines)) deed all is
-  act_letters (act.SubmitPsv lines) deed sound is = letters_unless (first_row (batch_rows (taken_after past moment lines))) (Submitted (taken_after past moment lines)) deed all is
+      by_deed keeps_letters _ _ deed (letters_with (tables_of past).codes (record { kind = kind; letter = letter; word = word }) all.0 sound, all.1) is
   act_letters (act.Designate tracklets) deed sound is =
       let d = designated (holdings past) (row_acts_of past) tracklets deed is in
       subst keeps_letters d.deed_is all
-  act_letters (act.Attribute t to) deed sound is = letters_unless (first_row (attribute_rows (holdings past) (links_of past) t to)) (Attributed t to) deed all is
-  act_letters (act.Release t) deed sound is = letters_unless (first_row (release_rows (holdings past) t)) (Released t) deed all is
-  act_letters (act.Identify p s) deed sound is = letters_unless (first_row (identify_rows (links_of past) (numbers_of past) p s)) (Identified p s) deed all is
-  act_letters (act.Separate s) deed sound is = letters_unless (first_row (separate_rows (links_of past) s)) (Separated s) deed all is
-  act_letters (act.Verdict d u oppositions) deed sound is = letters_unless (first_row (verdict_rows (links_of past) d)) (Judged d u oppositions) deed all is
-  act_letters (act.Number first most) deed sound is = letters_unless (first_row (number_rows (numbers_of past) first most (eligible_after past))) (Numbered (numbered_from first (take most (eligible_after past)))) deed all is
-  act_letters (act.Opening half given carried) deed sound is = letters_unless (first_row (opening_rows (row_acts_of past) half)) (Opened half given carried) deed all is
-  act_letters (act.Retract k) deed sound is = letters_unless (first_row (retract_rows (holdings past).observations k)) (Retracted k) deed all is
+  act_letters _ deed sound is = by_deed keeps_letters _ _ deed all is
 
 -- ---- histories
 

@@ -16,7 +16,7 @@ use Rattle.identify_core.specs.Acts.LinkAct.{Given, Joined, Parted}
 use Rattle.numbering_core.specs.declared.numbering.Numbering.{Numbering}
 use Rattle.numbering_core.specs.Numbers.{number_of, named, IsUnbroken}
 use Rattle.act_model.specs.declared.deed.Deed.{Deed}
-use Rattle.act_model.specs.declared.deed.Deed.TheVariants.{Enrolled, Stationed, Coded, Submitted, Designated, Attributed, Released, Identified, Separated, Judged, Numbered, Retracted, Opened, Nothing}
+use Rattle.act_model.specs.declared.deed.Deed.TheVariants.{Designated, Identified, Separated, Opened}
 use Rattle.act_model.specs.declared.entry.Entry.{Entry}
 use Rattle.act_model.specs.Deeds.{deeds}
 use Rattle.act_model.specs.Designations.{with_order, with_orders, with_all_given, with_link, links_of, is_given}
@@ -86,16 +86,7 @@ module _ (same : AreSame) where
       carried_more half given carried (links_of past) ranges.half ranges.given_to ranges.orders before
   linked past (Identified p s) before fits = joined_more (links_of past) p s (before p p fits.0).0 before
   linked past (Separated s) before fits = parted_more (links_of past) s (given_is (links_of past) s before fits.0) before
-  linked past (Enrolled member) before fits = before
-  linked past (Stationed code from to) before fits = before
-  linked past (Coded kind letter word) before fits = before
-  linked past (Submitted lines) before fits = before
-  linked past (Attributed t to) before fits = before
-  linked past (Released t) before fits = before
-  linked past (Judged p u oppositions) before fits = before
-  linked past (Numbered pairs) before fits = before
-  linked past (Retracted k) before fits = before
-  linked past Nothing before fits = before
+  linked past _ before fits = before
 
 -- ---- numbers
 

@@ -12,7 +12,7 @@ use Rattle.tracklet_file.specs.declared.tracklet.Tracklet.{Tracklet}
 use Rattle.tracklet_file.specs.Numbering.{next_number, changed_at}
 use Rattle.tracklet_file.specs.Tracklets.{home_of, is_retracted, is_isolated, is_homed, retracted_in, isolated_in, homed_in}
 use Rattle.act_model.specs.declared.deed.Deed.{Deed}
-use Rattle.act_model.specs.declared.deed.Deed.TheVariants.{Enrolled, Stationed, Coded, Submitted, Designated, Attributed, Released, Identified, Separated, Judged, Numbered, Retracted, Opened, Nothing}
+use Rattle.act_model.specs.declared.deed.Deed.TheVariants.{Submitted, Retracted}
 use Rattle.act_model.specs.declared.entry.Entry.{Entry}
 use Rattle.act_model.specs.declared.taken.Placed.{Placed}
 use Rattle.act_model.specs.declared.taken.Taken.{Taken}
@@ -157,16 +157,5 @@ none_more n = omega arith
 
 pub adds_lines : (past : List Deed) (deed : Deed) → observations (deed ∷ past) ≡ observations past + added_by deed
 adds_lines past (Submitted lines) = batch_adds (next_number past) lines (holdings past)
-adds_lines past (Designated tracklets given discovery) = none_more _
-adds_lines past (Attributed t to) = none_more _
-adds_lines past (Released t) = none_more _
-adds_lines past (Identified p s) = none_more _
-adds_lines past (Separated s) = none_more _
-adds_lines past (Judged p u oppositions) = none_more _
-adds_lines past (Numbered pairs) = none_more _
-adds_lines past (Opened half given carried) = none_more _
 adds_lines past (Retracted k) = length_changed (λ o. record o { live = false }) (holdings past).observations k ∙ none_more _
-adds_lines past (Enrolled member) = none_more _
-adds_lines past (Stationed code from to) = none_more _
-adds_lines past (Coded kind letter word) = none_more _
-adds_lines past Nothing = none_more _
+adds_lines past _ = none_more _

@@ -1,8 +1,7 @@
 -- What an act that was read is sure of: its lines state what may be filed, its letter is one of its kind, and its
 -- station's code is 3 letters or digits.
-use Rattle.std.proofs.Common.{◌≡◌, ℕ, true, List, Option, Some, None, Result, Ok, Err, refl}
+use Rattle.std.proofs.Common.{IfOk, ◌≡◌, ℕ, true, List, Some, Result, Ok}
 use Rattle.obs_record.specs.declared.line.Line.{Line}
-use Rattle.obs_record.specs.declared.rule.HeaderFault.{HeaderFault}
 use Rattle.obs_record.specs.Filed.{AreStated}
 use Rattle.station_tables.specs.Letters.{IsLetterOf}
 use Rattle.act_bodies.specs.declared.code.Code.{Code as CodeBody}
@@ -15,9 +14,9 @@ use Rattle.act_model.specs.declared.act.Act.{Act}
 use Rattle.act_model.specs.declared.act.Act.TheVariants as act
 use Rattle.act_model.specs.declared.act.ActFault.{ActFault}
 use Rattle.act_model.specs.declared.request.Verb.{Verb}
-use Rattle.act_model.specs.declared.request.Verb.TheVariants.{Enrol, Station, Code, Submit80, SubmitPsv, Designate, Attribute, Release, Identify, Separate, Verdict, Number, Retract, Opening, Receipt, Tally, Unknown}
-use Rattle.act_model.specs.declared.request.Verb.TheVariants as verbs
-use Rattle.act_model.specs.Acts.{read_as, enrol_act, station_act, code_act, designate_act, attribute_act, release_act, identify_act, separate_act, verdict_act, number_act, retract_act, opening_act, psv_act, act_of}
+use Rattle.act_model.specs.declared.request.Verb.TheVariants.{Enrol, Station, Code, Submit80, SubmitPsv, Designate, Attribute, Release, Identify, Separate, Verdict, Number, Retract, Opening}
+use Rattle.act_model.specs.Acts.{enrol_act, station_act, code_act, designate_act, attribute_act, release_act, identify_act, separate_act, verdict_act, number_act, retract_act, opening_act, act_of}
+use Rattle.act_model.proofs.DeedCases.{of_body, of_psv}
 
 abbrev pub IsSound : Act → Type 0
 IsSound (act.Submit80 lines) = AreStated lines
@@ -27,8 +26,7 @@ IsSound (act.Station code name from to) = is_station_code code ≡ true
 IsSound _ = Unit {0}
 
 abbrev pub IsSoundlyRead : Result Act ActFault → Type 0
-IsSoundlyRead (Ok a) = IsSound a
-IsSoundlyRead (Err fault) = Unit {0}
+IsSoundlyRead read = IfOk read IsSound
 
 -- ---- laws of the crates below
 
@@ -44,45 +42,21 @@ LettersPrinted = (bytes : List ℕ) (code : CodeBody) → code_of bytes ≡ Some
 abbrev pub StationsCoded : Type 0
 StationsCoded = (bytes : List ℕ) (station : StationBody) → station_of bytes ≡ Some station → is_station_code station.code ≡ true
 
-sound_as : {B : Type 0} (asked : B → Act) (o : Option B) → ((body : B) → IsSound (asked body)) → IsSoundlyRead (read_as asked o)
-sound_as asked (Some body) is = is body
-sound_as asked None is = tt
-
 module _ (eighty : EightyStated) (psv : PsvStated) (letters : LettersPrinted) (stations : StationsCoded) where
-  sound_station : (body : List ℕ) (o : Option StationBody) → station_of body ≡ o → IsSoundlyRead (read_as station_act o)
-  sound_station body (Some station) is = stations body station is
-  sound_station body None is = tt
-
-  sound_code : (body : List ℕ) (o : Option CodeBody) → code_of body ≡ o → IsSoundlyRead (read_as code_act o)
-  sound_code body (Some code) is = letters body code is
-  sound_code body None is = tt
-
-  sound_psv : (body : List ℕ) (o : Result (List Line) (HeaderFault × ℕ)) → psv_lines_of body ≡ o → IsSoundlyRead (psv_act o)
-  sound_psv body (Ok lines) is = psv body lines is
-  sound_psv body (Err fault) is = tt
-
   pub sound_read : (verb : Verb) (body : List ℕ) → IsSoundlyRead (act_of verb body)
   unfolding act_of
-  sound_read Enrol body = sound_as enrol_act (enrol_of body) (λ _. tt)
-  sound_read Station body = sound_station body (station_of body) refl
-  sound_read Code body = sound_code body (code_of body) refl
+  sound_read Enrol body = of_body IsSound enrol_act (enrol_of body) (λ _ _. tt)
+  sound_read Station body = of_body IsSound station_act (station_of body) (stations body)
+  sound_read Code body = of_body IsSound code_act (code_of body) (letters body)
   sound_read Submit80 body = eighty body
-  sound_read SubmitPsv body = sound_psv body (psv_lines_of body) refl
-  sound_read Designate body = sound_as designate_act (designate_of body) (λ _. tt)
-  sound_read Attribute body = sound_as attribute_act (attribute_of body) (λ _. tt)
-  sound_read Release body = sound_as release_act (release_of body) (λ _. tt)
-  sound_read Identify body = sound_as identify_act (identify_of body) (λ _. tt)
-  sound_read Separate body = sound_as separate_act (separate_of body) (λ _. tt)
-  sound_read Verdict body = sound_as verdict_act (verdict_of body) (λ _. tt)
-  sound_read Number body = sound_as number_act (number_of_body body) (λ _. tt)
-  sound_read Opening body = sound_as opening_act (opening_of body) (λ _. tt)
-  sound_read Retract body = sound_as retract_act (retract_of body) (λ _. tt)
-  sound_read Receipt body = tt
-  sound_read Tally body = tt
-  sound_read verbs.Object body = tt
-  sound_read verbs.Tracklet body = tt
-  sound_read verbs.Isolated body = tt
-  sound_read verbs.HalfMonth body = tt
-  sound_read verbs.Name body = tt
-  sound_read verbs.Catalogue body = tt
-  sound_read Unknown body = tt
+  sound_read SubmitPsv body = of_psv IsSound (psv_lines_of body) (psv body)
+  sound_read Designate body = of_body IsSound designate_act (designate_of body) (λ _ _. tt)
+  sound_read Attribute body = of_body IsSound attribute_act (attribute_of body) (λ _ _. tt)
+  sound_read Release body = of_body IsSound release_act (release_of body) (λ _ _. tt)
+  sound_read Identify body = of_body IsSound identify_act (identify_of body) (λ _ _. tt)
+  sound_read Separate body = of_body IsSound separate_act (separate_of body) (λ _ _. tt)
+  sound_read Verdict body = of_body IsSound verdict_act (verdict_of body) (λ _ _. tt)
+  sound_read Number body = of_body IsSound number_act (number_of_body body) (λ _ _. tt)
+  sound_read Retract body = of_body IsSound retract_act (retract_of body) (λ _ _. tt)
+  sound_read Opening body = of_body IsSound opening_act (opening_of body) (λ _ _. tt)
+  sound_read _ body = tt

@@ -1,5 +1,5 @@
 -- The designations and the numbers of a history follow one another.
-use Rattle.std.proofs.Common.{◌≡◌, ℕ, zero, suc, ◌+◌, ◌≤◌, Bool, true, false, cond, List, [], ◌∷◌, ◌++◌, length, Option, Some, None, refl, sym, ap, subst, ◌∙◌, inl, inr, arith}
+use Rattle.std.proofs.Common.{◌≡◌, ℕ, zero, suc, ◌+◌, ◌≤◌, Bool, true, false, cond, List, [], ◌∷◌, ◌++◌, length, Some, None, refl, sym, ap, subst, ◌∙◌, inl, inr, arith}
 use Rattle.std.specs.Prelude.{◌⊎◌, nat_eq}
 use Rattle.std.specs.List.{AllByRecursion, Contains, IsDistinct}
 use Rattle.std.specs.Ordering.{eq_by_cmp}
@@ -15,7 +15,7 @@ use Rattle.designate_core.specs.Unbroken.{orders_in, down_from, AreFitting, AreD
 use Rattle.numbering_core.specs.Numbers.{IsUnbroken}
 use Rattle.numbering_core.specs.Unbroken.{WithoutGap, NumbersOnce, DesignationsOnce}
 use Rattle.act_model.specs.declared.deed.Deed.{Deed}
-use Rattle.act_model.specs.declared.deed.Deed.TheVariants.{Enrolled, Stationed, Coded, Submitted, Designated, Attributed, Released, Identified, Separated, Judged, Numbered, Retracted, Opened, Nothing}
+use Rattle.act_model.specs.declared.deed.Deed.TheVariants.{Designated, Opened}
 use Rattle.act_model.specs.declared.entry.Entry.{Entry}
 use Rattle.act_model.specs.Deeds.{deeds}
 use Rattle.act_model.specs.Designations.{row_acts_of, with_order, with_orders}
@@ -29,37 +29,14 @@ given_by_takes : (past : List Deed) → AreGivenNext past → given_by past ≡ 
 given_by_takes [] next = refl
 given_by_takes (Designated tracklets given discovery ∷ past) next =
     ap (λ (p : Provisional). p ∷ given_by past) next.0.0 ∙ ap (λ (ps : List Provisional). next_in given.half (row_acts_of past) ∷ ps) (given_by_takes past next.1)
-given_by_takes (Opened half given carried ∷ past) next = given_by_takes past next.1
-given_by_takes (Enrolled member ∷ past) next = given_by_takes past next.1
-given_by_takes (Stationed code from to ∷ past) next = given_by_takes past next.1
-given_by_takes (Coded kind letter word ∷ past) next = given_by_takes past next.1
-given_by_takes (Submitted lines ∷ past) next = given_by_takes past next.1
-given_by_takes (Attributed t to ∷ past) next = given_by_takes past next.1
-given_by_takes (Released t ∷ past) next = given_by_takes past next.1
-given_by_takes (Identified p s ∷ past) next = given_by_takes past next.1
-given_by_takes (Separated s ∷ past) next = given_by_takes past next.1
-given_by_takes (Judged p u oppositions ∷ past) next = given_by_takes past next.1
-given_by_takes (Numbered pairs ∷ past) next = given_by_takes past next.1
-given_by_takes (Retracted k ∷ past) next = given_by_takes past next.1
-given_by_takes (Nothing ∷ past) next = given_by_takes past next.1
+given_by_takes (_ ∷ past) next = given_by_takes past next.1
 
 -- what came to the rows fits
 rows_fit : (past : List Deed) → AreGivenNext past → AreFitting (row_acts_of past)
 rows_fit [] next = tt
 rows_fit (Designated tracklets given discovery ∷ past) next = (next.0.1, rows_fit past next.1)
 rows_fit (Opened half given carried ∷ past) next = (let ranges = next.0.1 in ((next.0.0, ranges.given_from, ranges.given_to), rows_fit past next.1))
-rows_fit (Enrolled member ∷ past) next = rows_fit past next.1
-rows_fit (Stationed code from to ∷ past) next = rows_fit past next.1
-rows_fit (Coded kind letter word ∷ past) next = rows_fit past next.1
-rows_fit (Submitted lines ∷ past) next = rows_fit past next.1
-rows_fit (Attributed t to ∷ past) next = rows_fit past next.1
-rows_fit (Released t ∷ past) next = rows_fit past next.1
-rows_fit (Identified p s ∷ past) next = rows_fit past next.1
-rows_fit (Separated s ∷ past) next = rows_fit past next.1
-rows_fit (Judged p u oppositions ∷ past) next = rows_fit past next.1
-rows_fit (Numbered pairs ∷ past) next = rows_fit past next.1
-rows_fit (Retracted k ∷ past) next = rows_fit past next.1
-rows_fit (Nothing ∷ past) next = rows_fit past next.1
+rows_fit (_ ∷ past) next = rows_fit past next.1
 
 length_down : (from n : ℕ) → length (down_from from n) ≡ n
 length_down from zero = refl
@@ -136,18 +113,7 @@ module _ (same : AreSame) (itself : IsItself) (none : NoneBeforeBegun) (grow : C
             let more = (grow p.half (OpenedRow half given) (row_acts_of past) (next.0.0, ranges.given_from, ranges.given_to)).0 in
             (within.0, omega (arith, within.1, more))
       ]
-  carried_within (Enrolled member ∷ past) next p among = carried_within past next.1 p among
-  carried_within (Stationed code from to ∷ past) next p among = carried_within past next.1 p among
-  carried_within (Coded kind letter word ∷ past) next p among = carried_within past next.1 p among
-  carried_within (Submitted lines ∷ past) next p among = carried_within past next.1 p among
-  carried_within (Attributed t to ∷ past) next p among = carried_within past next.1 p among
-  carried_within (Released t ∷ past) next p among = carried_within past next.1 p among
-  carried_within (Identified q s ∷ past) next p among = carried_within past next.1 p among
-  carried_within (Separated s ∷ past) next p among = carried_within past next.1 p among
-  carried_within (Judged q u oppositions ∷ past) next p among = carried_within past next.1 p among
-  carried_within (Numbered pairs ∷ past) next p among = carried_within past next.1 p among
-  carried_within (Retracted k ∷ past) next p among = carried_within past next.1 p among
-  carried_within (Nothing ∷ past) next p among = carried_within past next.1 p among
+  carried_within (_ ∷ past) next p among = carried_within past next.1 p among
 
   -- no designation was carried twice
   carried_differ : (past : List Deed) → AreGivenNext past → AreDifferent (carried_by past)
@@ -161,18 +127,7 @@ module _ (same : AreSame) (itself : IsItself) (none : NoneBeforeBegun) (grow : C
       let within = carried_within past next.1 p before in
       let nothing : given_in p.half (row_acts_of past) ≡ 0 = subst (λ (h : HalfMonth). given_in h (row_acts_of past) ≡ 0) (sym at.0) (none half (row_acts_of past) next.0.0) in
       omega (arith, nothing, within.0, within.1))
-  carried_differ (Enrolled member ∷ past) next = carried_differ past next.1
-  carried_differ (Stationed code from to ∷ past) next = carried_differ past next.1
-  carried_differ (Coded kind letter word ∷ past) next = carried_differ past next.1
-  carried_differ (Submitted lines ∷ past) next = carried_differ past next.1
-  carried_differ (Attributed t to ∷ past) next = carried_differ past next.1
-  carried_differ (Released t ∷ past) next = carried_differ past next.1
-  carried_differ (Identified p s ∷ past) next = carried_differ past next.1
-  carried_differ (Separated s ∷ past) next = carried_differ past next.1
-  carried_differ (Judged p u oppositions ∷ past) next = carried_differ past next.1
-  carried_differ (Numbered pairs ∷ past) next = carried_differ past next.1
-  carried_differ (Retracted k ∷ past) next = carried_differ past next.1
-  carried_differ (Nothing ∷ past) next = carried_differ past next.1
+  carried_differ (_ ∷ past) next = carried_differ past next.1
 
   -- what holds of each designation's order holds of the orders in a half-month
   orders_most : (names : List Provisional) (most : HalfMonth → ℕ) → ((p : Provisional) → Contains names p → p.order ≤ most p.half) → (half : HalfMonth)

@@ -1,13 +1,11 @@
 -- The tracklet of each observation is there.
 use Rattle.std.proofs.Common.{◌≡◌, ℕ, ℤ, ◌+◌, ◌≤◌, List, [], ◌∷◌, length, Bool, true, false, cond, Option, Some, None, Result, Ok, Err, refl, sym, ap, suc, ◌∙◌, subst, arith, max, eqb-true}
-use Rattle.std.specs.Prelude.{take, ◌==◌}
+use Rattle.std.specs.Prelude.{◌==◌}
 use Rattle.std.proofs.lemmas.Bool.Decides.{nat_tests}
 use Rattle.obs_record.specs.declared.line.Line.{Line}
 use Rattle.obs_record.specs.declared.rule.RuleCode.{RuleCode}
 use Rattle.obs_record.specs.declared.sighting.Sighting.{Sighting}
 use Rattle.packed_names.specs.declared.name.Designation.{Designation}
-use Rattle.station_tables.specs.Stations.{overlaps}
-use Rattle.station_tables.specs.Codes.{has_code}
 use Rattle.tracklet_file.specs.declared.observation.Observation.{Observation}
 use Rattle.tracklet_file.specs.declared.tracklet.Tracklet.{Tracklet}
 use Rattle.tracklet_file.specs.Numbering.{next_number, numbered}
@@ -16,27 +14,23 @@ use Rattle.tracklet_file.specs.Tracklets.{with_tracklet, with_home}
 use Rattle.act_model.specs.declared.act.Act.{Act}
 use Rattle.act_model.specs.declared.act.Act.TheVariants as act
 use Rattle.act_model.specs.declared.deed.Deed.{Deed}
-use Rattle.act_model.specs.declared.deed.Deed.TheVariants.{Enrolled, Stationed, Coded, Submitted, Attributed, Released, Identified, Separated, Judged, Numbered, Retracted, Opened}
+use Rattle.act_model.specs.declared.deed.Deed.TheVariants.{Submitted}
 use Rattle.act_model.specs.declared.entry.Entry.{Entry}
-use Rattle.act_model.specs.declared.reply.Refusal.{Refusal}
 use Rattle.act_model.specs.declared.ruling.Ruling.{Ruling}
 use Rattle.act_model.specs.declared.taken.Placed.{Placed}
 use Rattle.act_model.specs.declared.taken.Taken.{Taken}
 use Rattle.act_model.specs.BatchRules.{name_of, batch_rulings}
 use Rattle.act_model.specs.Deeds.{deeds}
-use Rattle.act_model.specs.Designations.{row_acts_of, links_of}
-use Rattle.act_model.specs.Doing.{enrol_rows, row_rows, batch_rows, attribute_rows, release_rows, identify_rows, separate_rows, verdict_rows, number_rows, retract_rows, opening_rows, eligible_after, taken_after, does}
+use Rattle.act_model.specs.Designations.{row_acts_of}
+use Rattle.act_model.specs.Doing.{taken_after, does}
 use Rattle.act_model.specs.Holdings.{Holdings, with_found, with_batch, with_homes, with_deed, holdings}
 use Rattle.act_model.specs.Knowing.{known_of}
 use Rattle.act_model.specs.Known.{KnownOffice}
-use Rattle.act_model.specs.Numbers.{numbers_of, numbered_from}
 use Rattle.act_model.specs.OfficeTables.{tables_of}
-use Rattle.act_model.specs.Roster.{members}
-use Rattle.act_model.specs.Rows.{first_row, unless}
 use Rattle.act_model.specs.Taken.{track_of_group, found_in, tracks_with, taken_lines}
 use Rattle.act_model.proofs.DeedCases.{deed_cases}
 use Rattle.act_model.proofs.Designating.{designated}
-use Rattle.act_model.proofs.Legal.{same_deed}
+use Rattle.act_model.proofs.Legal.{by_deed}
 
 abbrev IsThere : ℕ → ℕ → Type 0
 IsThere n track = (1 ≤ track) × (track ≤ n)
@@ -131,9 +125,6 @@ module _ (past : List Deed) (moment : ℤ) (all : AreThere (length (holdings pas
   abbrev keeps : Deed → Type 0
   keeps deed = AreThere (length (with_deed (next_number past) deed (holdings past)).tracklets) (with_deed (next_number past) deed (holdings past)).observations
 
-  keeps_unless : (o : Option Refusal) (done deed : Deed) → keeps done → unless o (Ok done) ≡ Ok deed → keeps deed
-  keeps_unless o done deed is unless_is = subst keeps (same_deed o done deed unless_is).1 is
-
   submit_keeps : (lines : List Line) → keeps (Submitted (taken_after past moment lines))
   submit_keeps lines =
       let n = length (holdings past).tracklets in
@@ -146,22 +137,15 @@ module _ (past : List Deed) (moment : ℤ) (all : AreThere (length (holdings pas
 
   act_keeps : (a : Act) (deed : Deed) → does past moment a ≡ Ok deed → keeps deed
   unfolding does
-  act_keeps (act.Enrol k name role) deed is = keeps_unless (first_row (enrol_rows (members past) k)) (Enrolled (record { key = k; rank = role })) deed all is
-  act_keeps (act.Station code name from to) deed is = keeps_unless (first_row (row_rows (overlaps (tables_of past).stations code from to))) (Stationed code from to) deed all is
-  act_keeps (act.Code kind letter word) deed is = keeps_unless (first_row (row_rows (has_code (tables_of past).codes kind letter word))) (Coded kind letter word) deed all is
-  act_keeps (act.Submit80 lines) deed is = keeps_unless (first_row (batch_rows (taken_after past moment lines))) (Submitted (taken_after past moment lines)) deed (submit_keeps lines) is
-  act_keeps (act.SubmitPsv lines) deed is = keeps_unless (first_row (batch_rows (taken_after past moment lines))) (Submitted (taken_after past moment lines)) deed (submit_keeps lines) is
+  act_keeps (act.Submit80 lines) deed is = by_deed keeps _ _ deed (submit_keeps lines) is
+  act_keeps (act.SubmitPsv lines) deed is = by_deed keeps _ _ deed (submit_keeps lines) is
   act_keeps (act.Designate tracklets) deed is =
       let d = designated (holdings past) (row_acts_of past) tracklets deed is in
       subst keeps d.deed_is (homed _ (length-with_homes (holdings past).tracklets tracklets _))
-  act_keeps (act.Attribute t to) deed is = keeps_unless (first_row (attribute_rows (holdings past) (links_of past) t to)) (Attributed t to) deed (homed (with_home (holdings past).tracklets t (Some to)) (length-with_home (holdings past).tracklets t (Some to))) is
-  act_keeps (act.Release t) deed is = keeps_unless (first_row (release_rows (holdings past) t)) (Released t) deed (homed (with_home (holdings past).tracklets t None) (length-with_home (holdings past).tracklets t None)) is
-  act_keeps (act.Identify p s) deed is = keeps_unless (first_row (identify_rows (links_of past) (numbers_of past) p s)) (Identified p s) deed all is
-  act_keeps (act.Separate s) deed is = keeps_unless (first_row (separate_rows (links_of past) s)) (Separated s) deed all is
-  act_keeps (act.Verdict d u oppositions) deed is = keeps_unless (first_row (verdict_rows (links_of past) d)) (Judged d u oppositions) deed all is
-  act_keeps (act.Number first most) deed is = keeps_unless (first_row (number_rows (numbers_of past) first most (eligible_after past))) (Numbered (numbered_from first (take most (eligible_after past)))) deed all is
-  act_keeps (act.Opening half given carried) deed is = keeps_unless (first_row (opening_rows (row_acts_of past) half)) (Opened half given carried) deed all is
-  act_keeps (act.Retract k) deed is = keeps_unless (first_row (retract_rows (holdings past).observations k)) (Retracted k) deed (there_retracted (length (holdings past).tracklets) (holdings past).observations k all) is
+  act_keeps (act.Attribute t to) deed is = by_deed keeps _ _ deed (homed _ (length-with_home (holdings past).tracklets t (Some to))) is
+  act_keeps (act.Release t) deed is = by_deed keeps _ _ deed (homed _ (length-with_home (holdings past).tracklets t None)) is
+  act_keeps (act.Retract k) deed is = by_deed keeps _ _ deed (there_retracted (length (holdings past).tracklets) (holdings past).observations k all) is
+  act_keeps _ deed is = by_deed keeps _ _ deed all is
 
 -- ---- histories
 

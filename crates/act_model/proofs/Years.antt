@@ -1,38 +1,33 @@
 -- Every observation that the office accepted is of a year that designations have.
 use Rattle.std.proofs.Common.{◌≡◌, ℕ, ℤ, List, [], ◌∷◌, length, map, Bool, true, false, cond, Option, Some, None, Result, Ok, Err, refl, subst}
-use Rattle.std.specs.Prelude.{take, ◌==◌}
+use Rattle.std.specs.Prelude.{◌==◌}
 use Rattle.obs_record.specs.declared.line.Line.{Line}
 use Rattle.obs_record.specs.declared.rule.RuleCode.{RuleCode}
 use Rattle.obs_record.specs.declared.sighting.Sighting.{Sighting}
 use Rattle.station_tables.specs.Rows.{TableRows}
-use Rattle.station_tables.specs.Stations.{overlaps}
-use Rattle.station_tables.specs.Codes.{has_code}
 use Rattle.tracklet_file.specs.declared.observation.Observation.{Observation}
 use Rattle.tracklet_file.specs.Numbering.{next_number, numbered}
 use Rattle.tracklet_file.specs.Observations.{with_retraction}
 use Rattle.act_model.specs.declared.act.Act.{Act}
 use Rattle.act_model.specs.declared.act.Act.TheVariants as act
 use Rattle.act_model.specs.declared.deed.Deed.{Deed}
-use Rattle.act_model.specs.declared.deed.Deed.TheVariants.{Enrolled, Stationed, Coded, Submitted, Attributed, Released, Identified, Separated, Judged, Numbered, Retracted, Opened}
+use Rattle.act_model.specs.declared.deed.Deed.TheVariants.{Submitted}
 use Rattle.act_model.specs.declared.entry.Entry.{Entry}
-use Rattle.act_model.specs.declared.reply.Refusal.{Refusal}
 use Rattle.act_model.specs.declared.taken.Placed.{Placed}
 use Rattle.act_model.specs.declared.taken.Taken.{Taken}
-use Rattle.act_model.specs.Rows.{first_row, unless}
+use Rattle.act_model.specs.Rows.{first_row}
 use Rattle.act_model.specs.Known.{KnownOffice}
 use Rattle.act_model.specs.Knowing.{known_of}
 use Rattle.act_model.specs.BatchRules.{is_in_years, line_rules, unless_broken, checked_reading, with_passed, checked_lines, passed_in, group_fault, reading_fault, ruling_among, batch_rulings}
 use Rattle.act_model.specs.Taken.{track_of_group, found_in, tracks_with, taken_lines}
-use Rattle.act_model.specs.Roster.{members}
 use Rattle.act_model.specs.OfficeTables.{tables_of}
 use Rattle.act_model.specs.Holdings.{Holdings, with_found, with_batch, with_deed, holdings}
-use Rattle.act_model.specs.Designations.{row_acts_of, links_of}
-use Rattle.act_model.specs.Numbers.{numbers_of, numbered_from}
-use Rattle.act_model.specs.Doing.{enrol_rows, row_rows, batch_rows, attribute_rows, release_rows, identify_rows, separate_rows, verdict_rows, number_rows, retract_rows, opening_rows, eligible_after, taken_after, does}
+use Rattle.act_model.specs.Designations.{row_acts_of}
+use Rattle.act_model.specs.Doing.{taken_after, does}
 use Rattle.act_model.specs.Deeds.{deeds}
 use Rattle.act_model.proofs.DeedCases.{deed_cases}
 use Rattle.act_model.proofs.Designating.{designated}
-use Rattle.act_model.proofs.Legal.{same_deed}
+use Rattle.act_model.proofs.Legal.{by_deed}
 use Rattle.act_model.proofs.RowLemmas.{rows_off, not_off}
 
 -- ---- lists
@@ -115,30 +110,18 @@ module _ (past : List Deed) (moment : ℤ) (all : AreInYears (holdings past).obs
   abbrev keeps_years : Deed → Type 0
   keeps_years deed = AreInYears (with_deed (next_number past) deed (holdings past)).observations
 
-  years_unless : (o : Option Refusal) (done deed : Deed) → keeps_years done → unless o (Ok done) ≡ Ok deed → keeps_years deed
-  years_unless o done deed keeps is = subst keeps_years (same_deed o done deed is).1 keeps
-
   submit_years : (lines : List Line) → keeps_years (Submitted (taken_after past moment lines))
   submit_years lines = years_batch (next_number past) (taken_after past moment lines) (holdings past) (taken_years past moment lines) all
 
   act_years : (a : Act) (deed : Deed) → does past moment a ≡ Ok deed → keeps_years deed
   unfolding does
-  act_years (act.Enrol k name role) deed is = years_unless (first_row (enrol_rows (members past) k)) (Enrolled (record { key = k; rank = role })) deed all is
-  act_years (act.Station code name from to) deed is = years_unless (first_row (row_rows (overlaps (tables_of past).stations code from to))) (Stationed code from to) deed all is
-  act_years (act.Code kind letter word) deed is = years_unless (first_row (row_rows (has_code (tables_of past).codes kind letter word))) (Coded kind letter word) deed all is
-  act_years (act.Submit80 lines) deed is = years_unless (first_row (batch_rows (taken_after past moment lines))) (Submitted (taken_after past moment lines)) deed (submit_years lines) is
-  act_years (act.SubmitPsv lines) deed is = years_unless (first_row (batch_rows (taken_after past moment lines))) (Submitted (taken_after past moment lines)) deed (submit_years lines) is
+  act_years (act.Submit80 lines) deed is = by_deed keeps_years _ _ deed (submit_years lines) is
+  act_years (act.SubmitPsv lines) deed is = by_deed keeps_years _ _ deed (submit_years lines) is
   act_years (act.Designate tracklets) deed is =
       let d = designated (holdings past) (row_acts_of past) tracklets deed is in
       subst keeps_years d.deed_is all
-  act_years (act.Attribute t to) deed is = years_unless (first_row (attribute_rows (holdings past) (links_of past) t to)) (Attributed t to) deed all is
-  act_years (act.Release t) deed is = years_unless (first_row (release_rows (holdings past) t)) (Released t) deed all is
-  act_years (act.Identify p s) deed is = years_unless (first_row (identify_rows (links_of past) (numbers_of past) p s)) (Identified p s) deed all is
-  act_years (act.Separate s) deed is = years_unless (first_row (separate_rows (links_of past) s)) (Separated s) deed all is
-  act_years (act.Verdict d u oppositions) deed is = years_unless (first_row (verdict_rows (links_of past) d)) (Judged d u oppositions) deed all is
-  act_years (act.Number first most) deed is = years_unless (first_row (number_rows (numbers_of past) first most (eligible_after past))) (Numbered (numbered_from first (take most (eligible_after past)))) deed all is
-  act_years (act.Opening half given carried) deed is = years_unless (first_row (opening_rows (row_acts_of past) half)) (Opened half given carried) deed all is
-  act_years (act.Retract k) deed is = years_unless (first_row (retract_rows (holdings past).observations k)) (Retracted k) deed (years_retracted (holdings past).observations k all) is
+  act_years (act.Retract k) deed is = by_deed keeps_years _ _ deed (years_retracted (holdings past).observations k all) is
+  act_years _ deed is = by_deed keeps_years _ _ deed all is
 
 -- ---- histories
 

@@ -18,20 +18,32 @@ use Rattle.act_bodies.specs.Bodies.{separate_of, verdict_of, number_of_body, ret
 use Rattle.act_bodies.specs.Bodies.{IsOpening}
 use Rattle.obs_record.specs.declared.line.Line.{Line}
 use Rattle.obs_record.specs.declared.rule.HeaderFault.{HeaderFault}
+use Rattle.act_bodies.specs.declared.fault.BodyFault.{BodyFault}
+use Rattle.act_bodies.specs.declared.fault.BodyFault.TheVariants as bodies
+use Rattle.ades_psv.specs.declared.fault.PsvFault.{PsvFault}
+use Rattle.ades_psv.specs.declared.fault.PsvFault.TheVariants as batches
 use Rattle.col80_format.specs.Batch.{lines_of}
 use Rattle.ades_psv.specs.Batch.{psv_lines_of}
 use Rattle.act_model.specs.Queries.{IsReadQuery}
 use Rattle.act_model.specs.declared.request.Verb.{Verb}
 use Rattle.act_model.specs.declared.request.Verb.TheVariants.{Enrol, Station, Code, Submit80, SubmitPsv, Designate}
 use Rattle.act_model.specs.declared.request.Verb.TheVariants.{Attribute, Release, Identify, Separate, Verdict, Number}
-use Rattle.act_model.specs.declared.request.Verb.TheVariants.{Retract, Opening, Receipt, Tally, Object, Tracklet}
-use Rattle.act_model.specs.declared.request.Verb.TheVariants.{Isolated, HalfMonth, Name, Catalogue, Unknown}
+use Rattle.act_model.specs.declared.request.Verb.TheVariants.{Retract, Opening}
 use Rattle.act_model.specs.declared.act.Act.{Act}
 use Rattle.act_model.specs.declared.act.Act.TheVariants as act
 use Rattle.act_model.specs.declared.heard.Asked.{Asked}
 use Rattle.act_model.specs.declared.heard.Asked.TheVariants as asked
 use Rattle.act_model.specs.declared.act.ActFault.{ActFault}
-use Rattle.act_model.specs.declared.act.ActFault.TheVariants.{Unread, Header}
+use Rattle.act_model.specs.declared.act.ActFault.TheVariants.{Unread, Header, NoMemory}
+
+-- the fault of an act whose body has this fault
+abbrev pub fault_of_body : BodyFault → ActFault
+fault_of_body bodies.Unread = Unread
+fault_of_body bodies.NoMemory = NoMemory
+
+abbrev pub fault_of_psv : PsvFault → ActFault
+fault_of_psv (batches.Header fault line) = Header fault line
+fault_of_psv batches.NoMemory = NoMemory
 
 -- what was asked, or the body isn't as the verb wants it
 abbrev pub read_as : {B : Type 0} → (B → Act) → Option B → Result Act ActFault
@@ -97,15 +109,7 @@ act_of Verdict body = read_as verdict_act (verdict_of body)
 act_of Number body = read_as number_act (number_of_body body)
 act_of Retract body = read_as retract_act (retract_of body)
 act_of Opening body = read_as opening_act (opening_of body)
-act_of Receipt body = Err Unread
-act_of Tally body = Err Unread
-act_of Object body = Err Unread
-act_of Tracklet body = Err Unread
-act_of Isolated body = Err Unread
-act_of HalfMonth body = Err Unread
-act_of Name body = Err Unread
-act_of Catalogue body = Err Unread
-act_of Unknown body = Err Unread
+act_of _ body = Err Unread
 
 -- What reading a body makes sure of: a station's last day isn't before its first; the tracklets that are to become an
 -- object are one at least, and at most 100; so many numbers are asked for, from a number that can be given; and a

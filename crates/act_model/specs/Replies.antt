@@ -125,35 +125,18 @@ abbrev pub text_bytes : Text → List ℕ
 text_bytes (texts.Lines text) = text
 text_bytes (texts.Line line) = line.items
 
+-- anything else isn't allowed by what the office has
 abbrev pub refusal_status : Refusal → ℕ
 refusal_status (TooLarge what) = 413
 refusal_status (Unread what) = 400
 refusal_status UnknownKey = 401
-refusal_status (OtherRequest receipt) = 409
 refusal_status Role = 403
 refusal_status (UnknownThing thing) = 404
 refusal_status (Header fault line) = 422
 refusal_status (NoLine faults) = 422
-refusal_status (NotIsolated t) = 409
-refusal_status (NotHomed t) = 409
-refusal_status (Empty t) = 409
-refusal_status (OneNight time) = 409
-refusal_status (HalfMonthFull half limit) = 409
-refusal_status (HalfMonthBegun half) = 409
-refusal_status (NotPrincipal d) = 409
-refusal_status SameObject = 409
-refusal_status BothNumbered = 409
-refusal_status NumberedSecondary = 409
-refusal_status (NotSecondary d) = 409
-refusal_status (AlreadyRetracted k) = 409
-refusal_status (NotNext next) = 409
-refusal_status NoneEligible = 409
-refusal_status NumbersFull = 409
-refusal_status AlreadyThere = 409
-refusal_status RosterFull = 409
-refusal_status (JournalFull used more limit) = 409
 refusal_status (DiskFault doubt) = 503
 refusal_status NoMemory = 507
+refusal_status _ = 409
 
 abbrev pub status_of : Reply → ℕ
 status_of (Done text) = 200

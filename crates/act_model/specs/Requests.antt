@@ -39,29 +39,8 @@ verb_of word =
 
 -- a verb that names nothing
 abbrev pub is_unknown : Verb → Bool
-is_unknown Enrol = false
-is_unknown Station = false
-is_unknown Code = false
-is_unknown Submit80 = false
-is_unknown SubmitPsv = false
-is_unknown Designate = false
-is_unknown Attribute = false
-is_unknown Release = false
-is_unknown Identify = false
-is_unknown Separate = false
-is_unknown Verdict = false
-is_unknown Number = false
-is_unknown Retract = false
-is_unknown Opening = false
-is_unknown Receipt = false
-is_unknown Tally = false
-is_unknown Object = false
-is_unknown Tracklet = false
-is_unknown Isolated = false
-is_unknown HalfMonth = false
-is_unknown Name = false
-is_unknown Catalogue = false
 is_unknown Unknown = true
+is_unknown _ = false
 
 -- a verb of an act, which may become an entry; any other is that of a query, which only reads
 abbrev pub is_act : Verb → Bool
@@ -79,23 +58,13 @@ is_act Verdict = true
 is_act Number = true
 is_act Retract = true
 is_act Opening = true
-is_act Receipt = false
-is_act Tally = false
-is_act Object = false
-is_act Tracklet = false
-is_act Isolated = false
-is_act HalfMonth = false
-is_act Name = false
-is_act Catalogue = false
-is_act Unknown = false
+is_act _ = false
 
 -- a verb of officers alone
 abbrev pub is_officers : Verb → Bool
 is_officers Enrol = true
 is_officers Station = true
 is_officers Code = true
-is_officers Submit80 = false
-is_officers SubmitPsv = false
 is_officers Designate = true
 is_officers Attribute = true
 is_officers Release = true
@@ -103,17 +72,8 @@ is_officers Identify = true
 is_officers Separate = true
 is_officers Verdict = true
 is_officers Number = true
-is_officers Retract = false
 is_officers Opening = true
-is_officers Receipt = false
-is_officers Tally = false
-is_officers Object = false
-is_officers Tracklet = false
-is_officers Isolated = false
-is_officers HalfMonth = false
-is_officers Name = false
-is_officers Catalogue = false
-is_officers Unknown = false
+is_officers _ = false
 
 -- the number of a verb of an act, and 0 for no act
 abbrev pub verb_code : Verb → ℕ
@@ -131,15 +91,7 @@ verb_code Verdict = 11
 verb_code Number = 12
 verb_code Retract = 13
 verb_code Opening = 14
-verb_code Receipt = 0
-verb_code Tally = 0
-verb_code Object = 0
-verb_code Tracklet = 0
-verb_code Isolated = 0
-verb_code HalfMonth = 0
-verb_code Name = 0
-verb_code Catalogue = 0
-verb_code Unknown = 0
+verb_code _ = 0
 
 abbrev pub same_verb : Verb → Verb → Bool
 same_verb a b = verb_code a == verb_code b

@@ -6,13 +6,13 @@ ghost use Rattle.act_model.specs.Acts.{act_of, IsRead};
 
 use crate::request::Verb;
 use act_bodies::{
-    BodyFault, Ids, Key, Rank, read_attribute, read_code, read_designate, read_enrol,
-    read_identify, read_number, read_opening, read_release, read_retract, read_separate,
-    read_station, read_verdict,
+    Attribute, BodyFault, Code, Enrol, Ids, Key, Number, Rank, read_attribute, read_code,
+    read_designate, read_enrol, read_identify, read_number, read_opening, read_release,
+    read_retract, read_separate, read_station, read_verdict,
 };
 use ades_psv::{PsvFault, read_psv};
 use col80_format::split_batch;
-use item_list::Bytes;
+use item_list::{Bytes, NoMemory};
 use obs_record::{HeaderFault, Lines, Short};
 use packed_names::{Designation, HalfMonth};
 use station_tables::Kind;
@@ -135,218 +135,42 @@ impl Display for ActFault {
 
 impl Error for ActFault {}
 
-fn unread_body(fault: BodyFault) -> ActFault
-    ensures unread { result ≡ ActFault.Unread → fault ≡ BodyFault.Unread }
-    ensures plain { (what : HeaderFault) (line : ℕ) → result ≡ ActFault.Header what line → ⊥ }
-{
-    match fault {
-        BodyFault::Unread => ActFault::Unread,
-        BodyFault::NoMemory => ActFault::NoMemory,
+impl From<NoMemory> for ActFault {
+    ghost use Rattle.std.specs.Prelude.{◌≡◌};
+    ghost use Rattle.act_model.specs.declared.act.ActFault.TheVariants as faults;
+
+    ghost from_gives = { λ _ fault. fault ≡ faults.NoMemory };
+
+    fn from(_: NoMemory) -> ActFault {
+        ActFault::NoMemory
     }
 }
 
-#[tactic(auto, unfolding(crate::specs::Acts::act_of))]
-fn read_enrolment(alloc: Global, body: &[u8]) -> Result<Act, ActFault>
-    ensures act { IfOk result (λ act. act_of Verb.Enrol body.now ≡ Ok act) }
-    ensures unread { result ≡ Err ActFault.Unread → act_of Verb.Enrol body.now ≡ Err ActFault.Unread }
-    ensures plain { (fault : HeaderFault) (line : ℕ) → result ≡ Err (ActFault.Header fault line) → ⊥ }
-    ensures read { IfOk result IsRead }
-{
-    match read_enrol(alloc, body) {
-        Ok(enrol) => Ok(Act::Enrol {
-            key: enrol.key,
-            name: enrol.name,
-            role: enrol.role,
-        }),
-        Err(fault) => Err(unread_body(fault)),
-    }
-}
+impl From<BodyFault> for ActFault {
+    ghost use Rattle.std.specs.Prelude.{◌≡◌};
+    ghost use Rattle.act_model.specs.Acts.{fault_of_body};
 
-#[tactic(auto, unfolding(crate::specs::Acts::act_of))]
-fn read_station_row(alloc: Global, body: &[u8]) -> Result<Act, ActFault>
-    ensures act { IfOk result (λ act. act_of Verb.Station body.now ≡ Ok act) }
-    ensures unread { result ≡ Err ActFault.Unread → act_of Verb.Station body.now ≡ Err ActFault.Unread }
-    ensures plain { (fault : HeaderFault) (line : ℕ) → result ≡ Err (ActFault.Header fault line) → ⊥ }
-    ensures read { IfOk result IsRead }
-{
-    match read_station(alloc, body) {
-        Ok(station) => {
-            let code = station.code;
-            Ok(Act::Station {
-                code,
-                name: station.name,
-                from: station.from,
-                to: station.to,
-            })
+    ghost from_gives = { λ found fault. fault ≡ fault_of_body found };
+
+    fn from(found: BodyFault) -> ActFault {
+        match found {
+            BodyFault::Unread => ActFault::Unread,
+            BodyFault::NoMemory => ActFault::NoMemory,
         }
-        Err(fault) => Err(unread_body(fault)),
     }
 }
 
-#[tactic(auto, unfolding(crate::specs::Acts::act_of))]
-fn read_code_row(alloc: Global, body: &[u8]) -> Result<Act, ActFault>
-    ensures act { IfOk result (λ act. act_of Verb.Code body.now ≡ Ok act) }
-    ensures unread { result ≡ Err ActFault.Unread → act_of Verb.Code body.now ≡ Err ActFault.Unread }
-    ensures plain { (fault : HeaderFault) (line : ℕ) → result ≡ Err (ActFault.Header fault line) → ⊥ }
-    ensures read { IfOk result IsRead }
-{
-    match read_code(alloc, body) {
-        Ok(code) => Ok(Act::Code {
-            kind: code.kind,
-            letter: code.letter,
-            word: code.word,
-        }),
-        Err(fault) => Err(unread_body(fault)),
-    }
-}
+impl From<PsvFault> for ActFault {
+    ghost use Rattle.std.specs.Prelude.{◌≡◌};
+    ghost use Rattle.act_model.specs.Acts.{fault_of_psv};
 
-#[tactic(auto, unfolding(crate::specs::Acts::act_of))]
-fn read_designation(alloc: Global, body: &[u8]) -> Result<Act, ActFault>
-    ensures act { IfOk result (λ act. act_of Verb.Designate body.now ≡ Ok act) }
-    ensures unread { result ≡ Err ActFault.Unread → act_of Verb.Designate body.now ≡ Err ActFault.Unread }
-    ensures plain { (fault : HeaderFault) (line : ℕ) → result ≡ Err (ActFault.Header fault line) → ⊥ }
-    ensures read { IfOk result IsRead }
-{
-    match read_designate(alloc, body) {
-        Ok(designate) => Ok(Act::Designate(designate.tracklets)),
-        Err(fault) => Err(unread_body(fault)),
-    }
-}
+    ghost from_gives = { λ found fault. fault ≡ fault_of_psv found };
 
-#[tactic(auto, unfolding(crate::specs::Acts::act_of))]
-fn read_attribution(alloc: Global, body: &[u8]) -> Result<Act, ActFault>
-    ensures act { IfOk result (λ act. act_of Verb.Attribute body.now ≡ Ok act) }
-    ensures unread { result ≡ Err ActFault.Unread → act_of Verb.Attribute body.now ≡ Err ActFault.Unread }
-    ensures plain { (fault : HeaderFault) (line : ℕ) → result ≡ Err (ActFault.Header fault line) → ⊥ }
-    ensures read { IfOk result IsRead }
-{
-    match read_attribute(alloc, body) {
-        Ok(attribute) => Ok(Act::Attribute {
-            tracklet: attribute.tracklet,
-            to: attribute.to,
-        }),
-        Err(fault) => Err(unread_body(fault)),
-    }
-}
-
-#[tactic(auto, unfolding(crate::specs::Acts::act_of))]
-fn read_releasing(alloc: Global, body: &[u8]) -> Result<Act, ActFault>
-    ensures act { IfOk result (λ act. act_of Verb.Release body.now ≡ Ok act) }
-    ensures unread { result ≡ Err ActFault.Unread → act_of Verb.Release body.now ≡ Err ActFault.Unread }
-    ensures plain { (fault : HeaderFault) (line : ℕ) → result ≡ Err (ActFault.Header fault line) → ⊥ }
-    ensures read { IfOk result IsRead }
-{
-    match read_release(alloc, body) {
-        Ok(release) => Ok(Act::Release(release.tracklet)),
-        Err(fault) => Err(unread_body(fault)),
-    }
-}
-
-#[tactic(auto, unfolding(crate::specs::Acts::act_of))]
-fn read_identification(alloc: Global, body: &[u8]) -> Result<Act, ActFault>
-    ensures act { IfOk result (λ act. act_of Verb.Identify body.now ≡ Ok act) }
-    ensures unread { result ≡ Err ActFault.Unread → act_of Verb.Identify body.now ≡ Err ActFault.Unread }
-    ensures plain { (fault : HeaderFault) (line : ℕ) → result ≡ Err (ActFault.Header fault line) → ⊥ }
-    ensures read { IfOk result IsRead }
-{
-    match read_identify(alloc, body) {
-        Ok(identify) => Ok(Act::Identify {
-            principal: identify.principal,
-            secondary: identify.secondary,
-        }),
-        Err(fault) => Err(unread_body(fault)),
-    }
-}
-
-#[tactic(auto, unfolding(crate::specs::Acts::act_of))]
-fn read_separation(alloc: Global, body: &[u8]) -> Result<Act, ActFault>
-    ensures act { IfOk result (λ act. act_of Verb.Separate body.now ≡ Ok act) }
-    ensures unread { result ≡ Err ActFault.Unread → act_of Verb.Separate body.now ≡ Err ActFault.Unread }
-    ensures plain { (fault : HeaderFault) (line : ℕ) → result ≡ Err (ActFault.Header fault line) → ⊥ }
-    ensures read { IfOk result IsRead }
-{
-    match read_separate(alloc, body) {
-        Ok(separate) => Ok(Act::Separate(separate.secondary)),
-        Err(fault) => Err(unread_body(fault)),
-    }
-}
-
-#[tactic(auto, unfolding(crate::specs::Acts::act_of))]
-fn read_judgement(alloc: Global, body: &[u8]) -> Result<Act, ActFault>
-    ensures act { IfOk result (λ act. act_of Verb.Verdict body.now ≡ Ok act) }
-    ensures unread { result ≡ Err ActFault.Unread → act_of Verb.Verdict body.now ≡ Err ActFault.Unread }
-    ensures plain { (fault : HeaderFault) (line : ℕ) → result ≡ Err (ActFault.Header fault line) → ⊥ }
-    ensures read { IfOk result IsRead }
-{
-    match read_verdict(alloc, body) {
-        Ok(verdict) => Ok(Act::Verdict {
-            object: verdict.object,
-            u: verdict.u,
-            oppositions: verdict.oppositions,
-        }),
-        Err(fault) => Err(unread_body(fault)),
-    }
-}
-
-#[tactic(auto, unfolding(crate::specs::Acts::act_of))]
-fn read_numbering(alloc: Global, body: &[u8]) -> Result<Act, ActFault>
-    ensures act { IfOk result (λ act. act_of Verb.Number body.now ≡ Ok act) }
-    ensures unread { result ≡ Err ActFault.Unread → act_of Verb.Number body.now ≡ Err ActFault.Unread }
-    ensures plain { (fault : HeaderFault) (line : ℕ) → result ≡ Err (ActFault.Header fault line) → ⊥ }
-    ensures read { IfOk result IsRead }
-{
-    match read_number(alloc, body) {
-        Ok(number) => Ok(Act::Number {
-            first: number.first,
-            most: number.most,
-        }),
-        Err(fault) => Err(unread_body(fault)),
-    }
-}
-
-#[tactic(auto, unfolding(crate::specs::Acts::act_of))]
-fn read_retraction(alloc: Global, body: &[u8]) -> Result<Act, ActFault>
-    ensures act { IfOk result (λ act. act_of Verb.Retract body.now ≡ Ok act) }
-    ensures unread { result ≡ Err ActFault.Unread → act_of Verb.Retract body.now ≡ Err ActFault.Unread }
-    ensures plain { (fault : HeaderFault) (line : ℕ) → result ≡ Err (ActFault.Header fault line) → ⊥ }
-    ensures read { IfOk result IsRead }
-{
-    match read_retract(alloc, body) {
-        Ok(retract) => Ok(Act::Retract(retract.observation)),
-        Err(fault) => Err(unread_body(fault)),
-    }
-}
-
-#[tactic(auto, unfolding(crate::specs::Acts::act_of))]
-fn read_taking_over(alloc: Global, body: &[u8]) -> Result<Act, ActFault>
-    ensures act { IfOk result (λ act. act_of Verb.Opening body.now ≡ Ok act) }
-    ensures unread { result ≡ Err ActFault.Unread → act_of Verb.Opening body.now ≡ Err ActFault.Unread }
-    ensures plain { (fault : HeaderFault) (line : ℕ) → result ≡ Err (ActFault.Header fault line) → ⊥ }
-    ensures read { IfOk result IsRead }
-{
-    match read_opening(alloc, body) {
-        Ok(opening) => Ok(Act::Opening {
-            half: opening.half,
-            given: opening.given,
-            carried: opening.carried,
-        }),
-        Err(fault) => Err(unread_body(fault)),
-    }
-}
-
-#[tactic(auto, unfolding(crate::specs::Acts::act_of))]
-fn read_psv_batch(alloc: Global, body: &[u8]) -> Result<Act, ActFault>
-    requires { length body.now < 4_294_967_295 }
-    ensures act { IfOk result (λ act. act_of Verb.SubmitPsv body.now ≡ Ok act) }
-    ensures readable { result ≡ Err ActFault.Unread → act_of Verb.SubmitPsv body.now ≡ Err ActFault.Unread }
-    ensures header { (fault : HeaderFault) (line : ℕ) →
-        result ≡ Err (ActFault.Header fault line) → act_of Verb.SubmitPsv body.now ≡ Err (ActFault.Header fault line) }
-    ensures read { IfOk result IsRead }
-{
-    match read_psv(alloc, body) {
-        Ok(lines) => Ok(Act::SubmitPsv(lines)),
-        Err(PsvFault::Header { fault, line }) => Err(ActFault::Header { fault, line }),
-        Err(PsvFault::NoMemory) => Err(ActFault::NoMemory),
+    fn from(found: PsvFault) -> ActFault {
+        match found {
+            PsvFault::Header { fault, line } => ActFault::Header { fault, line },
+            PsvFault::NoMemory => ActFault::NoMemory,
+        }
     }
 }
 
@@ -371,32 +195,61 @@ pub fn read_act(alloc: Global, verb: Verb, body: &[u8]) -> Result<Act, ActFault>
         result ≡ Err (ActFault.Header fault line) → act_of verb body.now ≡ Err (ActFault.Header fault line) }
     ensures read { IfOk result IsRead }
 {
-    match verb {
-        Verb::Enrol => read_enrolment(alloc, body),
-        Verb::Station => read_station_row(alloc, body),
-        Verb::Code => read_code_row(alloc, body),
-        Verb::Submit80 => match split_batch(alloc, body) {
-            Ok(lines) => Ok(Act::Submit80(lines)),
-            Err(_) => Err(ActFault::NoMemory),
-        },
-        Verb::SubmitPsv => read_psv_batch(alloc, body),
-        Verb::Designate => read_designation(alloc, body),
-        Verb::Attribute => read_attribution(alloc, body),
-        Verb::Release => read_releasing(alloc, body),
-        Verb::Identify => read_identification(alloc, body),
-        Verb::Separate => read_separation(alloc, body),
-        Verb::Verdict => read_judgement(alloc, body),
-        Verb::Number => read_numbering(alloc, body),
-        Verb::Retract => read_retraction(alloc, body),
-        Verb::Opening => read_taking_over(alloc, body),
-        Verb::Receipt
-        | Verb::Tally
-        | Verb::Object
-        | Verb::Tracklet
-        | Verb::Isolated
-        | Verb::HalfMonth
-        | Verb::Name
-        | Verb::Catalogue
-        | Verb::Unknown => Err(ActFault::Unread),
-    }
+    Ok(match verb {
+        Verb::Enrol => {
+            let Enrol { key, name, role } = read_enrol(alloc, body)?;
+            Act::Enrol { key, name, role }
+        }
+        Verb::Station => {
+            let station = read_station(alloc, body)?;
+            Act::Station {
+                code: station.code,
+                name: station.name,
+                from: station.from,
+                to: station.to,
+            }
+        }
+        Verb::Code => {
+            let Code { kind, letter, word } = read_code(alloc, body)?;
+            Act::Code { kind, letter, word }
+        }
+        Verb::Submit80 => Act::Submit80(split_batch(alloc, body)?),
+        Verb::SubmitPsv => Act::SubmitPsv(read_psv(alloc, body)?),
+        Verb::Designate => Act::Designate(read_designate(alloc, body)?.tracklets),
+        Verb::Attribute => {
+            let Attribute { tracklet, to } = read_attribute(alloc, body)?;
+            Act::Attribute { tracklet, to }
+        }
+        Verb::Release => Act::Release(read_release(alloc, body)?.tracklet),
+        Verb::Identify => {
+            let identify = read_identify(alloc, body)?;
+            Act::Identify {
+                principal: identify.principal,
+                secondary: identify.secondary,
+            }
+        }
+        Verb::Separate => Act::Separate(read_separate(alloc, body)?.secondary),
+        Verb::Verdict => {
+            let verdict = read_verdict(alloc, body)?;
+            Act::Verdict {
+                object: verdict.object,
+                u: verdict.u,
+                oppositions: verdict.oppositions,
+            }
+        }
+        Verb::Number => {
+            let Number { first, most } = read_number(alloc, body)?;
+            Act::Number { first, most }
+        }
+        Verb::Retract => Act::Retract(read_retract(alloc, body)?.observation),
+        Verb::Opening => {
+            let opening = read_opening(alloc, body)?;
+            Act::Opening {
+                half: opening.half,
+                given: opening.given,
+                carried: opening.carried,
+            }
+        }
+        _ => return Err(ActFault::Unread),
+    })
 }

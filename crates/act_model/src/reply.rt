@@ -169,27 +169,9 @@ pub fn refusal_status(refusal: &Refusal) -> u16
         Refusal::Role => 403,
         Refusal::UnknownThing(_) => 404,
         Refusal::Header { .. } | Refusal::NoLine(_) => 422,
-        Refusal::OtherRequest { .. }
-        | Refusal::NotIsolated(_)
-        | Refusal::NotHomed(_)
-        | Refusal::Empty(_)
-        | Refusal::OneNight(_)
-        | Refusal::HalfMonthFull { .. }
-        | Refusal::HalfMonthBegun(_)
-        | Refusal::NotPrincipal(_)
-        | Refusal::SameObject
-        | Refusal::BothNumbered
-        | Refusal::NumberedSecondary
-        | Refusal::NotSecondary(_)
-        | Refusal::AlreadyRetracted(_)
-        | Refusal::NotNext(_)
-        | Refusal::NoneEligible
-        | Refusal::NumbersFull
-        | Refusal::AlreadyThere
-        | Refusal::RosterFull
-        | Refusal::JournalFull { .. } => 409,
         Refusal::DiskFault { .. } => 503,
         Refusal::NoMemory => 507,
+        _ => 409,
     }
 }
 

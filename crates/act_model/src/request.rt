@@ -85,31 +85,20 @@ impl Verb {
     pub fn is_officers(self) -> bool
         ensures { result ≡ is_officers self }
     {
-        match self {
+        matches!(
+            self,
             Verb::Enrol
-            | Verb::Station
-            | Verb::Code
-            | Verb::Designate
-            | Verb::Attribute
-            | Verb::Release
-            | Verb::Identify
-            | Verb::Separate
-            | Verb::Verdict
-            | Verb::Number
-            | Verb::Opening => true,
-            Verb::Submit80
-            | Verb::SubmitPsv
-            | Verb::Retract
-            | Verb::Receipt
-            | Verb::Tally
-            | Verb::Object
-            | Verb::Tracklet
-            | Verb::Isolated
-            | Verb::HalfMonth
-            | Verb::Name
-            | Verb::Catalogue
-            | Verb::Unknown => false,
-        }
+                | Verb::Station
+                | Verb::Code
+                | Verb::Designate
+                | Verb::Attribute
+                | Verb::Release
+                | Verb::Identify
+                | Verb::Separate
+                | Verb::Verdict
+                | Verb::Number
+                | Verb::Opening
+        )
     }
 
     /// The number of the verb of an act, 1 to 14, and 0 for no act.
@@ -131,15 +120,7 @@ impl Verb {
             Verb::Number => 12,
             Verb::Retract => 13,
             Verb::Opening => 14,
-            Verb::Receipt
-            | Verb::Tally
-            | Verb::Object
-            | Verb::Tracklet
-            | Verb::Isolated
-            | Verb::HalfMonth
-            | Verb::Name
-            | Verb::Catalogue
-            | Verb::Unknown => 0,
+            _ => 0,
         }
     }
 }
