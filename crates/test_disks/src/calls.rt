@@ -1,159 +1,90 @@
 //! Which calls a disk over a file makes, in which order.
 
 use crate::cases::{
-    Act, Acts, Case, FOLDER, LONGER, MAKING, MISSING, OPENING, OTHER_DEVICE, OTHER_FILE, PLAIN,
-    SEEN, SHORTER, UNLINKED, Wrong, wrong_act_on, wrong_case, wrong_in,
+    Act, Case, FOLDER, LONGER, OPENED, OTHER_DEVICE, OTHER_FILE, SEEN, SHORTER, UNLINKED, Under,
+    Wrong, wrong_case, wrong_in,
 };
-use crate::recorder::{Call, Log, Plan, Recorder, Under};
 use std::alloc::Global;
 
-const AGAIN: Acts = &[(Act::Len, false), (Act::Len, true)];
+// A file that is there, and which isn't open yet.
+const CLOSED: Case = Case {
+    before: "",
+    ..OPENED
+};
 
-const UNOPENED: Acts = &[(Act::Len, false)];
+// No file is there.
+const MISSING: Case = Case {
+    reads: b"",
+    holds: b"",
+    under: &[(1, Under::Nothing)],
+    left: Some(b""),
+    ..CLOSED
+};
+
+// The calls by which a disk opens a file that is there and asks for its length, and the same of one that it makes.
+const OPENING: &str = "folder; name; open; lock; file; name; sync folder; sync; drop; file";
+
+const MAKING: &str = "folder; name; make; lock; file; name; sync folder; sync; drop; file";
+
+// The calls of one that makes a file, up to a sync of the folder that fails, and what follows: the file is removed, or
+// left alone.
+const UNMADE: &str = "folder; name; make; lock; file; name; sync folder; name; remove; close";
+
+const LEFT_ALONE: &str = "folder; name; make; lock; file; name; sync folder; name; close";
 
 const OPENINGS: &[Case] = &[
     Case {
-        plan: PLAIN,
-        acts: &[(Act::Len, true)],
-        from: 0,
-        calls: OPENING,
-        holds: Some(b"abcdefgh"),
+        acts: &[(Act::Len, true, OPENING)],
+        ..CLOSED
     },
     Case {
-        plan: MISSING,
-        acts: &[(Act::Len, true)],
-        from: 0,
-        calls: MAKING,
-        holds: Some(b""),
+        acts: &[(Act::Len, true, MAKING)],
+        ..MISSING
     },
     // What is no regular file is left alone.
     Case {
-        plan: Plan {
-            under: &[(1, FOLDER)],
-            ..PLAIN
-        },
-        acts: UNOPENED,
-        from: 0,
-        calls: &[Call::OpenFolder, Call::LookAtName, Call::Close],
-        holds: Some(b"abcdefgh"),
+        under: &[(1, FOLDER)],
+        acts: &[(Act::Len, false, "folder; name; close")],
+        ..CLOSED
     },
     // Where the folder's sync fails a file that was made is removed, and the next try makes it anew;
     Case {
-        plan: Plan {
-            fails: &[7],
-            ..MISSING
-        },
-        acts: AGAIN,
-        from: 0,
-        calls: &[
-            Call::OpenFolder,
-            Call::LookAtName,
-            Call::Make,
-            Call::Lock,
-            Call::LookAtFile,
-            Call::LookAtName,
-            Call::SyncFolder,
-            Call::LookAtName,
-            Call::RemoveName,
-            Call::Close,
-            Call::OpenFolder,
-            Call::LookAtName,
-            Call::Make,
-            Call::Lock,
-            Call::LookAtFile,
-            Call::LookAtName,
-            Call::SyncFolder,
-            Call::SyncFile,
-            Call::DropPages,
-            Call::LookAtFile,
-        ],
-        holds: Some(b""),
+        fails: &[7],
+        acts: &[(Act::Len, false, UNMADE), (Act::Len, true, MAKING)],
+        ..MISSING
     },
     // but not where its name leads elsewhere by now,
     Case {
-        plan: Plan {
-            fails: &[7],
-            under: &[(1, Under::Nothing), (8, OTHER_FILE)],
-            ..MISSING
-        },
-        acts: UNOPENED,
-        from: 0,
-        calls: &[
-            Call::OpenFolder,
-            Call::LookAtName,
-            Call::Make,
-            Call::Lock,
-            Call::LookAtFile,
-            Call::LookAtName,
-            Call::SyncFolder,
-            Call::LookAtName,
-            Call::Close,
-        ],
-        holds: Some(b""),
+        fails: &[7],
+        under: &[(1, Under::Nothing), (8, OTHER_FILE)],
+        acts: &[(Act::Len, false, LEFT_ALONE)],
+        ..MISSING
     },
     // where somebody wrote into it,
     Case {
-        plan: Plan {
-            fails: &[7],
-            under: &[(1, Under::Nothing), (8, Under::Other(SEEN))],
-            ..MISSING
-        },
-        acts: UNOPENED,
-        from: 0,
-        calls: &[
-            Call::OpenFolder,
-            Call::LookAtName,
-            Call::Make,
-            Call::Lock,
-            Call::LookAtFile,
-            Call::LookAtName,
-            Call::SyncFolder,
-            Call::LookAtName,
-            Call::Close,
-        ],
-        holds: Some(b""),
+        fails: &[7],
+        under: &[(1, Under::Nothing), (8, Under::Other(SEEN))],
+        acts: &[(Act::Len, false, LEFT_ALONE)],
+        ..MISSING
     },
     // or where another call fails.
     Case {
-        plan: Plan {
-            fails: &[8],
-            ..MISSING
-        },
-        acts: AGAIN,
-        from: 0,
-        calls: &[
-            Call::OpenFolder,
-            Call::LookAtName,
-            Call::Make,
-            Call::Lock,
-            Call::LookAtFile,
-            Call::LookAtName,
-            Call::SyncFolder,
-            Call::SyncFile,
-            Call::Close,
-            Call::OpenFolder,
-            Call::LookAtName,
-            Call::Open,
-            Call::Lock,
-            Call::LookAtFile,
-            Call::LookAtName,
-            Call::SyncFolder,
-            Call::SyncFile,
-            Call::DropPages,
-            Call::LookAtFile,
+        fails: &[8],
+        acts: &[
+            (
+                Act::Len,
+                false,
+                "folder; name; make; lock; file; name; sync folder; sync; close",
+            ),
+            (Act::Len, true, OPENING),
         ],
-        holds: Some(b""),
+        ..MISSING
     },
     // A program before this one ended after a sync that failed: reads give what the disk holds.
     Case {
-        plan: Plan {
-            reads: b"ABCDEFGH",
-            ..PLAIN
-        },
-        acts: &[(Act::Read(0, b"abcdefgh"), true)],
-        from: 9,
-        calls: &[Call::Read(0, 16)],
-        holds: Some(b"abcdefgh"),
+        reads: b"ABCDEFGH",
+        acts: &[(Act::Read(0, b"abcdefgh"), true, "read 0 16")],
+        ..OPENED
     },
 ];
 
@@ -163,48 +94,58 @@ fn opening(rt: HostRuntime) {
     assert_eq!(rt; wrong, None);
 }
 
-// Each call of opening, which is to fail.
-const FAILURES: &[&[usize]] = &[&[1], &[2], &[3], &[4], &[5], &[6], &[7], &[8], &[9]];
+// The call of opening that fails, and the calls up to it.
+const FAILURES: &[(&[usize], &str)] = &[
+    (&[1], "folder; "),
+    (&[2], "folder; name; "),
+    (&[3], "folder; name; open; "),
+    (&[4], "folder; name; open; lock; "),
+    (&[5], "folder; name; open; lock; file; "),
+    (&[6], "folder; name; open; lock; file; name; "),
+    (&[7], "folder; name; open; lock; file; name; sync folder; "),
+    (
+        &[8],
+        "folder; name; open; lock; file; name; sync folder; sync; ",
+    ),
+    (
+        &[9],
+        "folder; name; open; lock; file; name; sync folder; sync; drop; ",
+    ),
+];
 
-// Whether these calls are so many of opening, and then all of them after what is open was closed.
-fn are_opened_anew(log: &Log, number: usize) -> bool {
-    match (log.calls.get(..number), log.calls.get(number..log.made)) {
-        (Some(front), Some([Call::Close, rest @ ..])) => OPENING.starts_with(front)
-            && *rest == *OPENING,
-        _ => false,
-    }
-}
+// What is open is closed, and the next act opens the file anew.
+const REOPENED: Case = Case {
+    acts: &[(Act::Len, false, "close"), (Act::Len, true, OPENING)],
+    ..CLOSED
+};
 
-// Whether a disk whose opening fails at a call leaves nothing open, and opens the file anew at the next act.
-fn opens_anew(alloc: Global, fails: &'static [usize], number: usize) -> bool {
-    match Recorder::new(alloc, Plan { fails, ..PLAIN }) {
-        Ok((file, log)) => {
-            wrong_act_on(file, AGAIN).is_none() && are_opened_anew(&log.get(), number)
+fn wrong_opening(alloc: Global) -> Option<(usize, Wrong)> {
+    for (row, &(fails, before)) in FAILURES.iter().enumerate() {
+        let case = Case {
+            fails,
+            before,
+            ..REOPENED
+        };
+        if let Some(wrong) = wrong_in(alloc, &case) {
+            return Some((row, wrong));
         }
-        Err(_) => false,
     }
+    None
 }
 
 #[test]
 fn opening_that_fails(rt: HostRuntime) {
-    let mut wrong = None;
-    for (place, &fails) in FAILURES.iter().enumerate() {
-        if !opens_anew(rt.alloc(), fails, place + 1) {
-            wrong = Some(place);
-        }
-    }
+    let wrong = wrong_opening(rt.alloc());
     assert_eq!(rt; wrong, None);
 }
 
-// The first row of what stands under the name with which a case goes wrong, counted from 0.
-fn wrong_name(
-    alloc: Global,
-    names: &[&'static [(usize, Under)]],
-    case: &Case,
-) -> Option<(usize, Wrong)> {
+// What stands under the name from these calls on.
+type Names = &'static [(usize, Under)];
+
+// The first row of names with which a case goes wrong, counted from 0.
+fn wrong_name(alloc: Global, names: &[Names], case: &Case) -> Option<(usize, Wrong)> {
     for (row, &under) in names.iter().enumerate() {
-        let plan = Plan { under, ..case.plan };
-        if let Some(wrong) = wrong_in(alloc, &Case { plan, ..*case }) {
+        if let Some(wrong) = wrong_in(alloc, &Case { under, ..*case }) {
             return Some((row, wrong));
         }
     }
@@ -212,7 +153,7 @@ fn wrong_name(
 }
 
 // What stands under the name once the lock is taken.
-const MOVED_BEFORE_THE_LOCK: &[&[(usize, Under)]] = &[
+const MOVED_BEFORE_THE_LOCK: &[Names] = &[
     &[(6, Under::Nothing)],
     &[(6, FOLDER)],
     &[(6, OTHER_FILE)],
@@ -221,19 +162,12 @@ const MOVED_BEFORE_THE_LOCK: &[&[(usize, Under)]] = &[
 ];
 
 const UNLOCKED: Case = Case {
-    plan: PLAIN,
-    acts: UNOPENED,
-    from: 0,
-    calls: &[
-        Call::OpenFolder,
-        Call::LookAtName,
-        Call::Open,
-        Call::Lock,
-        Call::LookAtFile,
-        Call::LookAtName,
-        Call::Close,
-    ],
-    holds: Some(b"abcdefgh"),
+    acts: &[(
+        Act::Len,
+        false,
+        "folder; name; open; lock; file; name; close",
+    )],
+    ..CLOSED
 };
 
 #[test]
@@ -245,112 +179,70 @@ fn opening_of_a_name_that_moves(rt: HostRuntime) {
 // The calls of each act, from the first one after opening on, which is the tenth.
 const ACTS: &[Case] = &[
     Case {
-        plan: PLAIN,
         acts: &[
-            (Act::Write(0, b"ABCDEF"), true),
-            (Act::Cut(4), true),
-            (Act::Cut(9), true),
-            (Act::Sync, true),
-            (Act::Read(0, b"ABCD"), true),
+            (Act::Write(0, b"ABCDEF"), true, "name; write 0 6"),
+            (Act::Cut(4), true, "file; length 4"),
+            (Act::Cut(9), true, "file"),
+            (Act::Sync, true, "name; sync"),
+            (Act::Read(0, b"ABCD"), true, "read 0 16"),
         ],
-        from: 9,
-        calls: &[
-            Call::LookAtName,
-            Call::Write(0, 6),
-            Call::LookAtFile,
-            Call::SetLen(4),
-            Call::LookAtFile,
-            Call::LookAtName,
-            Call::SyncFile,
-            Call::Read(0, 16),
-        ],
-        holds: Some(b"ABCD"),
+        left: Some(b"ABCD"),
+        ..OPENED
     },
     // What a desk does at an act: four looks at the name, and no other.
     Case {
-        plan: PLAIN,
         acts: &[
-            (Act::Write(8, b"ij"), true),
-            (Act::Sync, true),
-            (Act::Write(0, b"A"), true),
-            (Act::Sync, true),
+            (Act::Write(8, b"ij"), true, "name; write 8 2"),
+            (Act::Sync, true, "name; sync"),
+            (Act::Write(0, b"A"), true, "name; write 0 1"),
+            (Act::Sync, true, "name; sync"),
         ],
-        from: 9,
-        calls: &[
-            Call::LookAtName,
-            Call::Write(8, 2),
-            Call::LookAtName,
-            Call::SyncFile,
-            Call::LookAtName,
-            Call::Write(0, 1),
-            Call::LookAtName,
-            Call::SyncFile,
-        ],
-        holds: Some(b"Abcdefghij"),
+        left: Some(b"Abcdefghij"),
+        ..OPENED
     },
     // What the system takes in parts.
     Case {
-        plan: Plan { most: 4, ..PLAIN },
-        acts: &[(Act::Write(0, b"ABCDEF"), true)],
-        from: 9,
-        calls: &[Call::LookAtName, Call::Write(0, 6), Call::Write(4, 2)],
-        holds: Some(b"abcdefgh"),
+        most: 4,
+        acts: &[(Act::Write(0, b"ABCDEF"), true, "name; write 0 6; write 4 2")],
+        ..OPENED
     },
     Case {
-        plan: Plan { most: 0, ..PLAIN },
-        acts: &[(Act::Write(0, b"AB"), false)],
-        from: 9,
-        calls: &[Call::LookAtName, Call::Write(0, 2)],
-        holds: Some(b"abcdefgh"),
+        most: 0,
+        acts: &[(Act::Write(0, b"AB"), false, "name; write 0 2")],
+        ..OPENED
     },
     Case {
-        plan: PLAIN,
-        acts: &[(Act::Write(3, b""), true)],
-        from: 9,
-        calls: &[Call::LookAtName],
-        holds: Some(b"abcdefgh"),
+        acts: &[(Act::Write(3, b""), true, "name")],
+        ..OPENED
     },
     // A file that somebody made longer has what was written.
     Case {
-        plan: Plan {
-            under: &[(10, LONGER)],
-            ..PLAIN
-        },
-        acts: &[(Act::Write(0, b"A"), true), (Act::Sync, true)],
-        from: 9,
-        calls: &[
-            Call::LookAtName,
-            Call::Write(0, 1),
-            Call::LookAtName,
-            Call::SyncFile,
+        under: &[(10, LONGER)],
+        acts: &[
+            (Act::Write(0, b"A"), true, "name; write 0 1"),
+            (Act::Sync, true, "name; sync"),
         ],
-        holds: Some(b"Abcdefgh"),
+        left: Some(b"Abcdefgh"),
+        ..OPENED
     },
     // Seven bytes are enough for a file that was cut to four, nine too few for one that was written up to ten.
     Case {
-        plan: Plan {
-            under: &[(12, SHORTER)],
-            ..PLAIN
-        },
-        acts: &[(Act::Cut(4), true), (Act::Sync, true)],
-        from: 9,
-        calls: &[
-            Call::LookAtFile,
-            Call::SetLen(4),
-            Call::LookAtName,
-            Call::SyncFile,
+        under: &[(12, SHORTER)],
+        acts: &[
+            (Act::Cut(4), true, "file; length 4"),
+            (Act::Sync, true, "name; sync"),
         ],
-        holds: Some(b"abcd"),
+        left: Some(b"abcd"),
+        ..OPENED
     },
     Case {
-        plan: Plan {
-            under: &[(12, LONGER)],
-            ..PLAIN
-        },
-        acts: &[(Act::Write(8, b"ij"), true), (Act::Sync, false)],
-        from: 9,
-        calls: &[Call::LookAtName, Call::Write(8, 2), Call::LookAtName],
-        holds: None,
+        under: &[(12, LONGER)],
+        acts: &[
+            (Act::Write(8, b"ij"), true, "name; write 8 2"),
+            (Act::Sync, false, "name"),
+        ],
+        left: None,
+        ..OPENED
     },
 ];
 
@@ -361,7 +253,7 @@ fn acts(rt: HostRuntime) {
 }
 
 // What stands under the name at two calls, before it leads to the file again.
-const MOVED: &[&[(usize, Under)]] = &[
+const MOVED: &[Names] = &[
     &[(10, Under::Nothing), (12, Under::File)],
     &[(10, FOLDER), (12, Under::File)],
     &[(10, OTHER_FILE), (12, Under::File)],
@@ -372,25 +264,14 @@ const MOVED: &[&[(usize, Under)]] = &[
 
 // Nothing is written and nothing synced while the name leads elsewhere.
 const UNMOVED: Case = Case {
-    plan: PLAIN,
     acts: &[
-        (Act::Write(0, b"A"), false),
-        (Act::Sync, false),
-        (Act::Write(0, b"A"), true),
-        (Act::Sync, true),
+        (Act::Write(0, b"A"), false, "name"),
+        (Act::Sync, false, "name"),
+        (Act::Write(0, b"A"), true, "name; write 0 1"),
+        (Act::Sync, true, "read 0 1; write 0 1; name; sync"),
     ],
-    from: 9,
-    calls: &[
-        Call::LookAtName,
-        Call::LookAtName,
-        Call::LookAtName,
-        Call::Write(0, 1),
-        Call::Read(0, 1),
-        Call::Write(0, 1),
-        Call::LookAtName,
-        Call::SyncFile,
-    ],
-    holds: Some(b"Abcdefgh"),
+    left: Some(b"Abcdefgh"),
+    ..OPENED
 };
 
 #[test]

@@ -1,38 +1,19 @@
 //! Tests of a disk in memory and of one over a real file.
 
+use crate::cases::{Act, is_done};
 use disk_model::{Disk, Failed, FileDisk, MemDisk};
 use std::alloc::Global;
 use std::fs;
 use std::test::Fail;
 
-#[derive(Clone, Copy)]
-enum Call {
-    Write(u64, &'static [u8]),
-    Cut(u64),
-    Sync,
-}
-
-// Whether a call is done.
-fn is_done<D: Disk>(disk: &mut D, call: Call) -> bool {
-    match call {
-        Call::Write(at, bytes) => disk.write_at(at, bytes).is_ok(),
-        Call::Cut(len) => disk.cut(len).is_ok(),
-        Call::Sync => disk.sync().is_ok(),
-    }
-}
-
-// The first call that is done though it was to fail, or fails though it was not; counted from 0.
-fn wrong_call<D: Disk>(disk: &mut D, calls: &[(Call, bool)]) -> Option<usize> {
-    for (row, &(call, done)) in calls.iter().enumerate() {
-        if is_done(disk, call) != done {
-            return Some(row);
+// Whether each act is done, or fails, as it is to.
+fn are_right<D: Disk>(disk: &mut D, acts: &[(Act, bool)]) -> bool {
+    for &(act, done) in acts {
+        if is_done(disk, act) != done {
+            return false;
         }
     }
-    None
-}
-
-fn are_right<D: Disk>(disk: &mut D, calls: &[(Call, bool)]) -> bool {
-    wrong_call(disk, calls).is_none()
+    true
 }
 
 fn has_length<D: Disk>(disk: &mut D, want: usize) -> bool {
@@ -57,7 +38,7 @@ struct Case {
     file: &'static [u8],
     capacity: usize,
     fails: &'static [u64],
-    calls: &'static [(Call, bool)],
+    acts: &'static [(Act, bool)],
     reads: &'static [u8],
     left: &'static [(u64, &'static [u8])],
 }
@@ -84,7 +65,7 @@ const CASES: &[Case] = &[
         file: OLD,
         capacity: 100,
         fails: &[],
-        calls: &[(Call::Write(4, NEW), true)],
+        acts: &[(Act::Write(4, NEW), true)],
         reads: b"abcdABCDEFGHIJKLMNOP",
         left: &TORN,
     },
@@ -93,7 +74,7 @@ const CASES: &[Case] = &[
         file: OLD,
         capacity: 100,
         fails: &[1],
-        calls: &[(Call::Write(4, NEW), false)],
+        acts: &[(Act::Write(4, NEW), false)],
         reads: b"abcdefghijkl",
         left: &TORN,
     },
@@ -101,7 +82,7 @@ const CASES: &[Case] = &[
         file: OLD,
         capacity: 44,
         fails: &[],
-        calls: &[(Call::Cut(2), true)],
+        acts: &[(Act::Cut(2), true)],
         reads: b"ab",
         left: &CUT,
     },
@@ -109,7 +90,7 @@ const CASES: &[Case] = &[
         file: OLD,
         capacity: 44,
         fails: &[1],
-        calls: &[(Call::Cut(2), false)],
+        acts: &[(Act::Cut(2), false)],
         reads: b"abcdefghijkl",
         left: &CUT,
     },
@@ -118,14 +99,14 @@ const CASES: &[Case] = &[
         file: b"abc",
         capacity: 300,
         fails: &[2, 5],
-        calls: &[
-            (Call::Write(3, b"de"), true),
-            (Call::Write(0, b"xyz"), false),
-            (Call::Cut(4), true),
-            (Call::Write(6, b"g"), true),
-            (Call::Sync, false),
-            (Call::Sync, true),
-            (Call::Write(100, b""), true),
+        acts: &[
+            (Act::Write(3, b"de"), true),
+            (Act::Write(0, b"xyz"), false),
+            (Act::Cut(4), true),
+            (Act::Write(6, b"g"), true),
+            (Act::Sync, false),
+            (Act::Sync, true),
+            (Act::Write(100, b""), true),
         ],
         reads: b"abcd\0\0g",
         left: &[(0, b"abcd\0\0g"), (1, b"abcd\0\0g")],
@@ -135,13 +116,13 @@ const CASES: &[Case] = &[
         file: b"abc",
         capacity: 100,
         fails: &[],
-        calls: &[
-            (Call::Write(0, b"wxyz"), true),
-            (Call::Sync, true),
-            (Call::Sync, false),
-            (Call::Cut(0), false),
-            (Call::Write(0, b""), false),
-            (Call::Write(u64::MAX, b"a"), false),
+        acts: &[
+            (Act::Write(0, b"wxyz"), true),
+            (Act::Sync, true),
+            (Act::Sync, false),
+            (Act::Cut(0), false),
+            (Act::Write(0, b""), false),
+            (Act::Write(u64::MAX, b"a"), false),
         ],
         reads: b"wxyz",
         left: &[(0, b"wxyz")],
@@ -151,7 +132,7 @@ const CASES: &[Case] = &[
         file: b"abcd",
         capacity: 36,
         fails: &[],
-        calls: &[(Call::Sync, true), (Call::Sync, false)],
+        acts: &[(Act::Sync, true), (Act::Sync, false)],
         reads: b"abcd",
         left: &[(0, b"abcd")],
     },
@@ -165,21 +146,21 @@ fn disk_of(alloc: Global, case: &Case) -> Option<MemDisk> {
 }
 
 // Whether the calls are done, or fail, as they are to, and leave this file.
-fn leaves<D: Disk>(disk: &mut D, calls: &[(Call, bool)], want: &[u8]) -> bool {
-    are_right(disk, calls) && is_file(disk, want)
+fn leaves<D: Disk>(disk: &mut D, acts: &[(Act, bool)], want: &[u8]) -> bool {
+    are_right(disk, acts) && is_file(disk, want)
 }
 
 // Whether a crash leaves this file. After it no failure is planned, and the record is empty: a sync is done.
 fn is_left(disk: MemDisk, pick: u64, want: &[u8]) -> bool {
     let mut left = disk.crash(pick);
-    is_file(&mut left, want) && are_right(&mut left, &[(Call::Sync, true)])
+    is_file(&mut left, want) && are_right(&mut left, &[(Act::Sync, true)])
 }
 
 fn is_crash(alloc: Global, case: &Case, pick: u64, want: &[u8]) -> bool {
     match disk_of(alloc, case) {
         Some(new) => {
             let mut disk = new;
-            leaves(&mut disk, case.calls, case.reads) && is_left(disk, pick, want)
+            leaves(&mut disk, case.acts, case.reads) && is_left(disk, pick, want)
         }
         None => false,
     }
@@ -211,11 +192,11 @@ fn disk_in_memory(rt: HostRuntime) {
     assert_eq!(rt; wrong, None);
 }
 
-const REAL: &[(Call, bool)] = &[
-    (Call::Write(0, b"abcdef"), true),
-    (Call::Cut(4), true),
-    (Call::Cut(9), true),
-    (Call::Sync, true),
+const REAL: &[(Act, bool)] = &[
+    (Act::Write(0, b"abcdef"), true),
+    (Act::Cut(4), true),
+    (Act::Cut(9), true),
+    (Act::Sync, true),
 ];
 
 // Whether a new file is filled, while which a second disk finds it locked.
@@ -225,18 +206,23 @@ fn is_filled<D: Disk>(disk: &mut D, second: &mut D) -> bool {
 
 // Whether the second disk goes on with that file, once the first is gone with its lock.
 fn is_filled_again<D: Disk>(disk: &mut D) -> bool {
-    is_file(disk, b"abcd") && leaves(disk, &[(Call::Write(6, b"g"), true)], b"abcd\0\0g")
+    is_file(disk, b"abcd") && leaves(disk, &[(Act::Write(6, b"g"), true)], b"abcd\0\0g")
+}
+
+// Both of them, one disk after the other.
+fn are_filled<D: Disk>(first: D, second: D) -> (bool, bool) {
+    let (mut first, mut second) = (first, second);
+    let filled = is_filled(&mut first, &mut second);
+    drop(first);
+    (filled, is_filled_again(&mut second))
 }
 
 #[test]
 fn real_file(rt: HostRuntime) -> Result<(), Fail> {
     let _ = fs::remove_file(&rt, "desk.journal");
-    let mut disk = FileDisk::new(rt, "desk.journal");
-    let mut second = FileDisk::new(rt, "desk.journal");
-    let filled = is_filled(&mut disk, &mut second);
-    drop(disk);
-    let again = is_filled_again(&mut second);
-    assert_eq!(rt; (filled, again), (true, true));
+    let first = FileDisk::new(rt, "desk.journal");
+    let second = FileDisk::new(rt, "desk.journal");
+    assert_eq!(rt; are_filled(first, second), (true, true));
     fs::remove_file(&rt, "desk.journal")?;
     Ok(())
 }

@@ -1,357 +1,162 @@
 //! What a disk over a file does after a call that failed, and where calls are interrupted.
 
-use crate::cases::{Act, Case, PLAIN, wrong_case};
-use crate::recorder::{Call, Plan};
+use crate::cases::{Act, Case, OPENED, wrong_case};
 
 // What is written again after a sync that failed.
 const FAILED_SYNCS: &[Case] = &[
     Case {
-        plan: Plan {
-            fails: &[13],
-            ..PLAIN
-        },
+        fails: &[13],
         acts: &[
-            (Act::Write(2, b"XY"), true),
-            (Act::Sync, false),
-            (Act::Sync, true),
-            (Act::Sync, true),
+            (Act::Write(2, b"XY"), true, "name; write 2 2"),
+            (Act::Sync, false, "name; sync"),
+            (Act::Sync, true, "read 2 2; write 2 2; name; sync"),
+            (Act::Sync, true, "name; sync"),
         ],
-        from: 9,
-        calls: &[
-            Call::LookAtName,
-            Call::Write(2, 2),
-            Call::LookAtName,
-            Call::SyncFile,
-            Call::Read(2, 2),
-            Call::Write(2, 2),
-            Call::LookAtName,
-            Call::SyncFile,
-            Call::LookAtName,
-            Call::SyncFile,
-        ],
-        holds: Some(b"abXYefgh"),
+        left: Some(b"abXYefgh"),
+        ..OPENED
     },
     // Nothing was written.
     Case {
-        plan: Plan {
-            fails: &[11],
-            ..PLAIN
-        },
-        acts: &[(Act::Sync, false), (Act::Sync, true)],
-        from: 9,
-        calls: &[
-            Call::LookAtName,
-            Call::SyncFile,
-            Call::LookAtName,
-            Call::SyncFile,
+        fails: &[11],
+        acts: &[
+            (Act::Sync, false, "name; sync"),
+            (Act::Sync, true, "name; sync"),
         ],
-        holds: Some(b"abcdefgh"),
+        ..OPENED
     },
     // Each call of the second sync fails, and the third one begins anew.
     Case {
-        plan: Plan {
-            fails: &[13, 14],
-            ..PLAIN
-        },
+        fails: &[13, 14],
         acts: &[
-            (Act::Write(2, b"XY"), true),
-            (Act::Sync, false),
-            (Act::Sync, false),
-            (Act::Sync, true),
+            (Act::Write(2, b"XY"), true, "name; write 2 2"),
+            (Act::Sync, false, "name; sync"),
+            (Act::Sync, false, "read 2 2"),
+            (Act::Sync, true, "read 2 2; write 2 2; name; sync"),
         ],
-        from: 9,
-        calls: &[
-            Call::LookAtName,
-            Call::Write(2, 2),
-            Call::LookAtName,
-            Call::SyncFile,
-            Call::Read(2, 2),
-            Call::Read(2, 2),
-            Call::Write(2, 2),
-            Call::LookAtName,
-            Call::SyncFile,
-        ],
-        holds: Some(b"abXYefgh"),
+        left: Some(b"abXYefgh"),
+        ..OPENED
     },
     Case {
-        plan: Plan {
-            fails: &[13, 15],
-            ..PLAIN
-        },
+        fails: &[13, 15],
         acts: &[
-            (Act::Write(2, b"XY"), true),
-            (Act::Sync, false),
-            (Act::Sync, false),
-            (Act::Sync, true),
+            (Act::Write(2, b"XY"), true, "name; write 2 2"),
+            (Act::Sync, false, "name; sync"),
+            (Act::Sync, false, "read 2 2; write 2 2"),
+            (Act::Sync, true, "read 2 2; write 2 2; name; sync"),
         ],
-        from: 9,
-        calls: &[
-            Call::LookAtName,
-            Call::Write(2, 2),
-            Call::LookAtName,
-            Call::SyncFile,
-            Call::Read(2, 2),
-            Call::Write(2, 2),
-            Call::Read(2, 2),
-            Call::Write(2, 2),
-            Call::LookAtName,
-            Call::SyncFile,
-        ],
-        holds: Some(b"abXYefgh"),
+        left: Some(b"abXYefgh"),
+        ..OPENED
     },
     Case {
-        plan: Plan {
-            fails: &[13, 16],
-            ..PLAIN
-        },
+        fails: &[13, 16],
         acts: &[
-            (Act::Write(2, b"XY"), true),
-            (Act::Sync, false),
-            (Act::Sync, false),
-            (Act::Sync, true),
+            (Act::Write(2, b"XY"), true, "name; write 2 2"),
+            (Act::Sync, false, "name; sync"),
+            (Act::Sync, false, "read 2 2; write 2 2; name"),
+            (Act::Sync, true, "read 2 2; write 2 2; name; sync"),
         ],
-        from: 9,
-        calls: &[
-            Call::LookAtName,
-            Call::Write(2, 2),
-            Call::LookAtName,
-            Call::SyncFile,
-            Call::Read(2, 2),
-            Call::Write(2, 2),
-            Call::LookAtName,
-            Call::Read(2, 2),
-            Call::Write(2, 2),
-            Call::LookAtName,
-            Call::SyncFile,
-        ],
-        holds: Some(b"abXYefgh"),
+        left: Some(b"abXYefgh"),
+        ..OPENED
     },
     Case {
-        plan: Plan {
-            fails: &[13, 17],
-            ..PLAIN
-        },
+        fails: &[13, 17],
         acts: &[
-            (Act::Write(2, b"XY"), true),
-            (Act::Sync, false),
-            (Act::Sync, false),
-            (Act::Sync, true),
+            (Act::Write(2, b"XY"), true, "name; write 2 2"),
+            (Act::Sync, false, "name; sync"),
+            (Act::Sync, false, "read 2 2; write 2 2; name; sync"),
+            (Act::Sync, true, "read 2 2; write 2 2; name; sync"),
         ],
-        from: 9,
-        calls: &[
-            Call::LookAtName,
-            Call::Write(2, 2),
-            Call::LookAtName,
-            Call::SyncFile,
-            Call::Read(2, 2),
-            Call::Write(2, 2),
-            Call::LookAtName,
-            Call::SyncFile,
-            Call::Read(2, 2),
-            Call::Write(2, 2),
-            Call::LookAtName,
-            Call::SyncFile,
-        ],
-        holds: Some(b"abXYefgh"),
+        left: Some(b"abXYefgh"),
+        ..OPENED
     },
     // One span holds all writes, before and after the sync that failed.
     Case {
-        plan: Plan {
-            fails: &[15],
-            ..PLAIN
-        },
+        fails: &[15],
         acts: &[
-            (Act::Write(5, b"Y"), true),
-            (Act::Write(1, b"X"), true),
-            (Act::Sync, false),
-            (Act::Write(3, b"Z"), true),
-            (Act::Sync, true),
+            (Act::Write(5, b"Y"), true, "name; write 5 1"),
+            (Act::Write(1, b"X"), true, "name; write 1 1"),
+            (Act::Sync, false, "name; sync"),
+            (Act::Write(3, b"Z"), true, "name; write 3 1"),
+            (Act::Sync, true, "read 1 5; write 1 5; name; sync"),
         ],
-        from: 9,
-        calls: &[
-            Call::LookAtName,
-            Call::Write(5, 1),
-            Call::LookAtName,
-            Call::Write(1, 1),
-            Call::LookAtName,
-            Call::SyncFile,
-            Call::LookAtName,
-            Call::Write(3, 1),
-            Call::Read(1, 5),
-            Call::Write(1, 5),
-            Call::LookAtName,
-            Call::SyncFile,
-        ],
-        holds: Some(b"aXcZeYgh"),
+        left: Some(b"aXcZeYgh"),
+        ..OPENED
     },
     // After a sync that is done only later writes count.
     Case {
-        plan: Plan {
-            fails: &[13],
-            ..PLAIN
-        },
+        fails: &[13],
         acts: &[
-            (Act::Write(2, b"XY"), true),
-            (Act::Sync, false),
-            (Act::Write(7, b"Z"), true),
-            (Act::Sync, true),
-            (Act::Write(0, b"A"), true),
-            (Act::Sync, true),
+            (Act::Write(2, b"XY"), true, "name; write 2 2"),
+            (Act::Sync, false, "name; sync"),
+            (Act::Write(7, b"Z"), true, "name; write 7 1"),
+            (Act::Sync, true, "read 2 6; write 2 6; name; sync"),
+            (Act::Write(0, b"A"), true, "name; write 0 1"),
+            (Act::Sync, true, "name; sync"),
         ],
-        from: 9,
-        calls: &[
-            Call::LookAtName,
-            Call::Write(2, 2),
-            Call::LookAtName,
-            Call::SyncFile,
-            Call::LookAtName,
-            Call::Write(7, 1),
-            Call::Read(2, 6),
-            Call::Write(2, 6),
-            Call::LookAtName,
-            Call::SyncFile,
-            Call::LookAtName,
-            Call::Write(0, 1),
-            Call::LookAtName,
-            Call::SyncFile,
-        ],
-        holds: Some(b"AbXYefgZ"),
+        left: Some(b"AbXYefgZ"),
+        ..OPENED
     },
     Case {
-        plan: Plan {
-            fails: &[17],
-            ..PLAIN
-        },
+        fails: &[17],
         acts: &[
-            (Act::Write(2, b"XY"), true),
-            (Act::Sync, true),
-            (Act::Write(7, b"Z"), true),
-            (Act::Sync, false),
-            (Act::Sync, true),
+            (Act::Write(2, b"XY"), true, "name; write 2 2"),
+            (Act::Sync, true, "name; sync"),
+            (Act::Write(7, b"Z"), true, "name; write 7 1"),
+            (Act::Sync, false, "name; sync"),
+            (Act::Sync, true, "read 7 1; write 7 1; name; sync"),
         ],
-        from: 9,
-        calls: &[
-            Call::LookAtName,
-            Call::Write(2, 2),
-            Call::LookAtName,
-            Call::SyncFile,
-            Call::LookAtName,
-            Call::Write(7, 1),
-            Call::LookAtName,
-            Call::SyncFile,
-            Call::Read(7, 1),
-            Call::Write(7, 1),
-            Call::LookAtName,
-            Call::SyncFile,
-        ],
-        holds: Some(b"abXYefgZ"),
+        left: Some(b"abXYefgZ"),
+        ..OPENED
     },
     // What lies between the old end and a write past it became zeros.
     Case {
-        plan: Plan {
-            fails: &[13],
-            ..PLAIN
-        },
+        fails: &[13],
         acts: &[
-            (Act::Write(10, b"X"), true),
-            (Act::Sync, false),
-            (Act::Sync, true),
+            (Act::Write(10, b"X"), true, "name; write 10 1"),
+            (Act::Sync, false, "name; sync"),
+            (Act::Sync, true, "read 8 3; write 8 3; name; sync"),
         ],
-        from: 9,
-        calls: &[
-            Call::LookAtName,
-            Call::Write(10, 1),
-            Call::LookAtName,
-            Call::SyncFile,
-            Call::Read(8, 3),
-            Call::Write(8, 3),
-            Call::LookAtName,
-            Call::SyncFile,
-        ],
-        holds: Some(b"abcdefgh\0\0X"),
+        left: Some(b"abcdefgh\0\0X"),
+        ..OPENED
     },
     // No more is written again than the file has.
     Case {
-        plan: Plan {
-            fails: &[15],
-            ..PLAIN
-        },
+        fails: &[15],
         acts: &[
-            (Act::Write(2, b"XYZ"), true),
-            (Act::Cut(3), true),
-            (Act::Sync, false),
-            (Act::Sync, true),
+            (Act::Write(2, b"XYZ"), true, "name; write 2 3"),
+            (Act::Cut(3), true, "file; length 3"),
+            (Act::Sync, false, "name; sync"),
+            (Act::Sync, true, "read 2 3; write 2 1; read 3 2; name; sync"),
         ],
-        from: 9,
-        calls: &[
-            Call::LookAtName,
-            Call::Write(2, 3),
-            Call::LookAtFile,
-            Call::SetLen(3),
-            Call::LookAtName,
-            Call::SyncFile,
-            Call::Read(2, 3),
-            Call::Write(2, 1),
-            Call::Read(3, 2),
-            Call::LookAtName,
-            Call::SyncFile,
-        ],
-        holds: Some(b"abX"),
+        left: Some(b"abX"),
+        ..OPENED
     },
     // Piece by piece.
     Case {
-        plan: Plan {
-            fails: &[15],
-            ..PLAIN
-        },
+        fails: &[15],
         acts: &[
-            (Act::Write(0, b"X"), true),
-            (Act::Write(9000, b"YZ"), true),
-            (Act::Sync, false),
-            (Act::Sync, true),
+            (Act::Write(0, b"X"), true, "name; write 0 1"),
+            (Act::Write(9000, b"YZ"), true, "name; write 9000 2"),
+            (Act::Sync, false, "name; sync"),
+            (
+                Act::Sync,
+                true,
+                "read 0 4096; write 0 4096; read 4096 4096; write 4096 4096; read 8192 810; write 8192 810; name; sync",
+            ),
         ],
-        from: 9,
-        calls: &[
-            Call::LookAtName,
-            Call::Write(0, 1),
-            Call::LookAtName,
-            Call::Write(9000, 2),
-            Call::LookAtName,
-            Call::SyncFile,
-            Call::Read(0, 4096),
-            Call::Write(0, 4096),
-            Call::Read(4096, 4096),
-            Call::Write(4096, 4096),
-            Call::Read(8192, 810),
-            Call::Write(8192, 810),
-            Call::LookAtName,
-            Call::SyncFile,
-        ],
-        holds: None,
+        left: None,
+        ..OPENED
     },
     Case {
-        plan: Plan {
-            fails: &[13],
-            most: 1,
-            ..PLAIN
-        },
+        fails: &[13],
+        most: 1,
         acts: &[
-            (Act::Write(2, b"X"), true),
-            (Act::Sync, false),
-            (Act::Sync, true),
+            (Act::Write(2, b"X"), true, "name; write 2 1"),
+            (Act::Sync, false, "name; sync"),
+            (Act::Sync, true, "read 2 1; write 2 1; name; sync"),
         ],
-        from: 9,
-        calls: &[
-            Call::LookAtName,
-            Call::Write(2, 1),
-            Call::LookAtName,
-            Call::SyncFile,
-            Call::Read(2, 1),
-            Call::Write(2, 1),
-            Call::LookAtName,
-            Call::SyncFile,
-        ],
-        holds: Some(b"abXdefgh"),
+        left: Some(b"abXdefgh"),
+        ..OPENED
     },
 ];
 
@@ -364,110 +169,53 @@ fn failed_syncs(rt: HostRuntime) {
 // What is written again after a write or a cut that failed.
 const FAILED_WRITES: &[Case] = &[
     Case {
-        plan: Plan {
-            fails: &[11],
-            ..PLAIN
-        },
+        fails: &[11],
         acts: &[
-            (Act::Write(2, b"XY"), false),
-            (Act::Sync, true),
-            (Act::Sync, true),
+            (Act::Write(2, b"XY"), false, "name; write 2 2"),
+            (Act::Sync, true, "read 2 2; write 2 2; name; sync"),
+            (Act::Sync, true, "name; sync"),
         ],
-        from: 9,
-        calls: &[
-            Call::LookAtName,
-            Call::Write(2, 2),
-            Call::Read(2, 2),
-            Call::Write(2, 2),
-            Call::LookAtName,
-            Call::SyncFile,
-            Call::LookAtName,
-            Call::SyncFile,
-        ],
-        holds: Some(b"abcdefgh"),
+        ..OPENED
     },
     // A write past the end, of which the system took one byte.
     Case {
-        plan: Plan {
-            fails: &[12],
-            most: 1,
-            ..PLAIN
-        },
-        acts: &[(Act::Write(8, b"XY"), false), (Act::Sync, true)],
-        from: 9,
-        calls: &[
-            Call::LookAtName,
-            Call::Write(8, 2),
-            Call::Write(9, 1),
-            Call::Read(8, 2),
-            Call::Write(8, 1),
-            Call::Read(9, 1),
-            Call::LookAtName,
-            Call::SyncFile,
-        ],
-        holds: Some(b"abcdefghX"),
-    },
-    Case {
-        plan: Plan {
-            fails: &[11],
-            ..PLAIN
-        },
-        acts: &[(Act::Cut(4), false), (Act::Sync, true), (Act::Sync, true)],
-        from: 9,
-        calls: &[
-            Call::LookAtFile,
-            Call::SetLen(4),
-            Call::LookAtName,
-            Call::SyncFile,
-            Call::LookAtName,
-            Call::SyncFile,
-        ],
-        holds: Some(b"abcdefgh"),
-    },
-    Case {
-        plan: Plan {
-            fails: &[13],
-            ..PLAIN
-        },
+        fails: &[12],
+        most: 1,
         acts: &[
-            (Act::Write(2, b"XY"), true),
-            (Act::Cut(4), false),
-            (Act::Sync, true),
+            (Act::Write(8, b"XY"), false, "name; write 8 2; write 9 1"),
+            (Act::Sync, true, "read 8 2; write 8 1; read 9 1; name; sync"),
         ],
-        from: 9,
-        calls: &[
-            Call::LookAtName,
-            Call::Write(2, 2),
-            Call::LookAtFile,
-            Call::SetLen(4),
-            Call::Read(2, 2),
-            Call::Write(2, 2),
-            Call::LookAtName,
-            Call::SyncFile,
-        ],
-        holds: Some(b"abXYefgh"),
+        left: Some(b"abcdefghX"),
+        ..OPENED
     },
     Case {
-        plan: Plan {
-            fails: &[10],
-            ..PLAIN
-        },
+        fails: &[11],
         acts: &[
-            (Act::Cut(4), false),
-            (Act::Write(2, b"XY"), true),
-            (Act::Sync, true),
+            (Act::Cut(4), false, "file; length 4"),
+            (Act::Sync, true, "name; sync"),
+            (Act::Sync, true, "name; sync"),
         ],
-        from: 9,
-        calls: &[
-            Call::LookAtFile,
-            Call::LookAtName,
-            Call::Write(2, 2),
-            Call::Read(2, 2),
-            Call::Write(2, 2),
-            Call::LookAtName,
-            Call::SyncFile,
+        ..OPENED
+    },
+    Case {
+        fails: &[13],
+        acts: &[
+            (Act::Write(2, b"XY"), true, "name; write 2 2"),
+            (Act::Cut(4), false, "file; length 4"),
+            (Act::Sync, true, "read 2 2; write 2 2; name; sync"),
         ],
-        holds: Some(b"abXYefgh"),
+        left: Some(b"abXYefgh"),
+        ..OPENED
+    },
+    Case {
+        fails: &[10],
+        acts: &[
+            (Act::Cut(4), false, "file"),
+            (Act::Write(2, b"XY"), true, "name; write 2 2"),
+            (Act::Sync, true, "read 2 2; write 2 2; name; sync"),
+        ],
+        left: Some(b"abXYefgh"),
+        ..OPENED
     },
 ];
 
@@ -480,59 +228,42 @@ fn failed_writes_and_cuts(rt: HostRuntime) {
 // Reads and writes that are interrupted are made again.
 const INTERRUPTS: &[Case] = &[
     Case {
-        plan: Plan {
-            interrupts: &[10, 11],
-            ..PLAIN
-        },
-        acts: &[(Act::Read(0, b"abcdefgh"), true)],
-        from: 9,
-        calls: &[Call::Read(0, 16), Call::Read(0, 16), Call::Read(0, 16)],
-        holds: Some(b"abcdefgh"),
+        interrupts: &[10, 11],
+        acts: &[(
+            Act::Read(0, b"abcdefgh"),
+            true,
+            "read 0 16; read 0 16; read 0 16",
+        )],
+        ..OPENED
     },
     Case {
-        plan: Plan {
-            interrupts: &[11, 13],
-            most: 4,
-            ..PLAIN
-        },
-        acts: &[(Act::Write(0, b"ABCDEF"), true), (Act::Sync, true)],
-        from: 9,
-        calls: &[
-            Call::LookAtName,
-            Call::Write(0, 6),
-            Call::Write(0, 6),
-            Call::Write(4, 2),
-            Call::Write(4, 2),
-            Call::LookAtName,
-            Call::SyncFile,
-        ],
-        holds: Some(b"ABCDEFgh"),
-    },
-    Case {
-        plan: Plan {
-            fails: &[13],
-            interrupts: &[14, 16],
-            ..PLAIN
-        },
+        interrupts: &[11, 13],
+        most: 4,
         acts: &[
-            (Act::Write(2, b"XY"), true),
-            (Act::Sync, false),
-            (Act::Sync, true),
+            (
+                Act::Write(0, b"ABCDEF"),
+                true,
+                "name; write 0 6; write 0 6; write 4 2; write 4 2",
+            ),
+            (Act::Sync, true, "name; sync"),
         ],
-        from: 9,
-        calls: &[
-            Call::LookAtName,
-            Call::Write(2, 2),
-            Call::LookAtName,
-            Call::SyncFile,
-            Call::Read(2, 2),
-            Call::Read(2, 2),
-            Call::Write(2, 2),
-            Call::Write(2, 2),
-            Call::LookAtName,
-            Call::SyncFile,
+        left: Some(b"ABCDEFgh"),
+        ..OPENED
+    },
+    Case {
+        fails: &[13],
+        interrupts: &[14, 16],
+        acts: &[
+            (Act::Write(2, b"XY"), true, "name; write 2 2"),
+            (Act::Sync, false, "name; sync"),
+            (
+                Act::Sync,
+                true,
+                "read 2 2; read 2 2; write 2 2; write 2 2; name; sync",
+            ),
         ],
-        holds: Some(b"abXYefgh"),
+        left: Some(b"abXYefgh"),
+        ..OPENED
     },
 ];
 

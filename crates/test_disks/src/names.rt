@@ -5,8 +5,138 @@
 use disk_model::{Disk, FileDisk};
 use std::fs::{File, Permissions};
 use std::os::unix::fs::{MetadataExt, PermissionsExt, symlink};
-use std::test::Fail;
 use std::{fs, io};
+
+// A step of a trial: what the disk does, what is done beside it, or what is seen then.
+#[derive(Clone, Copy)]
+enum Step {
+    AllFail,
+    Takes(&'static [u8]),
+    TakesNothing,
+    IsShort,
+    HasLen(u64),
+    MakeFolder(&'static str),
+    RemoveFolder(&'static str),
+    Link(&'static str, &'static str),
+    Write(&'static str, &'static str),
+    SetRights(&'static str, u32),
+    Rename(&'static str, &'static str),
+    CutTo(&'static str, u64),
+    Remove(&'static str),
+    IsFolder(&'static str),
+    IsLink(&'static str),
+    IsMissing(&'static str),
+    IsText(&'static str, &'static str),
+    HasRights(&'static str, u32),
+}
+
+// What is tried, the name of the disk's file, and the steps. The last ones remove what is left.
+const TRIALS: &[(&str, &str, &[Step])] = &[
+    (
+        "a folder; its name is free later, and the next call opens anew",
+        "names.folder",
+        &[
+            Step::MakeFolder("names.folder"),
+            Step::AllFail,
+            Step::IsFolder("names.folder"),
+            Step::RemoveFolder("names.folder"),
+            Step::HasLen(0),
+            Step::Remove("names.folder"),
+        ],
+    ),
+    (
+        "a link that leads nowhere",
+        "names.dangling",
+        &[
+            Step::Link("names.nowhere", "names.dangling"),
+            Step::AllFail,
+            Step::IsMissing("names.nowhere"),
+            Step::IsLink("names.dangling"),
+            Step::Remove("names.dangling"),
+        ],
+    ),
+    (
+        "a link to a file",
+        "names.link",
+        &[
+            Step::Write("names.target", "abcdef"),
+            Step::Link("names.target", "names.link"),
+            Step::AllFail,
+            Step::IsText("names.target", "abcdef"),
+            Step::IsLink("names.link"),
+            Step::Remove("names.link"),
+            Step::Remove("names.target"),
+        ],
+    ),
+    (
+        "a file that the disk makes is its owner's alone",
+        "names.made",
+        &[
+            Step::Takes(b"abc"),
+            Step::HasRights("names.made", 0o600),
+            Step::Remove("names.made"),
+        ],
+    ),
+    (
+        "a file that is there keeps its rights and its bytes",
+        "names.there",
+        &[
+            Step::Write("names.there", "abcdef"),
+            Step::SetRights("names.there", 0o640),
+            Step::HasLen(6),
+            Step::IsText("names.there", "abcdef"),
+            Step::HasRights("names.there", 0o640),
+            Step::Remove("names.there"),
+        ],
+    ),
+    (
+        "a file that is removed beside the disk",
+        "names.removed",
+        &[
+            Step::Takes(b"abcdef"),
+            Step::Remove("names.removed"),
+            Step::TakesNothing,
+            Step::IsMissing("names.removed"),
+        ],
+    ),
+    (
+        "a file that is renamed beside it, and is whole again once it gets its name back",
+        "names.renamed",
+        &[
+            Step::Takes(b"abcdef"),
+            Step::Rename("names.renamed", "names.away"),
+            Step::TakesNothing,
+            Step::IsText("names.away", "abcdef"),
+            Step::Rename("names.away", "names.renamed"),
+            Step::Takes(b"ABC"),
+            Step::IsText("names.renamed", "ABCdef"),
+            Step::Remove("names.renamed"),
+        ],
+    ),
+    (
+        "a file that is replaced beside it",
+        "names.replaced",
+        &[
+            Step::Takes(b"abcdef"),
+            Step::Write("names.new", "ghijklm"),
+            Step::Rename("names.new", "names.replaced"),
+            Step::TakesNothing,
+            Step::IsText("names.replaced", "ghijklm"),
+            Step::Remove("names.replaced"),
+        ],
+    ),
+    (
+        "a file that is cut beside it",
+        "names.cut",
+        &[
+            Step::Takes(b"abcdef"),
+            Step::CutTo("names.cut", 5),
+            Step::IsShort,
+            Step::IsText("names.cut", "abcde"),
+            Step::Remove("names.cut"),
+        ],
+    ),
+];
 
 // Whether each call of the disk fails.
 fn all_fail<D: Disk>(disk: &mut D) -> bool {
@@ -28,118 +158,6 @@ fn takes_nothing<D: Disk>(disk: &mut D) -> bool {
     disk.write_at(0, b"xyz").is_err() && disk.sync().is_err()
 }
 
-fn has<D: Disk>(disk: &mut D, len: u64) -> bool {
-    disk.len() == Ok(len)
-}
-
-fn is_text(rt: HostRuntime, name: &str, want: &str) -> io::Result<bool> {
-    Ok(fs::read_to_string(&rt, name)?.as_str() == want)
-}
-
-// The first answer that isn't yes, counted from 0.
-fn first_no(answers: &[bool]) -> Option<usize> {
-    answers.iter().position(|&answer| !answer)
-}
-
-// What is tried, and so its name in the folder.
-#[derive(Clone, Copy)]
-enum Trial {
-    Folder,
-    DanglingLink,
-    Link,
-    Made,
-    There,
-    Removed,
-    Renamed,
-    Replaced,
-    Cut,
-}
-
-fn over_a_folder<D: Disk>(rt: HostRuntime, disk: &mut D) -> io::Result<Option<usize>> {
-    fs::create_dir(&rt, "names.folder")?;
-    let failed = all_fail(disk);
-    let is_there = fs::symlink_metadata(&rt, "names.folder")?.is_dir();
-    fs::remove_dir(&rt, "names.folder")?;
-    // The name is free now, and the next call opens anew.
-    let opened = has(disk, 0);
-    fs::remove_file(&rt, "names.folder")?;
-    Ok(first_no(&[failed, is_there, opened]))
-}
-
-fn over_a_dangling_link<D: Disk>(rt: HostRuntime, disk: &mut D) -> io::Result<Option<usize>> {
-    symlink(&rt, "names.nowhere", "names.dangling")?;
-    let failed = all_fail(disk);
-    let is_missing = !fs::exists(&rt, "names.nowhere")?;
-    let is_link = fs::symlink_metadata(&rt, "names.dangling")?.is_symlink();
-    fs::remove_file(&rt, "names.dangling")?;
-    Ok(first_no(&[failed, is_missing, is_link]))
-}
-
-fn over_a_link<D: Disk>(rt: HostRuntime, disk: &mut D) -> io::Result<Option<usize>> {
-    fs::write(&rt, "names.target", "abcdef")?;
-    symlink(&rt, "names.target", "names.link")?;
-    let failed = all_fail(disk);
-    let is_same = is_text(rt, "names.target", "abcdef")?;
-    let is_link = fs::symlink_metadata(&rt, "names.link")?.is_symlink();
-    fs::remove_file(&rt, "names.link")?;
-    fs::remove_file(&rt, "names.target")?;
-    Ok(first_no(&[failed, is_same, is_link]))
-}
-
-fn has_rights(rt: HostRuntime, name: &str, rights: u32) -> io::Result<bool> {
-    Ok(fs::metadata(&rt, name)?.mode() & 0o777 == rights)
-}
-
-// A file that a disk makes is its owner's alone.
-fn made<D: Disk>(rt: HostRuntime, disk: &mut D) -> io::Result<Option<usize>> {
-    let is_made = takes(disk, b"abc");
-    let is_private = has_rights(rt, "names.made", 0o600)?;
-    fs::remove_file(&rt, "names.made")?;
-    Ok(first_no(&[is_made, is_private]))
-}
-
-// One that is there keeps its rights and its bytes.
-fn there<D: Disk>(rt: HostRuntime, disk: &mut D) -> io::Result<Option<usize>> {
-    fs::write(&rt, "names.there", "abcdef")?;
-    fs::set_permissions(&rt, "names.there", Permissions::from_mode(0o640))?;
-    let is_open = has(disk, 6);
-    let is_same = is_text(rt, "names.there", "abcdef")?;
-    let is_shared = has_rights(rt, "names.there", 0o640)?;
-    fs::remove_file(&rt, "names.there")?;
-    Ok(first_no(&[is_open, is_same, is_shared]))
-}
-
-fn removed<D: Disk>(rt: HostRuntime, disk: &mut D) -> io::Result<Option<usize>> {
-    let first = takes(disk, b"abcdef");
-    fs::remove_file(&rt, "names.removed")?;
-    let refused = takes_nothing(disk);
-    let is_missing = !fs::exists(&rt, "names.removed")?;
-    Ok(first_no(&[first, refused, is_missing]))
-}
-
-// A file that gets its name back is whole again.
-fn renamed<D: Disk>(rt: HostRuntime, disk: &mut D) -> io::Result<Option<usize>> {
-    let first = takes(disk, b"abcdef");
-    fs::rename(&rt, "names.renamed", "names.away")?;
-    let refused = takes_nothing(disk);
-    let is_same = is_text(rt, "names.away", "abcdef")?;
-    fs::rename(&rt, "names.away", "names.renamed")?;
-    let again = takes(disk, b"ABC");
-    let is_written = is_text(rt, "names.renamed", "ABCdef")?;
-    fs::remove_file(&rt, "names.renamed")?;
-    Ok(first_no(&[first, refused, is_same, again, is_written]))
-}
-
-fn replaced<D: Disk>(rt: HostRuntime, disk: &mut D) -> io::Result<Option<usize>> {
-    let first = takes(disk, b"abcdef");
-    fs::write(&rt, "names.new", "ghijklm")?;
-    fs::rename(&rt, "names.new", "names.replaced")?;
-    let refused = takes_nothing(disk);
-    let is_same = is_text(rt, "names.replaced", "ghijklm")?;
-    fs::remove_file(&rt, "names.replaced")?;
-    Ok(first_no(&[first, refused, is_same]))
-}
-
 // Whether the disk says nowhere that its file is whole, also where a cut of it would leave it as it is.
 fn is_short<D: Disk>(disk: &mut D) -> bool {
     disk.len().is_err() && disk.cut(5).is_err() && takes_nothing(disk)
@@ -150,85 +168,87 @@ fn cut_beside(rt: HostRuntime, name: &str, len: u64) -> io::Result<()> {
     File::options().write(true).open(&rt, name)?.set_len(len)
 }
 
-fn cut<D: Disk>(rt: HostRuntime, disk: &mut D) -> io::Result<Option<usize>> {
-    let first = takes(disk, b"abcdef");
-    cut_beside(rt, "names.cut", 5)?;
-    let refused = is_short(disk);
-    let is_same = is_text(rt, "names.cut", "abcde")?;
-    fs::remove_file(&rt, "names.cut")?;
-    Ok(first_no(&[first, refused, is_same]))
-}
-
-fn tried<D: Disk>(rt: HostRuntime, disk: &mut D, trial: Trial) -> io::Result<Option<usize>> {
-    match trial {
-        Trial::Folder => over_a_folder(rt, disk),
-        Trial::DanglingLink => over_a_dangling_link(rt, disk),
-        Trial::Link => over_a_link(rt, disk),
-        Trial::Made => made(rt, disk),
-        Trial::There => there(rt, disk),
-        Trial::Removed => removed(rt, disk),
-        Trial::Renamed => renamed(rt, disk),
-        Trial::Replaced => replaced(rt, disk),
-        Trial::Cut => cut(rt, disk),
+fn is_text(rt: HostRuntime, name: &str, want: &str) -> bool {
+    match fs::read_to_string(&rt, name) {
+        Ok(text) => text.as_str() == want,
+        Err(_) => false,
     }
 }
 
-// The first thing that isn't as it is to be where this is tried under that name, counted from 0.
-fn wrong(rt: HostRuntime, trial: Trial, name: &'static str) -> io::Result<Option<usize>> {
-    let mut disk = FileDisk::new(rt, name);
-    tried(rt, &mut disk, trial)
+// Whether what is under the name itself is a folder, or a link, which isn't followed.
+fn is_folder(rt: HostRuntime, name: &str) -> bool {
+    match fs::symlink_metadata(&rt, name) {
+        Ok(metadata) => metadata.is_dir(),
+        Err(_) => false,
+    }
+}
+
+fn is_link(rt: HostRuntime, name: &str) -> bool {
+    match fs::symlink_metadata(&rt, name) {
+        Ok(metadata) => metadata.is_symlink(),
+        Err(_) => false,
+    }
+}
+
+fn is_missing(rt: HostRuntime, name: &str) -> bool {
+    matches!(fs::exists(&rt, name), Ok(false))
+}
+
+fn has_rights(rt: HostRuntime, name: &str, rights: u32) -> bool {
+    match fs::metadata(&rt, name) {
+        Ok(metadata) => metadata.mode() & 0o777 == rights,
+        Err(_) => false,
+    }
+}
+
+fn is_done<D: Disk>(rt: HostRuntime, disk: &mut D, step: Step) -> bool {
+    match step {
+        Step::AllFail => all_fail(disk),
+        Step::Takes(bytes) => takes(disk, bytes),
+        Step::TakesNothing => takes_nothing(disk),
+        Step::IsShort => is_short(disk),
+        Step::HasLen(len) => disk.len() == Ok(len),
+        Step::MakeFolder(name) => fs::create_dir(&rt, name).is_ok(),
+        Step::RemoveFolder(name) => fs::remove_dir(&rt, name).is_ok(),
+        Step::Link(target, name) => symlink(&rt, target, name).is_ok(),
+        Step::Write(name, text) => fs::write(&rt, name, text).is_ok(),
+        Step::SetRights(name, rights) => {
+            fs::set_permissions(&rt, name, Permissions::from_mode(rights)).is_ok()
+        }
+        Step::Rename(from, to) => fs::rename(&rt, from, to).is_ok(),
+        Step::CutTo(name, len) => cut_beside(rt, name, len).is_ok(),
+        Step::Remove(name) => fs::remove_file(&rt, name).is_ok(),
+        Step::IsFolder(name) => is_folder(rt, name),
+        Step::IsLink(name) => is_link(rt, name),
+        Step::IsMissing(name) => is_missing(rt, name),
+        Step::IsText(name, want) => is_text(rt, name, want),
+        Step::HasRights(name, rights) => has_rights(rt, name, rights),
+    }
+}
+
+// The first step that isn't done with a disk, counted from 0.
+fn wrong_step<D: Disk>(rt: HostRuntime, disk: D, steps: &[Step]) -> Option<usize> {
+    let mut disk = disk;
+    for (place, &step) in steps.iter().enumerate() {
+        if !is_done(rt, &mut disk, step) {
+            return Some(place);
+        }
+    }
+    None
+}
+
+// The first trial with such a step.
+fn wrong_trial(rt: HostRuntime) -> Option<(&'static str, usize)> {
+    for &(trial, name, steps) in TRIALS {
+        if let Some(place) = wrong_step(rt, FileDisk::new(rt, name), steps) {
+            return Some((trial, place));
+        }
+    }
+    None
 }
 
 #[test]
-fn folder(rt: HostRuntime) -> Result<(), Fail> {
-    assert_eq!(rt; wrong(rt, Trial::Folder, "names.folder")?, None);
-    Ok(())
-}
-
-#[test]
-fn dangling_link(rt: HostRuntime) -> Result<(), Fail> {
-    assert_eq!(rt; wrong(rt, Trial::DanglingLink, "names.dangling")?, None);
-    Ok(())
-}
-
-#[test]
-fn link_to_a_file(rt: HostRuntime) -> Result<(), Fail> {
-    assert_eq!(rt; wrong(rt, Trial::Link, "names.link")?, None);
-    Ok(())
-}
-
-#[test]
-fn file_that_is_made(rt: HostRuntime) -> Result<(), Fail> {
-    assert_eq!(rt; wrong(rt, Trial::Made, "names.made")?, None);
-    Ok(())
-}
-
-#[test]
-fn file_that_is_there(rt: HostRuntime) -> Result<(), Fail> {
-    assert_eq!(rt; wrong(rt, Trial::There, "names.there")?, None);
-    Ok(())
-}
-
-#[test]
-fn removed_beside(rt: HostRuntime) -> Result<(), Fail> {
-    assert_eq!(rt; wrong(rt, Trial::Removed, "names.removed")?, None);
-    Ok(())
-}
-
-#[test]
-fn renamed_beside(rt: HostRuntime) -> Result<(), Fail> {
-    assert_eq!(rt; wrong(rt, Trial::Renamed, "names.renamed")?, None);
-    Ok(())
-}
-
-#[test]
-fn replaced_beside(rt: HostRuntime) -> Result<(), Fail> {
-    assert_eq!(rt; wrong(rt, Trial::Replaced, "names.replaced")?, None);
-    Ok(())
-}
-
-#[test]
-fn cut_short_beside(rt: HostRuntime) -> Result<(), Fail> {
-    assert_eq!(rt; wrong(rt, Trial::Cut, "names.cut")?, None);
-    Ok(())
+fn names(rt: HostRuntime) {
+    let wrong = wrong_trial(rt);
+    assert_eq!(rt; wrong, None);
 }

@@ -7,97 +7,49 @@
 
 ghost use Rattle.std.specs.Prelude.{◌≤◌, length, IfOk};
 
+use crate::cases::{Case, Under};
+use arrayvec::ArrayString;
 use disk_model::{NamedFile, NoMemory, Seen};
 use std::alloc::Global;
 use std::cell::Cell;
 use std::cmp::{max, min};
+use std::fmt::Write;
 use std::io;
 use std::io::ErrorKind;
 use std::rc::Rc;
 
-/// A call, with its offset or length and its count of bytes where it has them.
-#[derive(Clone, Copy, Debug, PartialEq, Eq)]
-pub enum Call {
-    OpenFolder,
-    LookAtName,
-    Make,
-    Open,
-    Lock,
-    LookAtFile,
-    SyncFolder,
-    SyncFile,
-    DropPages,
-    RemoveName,
-    Close,
-    Read(u64, usize),
-    Write(u64, usize),
-    SetLen(u64),
-}
-
-/// What stands under the name.
-#[derive(Clone, Copy)]
-pub enum Under {
-    Nothing,
-    File,
-    Other(Seen),
-}
-
-/// What becomes of the calls. They are counted from 1.
-#[derive(Clone, Copy)]
-pub struct Plan {
-    /// What reads give at first.
-    pub reads: &'static [u8],
-    /// What the disk holds at first, as many bytes.
-    pub holds: &'static [u8],
-    /// What stands under the name from each of these calls on, at first the file.
-    pub under: &'static [(usize, Under)],
-    /// The calls that fail, and those that are interrupted.
-    pub fails: &'static [usize],
-    pub interrupts: &'static [usize],
-    /// How many bytes a read or a write takes at most.
-    pub most: usize,
-}
-
-/// How many calls are noted, and how many of the bytes that the disk holds.
-pub const MOST_CALLS: usize = 40;
-
-pub const MOST_BYTES: usize = 16;
-
-/// What a test sees of a file that a disk owns: its calls so far, the oldest first, and the front of what the disk
-/// holds.
+/// What a test sees of a file that a disk owns.
 #[derive(Clone, Copy)]
 pub struct Log {
-    pub calls: [Call; MOST_CALLS],
-    pub made: usize,
-    pub holds: [u8; MOST_BYTES],
+    /// The calls so far, the oldest first: a word for each, its offset or length and its count of bytes where it has
+    /// them, and "; " after it. A look at what stands under the name is "name", one at what is open is "file".
+    pub calls: ArrayString<1_000>,
+    /// The front of what the disk holds, and how long it is.
+    pub holds: [u8; 16],
     pub held: usize,
 }
 
 /// The file.
 #[derive(Drop)]
 pub struct Recorder {
-    plan: Plan,
+    case: Case,
     log: Rc<Cell<Log>>,
+    made: usize,
     under: Under,
     reads: Vec<u8>,
     holds: Vec<u8>,
     unwritten: Option<(usize, usize)>,
 }
 
-fn failure(kind: ErrorKind) -> io::Error {
-    io::Error::from(kind)
-}
-
-fn copy_of(alloc: Global, bytes: &[u8]) -> Result<Vec<u8>, NoMemory> {
-    let mut copy = Vec::new(alloc);
-    copy.extend_from_slice(bytes)?;
-    Ok(copy)
+fn failure<T>(kind: ErrorKind) -> io::Result<T> {
+    Err(io::Error::from(kind))
 }
 
 fn make_len(bytes: &mut Vec<u8>, len: usize) -> io::Result<()> {
-    bytes
-        .resize(len, 0)
-        .map_err(|_| failure(ErrorKind::OutOfMemory))
+    match bytes.resize(len, 0) {
+        Ok(()) => Ok(()),
+        Err(_) => failure(ErrorKind::OutOfMemory),
+    }
 }
 
 // Copies the bytes from one place up to another, as far as both have them.
@@ -118,24 +70,23 @@ fn copy_front(bytes: &[u8], piece: &mut [u8]) -> usize
     count
 }
 
-const EMPTY: Log = Log {
-    calls: [Call::Close; MOST_CALLS],
-    made: 0,
-    holds: [0; MOST_BYTES],
-    held: 0,
-};
-
 impl Recorder {
-    /// The file, and what is seen of it.
-    pub fn new(alloc: Global, plan: Plan) -> Result<(Recorder, Rc<Cell<Log>>), NoMemory> {
-        let log = Rc::new(alloc, Cell::new(EMPTY))?;
+    /// The file of a case, and what is seen of it.
+    pub fn new(alloc: Global, case: Case) -> Result<(Recorder, Rc<Cell<Log>>), NoMemory> {
+        let empty = Log {
+            calls: ArrayString::new(),
+            holds: [0; 16],
+            held: 0,
+        };
+        let log = Rc::new(alloc, Cell::new(empty))?;
         let seen = log.clone()?;
-        let mut file = Recorder {
-            plan,
+        let file = Recorder {
+            case,
             log,
+            made: 0,
             under: Under::File,
-            reads: copy_of(alloc, plan.reads)?,
-            holds: copy_of(alloc, plan.holds)?,
+            reads: Vec::from_slice(alloc, case.reads)?,
+            holds: Vec::from_slice(alloc, case.holds)?,
             unwritten: None,
         };
         file.show();
@@ -143,7 +94,7 @@ impl Recorder {
     }
 
     // Shows what the disk holds.
-    fn show(&mut self) {
+    fn show(&self) {
         let mut log = self.log.get();
         log.held = copy_front(self.holds.as_slice(), &mut log.holds);
         self.log.set(log);
@@ -159,36 +110,44 @@ impl Recorder {
         }
     }
 
-    fn change_name(&mut self, number: usize) {
-        for &(from, under) in self.plan.under {
-            if from == number {
+    fn change_name(&mut self) {
+        for &(from, under) in self.case.under {
+            if from == self.made {
                 self.under = under;
             }
         }
     }
 
-    // Notes the call, and gives its number.
-    fn note(&mut self, call: Call) -> usize {
+    // Notes the call with its numbers. One for which there is no room is missing, which a test finds.
+    fn note(&self, call: &str, numbers: &[u64]) {
         let mut log = self.log.get();
-        let made = log.made;
-        if let Some(place) = log.calls.get_mut(made) {
-            *place = call;
+        let _ = log.calls.try_push_str(call);
+        for number in numbers {
+            let _ = write!(log.calls, " {number}");
         }
-        log.made = made.saturating_add(1);
+        let _ = log.calls.try_push_str("; ");
         self.log.set(log);
-        log.made
     }
 
     // Notes the call, and says whether it fails.
-    fn call(&mut self, call: Call) -> io::Result<()> {
-        let number = self.note(call);
-        self.change_name(number);
-        if self.plan.fails.contains(&number) {
-            return Err(failure(ErrorKind::TimedOut));
+    fn call(&mut self, call: &str, numbers: &[u64]) -> io::Result<()> {
+        self.note(call, numbers);
+        self.made = self.made.saturating_add(1);
+        self.change_name();
+        if self.case.fails.contains(&self.made) {
+            return failure(ErrorKind::TimedOut);
         }
-        if self.plan.interrupts.contains(&number) {
-            return Err(failure(ErrorKind::Interrupted));
+        if self.case.interrupts.contains(&self.made) {
+            return failure(ErrorKind::Interrupted);
         }
+        Ok(())
+    }
+
+    // Makes the file that long.
+    fn make_len(&mut self, len: usize) -> io::Result<()> {
+        make_len(&mut self.reads, len)?;
+        make_len(&mut self.holds, len)?;
+        self.show();
         Ok(())
     }
 
@@ -196,9 +155,7 @@ impl Recorder {
     fn put(&mut self, at: usize, bytes: &[u8]) -> io::Result<()> {
         let end = at.saturating_add(bytes.len());
         if self.reads.len() < end {
-            make_len(&mut self.reads, end)?;
-            make_len(&mut self.holds, end)?;
-            self.show();
+            self.make_len(end)?;
         }
         for (place, &byte) in bytes.iter().enumerate() {
             if let Some(old) = self.reads.get_mut(at.saturating_add(place)) {
@@ -211,55 +168,15 @@ impl Recorder {
         };
         Ok(())
     }
+}
 
-    // What was written is safe, or where the call fails taken for safe.
-    fn sync(&mut self) -> io::Result<()> {
-        let unwritten = self.unwritten.take();
-        self.call(Call::SyncFile)?;
-        if let Some((first, end)) = unwritten {
-            copy_part(self.reads.as_slice(), self.holds.as_mut_slice(), first, end);
-            self.show();
-        }
-        Ok(())
+impl NamedFile for Recorder {
+    fn open_folder(&mut self) -> io::Result<()> {
+        self.call("folder", &[])
     }
 
-    fn forget(&mut self) -> io::Result<()> {
-        self.call(Call::DropPages)?;
-        let len = self.holds.len();
-        copy_part(self.holds.as_slice(), self.reads.as_mut_slice(), 0, len);
-        Ok(())
-    }
-
-    fn read(&mut self, at: u64, piece: &mut [u8]) -> io::Result<usize>
-        ensures { IfOk result (λ n. n ≤ length piece.old) }
-    {
-        self.call(Call::Read(at, piece.len()))?;
-        let most = self.plan.most;
-        match self.reads.get(at as usize..) {
-            Some(rest) => Ok(copy_front(&rest[..min(rest.len(), most)], piece)),
-            None => Ok(0),
-        }
-    }
-
-    fn write(&mut self, at: u64, bytes: &[u8]) -> io::Result<usize>
-        ensures { IfOk result (λ n. n ≤ length bytes.now) }
-    {
-        self.call(Call::Write(at, bytes.len()))?;
-        let count = min(bytes.len(), self.plan.most);
-        self.put(at as usize, &bytes[..count])?;
-        Ok(count)
-    }
-
-    fn cut(&mut self, len: u64) -> io::Result<()> {
-        self.call(Call::SetLen(len))?;
-        make_len(&mut self.reads, len as usize)?;
-        make_len(&mut self.holds, len as usize)?;
-        self.show();
-        Ok(())
-    }
-
-    fn look(&mut self) -> io::Result<Option<Seen>> {
-        self.call(Call::LookAtName)?;
+    fn look_at_name(&mut self) -> io::Result<Option<Seen>> {
+        self.call("name", &[])?;
         match self.under {
             Under::Nothing => Ok(None),
             Under::File => Ok(Some(self.file())),
@@ -267,72 +184,77 @@ impl Recorder {
         }
     }
 
-    fn place(&mut self, call: Call, under: Under) -> io::Result<()> {
-        self.call(call)?;
-        self.under = under;
-        Ok(())
-    }
-}
-
-impl NamedFile for Recorder {
-    fn open_folder(&mut self) -> io::Result<()> {
-        self.call(Call::OpenFolder)
-    }
-
-    fn look_at_name(&mut self) -> io::Result<Option<Seen>> {
-        self.look()
-    }
-
     fn make(&mut self) -> io::Result<()> {
-        self.place(Call::Make, Under::File)
+        self.call("make", &[])?;
+        self.under = Under::File;
+        Ok(())
     }
 
     fn open(&mut self) -> io::Result<()> {
-        self.call(Call::Open)
+        self.call("open", &[])
     }
 
     fn lock(&mut self) -> io::Result<()> {
-        self.call(Call::Lock)
+        self.call("lock", &[])
     }
 
     fn look_at_file(&mut self) -> io::Result<Seen> {
-        self.call(Call::LookAtFile)?;
+        self.call("file", &[])?;
         Ok(self.file())
     }
 
     fn sync_folder(&mut self) -> io::Result<()> {
-        self.call(Call::SyncFolder)
+        self.call("sync folder", &[])
     }
 
+    // What was written is safe, or where the call fails taken for safe.
     fn sync_file(&mut self) -> io::Result<()> {
-        self.sync()
+        let (first, end) = self.unwritten.take().unwrap_or((0, 0));
+        self.call("sync", &[])?;
+        copy_part(self.reads.as_slice(), self.holds.as_mut_slice(), first, end);
+        self.show();
+        Ok(())
     }
 
     fn drop_pages(&mut self) -> io::Result<()> {
-        self.forget()
+        self.call("drop", &[])?;
+        let len = self.holds.len();
+        copy_part(self.holds.as_slice(), self.reads.as_mut_slice(), 0, len);
+        Ok(())
     }
 
     fn remove_name(&mut self) -> io::Result<()> {
-        self.place(Call::RemoveName, Under::Nothing)
+        self.call("remove", &[])?;
+        self.under = Under::Nothing;
+        Ok(())
     }
 
     fn close(&mut self) {
-        let _ = self.call(Call::Close);
+        let _ = self.call("close", &[]);
     }
 
     fn read_at(&mut self, at: u64, piece: &mut [u8]) -> io::Result<usize>
         ensures within { IfOk result (λ n. n ≤ length piece.old) }
     {
-        self.read(at, piece)
+        self.call("read", &[at, piece.len() as u64])?;
+        let most = self.case.most;
+        match self.reads.get(at as usize..) {
+            Some(rest) => Ok(copy_front(&rest[..min(rest.len(), most)], piece)),
+            None => Ok(0),
+        }
     }
 
     fn write_at(&mut self, at: u64, bytes: &[u8]) -> io::Result<usize>
         ensures within { IfOk result (λ n. n ≤ length bytes.now) }
     {
-        self.write(at, bytes)
+        self.call("write", &[at, bytes.len() as u64])?;
+        let count = min(bytes.len(), self.case.most);
+        self.put(at as usize, &bytes[..count])?;
+        Ok(count)
     }
 
     fn set_len(&mut self, len: u64) -> io::Result<()> {
-        self.cut(len)
+        self.call("length", &[len])?;
+        self.make_len(len as usize)
     }
 }
