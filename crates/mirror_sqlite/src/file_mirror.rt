@@ -1,19 +1,18 @@
 //! A mirror over a file.
 
-ghost use Rattle.std.specs.Prelude.{◌≡◌, ◌≢◌, ◌≤◌, false, IfOk, OnOk, OnErr};
+ghost use Rattle.std.specs.Prelude.{◌≡◌, ◌≢◌, ◌≤◌, IfOk, OnOk, OnErr};
 ghost use Rattle.std.specs.List.{AllByRecursion};
 ghost use Rattle.call_log.specs.Counts.{one_more, Rises};
 ghost use Rattle.mirror_store.specs.Rows.{IsObjectRow, IsSightRow, AreReplaceable};
 ghost use Rattle.mirror_store.specs.Mirrors.{IsReplaced, TellsObjects, TellsBetween};
 ghost use Rattle.mirror_sqlite.specs.FileMirrors.{untold};
 
-use crate::faults::{fault, faults_after};
-use crate::keeping::{between_by, objects_by, replace_by};
-use crate::tables::{make_objects, make_sights};
-use crate::texts::compile_all;
+use crate::faults::faults_after;
+use crate::keeping::{Opening, asked};
+use crate::questions::{Objects, Question, Replacing, Window};
 use mirror_store::{Mirror, MirrorErr, MirrorRows, ObjectRows, SightRows};
 use obs_time::Instant;
-use sqlite::{Alter, Connection, File, FileStore};
+use sqlite::{Connection, Error, File, FileStore};
 use std::marker::Model;
 use std::rt::HostRuntime;
 
@@ -64,75 +63,20 @@ impl FileMirror {
         }
     }
 
-    // The connection, which the mirror gives away. The file is opened where none is open.
-    fn take(&mut self) -> Result<Connection<FileStore<File>>, MirrorErr>
-        ensures mode { IfOk result (λ conn. conn.in_transaction ≡ false) }
+    // The answer to a question. It is the one call that asks at a file's store.
+    fn ask<Q: Question>(&mut self, question: &Q) -> Result<Q::Answer, MirrorErr>
+        requires { Q.may_ask question.now }
+        ensures right { IfOk result (λ answer. Q.is_right answer) }
         ensures same { self.new ≡ self.old }
     {
-        match self.conn.take() {
-            Some(conn) => Ok(conn),
-            None => opened(self.host),
-        }
-    }
-
-    fn try_replace(&mut self, rows: &MirrorRows) -> Result<(), MirrorErr>
-        requires { AreReplaceable rows.now }
-        ensures { self.new ≡ self.old }
-    {
-        let conn = self.take()?;
-        replace_by(&mut self.conn, conn, rows)
-    }
-
-    fn try_objects(&mut self) -> Result<ObjectRows, MirrorErr>
-        ensures in_range { IfOk result (AllByRecursion IsObjectRow) }
-        ensures same { self.new ≡ self.old }
-    {
-        let conn = self.take()?;
-        objects_by(self.host.alloc(), &mut self.conn, conn)
-    }
-
-    fn try_between(&mut self, from: Instant, to: Instant) -> Result<SightRows, MirrorErr>
-        ensures in_range { IfOk result (AllByRecursion IsSightRow) }
-        ensures same { self.new ≡ self.old }
-    {
-        let conn = self.take()?;
-        between_by(self.host.alloc(), &mut self.conn, conn, from.ns(), to.ns())
+        asked(&mut self.conn, &self.host, question)
     }
 }
 
-/// The file with both tables.
-fn opened(host: HostRuntime) -> Result<Connection<FileStore<File>>, MirrorErr>
-    ensures { IfOk result (λ conn. conn.in_transaction ≡ false) }
-{
-    match Connection::open(&host, FILE) {
-        Ok(conn) => with_tables(conn),
-        Err(error) => Err(fault(error)),
-    }
-}
-
-/// Makes both tables where they aren't there. Tables of other columns are refused, before anything is done to their
-/// rows.
-fn make_tables<S: Alter>(conn: &mut Connection<S>) -> Result<(), MirrorErr>
-    ensures { OnOk result (conn.new.in_transaction ≡ false) }
-{
-    make_objects(conn)?;
-    make_sights(conn)?;
-    compile_all(conn)?;
-    if conn.is_autocommit() {
-        Ok(())
-    } else {
-        Err(MirrorErr::Failed)
-    }
-}
-
-/// The connection, once both tables are there. It is over any store, since each call at a file's store, and each way on
-/// which such a connection is let go, makes the proof of a function longer.
-fn with_tables<S: Alter + Drop>(mut conn: Connection<S>) -> Result<Connection<S>, MirrorErr>
-    ensures { IfOk result (λ conn. conn.in_transaction ≡ false) }
-{
-    match make_tables(&mut conn) {
-        Ok(()) => Ok(conn),
-        Err(error) => Err(error),
+/// Opens the file.
+impl Opening<FileStore<File>> for HostRuntime {
+    fn open(&self) -> Result<Connection<FileStore<File>>, Error> {
+        Connection::open(self, FILE)
     }
 }
 
@@ -152,7 +96,7 @@ impl Mirror for FileMirror {
         ensures cause { result ≡ Err MirrorErr.Failed → Rises self.old.faults self.new.faults }
         ensures faultless { result ≢ Err MirrorErr.Failed → self.new.faults ≡ self.old.faults }
     {
-        let answer = self.try_replace(rows);
+        let answer = self.ask(&Replacing { rows });
         self.faults = faults_after(self.faults, &answer);
         answer
     }
@@ -168,7 +112,8 @@ impl Mirror for FileMirror {
         ensures cause { result ≡ Err MirrorErr.Failed → Rises self.old.faults self.new.faults }
         ensures faultless { result ≢ Err MirrorErr.Failed → self.new.faults ≡ self.old.faults }
     {
-        let answer = self.try_objects();
+        let alloc = self.host.alloc();
+        let answer = self.ask(&Objects { alloc });
         self.faults = faults_after(self.faults, &answer);
         answer
     }
@@ -184,7 +129,8 @@ impl Mirror for FileMirror {
         ensures cause { result ≡ Err MirrorErr.Failed → Rises self.old.faults self.new.faults }
         ensures faultless { result ≢ Err MirrorErr.Failed → self.new.faults ≡ self.old.faults }
     {
-        let answer = self.try_between(from, to);
+        let (alloc, from, to) = (self.host.alloc(), from.ns(), to.ns());
+        let answer = self.ask(&Window { alloc, from, to });
         self.faults = faults_after(self.faults, &answer);
         answer
     }

@@ -1,15 +1,20 @@
-//! Calls on a connection that is kept between two of them. They are over any store, since each call at a file's store
-//! makes the proof of its caller longer.
+//! A connection that is kept between two questions. All of this is over any store, since each call at a file's store,
+//! and each way on which such a connection is let go, makes the proof of a function longer.
 
-ghost use Rattle.std.specs.Prelude.{◌≡◌, false, IfSome, IfOk};
-ghost use Rattle.std.specs.List.{AllByRecursion};
-ghost use Rattle.mirror_store.specs.Rows.{IsObjectRow, IsSightRow, AreReplaceable};
+ghost use Rattle.std.specs.Prelude.{◌≡◌, false, None, IfSome, IfOk, OnOk};
 
-use crate::replacing::replace;
-use crate::texts::{between, objects};
-use mirror_store::{MirrorErr, MirrorRows, ObjectRows, SightRows};
-use sqlite::{Alter, Connection};
-use std::alloc::Global;
+use crate::faults::fault;
+use crate::questions::Question;
+use crate::tables::{make_objects, make_sights};
+use crate::texts::compile_all;
+use mirror_store::MirrorErr;
+use sqlite::{Alter, Connection, Error};
+
+/// What opens a connection.
+pub(crate) trait Opening<S: Alter> {
+    /// Opens it.
+    fn open(&self) -> Result<Connection<S>, Error>;
+}
 
 /// Keeps this connection, or none, and lets go of the one that was kept.
 pub(crate) fn keep<S: Alter + Drop>(place: &mut Option<Connection<S>>, conn: Option<Connection<S>>)
@@ -18,49 +23,69 @@ pub(crate) fn keep<S: Alter + Drop>(place: &mut Option<Connection<S>>, conn: Opt
     *place = conn;
 }
 
-/// Puts the rows in the place of all that were there. The connection is kept.
-pub(crate) fn replace_by<S: Alter + Drop>(
-    place: &mut Option<Connection<S>>,
-    mut conn: Connection<S>,
-    rows: &MirrorRows,
-) -> Result<(), MirrorErr>
-    requires rows { AreReplaceable rows.now }
-    requires mode { conn.in_transaction ≡ false }
-    ensures { IfSome place.new (λ conn. conn.in_transaction ≡ false) }
+/// Makes both tables where they aren't there. Tables of other columns are refused, before anything is done to their
+/// rows.
+fn make_tables<S: Alter>(conn: &mut Connection<S>) -> Result<(), MirrorErr>
+    ensures { OnOk result (conn.new.in_transaction ≡ false) }
 {
-    let answer = replace(&mut conn, rows);
-    keep(place, Some(conn));
-    answer
+    make_objects(conn)?;
+    make_sights(conn)?;
+    compile_all(conn)?;
+    if conn.is_autocommit() {
+        Ok(())
+    } else {
+        Err(MirrorErr::Failed)
+    }
 }
 
-/// The objects, by place. The connection is kept.
-pub(crate) fn objects_by<S: Alter + Drop>(
-    alloc: Global,
-    place: &mut Option<Connection<S>>,
-    mut conn: Connection<S>,
-) -> Result<ObjectRows, MirrorErr>
-    requires { conn.in_transaction ≡ false }
-    ensures mode { IfSome place.new (λ conn. conn.in_transaction ≡ false) }
-    ensures in_range { IfOk result (AllByRecursion IsObjectRow) }
+/// The connection, once both tables are there.
+fn with_tables<S: Alter + Drop>(mut conn: Connection<S>) -> Result<Connection<S>, MirrorErr>
+    ensures { IfOk result (λ conn. conn.in_transaction ≡ false) }
 {
-    let answer = objects(alloc, &mut conn);
-    keep(place, Some(conn));
-    answer
+    match make_tables(&mut conn) {
+        Ok(()) => Ok(conn),
+        Err(error) => Err(error),
+    }
 }
 
-/// The observations from the one moment on and before the other, by time, ties by id. The connection is kept.
-pub(crate) fn between_by<S: Alter + Drop>(
-    alloc: Global,
-    place: &mut Option<Connection<S>>,
-    mut conn: Connection<S>,
-    from: i64,
-    to: i64,
-) -> Result<SightRows, MirrorErr>
-    requires { conn.in_transaction ≡ false }
-    ensures mode { IfSome place.new (λ conn. conn.in_transaction ≡ false) }
-    ensures in_range { IfOk result (AllByRecursion IsSightRow) }
+/// A new connection, with both tables.
+fn opened<S: Alter + Drop, O: Opening<S>>(opening: &O) -> Result<Connection<S>, MirrorErr>
+    ensures { IfOk result (λ conn. conn.in_transaction ≡ false) }
 {
-    let answer = between(alloc, &mut conn, from, to);
+    match opening.open() {
+        Ok(conn) => with_tables(conn),
+        Err(error) => Err(fault(error)),
+    }
+}
+
+/// The connection that was kept, or a new one where there is none.
+fn taken<S: Alter + Drop, O: Opening<S>>(
+    place: &mut Option<Connection<S>>,
+    opening: &O,
+) -> Result<Connection<S>, MirrorErr>
+    requires { IfSome place.old (λ conn. conn.in_transaction ≡ false) }
+    ensures mode { IfOk result (λ conn. conn.in_transaction ≡ false) }
+    ensures none { place.new ≡ None }
+{
+    match place.take() {
+        Some(conn) => Ok(conn),
+        None => opened(opening),
+    }
+}
+
+/// The answer to a question. The connection is kept, and opened before where there is none.
+pub(crate) fn asked<S: Alter + Drop, O: Opening<S>, Q: Question>(
+    place: &mut Option<Connection<S>>,
+    opening: &O,
+    question: &Q,
+) -> Result<Q::Answer, MirrorErr>
+    requires may { Q.may_ask question.now }
+    requires mode { IfSome place.old (λ conn. conn.in_transaction ≡ false) }
+    ensures right { IfOk result (λ answer. Q.is_right answer) }
+    ensures mode { IfSome place.new (λ conn. conn.in_transaction ≡ false) }
+{
+    let mut conn = taken(place, opening)?;
+    let answer = question.ask(&mut conn);
     keep(place, Some(conn));
     answer
 }

@@ -4,6 +4,7 @@
 pub mod faults;
 mod file_mirror;
 mod keeping;
+mod questions;
 pub mod reading;
 pub mod replacing;
 mod sql_mirror;
