@@ -5,6 +5,10 @@ use Rattle.std.proofs.lemmas.Bool.Decides.{nat_tests}
 use Rattle.std.proofs.lemmas.List.{take_more, take-append-drop, map-append}
 use Rattle.std.proofs.Math.Seq.{drop-cons}
 use Rattle.std.proofs.Math.Numerals.{add-one}
+use Rattle.std.specs.Iterator.{Yields}
+use Rattle.std.specs.Vec.Iter.{into_iter_items, into_iter_steps}
+use Rattle.std.specs.declared.vec.IntoIter.{IntoIter}
+use Rattle.std.proofs.IntoIterSteps.{All-taken}
 use Rattle.obs_journal.specs.declared.opening.Placed.{Placed}
 use Rattle.obs_journal.specs.Parcels.{RawParcel}
 use Rattle.obs_journal.specs.Opening.{parcels_of}
@@ -75,29 +79,31 @@ entry_same a b m v body p caller number moment verb bytes =
 
 -- ---- the parcels one after the other
 
-pub parcels_of-more : (places : List Placed) (i : ℕ) (p : Placed) → i < length places → parcels_of (take (i + 1) places) ≡ parcels_of (take i places) ++ (get_or places i p).parcel ∷ []
-parcels_of-more places i p within = ap parcels_of (take_more places i p within) ∙ map-append (λ (x : Placed). x.parcel) (take i places) (get_or places i p ∷ [])
+pub parcels_of-more : (front : List Placed) (p : Placed) → parcels_of (front ++ p ∷ []) ≡ parcels_of front ++ p.parcel ∷ []
+parcels_of-more front p = map-append (λ (x : Placed). x.parcel) front (p ∷ [])
 
 -- one more entry was taken in
-pub taken_more : (founder : Key) (past now : List Entry) (places : List Placed) (i : ℕ) (p : Placed) → i < length places → p ≡ get_or places i p → ComesNext founder past p.parcel now → parcels_in past ≡ parcels_of (take i places)
-    → parcels_in now ≡ parcels_of (take (i + 1) places)
-taken_more founder past now places i p within here next before =
-    ap parcels_in next.now_is ∙ ap (λ (ps : List RawParcel). ps ++ parcel_of next.entry ∷ []) before ∙ ap (λ (r : RawParcel). parcels_of (take i places) ++ r ∷ []) (next.parcel_is ∙ ap (λ (x : Placed). x.parcel) here) ∙ sym (parcels_of-more places i p within)
+pub taken_more : (founder : Key) (past now : List Entry) (front : List Placed) (p : Placed) → ComesNext founder past p.parcel now → parcels_in past ≡ parcels_of front → parcels_in now ≡ parcels_of (front ++ p ∷ [])
+taken_more founder past now front p next before =
+    ap parcels_in next.now_is ∙ ap (λ (ps : List RawParcel). ps ++ parcel_of next.entry ∷ []) before ∙ ap (λ (r : RawParcel). parcels_of front ++ r ∷ []) next.parcel_is ∙ sym (parcels_of-more front p)
 
-places_split : (places : List Placed) (i : ℕ) (p : Placed) → i < length places → p ≡ get_or places i p → places ≡ take i places ++ (p ∷ drop (i + 1) places)
+pub take_one_more : (places : List Placed) (i : ℕ) (p : Placed) → i < length places → p ≡ get_or places i p → take (i + 1) places ≡ take i places ++ p ∷ []
+take_one_more places i p within here = take_more places i p within ∙ ap (λ (x : Placed). take i places ++ x ∷ []) (sym here)
+
+pub places_split : (places : List Placed) (i : ℕ) (p : Placed) → i < length places → p ≡ get_or places i p → places ≡ take i places ++ (p ∷ drop (i + 1) places)
 places_split places i p within here =
     let next : drop i places ≡ p ∷ drop (i + 1) places = drop-cons places i p within ∙ rw add-one (ap (λ (g : Placed). g ∷ drop (suc i) places) (sym here)) in
     sym (take-append-drop i places) ∙ ap (λ (rest : List Placed). take i places ++ rest) next
 
 -- an entry that isn't legal
-pub stops_in : (founder : Key) (past : List Entry) (places : List Placed) (i : ℕ) (p : Placed) → i < length places → p ≡ get_or places i p → parcels_in past ≡ parcels_of (take i places) → IsLegal founder past → AreActs past
+pub stops_in : (founder : Key) (past : List Entry) (places front rest : List Placed) (p : Placed) → places ≡ front ++ (p ∷ rest) → parcels_in past ≡ parcels_of front → IsLegal founder past → AreActs past
     → IsNotNext founder past p.parcel → StopsIn founder places p.offset
-stops_in founder past places i p within here taken legal acts not_next = record {
+stops_in founder past places front rest p split taken legal acts not_next = record {
   before = past;
-  front = take i places;
+  front = front;
   placed = p;
-  rest = drop (i + 1) places;
-  places_are = places_split places i p within here;
+  rest = rest;
+  places_are = split;
   front_is = sym taken;
   legal = legal;
   acts = acts;
@@ -111,3 +117,18 @@ legal_more founder founder' past p now same next legal =
 
 pub acts_more : (founder : Key) (past : List Entry) (p : RawParcel) (now : List Entry) → ComesNext founder past p now → AreActs past → AreActs now
 acts_more founder past p now next acts = subst AreActs (sym next.now_is) (next.act, acts)
+
+-- ---- parcels that are handed over one after the other
+
+-- what was handed over is the front of the items
+pub handed_front : {X A : Type 0} (s : IntoIter X A) (xs : List X) (t : IntoIter X A) → Yields into_iter_steps s xs t → into_iter_items s ≡ xs ++ into_iter_items t
+handed_front s [] t y = ap into_iter_items y
+handed_front s (x ∷ xs) t y = y.1.0 ∙ ap (λ ys. x ∷ ys) (handed_front y.0 xs t y.2)
+
+-- where there is none left, it is all of them
+pub handed_all : {X A : Type 0} (s : IntoIter X A) (xs : List X) (t u : IntoIter X A) → Yields into_iter_steps s xs t → into_iter_steps t None u → into_iter_items s ≡ xs
+handed_all s xs t u y ends = sym (All-taken s xs (u, (t, y, ends)))
+
+-- the next one stands between what was handed over and what is left
+pub handed_split : {X A : Type 0} (s : IntoIter X A) (xs : List X) (t : IntoIter X A) (x : X) (u : IntoIter X A) → Yields into_iter_steps s xs t → into_iter_steps t (Some x) u → into_iter_items s ≡ xs ++ (x ∷ into_iter_items u)
+handed_split s xs t x u y next = handed_front s xs t y ∙ ap (λ ys. xs ++ ys) next.0

@@ -1,16 +1,15 @@
 -- What opening finds.
-use Rattle.std.proofs.Common.{◌≡◌, ◌≢◌, ℕ, ◌+◌, ◌<◌, List, [], ◌∷◌, ◌++◌, Option, Some, None, refl, sym, ap, subst, ◌∙◌, inl, inr, arith}
+use Rattle.std.proofs.Common.{◌≡◌, ◌≢◌, ℕ, ◌+◌, ◌<◌, List, [], ◌∷◌, ◌++◌, Option, Some, None, refl, sym, ap, subst, ◌∙◌, inl, arith}
 use Rattle.std.specs.Prelude.{◌^◌, IfSome, IsSome}
 use Rattle.std.proofs.lemmas.List.{map-append}
 use Rattle.obs_journal.specs.declared.opening.Placed.{Placed}
 use Rattle.obs_journal.specs.Parcels.{RawParcel, room}
 use Rattle.obs_journal.specs.Formats.{room_in, row_length_in}
 use Rattle.obs_journal.specs.Files.{IsFresh, Spells, row_length}
-use Rattle.obs_journal.specs.Chains.{IsChain, chained}
+use Rattle.obs_journal.specs.Chains.{chained}
 use Rattle.obs_journal.specs.Journals.{JournalState, StandsFor}
 use Rattle.obs_journal.specs.Opening.{parcels_of, placed_in, placed_from}
 use Rattle.act_bodies.specs.declared.key.Key.{Key}
-use Rattle.act_model.specs.declared.entry.Entry.{Entry}
 use Rattle.act_model.specs.Legal.{IsLegal}
 use Rattle.desk_core.specs.Office.{Office}
 use Rattle.mpc_desk.specs.Files.{parcels_in, AreActs}

@@ -47,6 +47,25 @@ fn replay(core: &mut Core, parcel: &Parcel) -> Result<(), ReplayFault>
     )
 }
 
+/// Takes in the entry of a parcel of this file, which stands behind a gate.
+fn take_in(core: &mut Core, file: u8, placed: &Placed) -> Result<(), OpenFault>
+    ensures taken { OnOk result (ComesNext core.old.founder core.old.history placed.now.parcel core.new.history) }
+    ensures damaged { (number offset : ℕ) → result ≡ Err (OpenFault.Damaged number offset) →
+        (number ≡ file) × (placed.now.offset ≡ offset)
+        × IsNotNext core.old.founder core.old.history placed.now.parcel }
+    ensures no_disk { result ≢ Err OpenFault.DiskFault }
+    ensures founder { core.new.founder ≡ core.old.founder }
+{
+    match replay(core, &placed.parcel) {
+        Ok(()) => Ok(()),
+        Err(ReplayFault::NotLegal) => Err(OpenFault::Damaged {
+            file,
+            offset: placed.offset,
+        }),
+        Err(ReplayFault::NoMemory) => Err(OpenFault::NoMemory),
+    }
+}
+
 /// Takes in the entries of these parcels, the first of a journal's.
 fn replay_all(core: &mut Core, file: u8, parcels: &[Placed]) -> Result<(), OpenFault>
     requires empty { core.old.history ≡ [] }
@@ -60,15 +79,30 @@ fn replay_all(core: &mut Core, file: u8, parcels: &[Placed]) -> Result<(), OpenF
     ensures founder { core.new.founder ≡ core.old.founder }
 {
     for placed in parcels {
-        match replay(core, &placed.parcel) {
+        match take_in(core, file, placed) {
             Ok(()) => {}
-            Err(ReplayFault::NotLegal) => {
-                return Err(OpenFault::Damaged {
-                    file,
-                    offset: placed.offset,
-                });
-            }
-            Err(ReplayFault::NoMemory) => return Err(OpenFault::NoMemory),
+            Err(fault) => return Err(fault),
+        }
+    }
+    Ok(())
+}
+
+/// The same of parcels that are let go one by one, so that no body stands in memory twice for longer than its entry
+/// takes to be taken in.
+fn replay_each(core: &mut Core, file: u8, parcels: Parcels) -> Result<(), OpenFault>
+    requires empty { core.old.history ≡ [] }
+    ensures taken { OnOk result (parcels_in core.new.history ≡ parcels_of parcels) }
+    ensures legal { OnOk result (IsLegal core.new.founder core.new.history) }
+    ensures acts { OnOk result (AreActs core.new.history) }
+    ensures damaged { (number offset : ℕ) → result ≡ Err (OpenFault.Damaged number offset) →
+        (number ≡ file) × StopsIn core.old.founder parcels offset }
+    ensures no_disk { result ≢ Err OpenFault.DiskFault }
+    ensures founder { core.new.founder ≡ core.old.founder }
+{
+    for placed in parcels.into_iter() {
+        match take_in(core, file, &placed) {
+            Ok(()) => {}
+            Err(fault) => return Err(fault),
         }
     }
     Ok(())
@@ -103,7 +137,7 @@ fn open_second<D: Disk>(
     };
     // A position is fewer than 2 ^ 64 bytes.
     let _ = journal.position();
-    match replay_all(&mut core, 2, parcels.as_slice()) {
+    match replay_each(&mut core, 2, parcels) {
         Ok(()) => Ok(ChainedDesk {
             alloc,
             core,
