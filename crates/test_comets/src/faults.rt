@@ -98,22 +98,14 @@ fn wrong_printed(texts: &[&[u8]], fault: NameFault) -> Option<usize> {
 }
 
 #[test]
-fn packed_texts_are_out_of_range(rt: HostRuntime) {
+fn texts_are_out_of_range(rt: HostRuntime) {
     expect_none_wrong(&rt, wrong_packed(PACKED_OUT, NameFault::OutOfRange));
-}
-
-#[test]
-fn printed_texts_are_out_of_range(rt: HostRuntime) {
     expect_none_wrong(&rt, wrong_printed(PRINTED_OUT, NameFault::OutOfRange));
 }
 
 #[test]
-fn packed_texts_are_misspelt(rt: HostRuntime) {
+fn texts_are_misspelt(rt: HostRuntime) {
     expect_none_wrong(&rt, wrong_packed(NOT_PACKED, NameFault::Spelling));
-}
-
-#[test]
-fn printed_texts_are_misspelt(rt: HostRuntime) {
     expect_none_wrong(&rt, wrong_printed(NOT_PRINTED, NameFault::Spelling));
 }
 

@@ -2,49 +2,41 @@
 //! was turned, where its last act wasn't kept, and where an entry isn't one that the register makes beside its office.
 
 use crate::office::{
-    OBJECTS, add_act, add_register, comets_of, office_call, office_with, register_text,
+    EA, EA_AS_P, EB, OBJECTS, SA, add_act, add_register, comets_of, office_call, office_with,
+    register_text,
 };
 use std::alloc::Global;
 use testkit_comets::{Opening, Openings, comets_in_turn, comets_over};
 use testkit_sessions::{CHAINED, Call, Drive, NoMemory, PLAIN, Script, Wrong, put_reply};
 
-/// What a parcel has: its caller, its number, its moment, the code of its verb and its body; and the SHA-256 digest of
-/// the digest before it, of zeros at first, and its bytes from their length on. Python's hashlib gave the digests.
-pub(super) type Parcel = (u32, u64, i64, u8, &'static str, &'static [u8; 32]);
+/// What a parcel has: its caller, its number, its moment, the code of its verb and its body.
+type Parcel = (u32, u64, i64, u8, &'static str);
+
+/// A parcel, and the SHA-256 digest of the digest before it, of zeros at first, and its bytes from their length on.
+/// Python's hashlib gave the digests.
+pub(super) type Sealed = (Parcel, &'static [u8; 32]);
 
 /// 2024-04-01T00:00:00Z, which is a call's first reading of the clock, and a second later, which is its next one.
 const APRIL: i64 = 1_711_929_600_000_000_000;
 
 const LATER: i64 = 1_711_929_601_000_000_000;
 
-const EA: &str = "{\"kind\":\"C\",\"object\":\"2024 EA\"}";
-
-const EB: &str = "{\"kind\":\"P\",\"object\":\"2024 EB\"}";
-
 /// The act that makes a comet of 2024 EA, and the one that makes one of 2024 EB after it.
-pub(super) const ONE: Parcel = (
-    0,
-    1,
-    APRIL,
-    1,
-    EA,
+pub(super) const ONE: Sealed = (
+    (0, 1, APRIL, 1, EA),
     b"\x54\x34\x78\x4f\x56\x67\xed\x39\x50\x9f\x0d\x51\x80\x5b\x48\x0c\
       \xc1\xd1\x46\xa9\x82\x57\x35\xf8\x34\x33\x03\x9c\xcb\xba\xc8\x50",
 );
 
-pub(super) const TWO: Parcel = (
-    0,
-    2,
-    LATER,
-    1,
-    EB,
+pub(super) const TWO: Sealed = (
+    (0, 2, LATER, 1, EB),
     b"\x36\xd0\x94\xa4\xb4\xbe\x07\xc9\x09\x9f\xe5\x4e\xe9\x82\xe3\x22\
       \x5d\x8b\x62\x8e\x8f\x5c\x83\x94\xe4\xc7\x15\xd2\xe7\xc5\x56\xce",
 );
 
 /// An open gate and this parcel, whose bytes after the length are counted in it.
-fn put_parcel(file: &mut Vec<u8>, parcel: &Parcel) -> Result<(), NoMemory> {
-    let &(caller, number, moment, verb, body, digest) = parcel;
+fn put_parcel(file: &mut Vec<u8>, sealed: &Sealed) -> Result<(), NoMemory> {
+    let &((caller, number, moment, verb, body), digest) = sealed;
     let length = (body.len() as u64).saturating_add(21).to_be_bytes();
     file.push(1)?;
     file.extend_from_slice(length.get(4..).unwrap_or(&[]))?;
@@ -57,13 +49,18 @@ fn put_parcel(file: &mut Vec<u8>, parcel: &Parcel) -> Result<(), NoMemory> {
 }
 
 /// A file in force with these parcels, and a closed gate after them.
-pub(super) fn file_of(alloc: Global, parcels: &[Parcel]) -> Result<Vec<u8>, NoMemory> {
-    let mut file = Vec::new(alloc);
+fn put_file(file: &mut Vec<u8>, parcels: &[Sealed]) -> Result<(), NoMemory> {
     file.push(1)?;
-    for parcel in parcels {
-        put_parcel(&mut file, parcel)?;
+    for sealed in parcels {
+        put_parcel(file, sealed)?;
     }
     file.push(0)?;
+    Ok(())
+}
+
+pub(super) fn file_of(alloc: Global, parcels: &[Sealed]) -> Result<Vec<u8>, NoMemory> {
+    let mut file = Vec::new(alloc);
+    put_file(&mut file, parcels)?;
     Ok(file)
 }
 
@@ -84,63 +81,124 @@ const AT_90: Holding = Holding::Damaged("Damaged in 3 at 90");
 
 const AT_179: Holding = Holding::Damaged("Damaged in 3 at 179");
 
-/// A copy of these bytes.
-fn copy_of(alloc: Global, bytes: &[u8]) -> Result<Vec<u8>, NoMemory> {
-    let mut copy = Vec::new(alloc);
-    copy.extend_from_slice(bytes)?;
-    Ok(copy)
+/// Files that are opened one after another.
+#[derive(Clone, Copy)]
+enum Files {
+    /// Each front of the two acts' file.
+    Fronts,
+    /// The same where the second act wasn't kept.
+    UnkeptFronts,
+    /// The two acts' file with a bit turned, of one byte after the other the next one.
+    Bits,
+    /// The same, with each bit of the first byte and of the gates turned.
+    Gates,
+    /// Those of the tables of entries.
+    Entries,
+    /// The two acts' file alone, in which this is found.
+    Acts(Holding),
+    /// The second file of an office, and its first one.
+    Chained,
+    Plain,
 }
 
-/// How a file is opened in which the acts with these numbers are found, and which leaves this one.
-fn opened(alloc: Global, file: &[u8], acts: &str, left: &[u8]) -> Result<Opening, NoMemory> {
+/// The answer to the query for the register, where the file is opened.
+fn put_taken(alloc: Global, taken: &mut Vec<u8>, holding: Holding) -> Result<(), NoMemory> {
+    let acts = match holding {
+        Holding::Idle => "",
+        Holding::Acts(count) => "12".get(..count).unwrap_or("12"),
+        Holding::Damaged(_) => return Ok(()),
+    };
     let text = register_text(alloc, acts)?;
-    let mut taken = Vec::new(alloc);
-    put_reply(alloc, &mut taken, "200 ", &text)?;
-    Ok(Opening {
-        file: copy_of(alloc, file)?,
-        status: "Done",
-        number: 0,
-        taken,
-        left: copy_of(alloc, left)?,
-    })
+    put_reply(alloc, taken, "200 ", &text)
+}
+
+/// The file that is left of this one.
+fn left_of(file: &[u8], holding: Holding) -> &[u8] {
+    match holding {
+        Holding::Idle => b"\x01\0",
+        Holding::Acts(_) | Holding::Damaged(_) => file,
+    }
 }
 
 /// How a file is opened in which this is found.
-fn opening_of(alloc: Global, file: &[u8], holding: Holding) -> Result<Opening, NoMemory> {
-    match holding {
-        Holding::Idle => opened(alloc, file, "", b"\x01\0"),
-        Holding::Acts(count) => opened(alloc, file, "12".get(..count).unwrap_or("12"), file),
-        Holding::Damaged(status) => Ok(Opening {
-            file: copy_of(alloc, file)?,
-            status,
-            number: 5,
-            taken: Vec::new(alloc),
-            left: copy_of(alloc, file)?,
-        }),
-    }
+fn opening_of(alloc: Global, file: Vec<u8>, holding: Holding) -> Result<Opening, NoMemory> {
+    let mut taken = Vec::new(alloc);
+    put_taken(alloc, &mut taken, holding)?;
+    let mut left = Vec::new(alloc);
+    left.extend_from_slice(left_of(&file, holding))?;
+    let (status, number) = match holding {
+        Holding::Damaged(status) => (status, 5),
+        Holding::Idle | Holding::Acts(_) => ("Done", 0),
+    };
+    Ok(Opening {
+        file,
+        status,
+        number,
+        taken,
+        left,
+    })
 }
-
-/// Files, and what is found in each.
-#[derive(Drop)]
-struct Files(Vec<(Vec<u8>, Holding)>);
 
 impl Openings for Files {
     fn count(&self) -> usize {
-        self.0.len()
+        match *self {
+            Files::Fronts | Files::UnkeptFronts => LENGTH.saturating_add(1),
+            Files::Bits => LENGTH,
+            Files::Gates => 32,
+            Files::Entries => FIRST.len().saturating_add(SECOND.len()),
+            Files::Acts(_) | Files::Chained | Files::Plain => 1,
+        }
     }
 
     fn opening(&self, alloc: Global, place: usize) -> Result<Opening, NoMemory> {
-        match self.0.get(place) {
-            Some((file, holding)) => opening_of(alloc, file, *holding),
-            None => opening_of(alloc, b"", Holding::Idle),
+        let mut file = Vec::new(alloc);
+        let holding = put_one(&mut file, *self, place)?;
+        opening_of(alloc, file, holding)
+    }
+}
+
+/// The file in this place of those, and what is found in it.
+fn put_one(file: &mut Vec<u8>, files: Files, place: usize) -> Result<Holding, NoMemory> {
+    match files {
+        Files::Chained => {
+            file.extend_from_slice(&CHAINED)?;
+            Ok(AT_1)
+        }
+        Files::Plain => {
+            file.extend_from_slice(&PLAIN)?;
+            Ok(Holding::Acts(0))
+        }
+        Files::Entries => put_entry(file, place),
+        _ => {
+            put_file(file, &[ONE, TWO])?;
+            Ok(changed_by(file, files, place))
         }
     }
 }
 
+/// The two acts' file as it stands in this place of those, and what is found in it.
+fn changed_by(file: &mut Vec<u8>, files: Files, place: usize) -> Holding {
+    match files {
+        Files::Fronts => {
+            file.truncate(place);
+            cut_short(place)
+        }
+        Files::UnkeptFronts => {
+            close_second(file);
+            file.truncate(place);
+            cut_without_second(place)
+        }
+        Files::Bits => turned(file, place, BITS[place % 8]),
+        Files::Gates => turned(file, GATES[(place / 8) % 4], BITS[place % 8]),
+        Files::Acts(holding) => holding,
+        _ => Holding::Idle,
+    }
+}
+
 /// Whether this is found in the files beside an office with so many objects.
-fn are_found(alloc: Global, objects: usize, files: &Files) -> Result<(), Wrong> {
+fn are_found(alloc: Global, objects: usize, files: Files) -> Result<(), Wrong> {
     let office = office_with(alloc, objects)?;
-    comets_over(alloc, &office_call(&office, objects), files)
+    comets_over(alloc, &office_call(&office, objects), &files)
 }
 
 /// A disk with this file, on which that one is to be left.
@@ -173,8 +231,11 @@ fn the_file_of_two_acts(rt: HostRuntime) {
     written(rt.alloc()).expect(&rt, "as wanted");
 }
 
-/// Of the two acts' file the byte 0 says that it is in force. The gates stand at 1, 90 and 179, and the last one is
-/// closed. What so many bytes of it hold:
+/// How many bytes the two acts' file has.
+const LENGTH: usize = 180;
+
+/// Its byte 0 says that it is in force. The gates stand at 1, 90 and 179, and the last one is closed. What so many
+/// bytes of it hold:
 fn cut_short(length: usize) -> Holding {
     match length {
         0 | 1 => Holding::Idle,
@@ -193,48 +254,21 @@ fn cut_without_second(length: usize) -> Holding {
     }
 }
 
-/// Each front of the file, whose second act was kept or not, with what is found in it.
-fn fronts(alloc: Global, file: &[u8], is_kept: bool) -> Result<Files, NoMemory> {
-    let mut files = Vec::new(alloc);
-    for length in 0..=file.len() {
-        let front = copy_of(alloc, file.get(..length).unwrap_or(&[]))?;
-        let holding = if is_kept {
-            cut_short(length)
-        } else {
-            cut_without_second(length)
-        };
-        files.push((front, holding))?;
-    }
-    Ok(Files(files))
-}
-
-fn each_front(alloc: Global) -> Result<(), Wrong> {
-    let file = file_of(alloc, &[ONE, TWO])?;
-    are_found(alloc, 2, &fronts(alloc, &file, true)?)
-}
-
 #[test]
 fn a_file_cut_at_each_byte(rt: HostRuntime) {
-    each_front(rt.alloc()).expect(&rt, "as wanted");
+    are_found(rt.alloc(), 2, Files::Fronts).expect(&rt, "as wanted");
 }
 
-/// The file of both acts with a closed gate before the second one.
-fn unkept(alloc: Global) -> Result<Vec<u8>, NoMemory> {
-    let mut file = file_of(alloc, &[ONE, TWO])?;
+/// Closes the gate before the second act.
+fn close_second(file: &mut [u8]) {
     if let Some(gate) = file.get_mut(90) {
         *gate = 0;
     }
-    Ok(file)
-}
-
-fn each_unkept_front(alloc: Global) -> Result<(), Wrong> {
-    let file = unkept(alloc)?;
-    are_found(alloc, 2, &fronts(alloc, &file, false)?)
 }
 
 #[test]
 fn a_file_whose_last_act_was_not_kept(rt: HostRuntime) {
-    each_unkept_front(rt.alloc()).expect(&rt, "as wanted");
+    are_found(rt.alloc(), 2, Files::UnkeptFronts).expect(&rt, "as wanted");
 }
 
 /// What the file holds with this value in this place, which had another.
@@ -250,21 +284,14 @@ fn changed(place: usize, value: u8) -> Holding {
     }
 }
 
-/// The file with this bit of the byte in this place turned, and what is found in it.
-fn turned(
-    alloc: Global,
-    file: &[u8],
-    place: usize,
-    bit: u8,
-) -> Result<(Vec<u8>, Holding), NoMemory> {
-    let mut copy = copy_of(alloc, file)?;
-    match copy.get_mut(place) {
+/// Turns this bit of the byte in this place, and tells what the file then holds.
+fn turned(file: &mut [u8], place: usize, bit: u8) -> Holding {
+    match file.get_mut(place) {
         Some(byte) => {
             *byte ^= bit;
-            let value = *byte;
-            Ok((copy, changed(place, value)))
+            changed(place, *byte)
         }
-        None => Ok((copy, Holding::Acts(2))),
+        None => Holding::Acts(2),
     }
 }
 
@@ -273,34 +300,10 @@ const BITS: [u8; 8] = [1, 2, 4, 8, 16, 32, 64, 128];
 /// The first byte and the gates.
 const GATES: [usize; 4] = [0, 1, 90, 179];
 
-/// A bit of each byte is turned, of one byte after the other the next one.
-fn places(alloc: Global) -> Result<Files, NoMemory> {
-    let file = file_of(alloc, &[ONE, TWO])?;
-    let mut files = Vec::new(alloc);
-    for place in 0..file.len() {
-        files.push(turned(alloc, &file, place, BITS[place % 8])?)?;
-    }
-    Ok(Files(files))
-}
-
-/// Each bit of these is turned.
-fn gates(alloc: Global) -> Result<Files, NoMemory> {
-    let file = file_of(alloc, &[ONE, TWO])?;
-    let mut files = Vec::new(alloc);
-    for count in 0..32usize {
-        files.push(turned(alloc, &file, GATES[count / 8], BITS[count % 8])?)?;
-    }
-    Ok(Files(files))
-}
-
-fn each_bit(alloc: Global) -> Result<(), Wrong> {
-    are_found(alloc, 2, &places(alloc)?)?;
-    are_found(alloc, 2, &gates(alloc)?)
-}
-
 #[test]
 fn a_file_with_a_bit_turned(rt: HostRuntime) {
-    each_bit(rt.alloc()).expect(&rt, "as wanted");
+    are_found(rt.alloc(), 2, Files::Bits).expect(&rt, "as wanted");
+    are_found(rt.alloc(), 2, Files::Gates).expect(&rt, "as wanted");
 }
 
 /// The file whose second act wasn't kept, and the second act once more: its parcel is written over what stands there.
@@ -314,7 +317,8 @@ fn kept_again(alloc: Global) -> Result<(), Wrong> {
         start: LATER,
         ..comets_of(1, &script, 1)
     };
-    let (file, left) = (unkept(alloc)?, file_of(alloc, &[ONE, TWO])?);
+    let (mut file, left) = (file_of(alloc, &[ONE, TWO])?, file_of(alloc, &[ONE, TWO])?);
+    close_second(&mut file);
     let calls = [office_call(&office, 2), again];
     comets_in_turn(alloc, &drive_of(&file, &left), &calls)
 }
@@ -324,170 +328,92 @@ fn an_act_that_was_not_kept_is_kept(rt: HostRuntime) {
     kept_again(rt.alloc()).expect(&rt, "as wanted");
 }
 
-/// A parcel, and whether an entry of it is one that the register makes.
-type Row = (Parcel, bool);
+/// A sealed parcel, and whether an entry of it is one that the register makes.
+type Row = (Parcel, &'static [u8; 32], bool);
 
 /// Parcels of a first entry.
 const FIRST: &[Row] = &[
     // the greatest number and the one after it; no number
     (
-        (
-            0,
-            999_999_999_999_999_999,
-            APRIL,
-            1,
-            EA,
-            b"\xd5\x31\x2f\x6a\x28\x17\xd5\x50\x27\xe4\x2c\x15\xaa\xcb\xd7\x0a\
+        (0, 999_999_999_999_999_999, APRIL, 1, EA),
+        b"\xd5\x31\x2f\x6a\x28\x17\xd5\x50\x27\xe4\x2c\x15\xaa\xcb\xd7\x0a\
               \x49\xf6\xe0\x02\x5a\x7e\x3d\x26\x05\x3f\x28\x95\x46\xe7\xcd\xf0",
-        ),
         true,
     ),
     (
-        (
-            0,
-            1_000_000_000_000_000_000,
-            APRIL,
-            1,
-            EA,
-            b"\xb1\x19\xf3\x16\x47\x79\x76\xbf\xdf\x87\x55\x8b\xd1\x81\xac\xa2\
+        (0, 1_000_000_000_000_000_000, APRIL, 1, EA),
+        b"\xb1\x19\xf3\x16\x47\x79\x76\xbf\xdf\x87\x55\x8b\xd1\x81\xac\xa2\
               \x18\x7d\x02\x03\x48\x94\x4f\xf6\xde\xd8\0\x77\x6a\xc1\x6f\x80",
-        ),
         false,
     ),
     (
-        (
-            0,
-            0,
-            APRIL,
-            1,
-            EA,
-            b"\x76\xaf\x8f\x3e\x6b\x09\x02\x5a\x6f\x15\x8c\x11\xa6\x68\x83\xde\
+        (0, 0, APRIL, 1, EA),
+        b"\x76\xaf\x8f\x3e\x6b\x09\x02\x5a\x6f\x15\x8c\x11\xa6\x68\x83\xde\
               \x98\x8f\x51\xff\x49\x84\x61\x19\xad\xe5\x4c\x3a\x76\x23\x68\x0e",
-        ),
         false,
     ),
     // another caller than the founding officer, other verbs than the one act
     (
-        (
-            1,
-            1,
-            APRIL,
-            1,
-            EA,
-            b"\xe7\xdd\x67\x64\x7f\x94\x22\x5c\x46\xe7\x3f\xa7\xf0\xd0\x36\x3d\
+        (1, 1, APRIL, 1, EA),
+        b"\xe7\xdd\x67\x64\x7f\x94\x22\x5c\x46\xe7\x3f\xa7\xf0\xd0\x36\x3d\
               \x04\x40\x03\xea\xa7\xcb\xe9\x6d\xc9\x3c\xe9\xd5\xb8\xa6\x34\x3f",
-        ),
         false,
     ),
     (
-        (
-            0,
-            1,
-            APRIL,
-            0,
-            EA,
-            b"\xad\xbd\x63\xf7\x70\x35\xd5\xfb\xe6\xf3\xe7\x86\x3b\x63\x4c\x8a\
+        (0, 1, APRIL, 0, EA),
+        b"\xad\xbd\x63\xf7\x70\x35\xd5\xfb\xe6\xf3\xe7\x86\x3b\x63\x4c\x8a\
               \xb1\x4c\xdc\x3c\xa9\x30\x86\xd8\x5f\x6d\xc6\x69\xf8\xf0\x77\xd6",
-        ),
         false,
     ),
     (
-        (
-            0,
-            1,
-            APRIL,
-            2,
-            EA,
-            b"\x66\x89\x0b\xfe\xf3\xf5\xf2\x4a\x35\x8f\x89\x70\xe2\x8a\x70\x63\
+        (0, 1, APRIL, 2, EA),
+        b"\x66\x89\x0b\xfe\xf3\xf5\xf2\x4a\x35\x8f\x89\x70\xe2\x8a\x70\x63\
               \xc2\xf1\x34\x6a\x1b\xb1\x29\x9f\x6e\xb7\x43\xd8\x97\x8f\x0c\x39",
-        ),
         false,
     ),
     // bodies that say no comet
     (
-        (
-            0,
-            1,
-            APRIL,
-            1,
-            "{\"kind\":\"D\",\"object\":\"2024 EA\"}",
-            b"\xd0\x1a\xfd\xe9\x8a\x36\x5b\xa9\xb3\x87\x61\xc5\x1b\x16\x01\x2d\
+        (0, 1, APRIL, 1, "{\"kind\":\"D\",\"object\":\"2024 EA\"}"),
+        b"\xd0\x1a\xfd\xe9\x8a\x36\x5b\xa9\xb3\x87\x61\xc5\x1b\x16\x01\x2d\
               \x18\x85\xfa\x27\xf4\xa6\xae\xb2\x61\x05\x6a\xf0\xd7\x14\xe3\x18",
-        ),
         false,
     ),
     (
-        (
-            0,
-            1,
-            APRIL,
-            1,
-            "",
-            b"\x6f\x5d\x67\x5c\x3d\x0e\xdd\x89\x62\x9c\x44\x03\xbe\xab\x7d\x1e\
+        (0, 1, APRIL, 1, ""),
+        b"\x6f\x5d\x67\x5c\x3d\x0e\xdd\x89\x62\x9c\x44\x03\xbe\xab\x7d\x1e\
               \x40\x67\x05\xe5\x2d\x0c\xc6\x0f\x52\x32\x03\xef\x81\xee\x81\x2f",
-        ),
         false,
     ),
     // an object that was carried over from elsewhere
     (
-        (
-            0,
-            1,
-            APRIL,
-            1,
-            "{\"kind\":\"C\",\"object\":\"1998 SA\"}",
-            b"\x10\x8e\x97\x29\x20\xfb\xd6\x1e\x78\xba\xfa\xe0\x1b\x98\x54\x86\
+        (0, 1, APRIL, 1, SA),
+        b"\x10\x8e\x97\x29\x20\xfb\xd6\x1e\x78\xba\xfa\xe0\x1b\x98\x54\x86\
               \xff\xc0\x8f\x31\x3e\x51\x0b\xd9\x7c\x67\x76\x98\xed\x15\x25\xf6",
-        ),
         false,
     ),
     // the first and the last moment that there is, and those beyond them
     (
-        (
-            0,
-            1,
-            -5_364_662_400_000_000_000,
-            1,
-            EA,
-            b"\x9f\x28\xd2\x4e\x8c\x07\xa2\xd1\xf3\xaf\x44\xf6\x6c\x4e\x2f\x1e\
+        (0, 1, -5_364_662_400_000_000_000, 1, EA),
+        b"\x9f\x28\xd2\x4e\x8c\x07\xa2\xd1\xf3\xaf\x44\xf6\x6c\x4e\x2f\x1e\
               \x20\xbb\xb6\x24\x8d\x49\xb5\x9e\x4c\x19\x47\xb9\xf3\x37\xc1\xfb",
-        ),
         true,
     ),
     (
-        (
-            0,
-            1,
-            -5_364_662_400_000_000_001,
-            1,
-            EA,
-            b"\x46\x1c\x80\x23\x32\xd8\xbb\xfd\xec\x71\x18\xec\xaa\x3d\x6e\x59\
+        (0, 1, -5_364_662_400_000_000_001, 1, EA),
+        b"\x46\x1c\x80\x23\x32\xd8\xbb\xfd\xec\x71\x18\xec\xaa\x3d\x6e\x59\
               \xb4\xf9\x18\x6e\x17\x85\xb5\x6d\x44\x9a\x71\x23\x6c\x60\xc8\xdc",
-        ),
         false,
     ),
     (
-        (
-            0,
-            1,
-            7_258_118_399_999_999_999,
-            1,
-            EA,
-            b"\xc1\x9d\xde\x7f\x0b\xfc\xf4\x99\x38\xb8\x34\x03\x4d\x02\x50\xdf\
+        (0, 1, 7_258_118_399_999_999_999, 1, EA),
+        b"\xc1\x9d\xde\x7f\x0b\xfc\xf4\x99\x38\xb8\x34\x03\x4d\x02\x50\xdf\
               \x21\xc3\x4c\x68\xf9\xc5\x72\x97\x2f\x02\x64\x91\x57\xe8\x94\xf9",
-        ),
         true,
     ),
     (
-        (
-            0,
-            1,
-            7_258_118_400_000_000_000,
-            1,
-            EA,
-            b"\xe9\x4a\x39\xd3\x6a\x02\x77\xa3\xf5\x69\x83\xbf\x46\x2a\x80\x45\
+        (0, 1, 7_258_118_400_000_000_000, 1, EA),
+        b"\xe9\x4a\x39\xd3\x6a\x02\x77\xa3\xf5\x69\x83\xbf\x46\x2a\x80\x45\
               \x2c\xee\x56\x28\x68\x9c\x5c\xc7\x5d\x26\xe9\x08\x2c\xfa\xfe\xb5",
-        ),
         false,
     ),
 ];
@@ -496,119 +422,73 @@ const FIRST: &[Row] = &[
 const SECOND: &[Row] = &[
     // the number or the object of the first entry again, and the whole of it
     (
-        (
-            0,
-            1,
-            APRIL,
-            1,
-            EB,
-            b"\x66\xe9\x46\x5a\x3f\xdc\xfc\x16\x52\xb2\xf1\xe8\xf9\x9c\x57\xad\
+        (0, 1, APRIL, 1, EB),
+        b"\x66\xe9\x46\x5a\x3f\xdc\xfc\x16\x52\xb2\xf1\xe8\xf9\x9c\x57\xad\
               \xe0\x0b\xc0\x02\x47\xeb\x4c\x61\xdf\x23\xfe\xaf\x44\x49\x0d\x98",
-        ),
         false,
     ),
     (
-        (
-            0,
-            2,
-            APRIL,
-            1,
-            "{\"kind\":\"P\",\"object\":\"2024 EA\"}",
-            b"\x7c\xd9\xb6\x6d\x73\xf4\x1b\x45\x36\xd7\xc1\0\x3f\xe0\x92\xab\
+        (0, 2, APRIL, 1, EA_AS_P),
+        b"\x7c\xd9\xb6\x6d\x73\xf4\x1b\x45\x36\xd7\xc1\0\x3f\xe0\x92\xab\
               \x8a\x3a\x24\xe0\xfa\x2d\x36\xd4\x61\x47\xeb\x40\x0c\xc5\xbd\x25",
-        ),
         false,
     ),
     (
-        (
-            0,
-            1,
-            APRIL,
-            1,
-            EA,
-            b"\x16\xee\xf3\x82\x0f\x8a\x86\x91\x35\x91\x09\x56\x83\xe1\x4d\x3b\
+        (0, 1, APRIL, 1, EA),
+        b"\x16\xee\xf3\x82\x0f\x8a\x86\x91\x35\x91\x09\x56\x83\xe1\x4d\x3b\
               \xc5\x38\x8b\xde\x92\xb0\xf9\x48\x81\xa8\x28\x9f\xe1\x9f\x02\xc1",
-        ),
         false,
     ),
     // a moment before that of the first entry, and the same
     (
-        (
-            0,
-            2,
-            1_711_929_599_999_999_999,
-            1,
-            EB,
-            b"\x5b\x82\x66\x41\x26\x04\xa3\x7f\xb4\x9f\x78\xd9\x59\xcc\x5f\x44\
+        (0, 2, 1_711_929_599_999_999_999, 1, EB),
+        b"\x5b\x82\x66\x41\x26\x04\xa3\x7f\xb4\x9f\x78\xd9\x59\xcc\x5f\x44\
               \x65\x2f\x5b\xac\x5e\xc2\x49\x83\xbf\xf0\x4d\xbe\x64\x1d\xfc\x68",
-        ),
         false,
     ),
     (
-        (
-            0,
-            2,
-            APRIL,
-            1,
-            EB,
-            b"\x5d\x5f\xde\x7b\xc7\x70\xe5\x19\x14\xb6\x42\xea\x7c\x96\x81\x75\
+        (0, 2, APRIL, 1, EB),
+        b"\x5d\x5f\xde\x7b\xc7\x70\xe5\x19\x14\xb6\x42\xea\x7c\x96\x81\x75\
               \x7f\xf1\x4e\x3d\xef\x60\x47\xff\x7c\x6a\x8d\x1a\x27\x07\x50\xb5",
-        ),
         true,
     ),
 ];
 
-fn entries(alloc: Global) -> Result<Files, NoMemory> {
-    let mut files = Vec::new(alloc);
-    for (parcel, is_legal) in FIRST {
-        let holding = if *is_legal { Holding::Acts(1) } else { AT_1 };
-        files.push((file_of(alloc, &[*parcel])?, holding))?;
+/// The file with the entry in this place of the tables, and what is found in it.
+fn put_entry(file: &mut Vec<u8>, place: usize) -> Result<Holding, NoMemory> {
+    if let Some(&(parcel, digest, is_legal)) = FIRST.get(place) {
+        put_file(file, &[(parcel, digest)])?;
+        return Ok(if is_legal { Holding::Acts(1) } else { AT_1 });
     }
-    for (parcel, is_legal) in SECOND {
-        let holding = if *is_legal { Holding::Acts(2) } else { AT_90 };
-        files.push((file_of(alloc, &[ONE, *parcel])?, holding))?;
+    if let Some(&(parcel, digest, is_legal)) = SECOND.get(place.saturating_sub(FIRST.len())) {
+        put_file(file, &[ONE, (parcel, digest)])?;
+        return Ok(if is_legal { Holding::Acts(2) } else { AT_90 });
     }
-    Ok(Files(files))
-}
-
-fn each_entry(alloc: Global) -> Result<(), Wrong> {
-    are_found(alloc, OBJECTS, &entries(alloc)?)
+    Ok(Holding::Idle)
 }
 
 #[test]
 fn entries_that_no_register_makes(rt: HostRuntime) {
-    each_entry(rt.alloc()).expect(&rt, "as wanted");
+    are_found(rt.alloc(), OBJECTS, Files::Entries).expect(&rt, "as wanted");
 }
 
-/// One file, and what is found in it.
-fn one_file(alloc: Global, file: Vec<u8>, holding: Holding) -> Result<Files, NoMemory> {
-    let mut files = Vec::new(alloc);
-    files.push((file, holding))?;
-    Ok(Files(files))
-}
+/// The two acts beside offices with so many objects: one that gave fewer designations makes fewer of the entries legal,
+/// and one that gave more the same.
+const BESIDE: [(usize, Holding); 4] = [
+    (OBJECTS, Holding::Acts(2)),
+    (2, Holding::Acts(2)),
+    (1, AT_90),
+    (0, AT_1),
+];
 
-/// The two acts beside an office with so many objects.
-fn beside(alloc: Global, objects: usize, holding: Holding) -> Result<(), Wrong> {
-    let file = file_of(alloc, &[ONE, TWO])?;
-    are_found(alloc, objects, &one_file(alloc, file, holding)?)
-}
-
-/// Files of an office in the place of the register's. The first act of the one is no comet, and the second byte of the
-/// other, a first file, is a closed gate.
-fn of_an_office(alloc: Global) -> Result<(), Wrong> {
-    let chained = copy_of(alloc, &CHAINED)?;
-    are_found(alloc, 2, &one_file(alloc, chained, AT_1)?)?;
-    let plain = copy_of(alloc, &PLAIN)?;
-    are_found(alloc, 2, &one_file(alloc, plain, Holding::Acts(0))?)
-}
-
-/// An office that gave fewer designations makes fewer of the entries legal, and one that gave more the same.
+/// Files of an office in the place of the register's, too. The first act of the one is no comet, and the second byte of
+/// the other, a first file, is a closed gate.
 fn each_other(alloc: Global) -> Result<(), Wrong> {
-    beside(alloc, OBJECTS, Holding::Acts(2))?;
-    beside(alloc, 2, Holding::Acts(2))?;
-    beside(alloc, 1, AT_90)?;
-    beside(alloc, 0, AT_1)?;
-    of_an_office(alloc)
+    for (objects, holding) in BESIDE {
+        are_found(alloc, objects, Files::Acts(holding))?;
+    }
+    are_found(alloc, 2, Files::Chained)?;
+    are_found(alloc, 2, Files::Plain)
 }
 
 #[test]

@@ -38,11 +38,12 @@ const COMETS: &[Row] = &[
     ),
 ];
 
-/// The first row whose parts aren't a comet's, or whose comet has another printed or packed form, counted from 0; None
-/// where there is none. So are those below.
-fn wrong_text() -> Option<usize> {
+/// The first row whose parts aren't a comet's, or whose comet has another printed or packed form, or isn't read from
+/// these, counted from 0; None where there is none. So is that below.
+fn wrong_comet() -> Option<usize> {
     for (row, &(parts, printed, packed)) in COMETS.iter().enumerate() {
-        if !has_forms(comet_of(parts), printed, packed) {
+        let comet = comet_of(parts);
+        if !has_forms(comet, printed, packed) || !is_read(comet, printed, packed) {
             return Some(row);
         }
     }
@@ -56,23 +57,12 @@ fn has_forms(comet: Comet, printed: &[u8], packed: &[u8; 8]) -> bool {
     print_comet(comet).as_slice() == printed && pack_comet(comet) == *packed
 }
 
+fn is_read(comet: Comet, printed: &[u8], packed: &[u8; 8]) -> bool {
+    read_comet(printed) == Ok(comet) && unpack_comet(packed) == Ok(comet)
+}
+
 #[test]
 fn comets_have_these_texts(rt: HostRuntime) {
-    expect_none_wrong(&rt, wrong_text());
-}
-
-fn wrong_comet() -> Option<usize> {
-    for (row, &(parts, printed, packed)) in COMETS.iter().enumerate() {
-        let comet = comet_of(parts);
-        if read_comet(printed) != Ok(comet) || unpack_comet(packed) != Ok(comet) {
-            return Some(row);
-        }
-    }
-    None
-}
-
-#[test]
-fn texts_are_these_comets(rt: HostRuntime) {
     expect_none_wrong(&rt, wrong_comet());
 }
 

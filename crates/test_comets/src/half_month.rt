@@ -1,12 +1,12 @@
 //! A half-month that has all the comets that it may have: a hundred objects, of which 99 get a name and one is refused,
 //! and after it the next half-month; all of it once more of the file that was left.
 
-use crate::office::{comets_of, put_comet};
+use crate::office::{batch_text, comets_of, put_comet, put_given};
 use std::alloc::Global;
 use testkit_comets::comets_in_turn;
 use testkit_sessions::Part::{Digits, Number, Text};
 use testkit_sessions::{
-    Drive, FOUNDER, NoMemory, OBSERVER, Part, Row, Script, Wrong, put, put_parts, text_of,
+    Drive, FOUNDER, NoMemory, OBSERVER, Row, Script, Wrong, put, put_number, put_parts, text_of,
 };
 
 /// How many comets a half-month may have, how many objects 2024 E has, and how many tracklets there are, of which the
@@ -34,44 +34,14 @@ fn put_line(alloc: Global, body: &mut Vec<u8>, track: u64, moment: u64) -> Resul
     )
 }
 
-/// What is told of the line with this number, which is that of its observation.
-fn put_told(alloc: Global, text: &mut Vec<u8>, line: u64, track: u64) -> Result<(), NoMemory> {
-    put_parts(
-        alloc,
-        text,
-        &[
-            Text("line "),
-            Number(line),
-            Text(" obs "),
-            Number(line),
-            Text(" track "),
-            Number(track),
-            Text("\n"),
-        ],
-    )
-}
-
-/// Two lines of a tracklet, which are 12 hours apart, just enough for a designation; and what is told of them.
-fn put_track(
-    alloc: Global,
-    body: &mut Vec<u8>,
-    text: &mut Vec<u8>,
-    track: u64,
-) -> Result<(), NoMemory> {
-    let last = track.saturating_mul(2);
-    put_line(alloc, body, track, track)?;
-    put_line(alloc, body, track, track.saturating_add(500_000))?;
-    put_told(alloc, text, last.saturating_sub(1), track)?;
-    put_told(alloc, text, last, track)
-}
-
-/// The batch of all tracklets.
+/// The batch of all tracklets, each of two lines that are 12 hours apart, just enough for a designation.
 fn add_batch(alloc: Global, script: &mut Script) -> Result<(), NoMemory> {
     let mut body = Vec::new(alloc);
-    let mut text = text_of(alloc, &[Text("receipt 6\naccepted 202 refused 0\n")])?;
     for track in 1..=TRACKS {
-        put_track(alloc, &mut body, &mut text, track)?;
+        put_line(alloc, &mut body, track, track)?;
+        put_line(alloc, &mut body, track, track.saturating_add(500_000))?;
     }
+    let text = batch_text(alloc, 6, 202, 1)?;
     script.add(OBSERVER, 1, "submit80", &body, "200 ", &text)
 }
 
@@ -85,38 +55,33 @@ fn letter_of(order: u64) -> &'static str {
 
 /// The designation of this order of 2024 E, as it is printed: four cycles of the letters are enough.
 fn put_printed(alloc: Global, text: &mut Vec<u8>, order: u64) -> Result<(), NoMemory> {
-    let cycle = match order.saturating_sub(1) / 25 {
-        0 => Text(""),
-        cycle => Number(cycle),
-    };
-    put_parts(
-        alloc,
-        text,
-        &[Text("2024 E"), Text(letter_of(order)), cycle],
-    )
+    put_parts(alloc, text, &[Text("2024 E"), Text(letter_of(order))])?;
+    match order.saturating_sub(1) / 25 {
+        0 => Ok(()),
+        cycle => put_number(alloc, text, cycle),
+    }
 }
 
-/// The same, packed.
-fn put_packed(alloc: Global, text: &mut Vec<u8>, order: u64) -> Result<(), NoMemory> {
-    let cycle = Digits(order.saturating_sub(1) / 25, 2);
-    put_parts(alloc, text, &[Text("K24E"), cycle, Text(letter_of(order))])
+/// What is told of the object of the tracklet with this number: its designation, printed and packed.
+fn put_designated(alloc: Global, text: &mut Vec<u8>, track: u64) -> Result<(), NoMemory> {
+    let receipt = Number(track.saturating_add(6));
+    put_parts(alloc, text, &[Text("receipt "), receipt, Text("\nobject ")])?;
+    if track > OBJECTS {
+        return put(text, "2024 FA K24F00A\n");
+    }
+    put_printed(alloc, text, track)?;
+    let cycle = Digits(track.saturating_sub(1) / 25, 2);
+    let packed = [Text(" K24E"), cycle, Text(letter_of(track)), Text("\n")];
+    put_parts(alloc, text, &packed)
 }
 
-/// The designation of the object of the tracklet with this number.
+/// The designation of that object.
 fn add_designation(alloc: Global, script: &mut Script, track: u64) -> Result<(), NoMemory> {
     let body = [Text("{\"tracklets\":["), Number(track), Text("]}")];
-    let receipt = Number(track.saturating_add(6));
-    let mut text = text_of(alloc, &[Text("receipt "), receipt, Text("\nobject ")])?;
-    if track > OBJECTS {
-        put(&mut text, "2024 FA K24F00A")?;
-    } else {
-        put_printed(alloc, &mut text, track)?;
-        put(&mut text, " ")?;
-        put_packed(alloc, &mut text, track)?;
-    }
-    put(&mut text, "\n")?;
-    let number = track.saturating_add(5);
     let body = text_of(alloc, &body)?;
+    let mut text = Vec::new(alloc);
+    put_designated(alloc, &mut text, track)?;
+    let number = track.saturating_add(5);
     script.add(FOUNDER, number, "designate", &body, "200 ", &text)
 }
 
@@ -137,12 +102,10 @@ fn kind_of(number: u64) -> &'static str {
 
 /// The act by which the object of this order gets a name.
 fn body_of(alloc: Global, order: u64) -> Result<Vec<u8>, NoMemory> {
-    let parts: [Part; 3] = [
-        Text("{\"kind\":\""),
-        Text(kind_of(order)),
-        Text("\",\"object\":\""),
-    ];
-    let mut body = text_of(alloc, &parts)?;
+    let mut body = Vec::new(alloc);
+    put(&mut body, "{\"kind\":\"")?;
+    put(&mut body, kind_of(order))?;
+    put(&mut body, "\",\"object\":\"")?;
     put_printed(alloc, &mut body, order)?;
     put(&mut body, "\"}")?;
     Ok(body)
@@ -151,9 +114,8 @@ fn body_of(alloc: Global, order: u64) -> Result<Vec<u8>, NoMemory> {
 /// That act under the number of the order, and the name that it gives.
 fn add_comet(alloc: Global, script: &mut Script, order: u64) -> Result<(), NoMemory> {
     let body = body_of(alloc, order)?;
-    let mut text = text_of(alloc, &[Text("receipt "), Number(order), Text("\n")])?;
-    put_comet(alloc, &mut text, kind_of(order), order)?;
-    put(&mut text, "\n")?;
+    let mut text = Vec::new(alloc);
+    put_given(alloc, &mut text, kind_of(order), order)?;
     script.add(FOUNDER, order, "comet", &body, "200 ", &text)
 }
 
@@ -164,16 +126,21 @@ fn add_full(alloc: Global, script: &mut Script, number: u64) -> Result<(), NoMem
     script.add(FOUNDER, number, "comet", &body, "409 ", text)
 }
 
+/// What is told of the comet of this order.
+fn put_line_of(alloc: Global, text: &mut Vec<u8>, order: u64) -> Result<(), NoMemory> {
+    put_comet(alloc, text, kind_of(order), order)?;
+    put(text, " object ")?;
+    put_printed(alloc, text, order)?;
+    put(text, " principal ")?;
+    put_printed(alloc, text, order)?;
+    put(text, "\n")
+}
+
 /// The whole register: 99 comets of 2024 E, and the one of 2024 F.
 fn add_register(alloc: Global, script: &mut Script) -> Result<(), NoMemory> {
     let mut text = Vec::new(alloc);
     for order in 1..=LIMIT {
-        put_comet(alloc, &mut text, kind_of(order), order)?;
-        put(&mut text, " object ")?;
-        put_printed(alloc, &mut text, order)?;
-        put(&mut text, " principal ")?;
-        put_printed(alloc, &mut text, order)?;
-        put(&mut text, "\n")?;
+        put_line_of(alloc, &mut text, order)?;
     }
     put(
         &mut text,
@@ -185,47 +152,34 @@ fn add_register(alloc: Global, script: &mut Script) -> Result<(), NoMemory> {
 /// The number that was refused is used for the next half-month. In the full one an object that has a name is told that,
 /// and one that isn't there that it isn't; what is sent again is answered again; and the last name is translated.
 const BESIDE: &[Row] = &[
-    (
-        FOUNDER,
-        100,
-        "comet",
-        "{\"kind\":\"C\",\"object\":\"2024 FA\"}",
-        "200 ",
-        "receipt 100\ncomet C/2024 F1 CK24F010\n",
-    ),
-    (
-        FOUNDER,
-        101,
-        "comet",
-        "{\"kind\":\"P\",\"object\":\"2024 EY3\"}",
-        "409 ",
-        "refused 20 AlreadyComet C/2024 E99\n",
-    ),
-    (
-        FOUNDER,
-        101,
-        "comet",
-        "{\"kind\":\"P\",\"object\":\"2024 EA4\"}",
-        "404 ",
-        "refused 5 UnknownThing designation 2024 EA4\n",
-    ),
-    (
-        FOUNDER,
-        99,
-        "comet",
-        "{\"kind\":\"C\",\"object\":\"2024 EY3\"}",
-        "200 ",
-        "receipt 99\ncomet C/2024 E99 CK24E990\n",
-    ),
-    (
-        FOUNDER,
-        0,
-        "translate",
-        "    CK24E990  C2024 03 15.12345 06 12 34.56 +23 45 01.2          19.5 V      703\n",
-        "200 ",
-        "     K24E03Y  C2024 03 15.12345 06 12 34.56 +23 45 01.2          19.5 V      703\n",
-    ),
+    (FOUNDER, 100, "comet", FA, "200 ", FA_GIVEN),
+    (FOUNDER, 101, "comet", EY3_AS_P, "409 ", EY3_HAS_ONE),
+    (FOUNDER, 101, "comet", EA4, "404 ", EA4_UNKNOWN),
+    (FOUNDER, 99, "comet", EY3, "200 ", EY3_GIVEN),
+    (FOUNDER, 0, "translate", E99_LINE, "200 ", EY3_LINE),
 ];
+
+const FA: &str = "{\"kind\":\"C\",\"object\":\"2024 FA\"}";
+
+const FA_GIVEN: &str = "receipt 100\ncomet C/2024 F1 CK24F010\n";
+
+const EY3_AS_P: &str = "{\"kind\":\"P\",\"object\":\"2024 EY3\"}";
+
+const EY3_HAS_ONE: &str = "refused 20 AlreadyComet C/2024 E99\n";
+
+const EA4: &str = "{\"kind\":\"P\",\"object\":\"2024 EA4\"}";
+
+const EA4_UNKNOWN: &str = "refused 5 UnknownThing designation 2024 EA4\n";
+
+const EY3: &str = "{\"kind\":\"C\",\"object\":\"2024 EY3\"}";
+
+const EY3_GIVEN: &str = "receipt 99\ncomet C/2024 E99 CK24E990\n";
+
+const E99_LINE: &str =
+    "    CK24E990  C2024 03 15.12345 06 12 34.56 +23 45 01.2          19.5 V      703\n";
+
+const EY3_LINE: &str =
+    "     K24E03Y  C2024 03 15.12345 06 12 34.56 +23 45 01.2          19.5 V      703\n";
 
 fn first_day(alloc: Global) -> Result<Script, NoMemory> {
     let mut script = Script::new(alloc);

@@ -3,7 +3,7 @@
 
 use std::alloc::Global;
 use testkit_sessions::Part::{Digits, Number, Text};
-use testkit_sessions::{Call, FOUNDER, NoMemory, OBSERVER, Row, Script, put, put_parts, text_of};
+use testkit_sessions::{Call, FOUNDER, NoMemory, OBSERVER, Row, Script, put, put_parts};
 
 /// Six tracklets of the first half of March 2024, of two observations each.
 const BATCH: &str = concat!(
@@ -25,26 +25,8 @@ const BATCH: &str = concat!(
     "C2|CCD|703|2024-03-14T13:10:00Z|15.1|1.0|Gaia3\n",
 );
 
-const BATCH_TEXT: &str = concat!(
-    "receipt 6\n",
-    "accepted 12 refused 0\n",
-    "line 5 obs 1 track 1\n",
-    "line 6 obs 2 track 1\n",
-    "line 7 obs 3 track 2\n",
-    "line 8 obs 4 track 2\n",
-    "line 9 obs 5 track 3\n",
-    "line 10 obs 6 track 3\n",
-    "line 11 obs 7 track 4\n",
-    "line 12 obs 8 track 4\n",
-    "line 13 obs 9 track 5\n",
-    "line 14 obs 10 track 5\n",
-    "line 15 obs 11 track 6\n",
-    "line 16 obs 12 track 6\n",
-);
-
 /// Three objects of that half-month, and one that is carried over from elsewhere.
 const OFFICE: &[Row] = &[
-    (OBSERVER, 1, "submitpsv", BATCH, "200 ", BATCH_TEXT),
     (
         FOUNDER,
         6,
@@ -82,11 +64,51 @@ const OFFICE: &[Row] = &[
 /// How many objects the office may have.
 pub(super) const OBJECTS: usize = 4;
 
+/// The answer to a batch under this receipt, of so many lines from this one on: each is accepted, and two are a
+/// tracklet.
+pub(super) fn batch_text(
+    alloc: Global,
+    receipt: u64,
+    lines: u64,
+    first: u64,
+) -> Result<Vec<u8>, NoMemory> {
+    let mut text = Vec::new(alloc);
+    let count = [Number(receipt), Text("\naccepted "), Number(lines)];
+    put(&mut text, "receipt ")?;
+    put_parts(alloc, &mut text, &count)?;
+    put(&mut text, " refused 0\n")?;
+    for place in 0..lines {
+        let parts = [
+            Text("line "),
+            Number(first.saturating_add(place)),
+            Text(" obs "),
+            Number(place.saturating_add(1)),
+            Text(" track "),
+            Number((place / 2).saturating_add(1)),
+            Text("\n"),
+        ];
+        put_parts(alloc, &mut text, &parts)?;
+    }
+    Ok(text)
+}
+
+/// A batch of ADES, of which so many lines after the first four are accepted under this receipt.
+pub(super) fn add_batch(
+    alloc: Global,
+    script: &mut Script,
+    batch: &str,
+    receipt: u64,
+    lines: u64,
+) -> Result<(), NoMemory> {
+    let text = batch_text(alloc, receipt, lines, 5)?;
+    script.add(OBSERVER, 1, "submitpsv", batch.as_bytes(), "200 ", &text)
+}
+
 /// The session of an office with so many of the objects 2024 EA, 2024 EB, 2024 EC and 1998 SA.
 pub(super) fn office_with(alloc: Global, objects: usize) -> Result<Script, NoMemory> {
     let mut script = Script::begun(alloc)?;
-    let rows = OFFICE.get(..objects.saturating_add(1)).unwrap_or(OFFICE);
-    script.add_rows(rows)?;
+    add_batch(alloc, &mut script, BATCH, 6, 12)?;
+    script.add_rows(OFFICE.get(..objects).unwrap_or(OFFICE))?;
     Ok(script)
 }
 
@@ -95,55 +117,104 @@ pub(super) fn office_call(office: &Script, objects: usize) -> Call<'_> {
     office.call((objects as u64).saturating_add(6))
 }
 
-const DOUBT: &str = "refused 16 DiskFault doubt\n";
+/// The acts that make comets of the three objects, and those that would make the other kind of comet of one.
+pub(super) const EA: &str = "{\"kind\":\"C\",\"object\":\"2024 EA\"}";
 
-const UNTOUCHED: &str = "refused 16 DiskFault untouched\n";
+pub(super) const EB: &str = "{\"kind\":\"P\",\"object\":\"2024 EB\"}";
 
-/// The objects of the acts with the numbers 1, 2 and 3, each with the kind of comet that it is.
-const NAMED: [(&str, &str); 3] = [("C", "2024 EA"), ("P", "2024 EB"), ("C", "2024 EC")];
+pub(super) const EC: &str = "{\"kind\":\"C\",\"object\":\"2024 EC\"}";
 
-fn named(number: u64) -> (&'static str, &'static str) {
+pub(super) const EA_AS_P: &str = "{\"kind\":\"P\",\"object\":\"2024 EA\"}";
+
+pub(super) const EC_AS_P: &str = "{\"kind\":\"P\",\"object\":\"2024 EC\"}";
+
+/// Acts on an object that the office doesn't have, and on the one that was carried over.
+pub(super) const EZ: &str = "{\"kind\":\"C\",\"object\":\"2024 EZ\"}";
+
+pub(super) const SA: &str = "{\"kind\":\"C\",\"object\":\"1998 SA\"}";
+
+/// The answers to the first and the second act, where they are on the first and the second object.
+pub(super) const EA_GIVEN: &str = "receipt 1\ncomet C/2024 E1 CK24E010\n";
+
+pub(super) const EB_GIVEN: &str = "receipt 2\ncomet P/2024 E2 PK24E020\n";
+
+/// Why an act is refused.
+pub(super) const EA_HAS_ONE: &str = "refused 20 AlreadyComet C/2024 E1\n";
+
+pub(super) const EZ_UNKNOWN: &str = "refused 5 UnknownThing designation 2024 EZ\n";
+
+pub(super) const SA_CARRIED: &str = "refused 19 NoDiscovery 1998 SA\n";
+
+pub(super) const OTHER_REQUEST: &str = "refused 3 OtherRequest receipt 1\n";
+
+pub(super) const UNKNOWN_KEY: &str = "refused 2 UnknownKey\n";
+
+pub(super) const UNREAD_BODY: &str = "refused 1 Unread body\n";
+
+pub(super) const UNREAD_NUMBER: &str = "refused 1 Unread number\n";
+
+pub(super) const UNREAD_VERB: &str = "refused 1 Unread verb\n";
+
+/// The objects of the acts with the numbers 1, 2 and 3, each with its act and the kind of comet that it is.
+const NAMED: [(&str, &str, &str); 3] = [
+    (EA, "C", "2024 EA"),
+    (EB, "P", "2024 EB"),
+    (EC, "C", "2024 EC"),
+];
+
+fn named(number: u64) -> (&'static str, &'static str, &'static str) {
     let place = number.saturating_sub(1) as usize;
-    *NAMED.get(place).unwrap_or(&("C", "2024 EZ"))
+    *NAMED.get(place).unwrap_or(&(EZ, "C", "2024 EZ"))
 }
 
-/// The act with this number, and what it is answered: `?` that it is in doubt, `-` that it left nothing, or a digit,
-/// which is the place of its entry in the register and so the number of the comet.
+/// The text of an answer, and its status: `?` stands for an act in doubt, `-` for one that left nothing, and a digit is
+/// the place of the act's entry in the register and so the number of the comet.
+fn put_answer(
+    alloc: Global,
+    text: &mut Vec<u8>,
+    kind: &'static str,
+    answer: u8,
+) -> Result<&'static str, NoMemory> {
+    match answer {
+        b'?' => {
+            put(text, "refused 16 DiskFault doubt\n")?;
+            Ok("503 ")
+        }
+        b'-' => {
+            put(text, "refused 16 DiskFault untouched\n")?;
+            Ok("503 ")
+        }
+        digit => {
+            put_given(alloc, text, kind, u64::from(digit.saturating_sub(b'0')))?;
+            Ok("200 ")
+        }
+    }
+}
+
+/// The act with this number, and what it is answered.
 pub(super) fn add_act(
     alloc: Global,
     script: &mut Script,
     number: u64,
     answer: u8,
 ) -> Result<(), NoMemory> {
-    let (kind, object) = named(number);
-    let body = text_of(
-        alloc,
-        &[
-            Text("{\"kind\":\""),
-            Text(kind),
-            Text("\",\"object\":\""),
-            Text(object),
-            Text("\"}"),
-        ],
-    )?;
-    match answer {
-        b'?' => script.add(FOUNDER, number, "comet", &body, "503 ", DOUBT.as_bytes()),
-        b'-' => script.add(
-            FOUNDER,
-            number,
-            "comet",
-            &body,
-            "503 ",
-            UNTOUCHED.as_bytes(),
-        ),
-        digit => {
-            let place = u64::from(digit.saturating_sub(b'0'));
-            let mut text = text_of(alloc, &[Text("receipt "), Number(place), Text("\n")])?;
-            put_comet(alloc, &mut text, kind, place)?;
-            put(&mut text, "\n")?;
-            script.add(FOUNDER, number, "comet", &body, "200 ", &text)
-        }
-    }
+    let (body, kind, _) = named(number);
+    let mut text = Vec::new(alloc);
+    let status = put_answer(alloc, &mut text, kind, answer)?;
+    script.add(FOUNDER, number, "comet", body.as_bytes(), status, &text)
+}
+
+/// The answer to the act that is the entry in this place, and gives the comet of this number of 2024 E.
+pub(super) fn put_given(
+    alloc: Global,
+    text: &mut Vec<u8>,
+    kind: &'static str,
+    place: u64,
+) -> Result<(), NoMemory> {
+    let receipt = [Text("receipt "), Number(place), Text("\n")];
+    put_parts(alloc, text, &receipt)?;
+    put_comet(alloc, text, kind, place)?;
+    put(text, "\n")
 }
 
 /// The comet of this number of 2024 E, printed and packed.
@@ -174,16 +245,11 @@ pub(super) fn put_comet(
 pub(super) fn register_text(alloc: Global, numbers: &str) -> Result<Vec<u8>, NoMemory> {
     let mut text = Vec::new(alloc);
     for (place, number) in numbers.bytes().enumerate() {
-        let (kind, object) = named(u64::from(number.saturating_sub(b'0')));
+        let (_, kind, object) = named(u64::from(number.saturating_sub(b'0')));
         put_comet(alloc, &mut text, kind, (place as u64).saturating_add(1))?;
-        let parts = [
-            Text(" object "),
-            Text(object),
-            Text(" principal "),
-            Text(object),
-            Text("\n"),
-        ];
-        put_parts(alloc, &mut text, &parts)?;
+        let end = [Text(object), Text(" principal "), Text(object), Text("\n")];
+        put(&mut text, " object ")?;
+        put_parts(alloc, &mut text, &end)?;
     }
     Ok(text)
 }

@@ -8,24 +8,27 @@ use testkit_comets::comets_in_turn;
 use testkit_sessions::{Call, Drive, NoMemory, Script, Wrong};
 
 /// The three acts, with these answers.
-fn first_day(alloc: Global, answers: &str) -> Result<Script, NoMemory> {
-    let mut script = Script::new(alloc);
+fn add_first(alloc: Global, script: &mut Script, answers: &str) -> Result<(), NoMemory> {
+    let answers = if answers.is_empty() { "123" } else { answers };
     for (place, answer) in answers.bytes().enumerate() {
-        add_act(alloc, &mut script, (place as u64).saturating_add(1), answer)?;
+        add_act(alloc, script, (place as u64).saturating_add(1), answer)?;
     }
-    Ok(script)
+    Ok(())
 }
 
 /// The register of these acts; the acts again, the last one first, with these answers; and the register of these acts.
-fn second_day(alloc: Global, kept: &str, answers: &str, all: &str) -> Result<Script, NoMemory> {
-    let mut script = Script::new(alloc);
-    add_register(alloc, &mut script, kept)?;
+fn add_second(
+    alloc: Global,
+    script: &mut Script,
+    kept: &str,
+    answers: &str,
+    all: &str,
+) -> Result<(), NoMemory> {
+    add_register(alloc, script, kept)?;
     for (place, answer) in answers.bytes().enumerate() {
-        let number = 3u64.saturating_sub(place as u64);
-        add_act(alloc, &mut script, number, answer)?;
+        add_act(alloc, script, 3u64.saturating_sub(place as u64), answer)?;
     }
-    add_register(alloc, &mut script, all)?;
-    Ok(script)
+    add_register(alloc, script, all)
 }
 
 /// A row of a table: the call of the disk that fails, alone or with later ones; the answers to the acts, none where the
@@ -42,41 +45,123 @@ type Case = (
     &'static str,
 );
 
-/// The office, the acts over a disk with these calls failing, a crash by this pick where there is one, the acts again,
-/// and a last opening.
-fn stopped(alloc: Global, fails: &[u64], case: &Case, pick: Option<u64>) -> Result<(), Wrong> {
-    let &(call, answers, added, number, kept, again, all) = case;
-    let mark = call as usize;
-    let office = office_with(alloc, 3)?;
-    let day = first_day(alloc, if answers.is_empty() { "123" } else { answers })?;
-    let later = second_day(alloc, kept, again, all)?;
-    let mut last = Script::new(alloc);
-    add_register(alloc, &mut last, all)?;
-    let whole = comets_of(mark, &day, added);
+/// The office of a case, the acts over its disk, the acts again, and the last opening.
+#[derive(Drop)]
+struct Days {
+    office: Script,
+    first: Script,
+    second: Script,
+    last: Script,
+}
+
+fn days_of(alloc: Global, case: &Case) -> Result<Days, NoMemory> {
+    let &(_, answers, _, _, kept, again, all) = case;
+    let mut days = Days {
+        office: office_with(alloc, 3)?,
+        first: Script::new(alloc),
+        second: Script::new(alloc),
+        last: Script::new(alloc),
+    };
+    add_first(alloc, &mut days.first, answers)?;
+    add_second(alloc, &mut days.second, kept, again, all)?;
+    add_register(alloc, &mut days.last, all)?;
+    Ok(days)
+}
+
+/// The acts of a case; nothing of them is answered where the register can't be opened.
+fn first_call<'a>(day: &'a Script, case: &Case, pick: Option<u64>) -> Call<'a> {
+    let &(call, answers, added, number, _, _, _) = case;
+    let whole = comets_of(call as usize, day, added);
     let length = if answers.is_empty() {
         0
     } else {
         whole.taken.len()
     };
-    let first = Call {
+    Call {
         status: if number == 0 { "Done" } else { "DiskFault" },
         number,
         taken: whole.taken.split_at(length).0,
         pick,
         ..whole
-    };
-    let grown = (all.len() as u64).saturating_sub(kept.len() as u64);
+    }
+}
+
+/// The office, the acts over a disk with these calls failing, a crash by this pick where there is one, the acts again,
+/// and a last opening.
+fn stopped(alloc: Global, fails: &[u64], case: &Case, pick: Option<u64>) -> Result<(), Wrong> {
+    let days = days_of(alloc, case)?;
+    let mark = case.0 as usize;
+    let grown = (case.6.len() as u64).saturating_sub(case.4.len() as u64);
     let calls: [Call; 4] = [
-        office_call(&office, 3),
-        first,
-        comets_of(mark.saturating_add(1_000), &later, grown),
-        comets_of(mark.saturating_add(2_000), &last, 0),
+        office_call(&days.office, 3),
+        first_call(&days.first, case, pick),
+        comets_of(mark.saturating_add(1_000), &days.second, grown),
+        comets_of(mark.saturating_add(2_000), &days.last, 0),
     ];
     let drive = Drive {
         fails,
         ..Drive::EMPTY
     };
     comets_in_turn(alloc, &drive, &calls)
+}
+
+/// Which calls of the disk fail beside that of a case.
+#[derive(Clone, Copy)]
+enum More {
+    /// None.
+    Alone,
+    /// This one.
+    And(u64),
+    /// All after it.
+    AllAfter,
+    /// All from this one on.
+    AllFrom(u64),
+}
+
+/// The calls that fail where all from the first on do. No run makes more.
+const ALL: &[u64] = &[
+    1, 2, 3, 4, 5, 6, 7, 8, 9, 10, 11, 12, 13, 14, 15, 16, 17, 18, 19, 20, 21, 22, 23, 24, 25, 26,
+    27, 28, 29, 30, 31, 32,
+];
+
+/// This call, and those.
+fn fails_of(alloc: Global, call: u64, more: More) -> Result<Vec<u64>, NoMemory> {
+    let mut fails = Vec::new(alloc);
+    fails.push(call)?;
+    let then = match more {
+        More::Alone => return Ok(fails),
+        More::And(second) => {
+            fails.push(second)?;
+            return Ok(fails);
+        }
+        More::AllAfter => call.saturating_add(1),
+        More::AllFrom(then) => then,
+    };
+    let place = then.saturating_sub(1) as usize;
+    fails.extend_from_slice(ALL.get(place..).unwrap_or(&[]))?;
+    Ok(fails)
+}
+
+/// A case with those calls failing, and each of these crashes after it.
+fn each_pick(alloc: Global, more: More, case: &Case, picks: &[Option<u64>]) -> Result<(), Wrong> {
+    let fails = fails_of(alloc, case.0, more)?;
+    for pick in picks {
+        stopped(alloc, &fails, case, *pick)?;
+    }
+    Ok(())
+}
+
+/// The same of all of these cases.
+fn each_case(
+    alloc: Global,
+    more: More,
+    cases: &[Case],
+    picks: &[Option<u64>],
+) -> Result<(), Wrong> {
+    for case in cases {
+        each_pick(alloc, more, case, picks)?;
+    }
+    Ok(())
 }
 
 /// Opening takes nine calls of an empty disk: it is synced and asked for its length, for that once more, shut, synced,
@@ -110,47 +195,29 @@ const ALONE: &[Case] = &[
 /// Four picks of a crash. A gate that was written and isn't safe is lost by the first two, and left by the others. Each
 /// digit in base 5, the lowest first, says what is left of one deed since the last sync that was done: none of it, all,
 /// the front half, the back half, the last byte; the front half of one byte is nothing, and the back half is all.
-const LOSES: &[u64] = &[0, 117];
+const LOSES: &[Option<u64>] = &[Some(0), Some(117)];
 
-const LEAVES: &[u64] = &[1, 298];
+const LEAVES: &[Option<u64>] = &[Some(1), Some(298)];
 
-const PICKS: &[u64] = &[0, 117, 1, 298];
+const PICKS: &[Option<u64>] = &[Some(0), Some(117), Some(1), Some(298)];
 
-fn each_alone(alloc: Global) -> Result<(), Wrong> {
-    for case in ALONE {
-        stopped(alloc, &[case.0], case, None)?;
-    }
-    Ok(())
-}
+/// No crash.
+const STAYS: &[Option<u64>] = &[None];
 
 #[test]
 fn each_call_of_the_register_fails_alone(rt: HostRuntime) {
-    each_alone(rt.alloc()).expect(&rt, "as wanted");
-}
-
-fn each_pick(alloc: Global, fails: &[u64], case: &Case, picks: &[u64]) -> Result<(), Wrong> {
-    for pick in picks {
-        stopped(alloc, fails, case, Some(*pick))?;
-    }
-    Ok(())
-}
-
-fn each_crash(alloc: Global, picks: &[u64]) -> Result<(), Wrong> {
-    for case in ALONE {
-        each_pick(alloc, &[case.0], case, picks)?;
-    }
-    Ok(())
+    each_case(rt.alloc(), More::Alone, ALONE, STAYS).expect(&rt, "as wanted");
 }
 
 /// What a crash may then take belongs to acts that weren't kept.
 #[test]
 fn a_crash_comes_after_a_call_that_failed(rt: HostRuntime) {
-    each_crash(rt.alloc(), LOSES).expect(&rt, "as wanted");
+    each_case(rt.alloc(), More::Alone, ALONE, LOSES).expect(&rt, "as wanted");
 }
 
 #[test]
 fn another_comes_after_a_call_that_failed(rt: HostRuntime) {
-    each_crash(rt.alloc(), LEAVES).expect(&rt, "as wanted");
+    each_case(rt.alloc(), More::Alone, ALONE, LEAVES).expect(&rt, "as wanted");
 }
 
 /// A doubt, and one of the two calls fails by which it is settled: the file is synced, and the gate is read. Then the
@@ -173,7 +240,7 @@ const TWICE: &[(u64, Case)] = &[
 
 fn each_settling(alloc: Global) -> Result<(), Wrong> {
     for (second, case) in TWICE {
-        stopped(alloc, &[case.0, *second], case, None)?;
+        each_pick(alloc, More::And(*second), case, STAYS)?;
     }
     Ok(())
 }
@@ -234,47 +301,20 @@ const SYNCED: &[(u64, Case)] = &[
     (23, (21, "12?", 2, 4, "123", "321", "123")),
 ];
 
-/// The calls that fail where all from the first on do. No run makes more.
-const ALL: &[u64] = &[
-    1, 2, 3, 4, 5, 6, 7, 8, 9, 10, 11, 12, 13, 14, 15, 16, 17, 18, 19, 20, 21, 22, 23, 24, 25, 26,
-    27, 28, 29, 30, 31, 32,
-];
-
-/// All calls from this one on.
-fn from_on(call: u64) -> &'static [u64] {
-    ALL.get(call.saturating_sub(1) as usize..).unwrap_or(&[])
-}
-
-fn each_from_on(alloc: Global, cases: &[Case], picks: &[u64]) -> Result<(), Wrong> {
-    for case in cases {
-        each_pick(alloc, from_on(case.0), case, picks)?;
-    }
-    Ok(())
-}
-
 #[test]
 fn the_disk_of_the_register_fails_from_on(rt: HostRuntime) {
-    each_from_on(rt.alloc(), STOPPED, PICKS).expect(&rt, "as wanted");
+    each_case(rt.alloc(), More::AllAfter, STOPPED, PICKS).expect(&rt, "as wanted");
 }
 
 #[test]
 fn the_disk_of_the_register_fails_in_a_doubt(rt: HostRuntime) {
-    each_from_on(rt.alloc(), LOST, LOSES).expect(&rt, "as wanted");
-    each_from_on(rt.alloc(), LEFT, LEAVES).expect(&rt, "as wanted");
-}
-
-/// This call, and all from the other on.
-fn and_from_on(alloc: Global, call: u64, then: u64) -> Result<Vec<u64>, NoMemory> {
-    let mut fails = Vec::new(alloc);
-    fails.push(call)?;
-    fails.extend_from_slice(from_on(then))?;
-    Ok(fails)
+    each_case(rt.alloc(), More::AllAfter, LOST, LOSES).expect(&rt, "as wanted");
+    each_case(rt.alloc(), More::AllAfter, LEFT, LEAVES).expect(&rt, "as wanted");
 }
 
 fn each_synced(alloc: Global) -> Result<(), Wrong> {
     for (then, case) in SYNCED {
-        let fails = and_from_on(alloc, case.0, *then)?;
-        each_pick(alloc, &fails, case, PICKS)?;
+        each_pick(alloc, More::AllFrom(*then), case, PICKS)?;
     }
     Ok(())
 }
