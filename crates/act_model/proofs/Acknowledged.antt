@@ -17,11 +17,11 @@ use Rattle.act_model.specs.Rows.{first_row, ◌>>=◌}
 use Rattle.act_model.specs.Requests.{is_act}
 use Rattle.act_model.specs.Roster.{members}
 use Rattle.act_model.specs.Deeds.{deeds}
-use Rattle.act_model.specs.History.{Kept, kept, next_moment, next_receipt}
+use Rattle.act_model.specs.History.{Kept, numbered_entry, next_moment, next_receipt}
 use Rattle.act_model.specs.Hearing.{size_rows, bytes_in, hear}
 use Rattle.act_model.specs.Refusals.{work_within}
 use Rattle.act_model.specs.Replies.{entry_answer}
-use Rattle.act_model.specs.Step.{Outcome, is_resend, unless_kept, unless_refused, new_entry, query_step, heard_step, unless_unheard, after, step}
+use Rattle.act_model.specs.Step.{Outcome, is_resend, unless_kept, unless_refused, new_entry, query_step, heard_step, unless_unheard, reply_and_history, step}
 use Rattle.act_model.specs.Turns.{Turn, TakesReading, Answers, FailsToKeep, Settles, Mends, Takes, IsTurn}
 use Rattle.act_model.specs.Conducts.{Extends, IsAcknowledged}
 use Rattle.act_model.specs.Legal.{IsLegal}
@@ -53,7 +53,7 @@ pub record Answered (founder : Key) (earlier : List Entry) (q : Request) (text :
   pub body : bytes_in q.body ≡ Ok bytes
   pub hears : hear founder (members (deeds earlier)) q bytes ≡ Ok heard
   pub act : is_act heard.verb ≡ true
-  pub found : kept later heard.caller.number heard.number ≡ Some entry
+  pub found : numbered_entry later heard.caller.number heard.number ≡ Some entry
   pub same : is_resend heard.verb bytes entry.entry ≡ true
   pub answer : text ≡ entry_answer entry.before entry.entry
 
@@ -96,7 +96,7 @@ module _ (founder : Key) (q : Request) (text : List ℕ) where
   pub answered_again : (now : List Entry) → Answered founder now q text now → (limit : Option ℕ) (t : ℤ) → step founder limit now q t ≡ (Done text, now)
   answered_again now a limit t =
       step_is founder limit now q t
-      ∙ ap (after now) (keeps founder limit now q t a.bytes a.heard a.entry a.body a.hears a.act a.found)
+      ∙ ap (reply_and_history now) (keeps founder limit now q t a.bytes a.heard a.entry a.body a.hears a.act a.found)
       ∙ ap (λ (b : Bool). (cond b (Done (entry_answer a.entry.before a.entry.entry)) (Refused (OtherRequest (next_receipt a.entry.before))), now)) a.same
       ∙ ap (λ (x : List ℕ). (Done x, now)) (sym a.answer)
 
@@ -111,41 +111,41 @@ module _ (founder : Key) (limit : Option ℕ) (past : List Entry) (q : Request) 
     acts = (let verb = (hears founder (members (deeds past)) q bytes heard h).verb in ap is_act verb ∙ act)
 
     -- the history has the entry under the caller's number
-    has : (k : Kept) → kept next heard.caller.number heard.number ≡ Some k → is_resend heard.verb bytes k.entry ≡ true → text ≡ entry_answer k.before k.entry → Answered founder past q text next
+    has : (k : Kept) → numbered_entry next heard.caller.number heard.number ≡ Some k → is_resend heard.verb bytes k.entry ≡ true → text ≡ entry_answer k.before k.entry → Answered founder past q text next
     has k found same answer = record { bytes = bytes; heard = heard; entry = k; body = body; hears = h; act = acts; found = found; same = same; answer = answer }
 
-    acted : (used : Option Kept) (work : Result Deed Refusal) → kept past heard.caller.number heard.number ≡ used → after past (unless_kept used heard bytes (unless_refused work newest)) ≡ (Done text, next)
+    acted : (used : Option Kept) (work : Result Deed Refusal) → numbered_entry past heard.caller.number heard.number ≡ used → reply_and_history past (unless_kept used heard bytes (unless_refused work newest)) ≡ (Done text, next)
         → Answered founder past q text next
     acted (Some k) work found is =
         let here = ap (λ (p : Reply × List Entry). p.1) is in
         let answers = kept_done (is_resend heard.verb bytes k.entry) (entry_answer k.before k.entry) text (next_receipt k.before) (ap (λ (p : Reply × List Entry). p.0) is) in
-        has k (ap (λ (h : List Entry). kept h heard.caller.number heard.number) (sym here) ∙ found) answers.0 answers.1
+        has k (ap (λ (h : List Entry). numbered_entry h heard.caller.number heard.number) (sym here) ∙ found) answers.0 answers.1
     acted None (Ok deed) found is =
         let here = ap (λ (p : Reply × List Entry). p.1) is in
-        has (record { entry = newest; before = past }) (ap (λ (h : List Entry). kept h heard.caller.number heard.number) (sym here) ∙ kept_newest newest past) (resent _ bytes)
+        has (record { entry = newest; before = past }) (ap (λ (h : List Entry). numbered_entry h heard.caller.number heard.number) (sym here) ∙ kept_newest newest past) (resent _ bytes)
         (let reply = ap (λ (p : Reply × List Entry). p.0) is in cc)
     acted None (Err r) found is = let reply = ap (λ (p : Reply × List Entry). p.0) is in absurd cc
 
-    of_act : (b : Bool) → b ≡ true → after past (cond b (unless_kept (kept past heard.caller.number heard.number) heard bytes (unless_refused (work_within limit past bytes (next_moment past t) heard) newest)) (query_step past heard)) ≡ (Done text, next)
+    of_act : (b : Bool) → b ≡ true → reply_and_history past (cond b (unless_kept (numbered_entry past heard.caller.number heard.number) heard bytes (unless_refused (work_within limit past bytes (next_moment past t) heard) newest)) (query_step past heard)) ≡ (Done text, next)
         → Answered founder past q text next
-    of_act true true_is is = acted (kept past heard.caller.number heard.number) (work_within limit past bytes (next_moment past t) heard) refl is
+    of_act true true_is is = acted (numbered_entry past heard.caller.number heard.number) (work_within limit past bytes (next_moment past t) heard) refl is
     of_act false true_is is = absurd cc
 
-    of_heard : after past (heard_step limit past heard bytes (next_moment past t)) ≡ (Done text, next) → Answered founder past q text next
+    of_heard : reply_and_history past (heard_step limit past heard bytes (next_moment past t)) ≡ (Done text, next) → Answered founder past q text next
     of_heard is = of_act (is_act heard.verb) acts is
 
   of_hearing : (bytes : List ℕ) (heard : Result Heard Refusal) → bytes_in q.body ≡ Ok bytes → hear founder (members (deeds past)) q bytes ≡ heard
-      → after past (unless_unheard (heard >>= heard_outcome founder limit past q t bytes)) ≡ (Done text, next) → Answered founder past q text next
+      → reply_and_history past (unless_unheard (heard >>= heard_outcome founder limit past q t bytes)) ≡ (Done text, next) → Answered founder past q text next
   of_hearing bytes (Ok heard) body h is = of_heard bytes heard body h is
   of_hearing bytes (Err r) body h is = let reply = ap (λ (p : Reply × List Entry). p.0) is in absurd cc
 
-  of_bytes : (bytes : Result (List ℕ) Refusal) → bytes_in q.body ≡ bytes → after past (unless_unheard (bytes >>= hearing founder limit past q t)) ≡ (Done text, next) → Answered founder past q text next
+  of_bytes : (bytes : Result (List ℕ) Refusal) → bytes_in q.body ≡ bytes → reply_and_history past (unless_unheard (bytes >>= hearing founder limit past q t)) ≡ (Done text, next) → Answered founder past q text next
   of_bytes (Ok bytes) body is = of_hearing bytes (hear founder (members (deeds past)) q bytes) body refl is
   of_bytes (Err r) body is = let reply = ap (λ (p : Reply × List Entry). p.0) is in absurd cc
 
   step_answers : step founder limit past q t ≡ (Done text, next) → Answered founder past q text next
   step_answers is =
-      of_bytes (bytes_in q.body) refl (ap (λ (o : Outcome). after past o) (sym (outcome_is founder limit past q t)) ∙ sym (step_is founder limit past q t) ∙ is)
+      of_bytes (bytes_in q.body) refl (ap (λ (o : Outcome). reply_and_history past o) (sym (outcome_is founder limit past q t)) ∙ sym (step_is founder limit past q t) ∙ is)
 
 -- ---- turns
 

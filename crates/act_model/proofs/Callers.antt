@@ -8,7 +8,7 @@ use Rattle.act_bodies.specs.declared.key.Key.{Key}
 use Rattle.act_bodies.specs.Keys.{same_key, key_text, begins_with_plus}
 use Rattle.act_model.specs.declared.roster.Caller.{Caller}
 use Rattle.act_model.specs.declared.roster.Member.{Member}
-use Rattle.act_model.specs.Roster.{next_caller, enrolled_as, founding, caller_of, key_at}
+use Rattle.act_model.specs.Roster.{next_caller, enrolled_as, founding_officer, caller_of, key_at}
 
 -- a key is itself
 same_key-refl : (key : Key) → same_key key key ≡ true
@@ -31,8 +31,8 @@ enrolled_by_text (member ∷ older) a b same =
 
 caller_by_text : (founder : Key) (members : List Member) (a b : Key) → key_text a ≡ key_text b → caller_of founder members a ≡ caller_of founder members b
 caller_by_text founder members a b same =
-    ap (λ (text : List ℕ). cond (bytes_eq text (key_text founder)) (Some founding) (enrolled_as members a)) same
-    ∙ ap (λ (o : Option Caller). cond (same_key b founder) (Some founding) o) (enrolled_by_text members a b same)
+    ap (λ (text : List ℕ). cond (bytes_eq text (key_text founder)) (Some founding_officer) (enrolled_as members a)) same
+    ∙ ap (λ (o : Option Caller). cond (same_key b founder) (Some founding_officer) o) (enrolled_by_text members a b same)
 
 -- who has a key, by the answer of the test on the newest
 newest_has : (b : Bool) (newest caller : Caller) (older : Option Caller) → cond b (Some newest) older ≡ Some caller → ((b ≡ true) × (newest ≡ caller)) ⊎ ((b ≡ false) × (older ≡ Some caller))
@@ -71,18 +71,18 @@ founder_key founder (member ∷ older) =
     ap (λ (b : Bool). cond b member.key (key_at founder older 0)) test ∙ founder_key founder older
 
 -- the founding officer is found by the founder's key, under the number 0
-founder_again : (founder : Key) (members : List Member) (caller : Caller) → founding ≡ caller → caller_of founder members (key_at founder members caller.number) ≡ Some caller
+founder_again : (founder : Key) (members : List Member) (caller : Caller) → founding_officer ≡ caller → caller_of founder members (key_at founder members caller.number) ≡ Some caller
 founder_again founder members caller is =
     ap (λ (c : Caller). caller_of founder members (key_at founder members c.number)) (sym is)
     ∙ ap (λ (k : Key). caller_of founder members k) (founder_key founder members)
-    ∙ ap (λ (b : Bool). cond b (Some founding) (enrolled_as members founder)) (same_key-refl founder)
+    ∙ ap (λ (b : Bool). cond b (Some founding_officer) (enrolled_as members founder)) (same_key-refl founder)
     ∙ ap (λ (c : Caller). Some c) is
 
 -- whoever was found by a key is found again by the key at the number
 pub caller_again : (founder : Key) (members : List Member) (key : Key) (caller : Caller) → caller_of founder members key ≡ Some caller
     → caller_of founder members (key_at founder members caller.number) ≡ Some caller
 caller_again founder members key caller found =
-    elim (newest_has (same_key key founder) founding caller (enrolled_as members key) found) [
+    elim (newest_has (same_key key founder) founding_officer caller (enrolled_as members key) found) [
       | inl here ↦ founder_again founder members caller here.1
       | inr behind ↦ caller_by_text founder members (key_at founder members caller.number) key (enrolled_key founder members key caller behind.1) ∙ found
     ]
@@ -102,10 +102,10 @@ new_caller false members member key caller is absent behind =
 pub caller_stays : (founder : Key) (members : List Member) (member : Member) (key : Key) (caller : Caller) → is_some (enrolled_as members member.key) ≡ false
     → caller_of founder members key ≡ Some caller → caller_of founder (member ∷ members) key ≡ Some caller
 caller_stays founder members member key caller absent found =
-    elim (newest_has (same_key key founder) founding caller (enrolled_as members key) found) [
-      | inl here ↦ ap (λ (b : Bool). cond b (Some founding) (enrolled_as (member ∷ members) key)) here.0 ∙ ap (λ (c : Caller). Some c) here.1
+    elim (newest_has (same_key key founder) founding_officer caller (enrolled_as members key) found) [
+      | inl here ↦ ap (λ (b : Bool). cond b (Some founding_officer) (enrolled_as (member ∷ members) key)) here.0 ∙ ap (λ (c : Caller). Some c) here.1
       | inr behind ↦
-          ap (λ (b : Bool). cond b (Some founding) (enrolled_as (member ∷ members) key)) behind.0
+          ap (λ (b : Bool). cond b (Some founding_officer) (enrolled_as (member ∷ members) key)) behind.0
           ∙ new_caller (same_key key member.key) members member key caller refl absent behind.1
     ]
 
@@ -132,11 +132,11 @@ not_founder false key founder is plain plus = is
 pub caller_under : (founder other : Key) (members : List Member) (key : Key) (caller : Caller) → ArePlain members → begins_with_plus (key_text other) ≡ true → caller_of founder members key ≡ Some caller
     → caller_of other members (key_at other members caller.number) ≡ Some caller
 caller_under founder other members key caller plain plus found =
-    elim (newest_has (same_key key founder) founding caller (enrolled_as members key) found) [
+    elim (newest_has (same_key key founder) founding_officer caller (enrolled_as members key) found) [
       | inl here ↦ founder_again other members caller here.1
       | inr behind ↦
           let is = not_founder (same_key key other) key other refl (enrolled_plain members key caller plain behind.1) plus in
           caller_by_text other members (key_at other members caller.number) key (enrolled_key other members key caller behind.1)
-          ∙ ap (λ (b : Bool). cond b (Some founding) (enrolled_as members key)) is
+          ∙ ap (λ (b : Bool). cond b (Some founding_officer) (enrolled_as members key)) is
           ∙ behind.1
     ]

@@ -18,10 +18,10 @@ use Rattle.act_model.specs.Rows.{first_row, unless, ◌>>=◌}
 use Rattle.act_model.specs.Requests.{is_act}
 use Rattle.act_model.specs.Roster.{members}
 use Rattle.act_model.specs.Deeds.{deeds}
-use Rattle.act_model.specs.History.{Kept, kept, next_moment, IsUnused, EachNumberOnce}
+use Rattle.act_model.specs.History.{Kept, numbered_entry, next_moment, IsUnused, EachNumberOnce}
 use Rattle.act_model.specs.Hearing.{bytes_in, hear}
 use Rattle.act_model.specs.Refusals.{full_rows, work_out, work_within}
-use Rattle.act_model.specs.Step.{Outcome, Refuses, Adds, step, outcome, after, unless_unheard, heard_step, query_step, query_in, told, tells, unless_kept, unless_refused, new_entry}
+use Rattle.act_model.specs.Step.{Outcome, Refuses, Adds, step, outcome, reply_and_history, unless_unheard, heard_step, query_step, query_in, answer_of_query, tells, unless_kept, unless_refused, new_entry}
 use Rattle.act_model.specs.Turns.{Turn, TakesReading, Answers, at_rest, unless_untouched, Mends, Settles, FailsToKeep, Takes, IsTurn, Conduct}
 use Rattle.act_model.specs.Conducts.{Extends, HadMemory, HadNoFault, IsStepped, IsAnswered, EitherWay, Makes}
 
@@ -73,7 +73,7 @@ pub record Added (founder : Key) (limit : Option ℕ) (past : List Entry) (q : R
   pub body : bytes_in q.body ≡ Ok bytes
   pub hears : hear founder (members (deeds past)) q bytes ≡ Ok heard
   pub act : is_act heard.verb ≡ true
-  pub unused : kept past heard.caller.number heard.number ≡ None
+  pub unused : numbered_entry past heard.caller.number heard.number ≡ None
   pub works : work_out past (next_moment past t) heard ≡ Ok deed
   pub room : first_row (full_rows limit past bytes) ≡ None
   pub entry : e ≡ new_entry heard bytes (next_moment past t)
@@ -101,7 +101,7 @@ module _ (founder : Key) (limit : Option ℕ) (past : List Entry) (q : Request) 
   added_by e (bytes, body, rest) =
       let (heard, hears, last) = bound (hear founder (members (deeds past)) q bytes) (heard_outcome bytes) (Adds e) rest in
       let (act, unused, (deed, works), entry) =
-      acted (is_act heard.verb) (kept past heard.caller.number heard.number) heard bytes (work_within limit past bytes (next_moment past t) heard) (new_entry heard bytes (next_moment past t)) e (query_in heard.asked >>= told past heard.caller.number) (ok_is (heard_step limit past heard bytes (next_moment past t)) (Adds e) last) in
+      acted (is_act heard.verb) (numbered_entry past heard.caller.number heard.number) heard bytes (work_within limit past bytes (next_moment past t) heard) (new_entry heard bytes (next_moment past t)) e (query_in heard.asked >>= answer_of_query past heard.caller.number) (ok_is (heard_step limit past heard bytes (next_moment past t)) (Adds e) last) in
       let done = works_within limit past bytes (next_moment past t) heard deed works in
       record { bytes = bytes; heard = heard; deed = deed; body = body; hears = hears; act = act; unused = unused; works = done.0; room = done.1; entry = entry }
 
@@ -110,32 +110,32 @@ module _ (founder : Key) (limit : Option ℕ) (past : List Entry) (q : Request) 
 
   -- and what is heard, not used and not refused is added
   pub adds_again : (bytes : List ℕ) (heard : Heard) (deed : Deed) → bytes_in q.body ≡ Ok bytes → hear founder (members (deeds past)) q bytes ≡ Ok heard → is_act heard.verb ≡ true
-      → kept past heard.caller.number heard.number ≡ None → work_out past (next_moment past t) heard ≡ Ok deed → first_row (full_rows limit past bytes) ≡ None → outcome founder limit past q t ≡ Adds (new_entry heard bytes (next_moment past t))
+      → numbered_entry past heard.caller.number heard.number ≡ None → work_out past (next_moment past t) heard ≡ Ok deed → first_row (full_rows limit past bytes) ≡ None → outcome founder limit past q t ≡ Adds (new_entry heard bytes (next_moment past t))
   adds_again bytes heard deed body hears act unused works room =
       outcome_is
       ∙ ap (λ (x : Result (List ℕ) Refusal). unless_unheard (x >>= hearing)) body
       ∙ ap (λ (x : Result Heard Refusal). unless_unheard (x >>= heard_outcome bytes)) hears
-      ∙ ap (λ (b : Bool). cond b (unless_kept (kept past heard.caller.number heard.number) heard bytes (unless_refused (work_within limit past bytes (next_moment past t) heard) (new_entry heard bytes (next_moment past t)))) (query_step past heard)) act
+      ∙ ap (λ (b : Bool). cond b (unless_kept (numbered_entry past heard.caller.number heard.number) heard bytes (unless_refused (work_within limit past bytes (next_moment past t) heard) (new_entry heard bytes (next_moment past t)))) (query_step past heard)) act
       ∙ ap (λ (k : Option Kept). unless_kept k heard bytes (unless_refused (work_within limit past bytes (next_moment past t) heard) (new_entry heard bytes (next_moment past t)))) unused
       ∙ ap (λ (w : Result Deed Refusal). unless_refused w (new_entry heard bytes (next_moment past t))) (within_again limit past bytes (next_moment past t) heard deed works room)
 
   -- a number that was used keeps its reply
   pub keeps : (bytes : List ℕ) (heard : Heard) (k : Kept) → bytes_in q.body ≡ Ok bytes → hear founder (members (deeds past)) q bytes ≡ Ok heard → is_act heard.verb ≡ true
-      → kept past heard.caller.number heard.number ≡ Some k → outcome founder limit past q t ≡ unless_kept (Some k) heard bytes (Refuses NoMemory)
+      → numbered_entry past heard.caller.number heard.number ≡ Some k → outcome founder limit past q t ≡ unless_kept (Some k) heard bytes (Refuses NoMemory)
   keeps bytes heard k body hears act used =
       outcome_is
       ∙ ap (λ (x : Result (List ℕ) Refusal). unless_unheard (x >>= hearing)) body
       ∙ ap (λ (x : Result Heard Refusal). unless_unheard (x >>= heard_outcome bytes)) hears
-      ∙ ap (λ (b : Bool). cond b (unless_kept (kept past heard.caller.number heard.number) heard bytes (unless_refused (work_within limit past bytes (next_moment past t) heard) (new_entry heard bytes (next_moment past t)))) (query_step past heard)) act
+      ∙ ap (λ (b : Bool). cond b (unless_kept (numbered_entry past heard.caller.number heard.number) heard bytes (unless_refused (work_within limit past bytes (next_moment past t) heard) (new_entry heard bytes (next_moment past t)))) (query_step past heard)) act
       ∙ ap (λ (k : Option Kept). unless_kept k heard bytes (unless_refused (work_within limit past bytes (next_moment past t) heard) (new_entry heard bytes (next_moment past t)))) used
 
   -- the step by its outcome
-  pub step_is : step founder limit past q t ≡ after past (outcome founder limit past q t)
+  pub step_is : step founder limit past q t ≡ reply_and_history past (outcome founder limit past q t)
   unfolding step
   step_is = refl
 
   pub no_room : q.body ≡ NoRoom → step founder limit past q t ≡ (Refused NoMemory, past)
-  no_room none = step_is ∙ ap (after past) (outcome_is ∙ ap (λ (b : Body). unless_unheard (bytes_in b >>= hearing)) none)
+  no_room none = step_is ∙ ap (reply_and_history past) (outcome_is ∙ ap (λ (b : Body). unless_unheard (bytes_in b >>= hearing)) none)
 
 -- ---- what the step leaves
 
@@ -143,11 +143,11 @@ module _ (founder : Key) (limit : Option ℕ) (past : List Entry) (q : Request) 
 abbrev pub Leaves : List Entry → List Entry → Type 0
 Leaves past next = (next ≡ past) ⊎ ((entry : Entry) × (next ≡ entry ∷ past) × IsUnused past entry)
 
-makes : (past : List Entry) (o : Outcome) (reply : Reply) (next : List Entry) → after past o ≡ (reply, next) → Makes past o reply next
+makes : (past : List Entry) (o : Outcome) (reply : Reply) (next : List Entry) → reply_and_history past o ≡ (reply, next) → Makes past o reply next
 makes past (Adds e) reply next is = inr (e, refl, sym (ap (λ (p : Reply × List Entry). p.0) is), sym (ap (λ (p : Reply × List Entry). p.1) is))
 makes past _ reply next is = inl (sym (ap (λ (p : Reply × List Entry). p.1) is))
 
-refused_leaves : (past : List Entry) (o : Outcome) (r : Refusal) (next : List Entry) → after past o ≡ (Refused r, next) → next ≡ past
+refused_leaves : (past : List Entry) (o : Outcome) (r : Refusal) (next : List Entry) → reply_and_history past o ≡ (Refused r, next) → next ≡ past
 refused_leaves past (Adds e) r next is = let reply = ap (λ (p : Reply × List Entry). p.0) is in absurd cc
 refused_leaves past _ r next is = sym (ap (λ (p : Reply × List Entry). p.1) is)
 
@@ -157,7 +157,7 @@ module _ (founder : Key) (limit : Option ℕ) where
   step_makes past q t reply next is = makes past (outcome founder limit past q t) reply next (sym (step_is founder limit past q t) ∙ is)
 
   added_unused : (past : List Entry) (q : Request) (t : ℤ) (e : Entry) → Added founder limit past q t e → IsUnused past e
-  added_unused past q t e a = ap (λ (x : Entry). kept past x.caller x.number) a.entry ∙ a.unused
+  added_unused past q t e a = ap (λ (x : Entry). numbered_entry past x.caller x.number) a.entry ∙ a.unused
 
   made_leaves : (past : List Entry) (q : Request) (t : ℤ) (reply : Reply) (next : List Entry) → Makes past (outcome founder limit past q t) reply next → Leaves past next
   made_leaves past q t reply next (inl same) = inl same

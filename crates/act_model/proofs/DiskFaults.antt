@@ -41,11 +41,11 @@ use Rattle.act_model.specs.Designations.{row_acts_of, links_of}
 use Rattle.act_model.specs.Discoveries.{seen_in, earliest, span, half_of}
 use Rattle.act_model.specs.Numbers.{numbers_of}
 use Rattle.act_model.specs.Deeds.{deeds}
-use Rattle.act_model.specs.History.{Kept, kept, next_moment}
+use Rattle.act_model.specs.History.{Kept, numbered_entry, next_moment}
 use Rattle.act_model.specs.Hearing.{size_rows, bytes_in, verb_rows, is_number_of, number_in, asked_in, queried_in, asked_of, caller_in, hear}
 use Rattle.act_model.specs.Doing.{enrol_rows, row_rows, batch_rows, retract_rows, opening_rows, tracklet_row, free_rows, designate_rows, object_rows, attribute_rows, release_rows, identify_rows, separate_rows, verdict_rows, next_rows, number_rows, designates_seen, eligible_after, taken_after, does}
 use Rattle.act_model.specs.Refusals.{role_rows, act_in, work_out, full_rows, work_within}
-use Rattle.act_model.specs.Step.{Outcome, Refuses, Keeps, Tells, Adds, is_resend, unless_kept, unless_refused, told_receipt, told_thing, told, query_in, tells, act_step, query_step, heard_step, unless_unheard, outcome, after, step}
+use Rattle.act_model.specs.Step.{Outcome, Refuses, Keeps, Tells, Adds, is_resend, unless_kept, unless_refused, answer_of_receipt, answer_of_thing, answer_of_query, query_in, tells, act_step, query_step, heard_step, unless_unheard, outcome, reply_and_history, step}
 use Rattle.act_model.specs.Turns.{Turn, unless_untouched, Answers, FailsToKeep, Settles, Takes, IsTurn, Conduct}
 use Rattle.act_model.specs.Conducts.{HadNoFault, NoDiskFaults}
 use Rattle.act_model.proofs.Conducts.{outcome_is, hearing, heard_outcome, step_is}
@@ -215,17 +215,17 @@ acted_other : (used : Option Kept) (heard : Heard) (bytes : List ℕ) (goes_on :
 acted_other None heard bytes goes_on is = is
 acted_other (Some k) heard bytes goes_on is = kept_other (is_resend heard.verb bytes k.entry) _ _
 
-receipt_other : (number : ℕ) (used : Option Kept) → ErrsOther (told_receipt number used)
+receipt_other : (number : ℕ) (used : Option Kept) → ErrsOther (answer_of_receipt number used)
 receipt_other number (Some k) = tt
 receipt_other number None = tt
 
-thing_other : {A : Type 0} (what : Thing) (text : A → List ℕ) (found : Option A) → ErrsOther (told_thing what text found)
+thing_other : {A : Type 0} (what : Thing) (text : A → List ℕ) (found : Option A) → ErrsOther (answer_of_thing what text found)
 thing_other what text (Some found) = tt
 thing_other what text None = tt
 
-told_other : (past : List Entry) (caller : ℕ) (q : Query) → ErrsOther (told past caller q)
-unfolding told
-told_other past caller (query.Receipt number) = receipt_other number (kept past caller number)
+told_other : (past : List Entry) (caller : ℕ) (q : Query) → ErrsOther (answer_of_query past caller q)
+unfolding answer_of_query
+told_other past caller (query.Receipt number) = receipt_other number (numbered_entry past caller number)
 told_other past caller (query.Object d) = thing_other (thing.Designation d) _ _
 told_other past caller (query.Tracklet t) = thing_other (thing.Tracklet t) _ _
 told_other past caller _ = tt
@@ -247,8 +247,8 @@ module _ (founder : Key) (limit : Option ℕ) (past : List Entry) (q : Request) 
   step_other_of : (bytes : List ℕ) (heard : Heard) → IsOtherOutcome (heard_step limit past heard bytes (next_moment past t))
   step_other_of bytes heard =
       either_other (is_act heard.verb) (act_step limit past heard bytes (next_moment past t)) (query_step past heard)
-      (acted_other (kept past heard.caller.number heard.number) heard bytes _ (done_other (work_within limit past bytes (next_moment past t) heard) _ (within_other past (next_moment past t) heard limit bytes)))
-      (tells_other _ (bound_other (query_in heard.asked) (told past heard.caller.number) (query_other heard.asked) (told_other past heard.caller.number)))
+      (acted_other (numbered_entry past heard.caller.number heard.number) heard bytes _ (done_other (work_within limit past bytes (next_moment past t) heard) _ (within_other past (next_moment past t) heard limit bytes)))
+      (tells_other _ (bound_other (query_in heard.asked) (answer_of_query past heard.caller.number) (query_other heard.asked) (told_other past heard.caller.number)))
 
   asks_other : (heard : Result Heard Refusal) (bytes : List ℕ) → ErrsOther heard → IsOtherOutcome (unless_unheard (heard >>= heard_outcome founder limit past q t bytes))
   asks_other (Ok heard) bytes is = step_other_of bytes heard
@@ -261,7 +261,7 @@ module _ (founder : Key) (limit : Option ℕ) (past : List Entry) (q : Request) 
   outcome_other : IsOtherOutcome (outcome founder limit past q t)
   outcome_other = subst IsOtherOutcome (sym (outcome_is founder limit past q t)) (opens_other (bytes_in q.body) (bytes_other q.body))
 
-after_other : (past : List Entry) (o : Outcome) → IsOtherOutcome o → IsOtherReply (after past o).0
+after_other : (past : List Entry) (o : Outcome) → IsOtherOutcome o → IsOtherReply (reply_and_history past o).0
 after_other past (Refuses r) is = is
 after_other past (Keeps reply) is = is
 after_other past (Tells text) is = tt

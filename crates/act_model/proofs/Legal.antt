@@ -33,12 +33,12 @@ use Rattle.act_model.specs.Designations.{row_acts_of}
 use Rattle.act_model.specs.Doing.{enrol_rows, does}
 use Rattle.act_model.specs.Roster.{members, with_enrolled, caller_of, key_at}
 use Rattle.act_model.specs.Deeds.{deed_of, deeds}
-use Rattle.act_model.specs.History.{Kept, kept, next_moment, next_receipt, is_numbered, IsUnused, EachNumberOnce}
+use Rattle.act_model.specs.History.{Kept, numbered_entry, next_moment, next_receipt, is_numbered, IsUnused, EachNumberOnce}
 use Rattle.act_model.specs.Hearing.{bytes_in, asked_of, hear}
 use Rattle.act_model.specs.Refusals.{work_out}
 use Rattle.act_model.specs.Rows.{first_row, unless}
 use Rattle.act_model.specs.Replies.{entry_answer}
-use Rattle.act_model.specs.Step.{Outcome, Adds, step, outcome, after, new_entry, kept_reply}
+use Rattle.act_model.specs.Step.{Outcome, Adds, step, outcome, reply_and_history, new_entry, kept_reply}
 use Rattle.act_model.specs.Turns.{Turn, TakesReading, Answers, at_rest, Takes, IsTurn, Conduct}
 use Rattle.act_model.specs.Conducts.{Extends, EitherWay, Makes}
 use Rattle.act_model.specs.Legal.{entry_request, IsAdded, IsLegal}
@@ -134,7 +134,7 @@ module _ (founder : Key) (limit : Option ℕ) (past : List Entry) (q : Request) 
 module _ (founder : Key) where
   -- an entry that is added is what becomes of its request
   adds_entry : (past : List Entry) (e : Entry) → outcome founder None past (entry_request founder past e) e.moment ≡ Adds e → (step founder None past (entry_request founder past e) e.moment).1 ≡ e ∷ past
-  adds_entry past e is = ap (λ (p : Reply × List Entry). p.1) (step_is founder None past (entry_request founder past e) e.moment) ∙ ap (λ (o : Outcome). (after past o).1) is
+  adds_entry past e is = ap (λ (p : Reply × List Entry). p.1) (step_is founder None past (entry_request founder past e) e.moment) ∙ ap (λ (o : Outcome). (reply_and_history past o).1) is
 
   made_entry : (past : List Entry) (e : Entry) (o : Outcome) (reply : Reply) → Makes past o reply (e ∷ past) → (o ≡ Adds e) × (reply ≡ Done (entry_answer past e))
   made_entry past e o reply (inl same) = absurd (longer e past same)
@@ -194,23 +194,23 @@ numbered_itself : (e : Entry) → is_numbered e.caller e.number e ≡ true
 numbered_itself e = grind (arith, nat_tests)
 
 -- an entry that stands for a number still does after one with another number
-kept_behind : (e : Entry) (past : List Entry) (caller number : ℕ) (k : Kept) → IsUnused past e → kept past caller number ≡ Some k → kept (e ∷ past) caller number ≡ Some k
+kept_behind : (e : Entry) (past : List Entry) (caller number : ℕ) (k : Kept) → IsUnused past e → numbered_entry past caller number ≡ Some k → numbered_entry (e ∷ past) caller number ≡ Some k
 kept_behind e past caller number k unused found = by (is_numbered caller number e) refl
   where
-    by : (b : Bool) → is_numbered caller number e ≡ b → cond b (Some (record { entry = e; before = past })) (kept past caller number) ≡ Some k
+    by : (b : Bool) → is_numbered caller number e ≡ b → cond b (Some (record { entry = e; before = past })) (numbered_entry past caller number) ≡ Some k
     by false is = found
     by true is =
         let same = numbered_is e.caller caller e.number number is in
-        let nothing : kept past caller number ≡ None = ap (λ (c : ℕ). kept past c number) (sym same.0) ∙ ap (λ (n : ℕ). kept past e.caller n) (sym same.1) ∙ unused in
+        let nothing : numbered_entry past caller number ≡ None = ap (λ (c : ℕ). numbered_entry past c number) (sym same.0) ∙ ap (λ (n : ℕ). numbered_entry past e.caller n) (sym same.1) ∙ unused in
         absurd cc
 
-kept_newer : (newer earlier : List Entry) (caller number : ℕ) (k : Kept) → EachNumberOnce (newer ++ earlier) → kept earlier caller number ≡ Some k → kept (newer ++ earlier) caller number ≡ Some k
+kept_newer : (newer earlier : List Entry) (caller number : ℕ) (k : Kept) → EachNumberOnce (newer ++ earlier) → numbered_entry earlier caller number ≡ Some k → numbered_entry (newer ++ earlier) caller number ≡ Some k
 kept_newer [] earlier caller number k once found = found
 kept_newer (e ∷ newer) earlier caller number k (unused, once) found = kept_behind e (newer ++ earlier) caller number k unused (kept_newer newer earlier caller number k once found)
 
 -- the newest entry stands for its number
-pub kept_newest : (e : Entry) (past : List Entry) → kept (e ∷ past) e.caller e.number ≡ Some (record { entry = e; before = past })
-kept_newest e past = ap (λ (b : Bool). cond b (Some (record { entry = e; before = past })) (kept past e.caller e.number)) (numbered_itself e)
+pub kept_newest : (e : Entry) (past : List Entry) → numbered_entry (e ∷ past) e.caller e.number ≡ Some (record { entry = e; before = past })
+kept_newest e past = ap (λ (b : Bool). cond b (Some (record { entry = e; before = past })) (numbered_entry past e.caller e.number)) (numbered_itself e)
 
 -- a request is sent again where it is sent twice
 pub resent : (code : ℕ) (bytes : List ℕ) → (code == code) && bytes_eq bytes bytes ≡ true
@@ -224,15 +224,15 @@ module _ (founder : Key) where
   added_unused : (past : List Entry) (e : Entry) → IsAdded founder past e → IsUnused past e
   added_unused past e is =
       let a = added founder past e is in
-      ap (λ (x : Entry). kept past x.caller x.number) a.entry ∙ a.unused
+      ap (λ (x : Entry). numbered_entry past x.caller x.number) a.entry ∙ a.unused
 
   pub legal_once : (history : List Entry) → IsLegal founder history → EachNumberOnce history
   legal_once [] legal = tt
   legal_once (e ∷ past) (is, legal) = (added_unused past e is, legal_once past legal)
 
-  pub kept_stays : (earlier later : List Entry) (caller number : ℕ) (k : Kept) → IsLegal founder later → Extends earlier later → kept earlier caller number ≡ Some k → kept later caller number ≡ Some k
+  pub kept_stays : (earlier later : List Entry) (caller number : ℕ) (k : Kept) → IsLegal founder later → Extends earlier later → numbered_entry earlier caller number ≡ Some k → numbered_entry later caller number ≡ Some k
   kept_stays earlier later caller number k legal (newer, is) found =
-      ap (λ (h : List Entry). kept h caller number) is ∙ kept_newer newer earlier caller number k (legal_once (newer ++ earlier) (subst (IsLegal founder) is legal)) found
+      ap (λ (h : List Entry). numbered_entry h caller number) is ∙ kept_newer newer earlier caller number k (legal_once (newer ++ earlier) (subst (IsLegal founder) is legal)) found
 
 -- ---- callers stay
 
@@ -294,13 +294,13 @@ module _ (founder : Key) (limit other : Option ℕ) where
       let caller : caller_of founder (members (deeds later)) q.key ≡ Some a.heard.caller = callers_stay founder past later q.key a.heard.caller legal before h.caller in
       let again : hear founder (members (deeds later)) q a.bytes ≡ Ok a.heard =
       hear_again founder (members (deeds past)) q a.bytes a.heard h founder (members (deeds later)) q (sym h.verb) (number_some q.verb q.number a.heard.number h.number) caller in
-      let found : kept later e.caller e.number ≡ Some k = kept_stays founder (e ∷ past) later e.caller e.number k legal extends (kept_newest e past) in
-      let used : kept later a.heard.caller.number a.heard.number ≡ Some k = ap (λ (x : Entry). kept later x.caller x.number) (sym a.entry) ∙ found in
+      let found : numbered_entry later e.caller e.number ≡ Some k = kept_stays founder (e ∷ past) later e.caller e.number k legal extends (kept_newest e past) in
+      let used : numbered_entry later a.heard.caller.number a.heard.number ≡ Some k = ap (λ (x : Entry). numbered_entry later x.caller x.number) (sym a.entry) ∙ found in
       let same : kept_reply a.heard.verb a.bytes k ≡ Done (entry_answer past e) =
       ap (λ (x : Entry). cond ((verb_code a.heard.verb == verb_code x.verb) && bytes_eq a.bytes x.body) (Done (entry_answer past e)) (Refused (OtherRequest (next_receipt past)))) a.entry
       ∙ ap (λ (b : Bool). cond b (Done (entry_answer past e)) (Refused (OtherRequest (next_receipt past)))) (resent (verb_code a.heard.verb) a.bytes) in
       step_is founder other later q t'
-      ∙ ap (after later) (keeps founder other later q t' a.bytes a.heard k a.body again a.act used)
+      ∙ ap (reply_and_history later) (keeps founder other later q t' a.bytes a.heard k a.body again a.act used)
       ∙ ap (λ (r : Reply). (r, later)) (same ∙ sym reply)
 
   pub answered_again : (past : List Entry) (q : Request) (t t' : ℤ) (text : List ℕ) (e : Entry) (later : List Entry) → step founder limit past q t ≡ (Done text, e ∷ past)

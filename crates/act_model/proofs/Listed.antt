@@ -14,7 +14,7 @@ use Rattle.act_model.specs.declared.deed.Deed.{Deed}
 use Rattle.act_model.specs.declared.entry.Entry.{Entry}
 use Rattle.act_model.specs.declared.seen.Seen.{Seen}
 use Rattle.act_model.specs.Catalogue.{in_object, in_track, has_live, listed_tracks}
-use Rattle.act_model.specs.Listing.{listed}
+use Rattle.act_model.specs.Listing.{observations_listed}
 use Rattle.act_model.specs.Deeds.{deeds}
 use Rattle.act_model.specs.Designations.{links_of, principals}
 use Rattle.act_model.specs.Discoveries.{is_sooner, seen_if_live, seen_at}
@@ -280,7 +280,7 @@ module _ (history : List Entry) (k : ℕ) where
   one_way None = refl
   one_way (Some d) = refl
 
-  pub listed_once : PrincipalOnce → EqualIsSame → StayOwn → times k (listed (deeds history)) ≡ once_if (is_live held.observations k)
+  pub listed_once : PrincipalOnce → EqualIsSame → StayOwn → times k (observations_listed (deeds history)) ≡ once_if (is_live held.observations k)
   listed_once principal_once equal stay =
       let past = deeds history in
       let objects = flat_map (in_object past) (principals (links_of past)) in

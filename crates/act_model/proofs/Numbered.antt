@@ -18,7 +18,7 @@ use Rattle.act_model.specs.declared.reply.Refusal.{Refusal}
 use Rattle.act_model.specs.Rows.{first_row}
 use Rattle.act_model.specs.Holdings.{Holdings}
 use Rattle.act_model.specs.Designations.{is_principal, principals}
-use Rattle.act_model.specs.Numbers.{is_eligible, eligible, numbered_from, last_number}
+use Rattle.act_model.specs.Numbers.{is_eligible, eligible_objects, numbered_from, last_number}
 use Rattle.act_model.specs.Doing.{next_rows, number_rows}
 use Rattle.act_model.proofs.RowLemmas.{AreOff, rows_off, behind_off, not_off}
 
@@ -84,7 +84,7 @@ module _ (held : Holdings) (acts : List LinkAct) (verdicts : List VerdictAct) (n
       by true is rest = (without_number d is, rest)
       by false is rest = rest
 
-  eligible_ascend : IsAscending (given_in_order acts) → IsAscending (eligible held acts verdicts numbered)
+  eligible_ascend : IsAscending (given_in_order acts) → IsAscending (eligible_objects held acts verdicts numbered)
   eligible_ascend up = ascending_filter (is_eligible held acts verdicts numbered) (principals acts) (ascending_filter (is_principal acts) (given_in_order acts) up)
 
 -- ---- numbers one after the other
@@ -108,9 +108,9 @@ not_full : (first : ℕ) (ds : List Designation) → nat_lt GREATEST_NUMBER (las
 not_full first ds off = grind (arith, nat_tests)
 
 pub numbers_go_on : (held : Holdings) (acts : List LinkAct) (verdicts : List VerdictAct) (numbered : List Numbering) (first most : ℕ) → IsAscending (given_in_order acts) → IsUnbroken numbered → IsNumber first
-    → first_row (number_rows numbered first most (eligible held acts verdicts numbered)) ≡ None → IsUnbroken (reverse (numbered_from first (take most (eligible held acts verdicts numbered))) ++ numbered)
+    → first_row (number_rows numbered first most (eligible_objects held acts verdicts numbered)) ≡ None → IsUnbroken (reverse (numbered_from first (take most (eligible_objects held acts verdicts numbered))) ++ numbered)
 numbers_go_on held acts verdicts numbered first most up unbroken is none =
-    let objects = eligible held acts verdicts numbered in
+    let objects = eligible_objects held acts verdicts numbered in
     let off = rows_off (number_rows numbered first most objects) none in
     let behind = behind_off (next_rows (next_number numbered) first) _ off in
     row_more (take most objects) first numbered unbroken (first_is_next (next_number numbered) first _ off) is.0 (not_full first (take most objects) behind.1.0)

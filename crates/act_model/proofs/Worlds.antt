@@ -11,11 +11,11 @@ use Rattle.act_model.specs.declared.request.Request.{Request}
 use Rattle.act_model.specs.History.{EachNumberOnce}
 use Rattle.act_model.specs.Replies.{entry_answer}
 use Rattle.act_model.specs.Requests.{is_act}
-use Rattle.act_model.specs.Step.{after}
+use Rattle.act_model.specs.Step.{reply_and_history}
 use Rattle.act_model.specs.Turns.{Turn, IsTurn, Conduct}
 use Rattle.act_model.specs.Conducts.{Extends, EitherWay}
 use Rattle.act_model.specs.Legal.{IsLegal}
-use Rattle.act_model.specs.Worlds.{WorldState, running, new_office, Event, Received, Lost, Mended, Unmended, Stopped, StoppedInside, Reopened, ComesToRest, LeavesEntry, LeavesInside, Happens, World, AreStillAcknowledged, AreAnsweredAgain}
+use Rattle.act_model.specs.Worlds.{WorldState, running_world, new_office, Event, Received, Lost, Mended, Unmended, Stopped, StoppedInside, Reopened, ComesToRest, LeavesEntry, LeavesInside, Happens, World, AreStillAcknowledged, AreAnsweredAgain}
 use Rattle.act_model.proofs.Conducts.{step_is, mends_extends, extends_on, conduct_extends, mended_holds}
 use Rattle.act_model.proofs.Legal.{legal_added, legal_conduct, legal_once}
 use Rattle.act_model.proofs.Acknowledged.{Answered, is_acknowledged, answered_on, answered_again, turn_answers}
@@ -112,7 +112,7 @@ module _ (founder : Key) (limit : Option ℕ) where
           answers =
               inl
               (step_is founder limit leaves.mended q t
-              ∙ ap (after leaves.mended) leaves.adds
+              ∙ ap (reply_and_history leaves.mended) leaves.adds
               ∙ ap (λ (s : OfficeState). (Done (entry_answer leaves.mended leaves.entry), s.settled)) (sym leaves.leaves));
           settled = ap (λ (s : OfficeState). s.doubt) leaves.leaves;
         });
@@ -201,12 +201,12 @@ module _ (founder : Key) (limit : Option ℕ) where
   one_more turn turns received =
       sym (append_assoc (reverse turns) (turn ∷ []) received) ∙ ap (λ (ts : List Turn). ts ++ received) (sym (reverse-append (turn ∷ []) turns))
 
-  pub conduct_world : (before : OfficeState) (received turns : List Turn) (next : OfficeState) → Conduct founder limit before turns next → World founder limit (running before received) (map Received turns) (running next (reverse turns ++ received))
-  conduct_world before received [] next is = ap (λ (s : OfficeState). running s received) is
+  pub conduct_world : (before : OfficeState) (received turns : List Turn) (next : OfficeState) → Conduct founder limit before turns next → World founder limit (running_world before received) (map Received turns) (running_world next (reverse turns ++ received))
+  conduct_world before received [] next is = ap (λ (s : OfficeState). running_world s received) is
   conduct_world before received (turn ∷ turns) next (between, first, others) = (
-    running between (turn ∷ received),
+    running_world between (turn ∷ received),
     ((refl, refl, refl), first),
-    subst (λ (ts : List Turn). World founder limit (running between (turn ∷ received)) (map Received turns) (running next ts)) (one_more turn turns received) (conduct_world between (turn ∷ received) turns next others),
+    subst (λ (ts : List Turn). World founder limit (running_world between (turn ∷ received)) (map Received turns) (running_world next ts)) (one_more turn turns received) (conduct_world between (turn ∷ received) turns next others),
   )
 
   pub world_conduct : (before : WorldState) (turns : List Turn) (next : WorldState) → World founder limit before (map Received turns) next → Conduct founder limit before.office turns next.office

@@ -6,10 +6,9 @@ use Rattle.std.specs.Prelude.{None, option_map, unwrap_or, is_none, position, Re
 use Rattle.std.specs.List.{list_any}
 use Rattle.std.specs.Option.{option_and_then}
 use Rattle.std.specs.Result.{result_ok}
-use Rattle.std.specs.Ordering.{int_eq}
-use Rattle.packed_names.specs.Order.{survey_place}
+use Rattle.std.specs.Ordering.{int_eq, eq_by_cmp}
+use Rattle.packed_names.specs.Order.{designation_cmp}
 use Rattle.packed_names.specs.declared.name.Designation.{Designation}
-use Rattle.packed_names.specs.declared.name.Designation.TheVariants as designations
 use Rattle.packed_names.specs.declared.name.Name.{Name}
 use Rattle.packed_names.specs.declared.name.Name.TheVariants as names
 use Rattle.obs_time.specs.Dates.{day_of}
@@ -21,25 +20,18 @@ use Rattle.obs_record.specs.declared.name.TrackName.{TrackName}
 use Rattle.obs_record.specs.declared.name.TrackName.TheVariants as tracks
 use Rattle.obs_record.specs.declared.rule.RuleCode.{RuleCode}
 use Rattle.obs_record.specs.declared.rule.RuleCode.TheVariants.{T1, T2, T3, T4, T5, B1, B2, B3, B4, B5, B6, B7, B8, B9}
-use Rattle.obs_record.specs.Short.{kept_short}
+use Rattle.obs_record.specs.Short.{kept_short, same_short}
 use Rattle.obs_record.specs.declared.short.Short.{Short}
 use Rattle.packed_names.specs.declared.number.Number.{Number}
 use Rattle.station_tables.specs.declared.kind.Kind.TheVariants as kinds
 use Rattle.station_tables.specs.Rows.{TableRows}
-use Rattle.tracklet_file.specs.Observations.{same_station, is_at}
+use Rattle.tracklet_file.specs.Observations.{is_at}
 use Rattle.act_model.specs.declared.ruling.Ruling.{Ruling}
 use Rattle.act_model.specs.Rows.{first_row}
 use Rattle.act_model.specs.Known.{KnownOffice}
 use Rattle.act_model.specs.Ruling.{is_unknown_station, is_outside, is_in_row, station_serving}
 
 -- ---- names
-
-abbrev pub same_designation : Designation → Designation → Bool
-same_designation (designations.Provisional one) (designations.Provisional other) =
-    (one.half.year == other.half.year) && ((one.half.index == other.half.index) && (one.order == other.order))
-same_designation (designations.Survey survey number) (designations.Survey other_survey other_number) =
-    (survey_place survey == survey_place other_survey) && (number == other_number)
-same_designation _ _ = false
 
 -- The name that an observation goes by: the number; where there is none, the designation; and where there is none
 -- either, the temporary designation. Each observation has one of the three, so that the last case is met by none.
@@ -55,8 +47,8 @@ name_of s = name_among s.perm s.prov s.sub
 -- the two go by the same name
 abbrev pub same_track : TrackName → TrackName → Bool
 same_track (tracks.Number one) (tracks.Number other) = one.0 == other.0
-same_track (tracks.Designation one) (tracks.Designation other) = same_designation one other
-same_track (tracks.Sub one) (tracks.Sub other) = same_station one other
+same_track (tracks.Designation one) (tracks.Designation other) = eq_by_cmp designation_cmp one other
+same_track (tracks.Sub one) (tracks.Sub other) = same_short one other
 same_track _ _ = false
 
 -- the name is the observer's own
@@ -97,7 +89,7 @@ stands_already known earlier s =
 -- B5: one of these earlier ones has its station, time and name, and another position
 abbrev pub is_elsewhere : Sighting → Sighting → Bool
 is_elsewhere s other =
-    same_station other.station s.station
+    same_short other.station s.station
     && (int_eq other.time s.time
     && (same_track (name_of other) (name_of s) && not ((other.ra == s.ra) && int_eq other.dec s.dec)))
 
@@ -109,7 +101,7 @@ abbrev pub object_of : KnownOffice → Option Name → Option Designation
 object_of known name = option_and_then known.principal (option_and_then known.stands_for name)
 
 abbrev pub are_two : Option Designation → Option Designation → Bool
-are_two (Some one) (Some other) = not (same_designation one other)
+are_two (Some one) (Some other) = not (eq_by_cmp designation_cmp one other)
 are_two _ _ = false
 
 abbrev pub is_of_two_objects : KnownOffice → Sighting → Bool
@@ -164,7 +156,7 @@ passed_in lines = filter_map (λ line. result_ok line.read) lines
 
 -- observations from one station that go by one name form a group
 abbrev pub same_group : Sighting → Sighting → Bool
-same_group one other = same_track (name_of one) (name_of other) && same_station one.station other.station
+same_group one other = same_track (name_of one) (name_of other) && same_short one.station other.station
 
 -- B7: another one of the group is more than 24 hours earlier
 abbrev pub is_late_after : Sighting → Sighting → Bool

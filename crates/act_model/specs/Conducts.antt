@@ -13,7 +13,7 @@ use Rattle.act_model.specs.declared.request.Request.{Request}
 use Rattle.act_model.specs.declared.roster.Caller.{Caller}
 use Rattle.act_model.specs.Roster.{members, caller_of}
 use Rattle.act_model.specs.Deeds.{deeds}
-use Rattle.act_model.specs.History.{Kept, kept}
+use Rattle.act_model.specs.History.{Kept, numbered_entry}
 use Rattle.act_model.specs.Step.{Outcome, Adds, is_resend, step}
 use Rattle.act_model.specs.Turns.{Turn, Answers}
 
@@ -58,7 +58,7 @@ pub record IsAcknowledged (founder : Key) (earlier : List Entry) (request : Requ
   pub body : request.body ≡ Whole bytes
   pub asks : caller_of founder (members (deeds earlier)) request.key ≡ Some caller
   pub numbered : request.number ≡ Some number
-  pub found : kept later caller.number number ≡ Some entry
+  pub found : numbered_entry later caller.number number ≡ Some entry
   pub same : is_resend request.verb bytes entry.entry ≡ true
   pub answer : text ≡ entry_answer entry.before entry.entry
 

@@ -53,7 +53,7 @@ use Rattle.act_model.specs.Holdings.{Holdings, holdings}
 use Rattle.act_model.specs.Designations.{row_acts_of, links_of, is_given, is_principal}
 use Rattle.act_model.specs.Discoveries.{seen_of, seen_in, earliest, span, half_of}
 use Rattle.act_model.specs.Verdicts.{verdicts_of}
-use Rattle.act_model.specs.Numbers.{numbers_of, eligible, numbered_from, last_number}
+use Rattle.act_model.specs.Numbers.{numbers_of, eligible_objects, numbered_from, last_number}
 use Rattle.act_model.specs.Knowing.{known_of}
 
 -- an enrolment with this key, where these are enrolled
@@ -220,7 +220,7 @@ numbers numbered first most objects =
 
 -- the objects that can be numbered after these deeds
 abbrev pub eligible_after : List Deed → List Designation
-eligible_after past = eligible (holdings past) (links_of past) (verdicts_of past) (numbers_of past)
+eligible_after past = eligible_objects (holdings past) (links_of past) (verdicts_of past) (numbers_of past)
 
 -- the lines of a batch that comes at this moment, with what becomes of each
 abbrev pub taken_after : List Deed → ℤ → List Line → List Taken

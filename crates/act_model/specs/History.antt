@@ -22,15 +22,15 @@ pub record Kept : Type 0 where
   pub before : List Entry
 
 -- the entry that the caller's number stands for, where the caller has used the number
-abbrev pub kept : List Entry → ℕ → ℕ → Option Kept
-kept [] caller number = None
-kept (entry ∷ before) caller number =
+abbrev pub numbered_entry : List Entry → ℕ → ℕ → Option Kept
+numbered_entry [] caller number = None
+numbered_entry (entry ∷ before) caller number =
     if is_numbered caller number entry then Some (record { entry = entry; before = before })
-    else kept before caller number
+    else numbered_entry before caller number
 
 -- no entry before has the caller and number of this one
 abbrev pub IsUnused : List Entry → Entry → Type 0
-IsUnused past entry = kept past entry.caller entry.number ≡ None
+IsUnused past entry = numbered_entry past entry.caller entry.number ≡ None
 
 -- no two entries have the same caller and number
 abbrev pub EachNumberOnce : List Entry → Type 0

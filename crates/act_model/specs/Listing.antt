@@ -10,12 +10,12 @@ use Rattle.act_model.specs.Holdings.{holdings}
 use Rattle.act_model.specs.Places.{times}
 
 -- the numbers of the observations that it has a line for, in the order of these lines
-abbrev pub listed : List Deed → List ℕ
-listed past =
+abbrev pub observations_listed : List Deed → List ℕ
+observations_listed past =
     flat_map (in_object past) (principals (links_of past)) ++ flat_map (in_track past) (listed_tracks past)
 
 -- each live observation has one line, and no other number has any
 abbrev pub ListsEachOnce : List Entry → Type 0
 ListsEachOnce history =
-    (k : ℕ) → times k (listed (deeds history))
+    (k : ℕ) → times k (observations_listed (deeds history))
     ≡ (if is_live (holdings (deeds history)).observations k then 1 else 0)

@@ -40,8 +40,8 @@ is_eligible held acts verdicts numbered p =
     is_none (number_of numbered p) && (is_observed held acts p && is_good (verdict_in_force verdicts p))
 
 -- the principal designations of the objects that can be numbered, in the order of designations
-abbrev pub eligible : Holdings → List LinkAct → List VerdictAct → List Numbering → List Designation
-eligible held acts verdicts numbered = filter (is_eligible held acts verdicts numbered) (principals acts)
+abbrev pub eligible_objects : Holdings → List LinkAct → List VerdictAct → List Numbering → List Designation
+eligible_objects held acts verdicts numbered = filter (is_eligible held acts verdicts numbered) (principals acts)
 
 -- ---- numbers that are to be given
 

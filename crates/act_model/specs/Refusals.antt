@@ -64,15 +64,15 @@ abbrev pub entry_size : List ℕ → ℕ
 entry_size body = 58 + length body
 
 -- how many bytes of a journal these entries take
-abbrev pub used : List Entry → ℕ
-used [] = 2
-used (entry ∷ past) = used past + entry_size entry.body
+abbrev pub bytes_used : List Entry → ℕ
+bytes_used [] = 2
+bytes_used (entry ∷ past) = bytes_used past + entry_size entry.body
 
 -- the journal has no room for another entry with this body; without a limit there always is
 abbrev pub full_rows : Option ℕ → List Entry → List ℕ → List (Bool × Refusal)
 full_rows None past body = []
 full_rows (Some limit) past body =
-    (nat_lt limit (used past + entry_size body), JournalFull (used past) (entry_size body) limit) ∷ []
+    (nat_lt limit (bytes_used past + entry_size body), JournalFull (bytes_used past) (entry_size body) limit) ∷ []
 
 -- what a request that was heard does, where the journal has room for its entry
 abbrev pub work_within : Option ℕ → List Entry → List ℕ → ℤ → Heard → Result Deed Refusal

@@ -32,12 +32,12 @@ enrolled_as (member ∷ older) key =
     else enrolled_as older key
 
 -- the founding officer
-abbrev pub founding : Caller
-founding = record { number = 0; rank = Officer }
+abbrev pub founding_officer : Caller
+founding_officer = record { number = 0; rank = Officer }
 
 -- the caller with this key, the founding officer's first
 abbrev pub caller_of : Key → List Member → Key → Option Caller
-caller_of founder enrolled key = if same_key key founder then Some founding else enrolled_as enrolled key
+caller_of founder enrolled key = if same_key key founder then Some founding_officer else enrolled_as enrolled key
 
 -- the key of the caller with this number
 abbrev pub key_at : Key → List Member → ℕ → Key

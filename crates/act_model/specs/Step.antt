@@ -22,7 +22,7 @@ use Rattle.act_model.specs.Rows.{◌>>=◌}
 use Rattle.act_model.specs.Requests.{is_act, same_verb}
 use Rattle.act_model.specs.Roster.{members}
 use Rattle.act_model.specs.Deeds.{deeds}
-use Rattle.act_model.specs.History.{Kept, next_moment, next_receipt, kept}
+use Rattle.act_model.specs.History.{Kept, next_moment, next_receipt, numbered_entry}
 use Rattle.act_model.specs.Replies.{entry_answer}
 use Rattle.act_model.specs.Hearing.{bytes_in, hear}
 use Rattle.act_model.specs.Refusals.{work_within}
@@ -74,30 +74,30 @@ unless_refused (Err refusal) entry = Refuses refusal
 -- ---- a query
 
 -- the text that tells what is asked, or the refusal where the thing isn't there
-abbrev pub told_receipt : ℕ → Option Kept → Result (List ℕ) Refusal
-told_receipt number (Some k) = Ok (entry_answer k.before k.entry)
-told_receipt number None = Err (UnknownThing (thing.Receipt number))
+abbrev pub answer_of_receipt : ℕ → Option Kept → Result (List ℕ) Refusal
+answer_of_receipt number (Some k) = Ok (entry_answer k.before k.entry)
+answer_of_receipt number None = Err (UnknownThing (thing.Receipt number))
 
 -- the text of a thing that is there, or the refusal of one that isn't
-abbrev pub told_thing : {A : Type 0} → Thing → (A → List ℕ) → Option A → Result (List ℕ) Refusal
-told_thing what text (Some found) = Ok (text found)
-told_thing what text None = Err (UnknownThing what)
+abbrev pub answer_of_thing : {A : Type 0} → Thing → (A → List ℕ) → Option A → Result (List ℕ) Refusal
+answer_of_thing what text (Some found) = Ok (text found)
+answer_of_thing what text None = Err (UnknownThing what)
 
 -- what a caller's query is told at this history
-unfoldable pub told : List Entry → ℕ → Query → Result (List ℕ) Refusal
-told past caller (query.Receipt number) = told_receipt number (kept past caller number)
-told past caller query.Tally = Ok (tally_text (tally past))
-told past caller (query.Object d) =
-    told_thing (thing.Designation d) (object_text (holdings (deeds past)) (links_of (deeds past))
+unfoldable pub answer_of_query : List Entry → ℕ → Query → Result (List ℕ) Refusal
+answer_of_query past caller (query.Receipt number) = answer_of_receipt number (numbered_entry past caller number)
+answer_of_query past caller query.Tally = Ok (tally_text (tally past))
+answer_of_query past caller (query.Object d) =
+    answer_of_thing (thing.Designation d) (object_text (holdings (deeds past)) (links_of (deeds past))
     (numbers_of (deeds past)))
     (principal (links_of (deeds past)) d)
-told past caller (query.Tracklet t) =
-    told_thing (thing.Tracklet t) (tracklet_text (holdings (deeds past)) (links_of (deeds past)) t)
+answer_of_query past caller (query.Tracklet t) =
+    answer_of_thing (thing.Tracklet t) (tracklet_text (holdings (deeds past)) (links_of (deeds past)) t)
     (track_head (holdings (deeds past)).tracklets t)
-told past caller query.Isolated = Ok (isolated_text (holdings (deeds past)))
-told past caller (query.HalfMonth half) = Ok (half_month_line (row_acts_of (deeds past)) half)
-told past caller (query.Name name) = Ok (name_text (links_of (deeds past)) (numbers_of (deeds past)) name)
-told past caller query.Catalogue = Ok (catalogue past)
+answer_of_query past caller query.Isolated = Ok (isolated_text (holdings (deeds past)))
+answer_of_query past caller (query.HalfMonth half) = Ok (half_month_line (row_acts_of (deeds past)) half)
+answer_of_query past caller (query.Name name) = Ok (name_text (links_of (deeds past)) (numbers_of (deeds past)) name)
+answer_of_query past caller query.Catalogue = Ok (catalogue past)
 
 -- the query that is asked; an act is none
 abbrev pub query_in : Asked → Result Query Refusal
@@ -114,14 +114,14 @@ tells (Err refusal) = Refuses refusal
 -- an act: the reply that is kept for its number; else the later refusals; else it becomes an entry
 abbrev pub act_step : Option ℕ → List Entry → Heard → List ℕ → ℤ → Outcome
 act_step limit past heard bytes moment =
-    unless_kept (kept past heard.caller.number heard.number) heard bytes
+    unless_kept (numbered_entry past heard.caller.number heard.number) heard bytes
     (unless_refused (work_within limit past bytes moment heard) (new_entry heard bytes moment))
 
 -- a query reads the office and leaves it
 abbrev pub query_step : List Entry → Heard → Outcome
 query_step past heard = tells do
   query ← query_in heard.asked
-  told past heard.caller.number query
+  answer_of_query past heard.caller.number query
 
 -- a request that was heard, which comes at this moment
 abbrev pub heard_step : Option ℕ → List Entry → Heard → List ℕ → ℤ → Outcome
@@ -141,11 +141,11 @@ outcome founder limit past request reading = unless_unheard do
   Ok (heard_step limit past heard bytes (next_moment past reading))
 
 -- the reply to a request of which this becomes, and the history that it leaves
-abbrev pub after : List Entry → Outcome → Reply × List Entry
-after past (Refuses refusal) = (Refused refusal, past)
-after past (Keeps reply) = (reply, past)
-after past (Tells text) = (Done text, past)
-after past (Adds entry) = (Done (entry_answer past entry), entry ∷ past)
+abbrev pub reply_and_history : List Entry → Outcome → Reply × List Entry
+reply_and_history past (Refuses refusal) = (Refused refusal, past)
+reply_and_history past (Keeps reply) = (reply, past)
+reply_and_history past (Tells text) = (Done text, past)
+reply_and_history past (Adds entry) = (Done (entry_answer past entry), entry ∷ past)
 
 unfoldable pub step : Key → Option ℕ → List Entry → Request → ℤ → Reply × List Entry
-step founder limit past request reading = after past (outcome founder limit past request reading)
+step founder limit past request reading = reply_and_history past (outcome founder limit past request reading)

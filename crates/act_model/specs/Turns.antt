@@ -139,5 +139,5 @@ AreReadings told from (reading ∷ readings) =
 abbrev pub written_reply : Reply → List ℕ
 written_reply reply = reply_frame (status_of reply) (text_of reply)
 
-abbrev pub written : List Turn → List ℕ
-written turns = flat_map (λ turn. written_reply turn.reply) turns
+abbrev pub written_replies : List Turn → List ℕ
+written_replies turns = flat_map (λ turn. written_reply turn.reply) turns

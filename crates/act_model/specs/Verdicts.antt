@@ -21,9 +21,9 @@ abbrev pub object_of_seen : Holdings → List LinkAct → ℕ → Option Designa
 object_of_seen held acts k = option_and_then (object_of_track held acts) (track_of held.observations k)
 
 -- the verdict on an object is voided
-abbrev pub voided : Option Designation → List VerdictAct
-voided None = []
-voided (Some p) = Voided p ∷ []
+abbrev pub voided_verdicts : Option Designation → List VerdictAct
+voided_verdicts None = []
+voided_verdicts (Some p) = Voided p ∷ []
 
 -- What a deed does to verdicts, where so much is held and these are the links. A verdict sets U and the oppositions.
 -- One on an object is voided by what touches the object: a tracklet that is added to it or is taken out of it, its
@@ -31,11 +31,11 @@ voided (Some p) = Voided p ∷ []
 -- voids none.
 abbrev pub judged_by : Holdings → List LinkAct → Deed → List VerdictAct
 judged_by held acts (Judged p u oppositions) = Set p u oppositions ∷ []
-judged_by held acts (Attributed t to) = voided (principal acts to)
-judged_by held acts (Released t) = voided (object_of_track held acts t)
+judged_by held acts (Attributed t to) = voided_verdicts (principal acts to)
+judged_by held acts (Released t) = voided_verdicts (object_of_track held acts t)
 judged_by held acts (Identified p s) = Voided p ∷ Voided s ∷ []
-judged_by held acts (Separated s) = voided (principal acts s)
-judged_by held acts (Retracted k) = voided (object_of_seen held acts k)
+judged_by held acts (Separated s) = voided_verdicts (principal acts s)
+judged_by held acts (Retracted k) = voided_verdicts (object_of_seen held acts k)
 judged_by held acts _ = []
 
 -- what all deeds did, the newest first

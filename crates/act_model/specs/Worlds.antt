@@ -21,12 +21,12 @@ pub record WorldState : Type 0 where
   pub received : List Turn
 
 -- an office that runs, of which these replies were received
-abbrev pub running : OfficeState → List Turn → WorldState
-running office received = record { office = office; stopped = false; received = received }
+abbrev pub running_world : OfficeState → List Turn → WorldState
+running_world office received = record { office = office; stopped = false; received = received }
 
 -- the empty office
 abbrev pub new_office : WorldState
-new_office = running (at_rest []) []
+new_office = running_world (at_rest []) []
 
 -- What may happen. A request that is sent again needs no case: it is a turn whose request came before, whatever became
 -- of it. A reply that comes late needs none, since nothing else reads which replies were received. A stop in a query or

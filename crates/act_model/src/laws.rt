@@ -21,7 +21,7 @@ ghost use Rattle.act_model.specs.declared.roster.Caller.{Caller};
 ghost use Rattle.act_model.specs.Requests.{is_act};
 ghost use Rattle.act_model.specs.Roster.{members, caller_of};
 ghost use Rattle.act_model.specs.Deeds.{deed_of, deeds};
-ghost use Rattle.act_model.specs.History.{Kept, kept, EachNumberOnce};
+ghost use Rattle.act_model.specs.History.{Kept, numbered_entry, EachNumberOnce};
 ghost use Rattle.act_model.specs.Hearing.{asked_of};
 ghost use Rattle.act_model.specs.Refusals.{work_out, work_within};
 ghost use Rattle.act_model.specs.Step.{Adds, new_entry, outcome, step};
@@ -29,7 +29,7 @@ ghost use Rattle.act_model.specs.Clocks.{ClockState, Gives};
 ghost use Rattle.act_model.specs.Turns.{Turn, TakesReading, Answers, IsTurn, Conduct, at_rest, Mends};
 ghost use Rattle.act_model.specs.Conducts.{Extends, HadMemory, HadNoFault, NoDiskFaults, IsStepped, IsAnswered};
 ghost use Rattle.act_model.specs.Conducts.{IsAcknowledged, EitherWay, Makes};
-ghost use Rattle.act_model.specs.Worlds.{WorldState, running, new_office, Event, Received, World};
+ghost use Rattle.act_model.specs.Worlds.{WorldState, running_world, new_office, Event, Received, World};
 ghost use Rattle.act_model.specs.Worlds.{AreStillAcknowledged, AreAnsweredAgain};
 ghost use Rattle.act_model.specs.Legal.{IsLegal};
 ghost use Rattle.tracklet_file.specs.declared.observation.Observation.{Observation};
@@ -167,7 +167,8 @@ pub fn each_once()
 pub fn conducts_are_worlds()
     ensures world { (founder : Key) (limit : Option ℕ) (before after : OfficeState) (received turns : List Turn) →
         Conduct founder limit before turns after →
-        World founder limit (running before received) (map Received turns) (running after (reverse turns ++ received)) }
+        World founder limit (running_world before received) (map Received turns)
+            (running_world after (reverse turns ++ received)) }
     ensures conduct { (founder : Key) (limit : Option ℕ) (before after : WorldState) (turns : List Turn) →
         World founder limit before (map Received turns) after →
         Conduct founder limit before.office turns after.office }
@@ -265,7 +266,7 @@ pub fn callers_stay()
 pub fn kept_replies_stay()
     ensures entry { (founder : Key) (earlier later : List Entry) (caller number : ℕ) (k : Kept) →
         IsLegal founder later → Extends earlier later →
-        kept earlier caller number ≡ Some k → kept later caller number ≡ Some k }
+        numbered_entry earlier caller number ≡ Some k → numbered_entry later caller number ≡ Some k }
     ensures resend { (founder : Key) (limit other : Option ℕ) (past later : List Entry) (request : Request)
         (first again : ℤ) (text : List ℕ) (entry : Entry) →
         step founder limit past request first ≡ (Done text, entry ∷ past) →

@@ -10,7 +10,7 @@ ghost use Rattle.tracklet_file.specs.Observations.{sighting_of, track_of, observ
 ghost use Rattle.act_model.specs.declared.entry.Entry.{Entry};
 ghost use Rattle.act_model.specs.Deeds.{deeds};
 ghost use Rattle.act_model.specs.Designations.{row_acts_of, links_of, principals};
-ghost use Rattle.act_model.specs.History.{kept};
+ghost use Rattle.act_model.specs.History.{numbered_entry};
 ghost use Rattle.act_model.specs.Holdings.{holdings};
 ghost use Rattle.act_model.specs.Numbers.{numbers_of};
 ghost use Rattle.act_model.specs.OfficeTables.{tables_of};
@@ -131,5 +131,5 @@ pub trait Shelf {
     /// The reply that is kept for a caller's act with this number. None exactly where the caller hasn't used the
     /// number.
     fn kept(&self, caller: u32, number: u64) -> Option<&Reply>
-        ensures { option_copied result ≡ reply_kept (kept (history self.now) caller number) };
+        ensures { option_copied result ≡ reply_kept (numbered_entry (history self.now) caller number) };
 }

@@ -11,7 +11,8 @@ use Rattle.obs_record.specs.declared.sighting.Sighting.{Sighting}
 use Rattle.obs_record.specs.declared.rule.RuleCode.{RuleCode}
 use Rattle.act_model.specs.BatchRules.{name_of}
 use Rattle.station_tables.specs.Rows.{TableRows}
-use Rattle.tracklet_file.specs.Observations.{same_station, is_at}
+use Rattle.obs_record.specs.Short.{same_short}
+use Rattle.tracklet_file.specs.Observations.{is_at}
 use Rattle.act_model.specs.Rows.{first_row}
 use Rattle.act_model.specs.Known.{KnownOffice}
 use Rattle.act_model.specs.BatchRules.{same_track, same_group, is_elsewhere, stands_already, stands_elsewhere, line_rules, unless_broken, checked_reading, with_passed, checked_lines, passed_in}
@@ -36,17 +37,17 @@ module _ (office : KnownOffice) (s : Sighting) (earlier : List Sighting) (no_pla
   none_together : (e : Sighting) → IsIn earlier e → same_group s e ≡ true → int_eq e.time s.time ≡ true → ⊥
   none_together e there same time = by ((e.ra == s.ra) && int_eq e.dec s.dec) refl
     where
-      parts : (same_track (name_of e) (name_of s) ≡ true) × (same_station e.station s.station ≡ true)
-      parts = and_parts (same_track (name_of e) (name_of s)) (same_station e.station s.station) (same_turned e s ∙ same)
+      parts : (same_track (name_of e) (name_of s) ≡ true) × (same_short e.station s.station ≡ true)
+      parts = and_parts (same_track (name_of e) (name_of s)) (same_short e.station s.station) (same_turned e s ∙ same)
 
       by : (b : Bool) → (e.ra == s.ra) && int_eq e.dec s.dec ≡ b → ⊥
       by true is =
           let at : is_at s.station s.time s.ra s.dec e ≡ true =
-          both_pass (same_station e.station s.station) _ parts.1 (both_pass (int_eq e.time s.time) _ time is) in
+          both_pass (same_short e.station s.station) _ parts.1 (both_pass (int_eq e.time s.time) _ time is) in
           absurd (true≢false (sym (any_in (is_at s.station s.time s.ra s.dec) earlier e there at) ∙ (or_parts (office.has_live s.station s.time s.ra s.dec) _ no_place).1))
       by false is =
           let elsewhere : is_elsewhere s e ≡ true =
-          both_pass (same_station e.station s.station) _ parts.1
+          both_pass (same_short e.station s.station) _ parts.1
           (both_pass (int_eq e.time s.time) _ time (both_pass (same_track (name_of e) (name_of s)) _ parts.0 (ap not is))) in
           absurd (true≢false (sym (any_in (is_elsewhere s) earlier e there elsewhere) ∙ no_other))
 

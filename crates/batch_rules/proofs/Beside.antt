@@ -9,7 +9,8 @@ use Rattle.std.proofs.lemmas.Bool.Decides.{Decides-int_eq}
 use Rattle.obs_record.specs.declared.sighting.Sighting.{Sighting}
 use Rattle.obs_record.specs.declared.rule.RuleCode.{RuleCode}
 use Rattle.obs_record.specs.declared.rule.RuleCode.TheVariants.{B4, B5}
-use Rattle.tracklet_file.specs.Observations.{same_station, is_at}
+use Rattle.obs_record.specs.Short.{same_short}
+use Rattle.tracklet_file.specs.Observations.{is_at}
 use Rattle.act_model.specs.BatchRules.{name_of, same_track, is_elsewhere, stands_elsewhere}
 use Rattle.place_keys.specs.Places.{place_key, same_place}
 use Rattle.batch_rules.specs.Places.{moment_key}
@@ -44,7 +45,7 @@ moments_told s earlier none = any_same (λ other. same_moment (moment_key other)
     same : (other : Sighting) → IsIn earlier other → same_moment (moment_key other) (moment_key s) ≡ is_elsewhere s other
     same other there =
         ap (λ (b : Bool). b && int_eq other.time s.time) (same_keys other s)
-        ∙ elsewhere (same_track (name_of other) (name_of s)) (same_station other.station s.station) (int_eq other.time s.time) ((other.ra == s.ra) && int_eq other.dec s.dec) (none_in (is_at s.station s.time s.ra s.dec) earlier none other there)
+        ∙ elsewhere (same_track (name_of other) (name_of s)) (same_short other.station s.station) (int_eq other.time s.time) ((other.ra == s.ra) && int_eq other.dec s.dec) (none_in (is_at s.station s.time s.ra s.dec) earlier none other there)
 
 -- ---- observations that come in the order of their times
 
@@ -80,13 +81,13 @@ module _ (s : Sighting) (earlier : List Sighting) (none : has_time earlier s.tim
     where
       at : (o : Sighting) → int_eq o.time s.time ≡ false → is_at s.station s.time s.ra s.dec o ≡ false
       at o differs =
-          ap (λ (b : Bool). same_station o.station s.station && (b && ((o.ra == s.ra) && int_eq o.dec s.dec))) differs
-          ∙ not_both (same_station o.station s.station) ((o.ra == s.ra) && int_eq o.dec s.dec)
+          ap (λ (b : Bool). same_short o.station s.station && (b && ((o.ra == s.ra) && int_eq o.dec s.dec))) differs
+          ∙ not_both (same_short o.station s.station) ((o.ra == s.ra) && int_eq o.dec s.dec)
 
       elsewhere_then : (o : Sighting) → int_eq o.time s.time ≡ false → is_elsewhere s o ≡ false
       elsewhere_then o differs =
-          ap (λ (b : Bool). same_station o.station s.station && (b && (same_track (name_of o) (name_of s) && not ((o.ra == s.ra) && int_eq o.dec s.dec)))) differs
-          ∙ not_both (same_station o.station s.station) (same_track (name_of o) (name_of s) && not ((o.ra == s.ra) && int_eq o.dec s.dec))
+          ap (λ (b : Bool). same_short o.station s.station && (b && (same_track (name_of o) (name_of s) && not ((o.ra == s.ra) && int_eq o.dec s.dec)))) differs
+          ∙ not_both (same_short o.station s.station) (same_track (name_of o) (name_of s) && not ((o.ra == s.ra) && int_eq o.dec s.dec))
 
 -- one that is later than all others breaks no rule beside them
 pub none_beside : (time : ℤ) (s : Sighting) (earlier : List Sighting) → time <ℤ s.time → AreUpTo time earlier → rule_beside earlier s ≡ None

@@ -14,8 +14,8 @@ use Rattle.batch_rules.specs.Places.{moment_key}
 use Rattle.batch_rules.specs.PlaceTests.{same_moment, has_place, has_moment, has_time}
 
 -- the observations that references point to
-abbrev pub pointed : List (Bor Sighting) → List Sighting
-pointed = map (λ s. s.now)
+abbrev pub pointed_sightings : List (Bor Sighting) → List Sighting
+pointed_sightings = map (λ s. s.now)
 
 -- an index has the places and the moments of these observations, and no others
 pub record Finds (index : Index) (earlier : List Sighting) : Type 0 where

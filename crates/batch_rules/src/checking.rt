@@ -2,7 +2,7 @@
 
 ghost use Rattle.std.specs.Prelude.{◌≡◌, [], map, IfOk};
 ghost use Rattle.act_model.specs.BatchRules.{checked_reading, with_passed, checked_lines, passed_in};
-ghost use Rattle.batch_rules.specs.Earlier.{pointed, reading_of, line_of};
+ghost use Rattle.batch_rules.specs.Earlier.{pointed_sightings, reading_of, line_of};
 ghost use Rattle.tracklet_file.specs.Observations.{is_live_reading, is_live_line};
 
 use crate::earlier::Earlier;
@@ -74,7 +74,8 @@ pub(crate) fn checked_lines<'a, V: Known>(
 ) -> Result<(Vec<Checked<'a>>, Vec<&'a Sighting>), NoMemory>
     ensures lines { IfOk result (λ checked.
         map line_of checked.0.items ≡ checked_lines (V.office known.now) tables.now moment [] lines.now) }
-    ensures passed { IfOk result (λ checked. pointed checked.1.items ≡ passed_in (map line_of checked.0.items)) }
+    ensures passed { IfOk result (λ checked.
+        pointed_sightings checked.1.items ≡ passed_in (map line_of checked.0.items)) }
 {
     let live = live_lines(alloc, known, lines)?;
     let mut rows = Rows::new(tables);

@@ -3,7 +3,7 @@
 ghost use Rattle.std.specs.Prelude.{◌≡◌, ◌∷◌, [], List, reverse, IfOk, IfSome, OnOk};
 ghost use Rattle.obs_record.specs.declared.sighting.Sighting.{Sighting as Sighting};
 ghost use Rattle.batch_rules.specs.PlaceTests.{has_time, rule_beside};
-ghost use Rattle.batch_rules.specs.Earlier.{Finds, HasTimes, pointed};
+ghost use Rattle.batch_rules.specs.Earlier.{Finds, HasTimes, pointed_sightings};
 
 use crate::index::Index;
 use crate::times::Times;
@@ -30,21 +30,21 @@ impl<'a> Model for Earlier<'a> {
     ghost use Rattle.std.specs.Prelude.{List, reverse, IfSome};
     ghost use Rattle.obs_record.specs.declared.sighting.Sighting.{Sighting};
     ghost use Rattle.batch_rules.specs.PlaceTests.{AreUpTo};
-    ghost use Rattle.batch_rules.specs.Earlier.{Finds, HasTimes, pointed};
+    ghost use Rattle.batch_rules.specs.Earlier.{Finds, HasTimes, pointed_sightings};
 
     ghost Value = { List Sighting };
 
-    ghost view = { λ e. reverse (pointed e.passed.items) };
+    ghost view = { λ e. reverse (pointed_sightings e.passed.items) };
 
     ghost invariant = { λ e.
-        AreUpTo e.latest (reverse (pointed e.passed.items))
-        × IfSome e.times (λ times. HasTimes times (reverse (pointed e.passed.items)))
-        × IfSome e.index (λ index. Finds index (reverse (pointed e.passed.items))) };
+        AreUpTo e.latest (reverse (pointed_sightings e.passed.items))
+        × IfSome e.times (λ times. HasTimes times (reverse (pointed_sightings e.passed.items)))
+        × IfSome e.index (λ index. Finds index (reverse (pointed_sightings e.passed.items))) };
 }
 
 // The times of observations, with room for as many as their vector has.
 fn times_of(alloc: Global, passed: &Vec<&Sighting>) -> Result<Times, NoMemory>
-    ensures { IfOk result (λ times. HasTimes times (reverse (pointed passed.now.items))) }
+    ensures { IfOk result (λ times. HasTimes times (reverse (pointed_sightings passed.now.items))) }
 {
     let mut times = Times::with_capacity(alloc, passed.capacity())?;
     for s in passed {
@@ -55,7 +55,7 @@ fn times_of(alloc: Global, passed: &Vec<&Sighting>) -> Result<Times, NoMemory>
 
 // The index of observations, with room for as many as their vector has.
 fn index_of(alloc: Global, passed: &Vec<&Sighting>) -> Result<Index, NoMemory>
-    ensures { IfOk result (λ index. Finds index (reverse (pointed passed.now.items))) }
+    ensures { IfOk result (λ index. Finds index (reverse (pointed_sightings passed.now.items))) }
 {
     let mut index = Index::with_capacity(alloc, passed.capacity())?;
     for s in passed {
@@ -174,7 +174,7 @@ impl<'a> Earlier<'a> {
 
     /// The observations, the oldest first.
     pub(crate) fn passed(self) -> Vec<&'a Sighting>
-        ensures { pointed result.items ≡ reverse self.entry }
+        ensures { pointed_sightings result.items ≡ reverse self.entry }
     {
         let Earlier { passed, .. } = self;
         passed

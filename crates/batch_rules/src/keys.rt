@@ -5,7 +5,7 @@ ghost use Rattle.packed_names.specs.Order.{survey_place};
 ghost use Rattle.batch_rules.specs.Groups.{name_key, group_key};
 ghost use Rattle.batch_rules.specs.Marks.{name_mark, group_mark, key_mark};
 
-use crate::names::track_name;
+use act_model::name_of;
 use obs_record::{Sighting, TrackName};
 use packed_names::{Designation, Survey};
 use place_keys::{Text, mixed, text_mark};
@@ -94,7 +94,7 @@ pub(crate) fn group_key(s: &Sighting) -> GroupKey
 {
     let bytes = s.station.bytes;
     GroupKey {
-        name: name_key(track_name(s)),
+        name: name_key(name_of(s)),
         len: s.station.len,
         bytes: Text { bytes },
     }

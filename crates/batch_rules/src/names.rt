@@ -1,39 +1,19 @@
-//! The names that observations go by.
+//! The names that lines state.
 
 ghost use Rattle.std.specs.Prelude.{◌≡◌};
-ghost use Rattle.act_model.specs.BatchRules.{name_of, same_designation, number_of, designation_of};
+ghost use Rattle.std.specs.Ordering.{eq_by_cmp};
+ghost use Rattle.packed_names.specs.Order.{designation_cmp};
+ghost use Rattle.act_model.specs.BatchRules.{number_of, designation_of};
 
-use obs_record::{Short, Sighting, TrackName};
+use obs_record::Sighting;
+use packed_names::laws::designations_in_order;
 use packed_names::{Designation, Name};
 
 /// Whether two designations are the same.
-pub(crate) fn same_designation(one: Designation, other: Designation) -> bool
-    ensures { result ≡ same_designation one other }
+pub(crate) fn is_same(one: Designation, other: Designation) -> bool
+    ensures { result ≡ eq_by_cmp designation_cmp one other }
 {
-    match (one, other) {
-        (Designation::Provisional(one), Designation::Provisional(other)) => {
-            one.half.year == other.half.year
-                && one.half.index == other.half.index
-                && one.order == other.order
-        }
-        (Designation::Survey(one, number), Designation::Survey(other, other_number)) => {
-            one == other && number == other_number
-        }
-        _ => false,
-    }
-}
-
-/// The name that an observation goes by: its number, else its designation, else its temporary designation, of which
-/// one is there.
-pub(crate) fn track_name(s: &Sighting) -> TrackName
-    ensures { result ≡ name_of s.now }
-{
-    match (s.perm, s.prov, s.sub) {
-        (Some(number), _, _) => TrackName::Number(number),
-        (None, Some(designation), _) => TrackName::Designation(designation),
-        (None, None, Some(short)) => TrackName::Sub(short),
-        (None, None, None) => TrackName::Sub(Short::new(&[])),
-    }
+    designations_in_order(one, other).is_eq()
 }
 
 /// The number of a line, as a name.

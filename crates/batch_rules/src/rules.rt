@@ -13,7 +13,7 @@ ghost use Rattle.batch_rules.specs.Live.{is_live_at};
 ghost use Rattle.batch_rules.specs.PlaceTests.{rule_beside};
 
 use crate::found_rows::Rows;
-use crate::names::{designation_of, number_of, same_designation};
+use crate::names::{designation_of, is_same, number_of};
 use act_model::Known;
 use obs_record::{RuleCode, Sighting};
 use obs_time::{Instant, civil_of};
@@ -63,7 +63,7 @@ fn are_two(one: Option<Designation>, other: Option<Designation>) -> bool
     ensures { result ≡ are_two one other }
 {
     match (one, other) {
-        (Some(one), Some(other)) => !same_designation(one, other),
+        (Some(one), Some(other)) => !is_same(one, other),
         _ => false,
     }
 }

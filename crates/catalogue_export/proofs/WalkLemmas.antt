@@ -21,7 +21,7 @@ use Rattle.act_model.specs.Shelves.{has_no_home, numbers_to}
 use Rattle.act_model.specs.Tallies.{tally, tally_text}
 use Rattle.act_model.specs.Texts.{line_of}
 use Rattle.catalogue_export.specs.Pieces.{Piece, Front, ObjectName, ObjectLine, TrackHead, TrackLine, End, name_text, is_listed, track_head, piece_text, listed_in, object_pieces, track_pieces}
-use Rattle.catalogue_export.specs.Walks.{tracks_after, objects_left, left, to_write, turns_left, Steps}
+use Rattle.catalogue_export.specs.Walks.{tracks_after, objects_left, pieces_left, to_write, turns_left, Steps}
 use Rattle.catalogue_export.specs.declared.walk.Walk.{Walk}
 
 -- ---- lists of lists
@@ -124,7 +124,7 @@ module _ (history : List Entry) where
 
   -- ---- one step
 
-  pub stepped : (old new : Walk) (piece : Piece) (before text after : List ℕ) → left (deeds history) old ≡ piece ∷ left (deeds history) new → turns_left new.stage ≤ turns_left old.stage + 4
+  pub stepped : (old new : Walk) (piece : Piece) (before text after : List ℕ) → pieces_left (deeds history) old ≡ piece ∷ pieces_left (deeds history) new → turns_left new.stage ≤ turns_left old.stage + 4
       → text ≡ piece_text history piece → after ≡ before ++ text → Steps history old new before after
   stepped old new piece before text after is fewer text_is grew =
       record {

@@ -7,14 +7,14 @@ use Rattle.act_model.specs.Designations.{principals}
 use Rattle.act_model.specs.Holdings.{holdings}
 use Rattle.act_model.specs.Texts.{line_of}
 use Rattle.catalogue_export.specs.Pieces.{ObjectName, ObjectLine, TrackHead, TrackLine, End, piece_text, listed_in}
-use Rattle.catalogue_export.specs.Walks.{tracks_after, objects_left, observations_left, left_at, left, Steps}
+use Rattle.catalogue_export.specs.Walks.{tracks_after, objects_left, observations_left, left_at, pieces_left, Steps}
 use Rattle.catalogue_export.specs.declared.walk.Stage.{Stage}
 use Rattle.catalogue_export.specs.declared.walk.Stage.TheVariants as stages
 use Rattle.catalogue_export.specs.declared.walk.Walk.{Walk}
 use Rattle.catalogue_export.proofs.WalkLemmas.{stepped, tracks_more, tracks_end, left_from}
 
 module _ (history : List Entry) (old : Walk) (before : List ℕ) where
-  at_stage : (stage : Stage) → old.stage ≡ stage → left (deeds history) old ≡ left_at (deeds history) old stage
+  at_stage : (stage : Stage) → old.stage ≡ stage → pieces_left (deeds history) old ≡ left_at (deeds history) old stage
   at_stage stage is = ap (left_at (deeds history) old) is
 
   -- a designation of an object was written

@@ -37,12 +37,12 @@ left_at past walk (stages.Tracks after) = tracks_after past after
 left_at past walk (stages.Tracklet t at) = map (TrackLine t) (drop at walk.observations) ++ tracks_after past t
 left_at past walk stages.Ended = []
 
-abbrev pub left : List Deed → Walk → List Piece
-left past walk = left_at past walk walk.stage
+abbrev pub pieces_left : List Deed → Walk → List Piece
+pieces_left past walk = left_at past walk walk.stage
 
 -- what is still to be written
 abbrev pub to_write : List Entry → Walk → List ℕ
-to_write history walk = flat_map (piece_text history) (left (deeds history) walk)
+to_write history walk = flat_map (piece_text history) (pieces_left (deeds history) walk)
 
 -- a stage from which the walk may go on without writing
 abbrev pub turns_left : Stage → ℕ
@@ -54,7 +54,7 @@ turns_left stage = 0
 
 -- how many steps the walk can still take at most
 abbrev pub steps_left : List Deed → Walk → ℕ
-steps_left past walk = 5 * length (left past walk) + turns_left walk.stage
+steps_left past walk = 5 * length (pieces_left past walk) + turns_left walk.stage
 
 -- From one walk to the next, the text grew by what is no longer to be written, and the end is nearer.
 pub record Steps (history : List Entry) (old new : Walk) (before after : List ℕ) : Type 0 where

@@ -3,7 +3,7 @@
 ghost use Rattle.std.specs.Prelude.{◌≡◌, ℕ, List, Result, Ok, Err, IfOk, IfErr};
 ghost use Rattle.act_model.specs.Queries.{IsReadQuery};
 ghost use Rattle.act_model.specs.Rows.{IsDue};
-ghost use Rattle.act_model.specs.Step.{told};
+ghost use Rattle.act_model.specs.Step.{answer_of_query};
 ghost use Rattle.catalogue_export.specs.Telling.{Tells};
 
 use crate::exporting::catalogue_text;
@@ -29,8 +29,8 @@ fn text_or_refusal(text: Result<Bytes, NoMemory>) -> Result<Bytes, Refusal>
 
 /// A copy of the answer that is kept for the caller's act with this number.
 fn receipt<V: Shelf>(alloc: Global, shelf: &V, caller: u32, number: u64) -> Result<Bytes, Refusal>
-    ensures due { IsDue (told (V.history shelf.now) caller (Query.Receipt number)) result }
-    ensures refused { IfErr (told (V.history shelf.now) caller (Query.Receipt number))
+    ensures due { IsDue (answer_of_query (V.history shelf.now) caller (Query.Receipt number)) result }
+    ensures refused { IfErr (answer_of_query (V.history shelf.now) caller (Query.Receipt number))
         (λ refusal. result ≡ Err refusal) }
 {
     match shelf.kept(caller, number) {
@@ -42,8 +42,9 @@ fn receipt<V: Shelf>(alloc: Global, shelf: &V, caller: u32, number: u64) -> Resu
 
 /// The object that a designation belongs to.
 fn object<V: Shelf>(alloc: Global, shelf: &V, caller: u32, d: Designation) -> Result<Bytes, Refusal>
-    ensures due { IsDue (told (V.history shelf.now) caller (Query.Object d)) result }
-    ensures refused { IfErr (told (V.history shelf.now) caller (Query.Object d)) (λ refusal. result ≡ Err refusal) }
+    ensures due { IsDue (answer_of_query (V.history shelf.now) caller (Query.Object d)) result }
+    ensures refused { IfErr (answer_of_query (V.history shelf.now) caller (Query.Object d))
+        (λ refusal. result ≡ Err refusal) }
 {
     match shelf.principal(d) {
         Some(p) => text_or_refusal(object_text(alloc, shelf, p)),
@@ -53,8 +54,9 @@ fn object<V: Shelf>(alloc: Global, shelf: &V, caller: u32, d: Designation) -> Re
 
 /// A tracklet with its observations.
 fn tracklet<V: Shelf>(alloc: Global, shelf: &V, caller: u32, t: u64) -> Result<Bytes, Refusal>
-    ensures due { IsDue (told (V.history shelf.now) caller (Query.Tracklet t)) result }
-    ensures refused { IfErr (told (V.history shelf.now) caller (Query.Tracklet t)) (λ refusal. result ≡ Err refusal) }
+    ensures due { IsDue (answer_of_query (V.history shelf.now) caller (Query.Tracklet t)) result }
+    ensures refused { IfErr (answer_of_query (V.history shelf.now) caller (Query.Tracklet t))
+        (λ refusal. result ≡ Err refusal) }
 {
     match shelf.track(t) {
         Some(head) => text_or_refusal(tracklet_text(alloc, shelf, t, &head)),
@@ -65,8 +67,8 @@ fn tracklet<V: Shelf>(alloc: Global, shelf: &V, caller: u32, t: u64) -> Result<B
 /// What a caller's query is told, where a refusal is an error.
 fn told<V: Shelf>(alloc: Global, shelf: &V, caller: u32, query: &Query) -> Result<Bytes, Refusal>
     requires { IsReadQuery query.now }
-    ensures due { IsDue (told (V.history shelf.now) caller query.now) result }
-    ensures refused { IfErr (told (V.history shelf.now) caller query.now) (λ refusal. result ≡ Err refusal) }
+    ensures due { IsDue (answer_of_query (V.history shelf.now) caller query.now) result }
+    ensures refused { IfErr (answer_of_query (V.history shelf.now) caller query.now) (λ refusal. result ≡ Err refusal) }
 {
     match *query {
         Query::Receipt(number) => receipt(alloc, shelf, caller, number),
@@ -85,8 +87,9 @@ fn told<V: Shelf>(alloc: Global, shelf: &V, caller: u32, query: &Query) -> Resul
 /// asked for is one of the years 1925 to 2099, as [`read_query`](act_model::read_query) gives it.
 pub fn answer<V: Shelf>(alloc: Global, shelf: &V, caller: u32, query: &Query) -> Reply
     requires read { IsReadQuery query.now }
-    ensures told { Tells (told (V.history shelf.now) caller query.now) result }
-    ensures refused { IfErr (told (V.history shelf.now) caller query.now) (λ refusal. result ≡ Reply.Refused refusal) }
+    ensures told { Tells (answer_of_query (V.history shelf.now) caller query.now) result }
+    ensures refused { IfErr (answer_of_query (V.history shelf.now) caller query.now)
+        (λ refusal. result ≡ Reply.Refused refusal) }
 {
     match told(alloc, shelf, caller, query) {
         Ok(text) => Reply::Done(text),

@@ -6,7 +6,7 @@ ghost use Rattle.act_model.specs.declared.entry.Entry.{Entry};
 ghost use Rattle.act_model.specs.Catalogue.{catalogue};
 ghost use Rattle.act_model.specs.Deeds.{deeds};
 ghost use Rattle.act_model.specs.Holdings.{holdings};
-ghost use Rattle.catalogue_export.specs.Walks.{left, to_write, Steps};
+ghost use Rattle.catalogue_export.specs.Walks.{pieces_left, to_write, Steps};
 
 use crate::lines::{object_line, track_line};
 use crate::pieces::{front, name_text, object_head, track_head};
@@ -81,7 +81,7 @@ impl Walk {
 
     /// Whether all was written.
     pub(crate) fn is_ended(&self) -> bool
-        ensures ended { IsTrue result → (past : List Deed) → left past self.now ≡ [] }
+        ensures ended { IsTrue result → (past : List Deed) → pieces_left past self.now ≡ [] }
         ensures others { result ≡ false → self.now.stage ≢ Stage.Ended }
     {
         matches!(self.stage, Stage::Ended)

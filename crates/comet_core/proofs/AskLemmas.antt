@@ -15,7 +15,7 @@ use Rattle.comet_model.specs.declared.request.CometVerb.{CometVerb}
 use Rattle.comet_model.specs.declared.request.CometVerb.TheVariants as verb
 use Rattle.comet_model.specs.Requests.{is_act}
 use Rattle.comet_model.specs.Hearing.{bytes_in, asked_of, hear}
-use Rattle.comet_model.specs.Step.{Refuses, Tells, asked_step, outcome, after, step}
+use Rattle.comet_model.specs.Step.{Refuses, Tells, asked_step, outcome, reply_and_entries, step}
 use Rattle.comet_model.specs.Turns.{Answers}
 use Rattle.comet_core.specs.Preparing.{IsRefused}
 use Rattle.comet_core.proofs.HearLemmas.{asked_is, ok_is, heard_step}
@@ -65,9 +65,9 @@ module _ (founder : Key) (limit : Option ℕ) (desk : List Deed) (past : List En
 
   pub answers_done : (text : List ℕ) → outcome founder limit desk past q t ≡ Tells text → Answers founder limit desk past q t (Done text) past
   unfolding step
-  answers_done text is = inl (ap (after desk past) is)
+  answers_done text is = inl (ap (reply_and_entries desk past) is)
 
   pub answers_refused : (r : CometRefusal) → IsRefused (outcome founder limit desk past q t) r → Answers founder limit desk past q t (Refused r) past
   unfolding step
-  answers_refused r (inl is) = inl (ap (after desk past) is)
+  answers_refused r (inl is) = inl (ap (reply_and_entries desk past) is)
   answers_refused r (inr none) = inr (ap (λ (x : CometRefusal). Refused x) none, refl)

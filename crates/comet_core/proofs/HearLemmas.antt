@@ -18,7 +18,7 @@ use Rattle.comet_model.specs.declared.request.CometVerb.TheVariants as verb
 use Rattle.comet_model.specs.Rows.{unless, ◌>>=◌, IsDue}
 use Rattle.comet_model.specs.Namings.{naming_of}
 use Rattle.comet_model.specs.Requests.{is_act}
-use Rattle.comet_model.specs.Hearing.{bytes_in, claimed, naming_by, asked_of, key_rows, hear}
+use Rattle.comet_model.specs.Hearing.{bytes_in, number_claimed, naming_by, asked_of, key_rows, hear}
 use Rattle.comet_model.specs.Step.{Outcome, Refuses, act_step, asked_step, unless_unheard, outcome}
 use Rattle.comet_core.specs.Preparing.{IsRefused, IsPrepared}
 use Rattle.comet_core.specs.declared.prepared.Prep.{Prep}
@@ -45,17 +45,17 @@ pub asked_is : (founder : Key) (q : CometRequest) (bytes : List ℕ) (heard : Co
 unfolding hear
 asked_is founder q bytes heard is =
     let with : ℕ → CometAsked → Result CometHeard CometRefusal = λ number asked. unless (first_row (key_rows founder q.key)) (Ok (record { number = number; asked = asked })) in
-    let (number, claimed_is, more) = bound (claimed q.verb q.number) (λ number. asked_of q.verb bytes >>= with number) heard is in
+    let (number, claimed_is, more) = bound (number_claimed q.verb q.number) (λ number. asked_of q.verb bytes >>= with number) heard is in
     let (asked, asked_is, last) = bound (asked_of q.verb bytes) (with number) heard more in
     let (key, same) = unless_ok (first_row (key_rows founder q.key)) (Ok (record { number = number; asked = asked })) heard last in
     asked_is ∙ ap (λ (h : CometHeard). Ok h.asked) (ok_is _ heard same)
 
 -- and its number is the one that it said
-pub claimed_is : (founder : Key) (q : CometRequest) (bytes : List ℕ) (heard : CometHeard) → hear founder q bytes ≡ Ok heard → claimed q.verb q.number ≡ Ok heard.number
+pub claimed_is : (founder : Key) (q : CometRequest) (bytes : List ℕ) (heard : CometHeard) → hear founder q bytes ≡ Ok heard → number_claimed q.verb q.number ≡ Ok heard.number
 unfolding hear
 claimed_is founder q bytes heard is =
     let with : ℕ → CometAsked → Result CometHeard CometRefusal = λ number asked. unless (first_row (key_rows founder q.key)) (Ok (record { number = number; asked = asked })) in
-    let (number, claimed_is, more) = bound (claimed q.verb q.number) (λ number. asked_of q.verb bytes >>= with number) heard is in
+    let (number, claimed_is, more) = bound (number_claimed q.verb q.number) (λ number. asked_of q.verb bytes >>= with number) heard is in
     let (asked, asked_is, last) = bound (asked_of q.verb bytes) (with number) heard more in
     let (key, same) = unless_ok (first_row (key_rows founder q.key)) (Ok (record { number = number; asked = asked })) heard last in
     claimed_is ∙ ap (λ (h : CometHeard). Ok h.number) (ok_is _ heard same)

@@ -7,7 +7,7 @@ use Rattle.std.proofs.lemmas.Option.{slice_get_read, get_or_from_slice_get}
 use Rattle.std.proofs.Math.Seq.{get_or-append_seam}
 use Rattle.act_model.specs.declared.deed.Deed.{Deed}
 use Rattle.act_model.specs.declared.entry.Entry.{Entry}
-use Rattle.act_model.specs.History.{Kept, kept, is_numbered}
+use Rattle.act_model.specs.History.{Kept, numbered_entry, is_numbered}
 use Rattle.comet_model.specs.declared.named.NamedComet.{NamedComet}
 use Rattle.comet_model.specs.Register.{named_by, with_named, comets}
 use Rattle.comet_core.specs.Book.{place_of}
@@ -77,9 +77,9 @@ module _ (desk : List Deed) where
       }
 
   abbrev Again : ℕ → Kept → List Entry → Type 0
-  Again number k past = length (comets desk past) ≡ length past → kept past 0 number ≡ Some k → Stands desk past (comets desk past) k
+  Again number k past = length (comets desk past) ≡ length past → numbered_entry past 0 number ≡ Some k → Stands desk past (comets desk past) k
 
-  pub stands : (number : ℕ) (k : Kept) (entries : List Entry) → length (comets desk entries) ≡ length entries → kept entries 0 number ≡ Some k → Stands desk entries (comets desk entries) k
+  pub stands : (number : ℕ) (k : Kept) (entries : List Entry) → length (comets desk entries) ≡ length entries → numbered_entry entries 0 number ≡ Some k → Stands desk entries (comets desk entries) k
   stands number k [] same some = absurd cc
   stands number k (e ∷ past) same some = by (named_by desk (comets desk past) e) refl same (stands number k past)
     where
@@ -89,11 +89,11 @@ module _ (desk : List Deed) where
       used : Again number k past → (n : NamedComet) → named_by desk (comets desk past) e ≡ Some n → length (comets desk past) ≡ length past → (b : Bool) → is_numbered 0 number e ≡ b
           → Stands desk (e ∷ past) (n ∷ comets desk past) k
       used again n names rest true is =
-          let found : Some own ≡ Some k = sym (ap (λ (b : Bool). cond b (Some own) (kept past 0 number)) is) ∙ some in
+          let found : Some own ≡ Some k = sym (ap (λ (b : Bool). cond b (Some own) (numbered_entry past 0 number)) is) ∙ some in
           let own_is : own ≡ k = cc in
           subst (λ (x : Kept). Stands desk (e ∷ past) (n ∷ comets desk past) x) own_is (stands_newest e past n names rest)
       used again n names rest false is =
-          let found : kept past 0 number ≡ Some k = sym (ap (λ (b : Bool). cond b (Some own) (kept past 0 number)) is) ∙ some in
+          let found : numbered_entry past 0 number ≡ Some k = sym (ap (λ (b : Bool). cond b (Some own) (numbered_entry past 0 number)) is) ∙ some in
           stands_older e past n k (again rest found)
 
       by : (o : Option NamedComet) → named_by desk (comets desk past) e ≡ o → length (with_named o (comets desk past)) ≡ suc (length past) → Again number k past → Stands desk (e ∷ past) (with_named o (comets desk past)) k
@@ -105,5 +105,5 @@ some_place : (o : Option Kept) (place : ℕ) → Some place ≡ option_map (λ k
 some_place None place is = absurd cc
 some_place (Some k) place is = (k, refl, cc)
 
-pub placed : (entries : List Entry) (number place : ℕ) → Some place ≡ place_of entries number → (k : Kept) × (kept entries 0 number ≡ Some k) × (place ≡ length k.before)
-placed entries number place is = some_place (kept entries 0 number) place is
+pub placed : (entries : List Entry) (number place : ℕ) → Some place ≡ place_of entries number → (k : Kept) × (numbered_entry entries 0 number ≡ Some k) × (place ≡ length k.before)
+placed entries number place is = some_place (numbered_entry entries 0 number) place is

@@ -10,7 +10,7 @@ use Rattle.act_model.specs.declared.entry.Entry.{Entry}
 use Rattle.act_model.specs.declared.reply.Part.TheVariants as part
 use Rattle.act_model.specs.declared.request.Verb.{Verb}
 use Rattle.act_model.specs.declared.request.Verb.TheVariants.{Enrol}
-use Rattle.act_model.specs.History.{Kept, kept, next_moment}
+use Rattle.act_model.specs.History.{Kept, numbered_entry, next_moment}
 use Rattle.act_model.specs.Requests.{verb_code}
 use Rattle.act_model.specs.Rows.{first_row}
 use Rattle.comet_model.specs.declared.heard.CometAsked.{CometAsked}
@@ -28,7 +28,7 @@ use Rattle.comet_model.specs.Namings.{naming_of}
 use Rattle.comet_model.specs.Hearing.{size_rows, bytes_in, is_number_of, naming_by, asked_of, key_rows, hear}
 use Rattle.comet_model.specs.Legal.{entry_request, IsAdded}
 use Rattle.comet_model.specs.Register.{new_entry}
-use Rattle.comet_model.specs.Step.{Outcome, Refuses, Keeps, Tells, Adds, names_within, unless_kept, unless_refused, act_step, asked_step, unless_unheard, outcome, after, step}
+use Rattle.comet_model.specs.Step.{Outcome, Refuses, Keeps, Tells, Adds, names_within, unless_kept, unless_refused, act_step, asked_step, unless_unheard, outcome, reply_and_entries, step}
 use Rattle.comet_core.specs.declared.replaying.ReplayFault.{ReplayFault}
 use Rattle.comet_core.specs.declared.replaying.ReplayFault.TheVariants as fault
 use Rattle.comet_core.specs.declared.prepared.Prep.{Prep}
@@ -43,7 +43,7 @@ use Rattle.comet_core.proofs.HearLemmas.{bound, unless_ok, ok_is, AsksNaming, ac
 longer : (e : Entry) (past : List Entry) → past ≡ e ∷ past → {A : Type 0} → A
 longer e past is = let lengths = ap length is in absurd (omega arith)
 
-made_entry : (desk : List Deed) (e : Entry) (past : List Entry) (o : Outcome) → (after desk past o).1 ≡ e ∷ past → o ≡ Adds e
+made_entry : (desk : List Deed) (e : Entry) (past : List Entry) (o : Outcome) → (reply_and_entries desk past o).1 ≡ e ∷ past → o ≡ Adds e
 made_entry desk e past (Refuses r) is = longer e past is
 made_entry desk e past (Keeps reply) is = longer e past is
 made_entry desk e past (Tells text) is = longer e past is
@@ -75,7 +75,7 @@ module _ (founder : Key) (desk : List Deed) (past : List Entry) (e : Entry) wher
 
   pub adds_entry : outcome founder None desk past own e.moment ≡ Adds e → (step founder None desk past own e.moment).1 ≡ e ∷ past
   unfolding step
-  adds_entry is = ap (λ (o : Outcome). (after desk past o).1) is
+  adds_entry is = ap (λ (o : Outcome). (reply_and_entries desk past o).1) is
 
   pub entry_added : IsAdded founder desk past e → outcome founder None desk past own e.moment ≡ Adds e
   unfolding step
@@ -90,7 +90,7 @@ module _ (founder : Key) (desk : List Deed) (past : List Entry) (e : Entry) wher
       let asks : AsksNaming bytes heard.asked = act_asks founder own bytes heard refl hears in
       let acts : act_step None desk past heard.number asks.naming bytes (next_moment past e.moment) ≡ Adds e =
       ap (λ (a : CometAsked). asked_step None desk past heard.number a bytes (next_moment past e.moment)) (sym asks.asks) ∙ is in
-      let (unused, new) = acted desk (kept past 0 heard.number) bytes (names_within None desk past bytes asks.naming) (new_entry heard.number bytes (next_moment past e.moment)) e acts in
+      let (unused, new) = acted desk (numbered_entry past 0 heard.number) bytes (names_within None desk past bytes asks.naming) (new_entry heard.number bytes (next_moment past e.moment)) e acts in
       let caller : e.caller ≡ 0 = ap (λ (x : Entry). x.caller) new in
       record {
         follows = record {
@@ -98,7 +98,7 @@ module _ (founder : Key) (desk : List Deed) (past : List Entry) (e : Entry) wher
           verb = ap (λ (x : Entry). x.verb) new;
           size = size;
           number = numbered;
-          unused = ap (λ (c : ℕ). kept past c e.number) caller ∙ ap (kept past 0) number_is ∙ unused;
+          unused = ap (λ (c : ℕ). numbered_entry past c e.number) caller ∙ ap (numbered_entry past 0) number_is ∙ unused;
           moment = sym (ap (λ (x : Entry). x.moment) new);
         };
         naming = asks.naming;

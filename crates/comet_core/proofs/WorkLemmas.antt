@@ -6,7 +6,7 @@ use Rattle.packed_names.specs.declared.half_month.HalfMonth.{HalfMonth}
 use Rattle.packed_names.specs.Order.{half_cmp}
 use Rattle.act_model.specs.declared.deed.Deed.{Deed}
 use Rattle.act_model.specs.declared.entry.Entry.{Entry}
-use Rattle.act_model.specs.History.{Kept, kept, next_receipt}
+use Rattle.act_model.specs.History.{Kept, numbered_entry, next_receipt}
 use Rattle.act_model.specs.Texts.{receipt_line}
 use Rattle.comet_model.specs.declared.named.NamedComet.{NamedComet}
 use Rattle.comet_model.specs.declared.naming.Naming.{Naming}
@@ -29,7 +29,7 @@ use Rattle.comet_core.proofs.PlaceLemmas.{Stands, stands, placed}
 -- the entry of a number, which stands at its place with the comet that it names
 pub record StandsAt (desk : List Deed) (register : RegisterValue) (number place : ℕ) : Type 0 where
   pub k : Kept
-  pub kept_is : kept register.entries 0 number ≡ Some k
+  pub kept_is : numbered_entry register.entries 0 number ≡ Some k
   pub place_is : place ≡ length k.before
   pub stands : Stands desk register.entries register.comets k
 
@@ -51,7 +51,7 @@ module _ (desk : List Deed) (register : RegisterValue) (number place : ℕ) (s :
   pub comet_within : place < length register.comets
   comet_within = let within = s.stands.comet_within in let is = s.place_is in omega (arith, within, is)
 
-  one_kept : (k : Kept) → kept register.entries 0 number ≡ Some k → s.k ≡ k
+  one_kept : (k : Kept) → numbered_entry register.entries 0 number ≡ Some k → s.k ≡ k
   one_kept k is = let both : Some s.k ≡ Some k = sym s.kept_is ∙ is in cc
 
   answer_is : entry_answer desk s.k.before s.k.entry ≡ receipt_line (next_receipt s.k.before) ++ comet_line s.stands.comet.comet
@@ -60,7 +60,7 @@ module _ (desk : List Deed) (register : RegisterValue) (number place : ℕ) (s :
 
   -- the request that became the entry has the entry's own answer
   pub done_again : (bytes text : List ℕ) (comet : NamedComet) → comet ≡ s.stands.comet → text ≡ receipt_line (place + 1) ++ comet_line comet.comet → bytes_eq bytes s.k.entry.body ≡ true
-      → (k : Kept) → kept register.entries 0 number ≡ Some k → Done text ≡ kept_reply desk bytes k
+      → (k : Kept) → numbered_entry register.entries 0 number ≡ Some k → Done text ≡ kept_reply desk bytes k
   done_again bytes text comet comet_is text_is same k is =
       let all : text ≡ entry_answer desk s.k.before s.k.entry =
       text_is ∙ ap (λ (c : NamedComet). receipt_line (place + 1) ++ comet_line c.comet) comet_is
@@ -70,7 +70,7 @@ module _ (desk : List Deed) (register : RegisterValue) (number place : ℕ) (s :
       ∙ sym (ap (λ (b : Bool). cond b (Done (entry_answer desk s.k.before s.k.entry)) (Refused (OtherRequest (next_receipt s.k.before)))) same))
 
   -- and another one is refused
-  pub other_again : (bytes : List ℕ) → bytes_eq bytes s.k.entry.body ≡ false → (k : Kept) → kept register.entries 0 number ≡ Some k → Refused (OtherRequest (place + 1)) ≡ kept_reply desk bytes k
+  pub other_again : (bytes : List ℕ) → bytes_eq bytes s.k.entry.body ≡ false → (k : Kept) → numbered_entry register.entries 0 number ≡ Some k → Refused (OtherRequest (place + 1)) ≡ kept_reply desk bytes k
   other_again bytes apart k is =
       subst (λ (x : Kept). Refused (OtherRequest (place + 1)) ≡ kept_reply desk bytes x) (one_kept k is)
       (ap (λ (n : ℕ). Refused (OtherRequest (n + 1))) s.place_is

@@ -5,8 +5,8 @@ use Rattle.std.specs.Option.{option_map}
 use Rattle.std.specs.declared.cmp.Ordering.{Ordering}
 use Rattle.ordered_list.specs.Orders.{found}
 use Rattle.act_model.specs.declared.entry.Entry.{Entry}
-use Rattle.act_model.specs.History.{kept}
-use Rattle.act_model.specs.Refusals.{used}
+use Rattle.act_model.specs.History.{numbered_entry}
+use Rattle.act_model.specs.Refusals.{bytes_used}
 use Rattle.comet_core.specs.declared.book.UsedNumber.{UsedNumber}
 
 -- the entries, the newest first, and for how many more there is room
@@ -16,7 +16,7 @@ pub record BookValue : Type 0 where
 
 -- the place, counted from 0 at the oldest entry, of the newest entry with this number
 abbrev pub place_of : List Entry → ℕ → Option ℕ
-place_of entries number = option_map (λ k. length k.before) (kept entries 0 number)
+place_of entries number = option_map (λ k. length k.before) (numbered_entry entries 0 number)
 
 -- the item of the index that finds the one of a number
 abbrev pub number_key : ℕ → UsedNumber
@@ -36,4 +36,4 @@ pub record IsKept (cmp : UsedNumber → UsedNumber → Ordering) (numbers : List
     (bytes : ℕ) : Type 0 where
   pub founders : AreFounders entries
   pub indexed : (number : ℕ) → place_in (found cmp (number_key number) numbers) ≡ place_of entries number
-  pub bytes_are : bytes ≡ min (used entries) (2 ^ 64 - 1)
+  pub bytes_are : bytes ≡ min (bytes_used entries) (2 ^ 64 - 1)

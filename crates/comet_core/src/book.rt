@@ -5,7 +5,7 @@ ghost use Rattle.std.specs.Prelude.{if◌then◌else◌};
 ghost use Rattle.ordered_list.specs.Orders.{found};
 ghost use Rattle.ordered_list.specs.Contents.{UsesOne};
 ghost use Rattle.act_model.specs.History.{next_moment, next_receipt};
-ghost use Rattle.act_model.specs.Refusals.{entry_size, used};
+ghost use Rattle.act_model.specs.Refusals.{entry_size, bytes_used};
 ghost use Rattle.comet_core.specs.Book.{number_key, place_in, place_of};
 
 use act_model::Entry;
@@ -122,7 +122,7 @@ impl Book {
 
     /// How many bytes of a journal the entries take, where that is a number of the type.
     pub fn used(&self) -> u64
-        ensures { used self.now.items < 2 ^ 64 → result ≡ used self.now.items }
+        ensures { bytes_used self.now.items < 2 ^ 64 → result ≡ bytes_used self.now.items }
     {
         self.used
     }

@@ -4,8 +4,8 @@ ghost use Rattle.std.specs.Prelude.{◌≡◌, ◌+◌, ◌<◌, ◌^◌, true, 
 ghost use Rattle.std.specs.Prelude.{bytes_eq, length, slice_get};
 ghost use Rattle.act_model.specs.declared.entry.Entry.{Entry};
 ghost use Rattle.act_model.specs.Deeds.{deeds};
-ghost use Rattle.act_model.specs.History.{Kept, kept};
-ghost use Rattle.act_model.specs.Refusals.{used};
+ghost use Rattle.act_model.specs.History.{Kept, numbered_entry};
+ghost use Rattle.act_model.specs.Refusals.{bytes_used};
 ghost use Rattle.act_model.specs.Rows.{first_row};
 ghost use Rattle.comet_model.specs.declared.named.NamedComet.{NamedComet};
 ghost use Rattle.comet_model.specs.Namings.{naming_of};
@@ -15,7 +15,7 @@ ghost use Rattle.comet_model.specs.Requests.{is_act};
 ghost use Rattle.comet_model.specs.Step.{outcome, kept_reply, names_within, unless_refused, act_step};
 ghost use Rattle.comet_core.specs.Book.{place_of};
 ghost use Rattle.comet_core.specs.Register.{IsOver, IsReadyAt, IsNext};
-ghost use Rattle.comet_core.specs.Preparing.{announced, IsWithin, IsPrepared};
+ghost use Rattle.comet_core.specs.Preparing.{announcement, IsWithin, IsPrepared};
 
 use crate::book::entry_size;
 use crate::prepared::{Prep, Prepared};
@@ -73,7 +73,7 @@ impl Register {
 
     /// The refusal of an entry for which a journal with this limit has no room.
     fn full_refusal(&self, limit: Option<u64>, body: &[u8]) -> Option<CometRefusal>
-        requires space { IfSome limit (λ _. used self.now.entries < 2 ^ 64) }
+        requires space { IfSome limit (λ _. bytes_used self.now.entries < 2 ^ 64) }
         ensures row { result ≡ first_row (room_rows limit self.now.entries body.now) }
         ensures within { IfNone result (IsWithin limit self.now.entries body.now) }
     {
@@ -95,7 +95,7 @@ impl Register {
         bytes: &[u8],
     ) -> Result<NamedComet, CometRefusal>
         requires over { IsOver (deeds (V.history shelf.now)) self.now }
-        requires space { IfSome limit (λ _. used self.now.entries < 2 ^ 64) }
+        requires space { IfSome limit (λ _. bytes_used self.now.entries < 2 ^ 64) }
         ensures exact { result
             ≡ names_within limit (deeds (V.history shelf.now)) self.now.entries bytes.now naming }
         ensures given { IfOk result (λ named.
@@ -128,7 +128,7 @@ impl Register {
     ) -> Result<CometReply, NoMemory>
         requires over { IsOver (deeds (V.history _shelf.now)) self.now }
         requires used { Some place ≡ place_of self.now.entries number }
-        ensures { IfOk result (λ reply. (k : Kept) → kept self.now.entries 0 number ≡ Some k →
+        ensures { IfOk result (λ reply. (k : Kept) → numbered_entry self.now.entries 0 number ≡ Some k →
             reply ≡ kept_reply (deeds (V.history _shelf.now)) bytes.now k) }
     {
         comet_model::laws::each_entry_names();
@@ -181,7 +181,7 @@ impl Register {
         moment: Instant,
     ) -> Result<Prep, CometRefusal>
         requires over { IsOver (deeds (V.history shelf.now)) self.old }
-        requires space { IfSome limit (λ _. used self.old.entries < 2 ^ 64) }
+        requires space { IfSome limit (λ _. bytes_used self.old.entries < 2 ^ 64) }
         requires read { naming_of bytes.now ≡ Some naming }
         ensures answer { IsPrepared limit (deeds (V.history shelf.now)) self.old.entries self.old.comets self.new.room
             (unless_refused (names_within limit (deeds (V.history shelf.now)) self.old.entries bytes.now naming)
@@ -222,7 +222,7 @@ impl Register {
         moment: Instant,
     ) -> Result<Prep, CometRefusal>
         requires over { IsOver (deeds (V.history shelf.now)) self.old }
-        requires space { IfSome limit (λ _. used self.old.entries < 2 ^ 64) }
+        requires space { IfSome limit (λ _. bytes_used self.old.entries < 2 ^ 64) }
         requires read { naming_of bytes.now ≡ Some naming }
         ensures answer { IsPrepared limit (deeds (V.history shelf.now)) self.old.entries self.old.comets self.new.room
             (act_step limit (deeds (V.history shelf.now)) self.old.entries number naming bytes.now moment) result }
@@ -250,10 +250,10 @@ impl Register {
     ) -> Result<Prep, CometRefusal>
         requires act { is_act request.now.verb ≡ true }
         requires over { IsOver (deeds (V.history shelf.now)) self.old }
-        requires space { IfSome limit (λ _. used self.old.entries < 2 ^ 64) }
+        requires space { IfSome limit (λ _. bytes_used self.old.entries < 2 ^ 64) }
         ensures answer { IsPrepared limit (deeds (V.history shelf.now)) self.old.entries self.old.comets self.new.room
             (outcome self.old.founder limit (deeds (V.history shelf.now)) self.old.entries request.now reading) result }
-        ensures announced { IfErr (announced request.now) (λ refusal. result ≡ Err refusal) }
+        ensures announced { IfErr (announcement request.now) (λ refusal. result ≡ Err refusal) }
         ensures entries { self.new.entries ≡ self.old.entries }
         ensures comets { self.new.comets ≡ self.old.comets }
         ensures founder { self.new.founder ≡ self.old.founder }

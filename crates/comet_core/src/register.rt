@@ -4,12 +4,12 @@ ghost use Rattle.std.specs.Prelude.{◌≡◌, ◌<◌, ◌^◌, ◌∷◌, List
 ghost use Rattle.ordered_list.specs.Contents.{UsesOne};
 ghost use Rattle.act_model.specs.declared.deed.Deed.{Deed};
 ghost use Rattle.act_model.specs.Deeds.{deeds};
-ghost use Rattle.act_model.specs.Refusals.{used};
+ghost use Rattle.act_model.specs.Refusals.{bytes_used};
 ghost use Rattle.comet_model.specs.Legal.{IsLegal};
 ghost use Rattle.comet_model.specs.Requests.{is_act};
 ghost use Rattle.comet_model.specs.Step.{outcome};
 ghost use Rattle.comet_core.specs.Register.{IsOver, IsNext, IsReadyAt};
-ghost use Rattle.comet_core.specs.Preparing.{announced, Prepares};
+ghost use Rattle.comet_core.specs.Preparing.{announcement, Prepares};
 
 use crate::book::Book;
 use crate::comets::Comets;
@@ -90,10 +90,10 @@ impl Register {
     ) -> Prep
         requires act { is_act request.now.verb ≡ true }
         requires over { IsOver (deeds (V.history shelf.now)) self.old }
-        requires space { IfSome limit (λ _. used self.old.entries < 2 ^ 64) }
+        requires space { IfSome limit (λ _. bytes_used self.old.entries < 2 ^ 64) }
         ensures answer { Prepares limit (deeds (V.history shelf.now)) self.old.entries self.old.comets self.new.room
             (outcome self.old.founder limit (deeds (V.history shelf.now)) self.old.entries request.now reading) result }
-        ensures announced { IfErr (announced request.now) (λ refusal. result ≡ Prep.Refused refusal) }
+        ensures announced { IfErr (announcement request.now) (λ refusal. result ≡ Prep.Refused refusal) }
         ensures entries { self.new.entries ≡ self.old.entries }
         ensures comets { self.new.comets ≡ self.old.comets }
         ensures founder { self.new.founder ≡ self.old.founder }

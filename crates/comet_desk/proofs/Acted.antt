@@ -12,7 +12,7 @@ use Rattle.obs_journal.specs.Journals.{JournalState, StandsFor}
 use Rattle.act_model.specs.declared.deed.Deed.{Deed}
 use Rattle.act_model.specs.declared.entry.Entry.{Entry}
 use Rattle.act_model.specs.declared.keeper.OfficeState.{OfficeState}
-use Rattle.act_model.specs.Refusals.{used, entry_size}
+use Rattle.act_model.specs.Refusals.{bytes_used, entry_size}
 use Rattle.act_model.specs.Requests.{is_act}
 use Rattle.act_model.specs.Turns.{unless_untouched}
 use Rattle.mpc_desk.specs.Files.{parcel_of, parcels_in, AreActs}
@@ -25,7 +25,7 @@ use Rattle.comet_model.specs.declared.request.CometRequest.{CometRequest}
 use Rattle.comet_model.specs.Legal.{IsLegal}
 use Rattle.comet_model.specs.Register.{named_by, comets}
 use Rattle.comet_model.specs.Replies.{entry_answer}
-use Rattle.comet_model.specs.Step.{Keeps, Adds, outcome, after, step}
+use Rattle.comet_model.specs.Step.{Keeps, Adds, outcome, reply_and_entries, step}
 use Rattle.comet_model.specs.Turns.{Answers}
 use Rattle.comet_core.specs.declared.prepared.Prep.{Prep}
 use Rattle.comet_core.specs.declared.prepared.Prep.TheVariants as prep
@@ -39,16 +39,16 @@ use Rattle.comet_desk.proofs.Mended.{row_stands, seen, at_entries, comets_more, 
 module _ (founder : Key) (limit : Option ℕ) (desk : List Deed) (past : List Entry) (q : CometRequest) (t : ℤ) where
   pub answers_kept : (reply : CometReply) → outcome founder limit desk past q t ≡ Keeps reply → Answers founder limit desk past q t reply past
   unfolding step
-  answers_kept reply is = inl (ap (after desk past) is)
+  answers_kept reply is = inl (ap (reply_and_entries desk past) is)
 
   pub answers_refused : (refusal : CometRefusal) → IsRefused (outcome founder limit desk past q t) refusal → Answers founder limit desk past q t (Refused refusal) past
   unfolding step
-  answers_refused refusal (inl is) = inl (ap (after desk past) is)
+  answers_refused refusal (inl is) = inl (ap (reply_and_entries desk past) is)
   answers_refused refusal (inr none) = inr (ap (λ (r : CometRefusal). Refused r) none, refl)
 
   step_adds : (entry : Entry) → outcome founder limit desk past q t ≡ Adds entry → step founder limit desk past q t ≡ (Done (entry_answer desk past entry), entry ∷ past)
   unfolding step
-  step_adds entry is = ap (after desk past) is
+  step_adds entry is = ap (reply_and_entries desk past) is
 
   pub answers_ready : (entry : Entry) (reply : CometReply) (text : List ℕ) → outcome founder limit desk past q t ≡ Adds entry → reply ≡ Done text → text ≡ entry_answer desk past entry → Answers founder limit desk past q t reply (entry ∷ past)
   answers_ready entry reply text is says answer =
@@ -89,11 +89,11 @@ module _ {D : Type 0} (leaves : D → List ℕ → Type 0) (register now : Regis
   prepared_desk = subst (IsDesk leaves now journal) (sym (no_doubt doubt none)) (at_entries leaves now journal register.entries entries here.stands here.space here.acts)
 
   -- the journal has room for one more parcel
-  pub room_is : (limit : ℕ) (body : List ℕ) → limit < 2 ^ 64 → used register.entries + entry_size body ≤ limit → used register.entries + entry_size body < 2 ^ 64
+  pub room_is : (limit : ℕ) (body : List ℕ) → limit < 2 ^ 64 → bytes_used register.entries + entry_size body ≤ limit → bytes_used register.entries + entry_size body < 2 ^ 64
   room_is limit body fits within = omega arith
 
   -- the entry was kept
-  pub kept_desk : (new : RegisterValue) (after : JournalState D) (parcel : RawParcel) (e : Entry) → parcel ≡ parcel_of e → new.entries ≡ e ∷ now.entries → is_act e.verb ≡ true → used register.entries + entry_size e.body < 2 ^ 64
+  pub kept_desk : (new : RegisterValue) (after : JournalState D) (parcel : RawParcel) (e : Entry) → parcel ≡ parcel_of e → new.entries ≡ e ∷ now.entries → is_act e.verb ≡ true → bytes_used register.entries + entry_size e.body < 2 ^ 64
       → ((parcels : List RawParcel) → StandsFor leaves journal parcels None → StandsFor leaves after (parcels ++ parcel ∷ []) None) → IsDesk leaves new after doubt
   kept_desk new after parcel e same more act space added =
       subst (IsDesk leaves new after) (sym (no_doubt doubt none))
@@ -102,17 +102,17 @@ module _ {D : Type 0} (leaves : D → List ℕ → Type 0) (register now : Regis
       space (act, here.acts))
 
   -- the entry is in doubt
-  pub doubted_desk : (after : JournalState D) (parcel : RawParcel) (ready : Ready) → parcel ≡ parcel_of ready.entry → is_act ready.entry.verb ≡ true → IsNext register.comets ready.named → 0 < now.room → used register.entries + entry_size ready.entry.body < 2 ^ 64
+  pub doubted_desk : (after : JournalState D) (parcel : RawParcel) (ready : Ready) → parcel ≡ parcel_of ready.entry → is_act ready.entry.verb ≡ true → IsNext register.comets ready.named → 0 < now.room → bytes_used register.entries + entry_size ready.entry.body < 2 ^ 64
       → ((parcels : List RawParcel) → StandsFor leaves journal parcels None → StandsFor leaves after parcels (Some parcel)) → IsDesk leaves now after (Some ready)
   doubted_desk after parcel ready same act next room space in_doubt = record {
     stands = subst (λ (h : List Entry). StandsFor leaves after (parcels_in h) (Some (parcel_of ready.entry))) (sym entries) (subst (λ (p : RawParcel). StandsFor leaves after (parcels_in register.entries) (Some p)) same (in_doubt (parcels_in register.entries) here.stands));
-    space = subst (λ (h : List Entry). used h < 2 ^ 64) (sym entries) here.space;
+    space = subst (λ (h : List Entry). bytes_used h < 2 ^ 64) (sym entries) here.space;
     acts = subst AreActs (sym entries) here.acts;
     next = record {
       act = act;
       named = subst (λ (c : List NamedComet). IsNext c ready.named) (sym named) next;
       room = room;
-      space = subst (λ (h : List Entry). used h + entry_size ready.entry.body < 2 ^ 64) (sym entries) space;
+      space = subst (λ (h : List Entry). bytes_used h + entry_size ready.entry.body < 2 ^ 64) (sym entries) space;
     };
   }
 

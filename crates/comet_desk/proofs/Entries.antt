@@ -10,7 +10,7 @@ use Rattle.act_model.specs.declared.entry.Entry.{Entry}
 use Rattle.act_model.specs.declared.reply.Excess.TheVariants as excess
 use Rattle.act_model.specs.declared.request.TheConstants.{BODY_BYTES, BODY_LINES}
 use Rattle.act_model.specs.declared.request.Verb.TheVariants.{Enrol}
-use Rattle.act_model.specs.History.{Kept, kept, next_moment}
+use Rattle.act_model.specs.History.{Kept, numbered_entry, next_moment}
 use Rattle.act_model.specs.Requests.{is_act, line_feeds}
 use Rattle.act_model.specs.Rows.{first_row}
 use Rattle.comet_model.specs.declared.heard.CometAsked.{CometAsked}
@@ -24,7 +24,7 @@ use Rattle.comet_model.specs.Hearing.{size_rows, bytes_in, hear}
 use Rattle.comet_model.specs.Legal.{entry_request, IsAdded, IsLegal}
 use Rattle.comet_model.specs.Register.{new_entry}
 use Rattle.comet_model.specs.Rows.{unless, ◌>>=◌}
-use Rattle.comet_model.specs.Step.{Outcome, Refuses, Keeps, Tells, Adds, names_within, unless_kept, unless_refused, asked_step, unless_unheard, outcome, after, step}
+use Rattle.comet_model.specs.Step.{Outcome, Refuses, Keeps, Tells, Adds, names_within, unless_kept, unless_refused, asked_step, unless_unheard, outcome, reply_and_entries, step}
 use Rattle.mpc_desk.specs.Files.{AreActs}
 
 -- the entry has the verb of a register's entries, and its body is one that a request may have
@@ -66,7 +66,7 @@ module _ (founder : Key) (limit : Option ℕ) (desk : List Deed) (past : List En
 
   asked_adds : (number : ℕ) (asked : CometAsked) (bytes : List ℕ) → length bytes ≤ BODY_BYTES → asked_step limit desk past number asked bytes (next_moment past t) ≡ Adds e → IsOfAct e
   asked_adds number (Names naming) bytes short is =
-      let new : e ≡ new_entry number bytes (next_moment past t) = new_is desk (kept past 0 number) bytes (names_within limit desk past bytes naming) (new_entry number bytes (next_moment past t)) e is in
+      let new : e ≡ new_entry number bytes (next_moment past t) = new_is desk (numbered_entry past 0 number) bytes (names_within limit desk past bytes naming) (new_entry number bytes (next_moment past t)) e is in
       record {
         verb = ap (λ (x : Entry). x.verb) new;
         short = subst (λ (b : List ℕ). length b ≤ BODY_BYTES) (sym (ap (λ (x : Entry). x.body) new)) short;
@@ -91,7 +91,7 @@ module _ (founder : Key) (limit : Option ℕ) (desk : List Deed) (past : List En
 longer_than : (e : Entry) (past : List Entry) → past ≡ e ∷ past → ⊥
 longer_than e past is = let lengths = ap length is in omega arith
 
-after_adds : (desk : List Deed) (past : List Entry) (e : Entry) (o : Outcome) → (after desk past o).1 ≡ e ∷ past → o ≡ Adds e
+after_adds : (desk : List Deed) (past : List Entry) (e : Entry) (o : Outcome) → (reply_and_entries desk past o).1 ≡ e ∷ past → o ≡ Adds e
 after_adds desk past e (Refuses refusal) is = absurd (longer_than e past is)
 after_adds desk past e (Keeps reply) is = absurd (longer_than e past is)
 after_adds desk past e (Tells text) is = absurd (longer_than e past is)

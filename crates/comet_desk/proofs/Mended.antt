@@ -10,7 +10,7 @@ use Rattle.obs_journal.specs.Journals.{JournalState, IsDoubtfulIn, StandsFor}
 use Rattle.obs_journal.specs.Parcels.{RawParcel}
 use Rattle.act_model.specs.declared.deed.Deed.{Deed}
 use Rattle.act_model.specs.declared.entry.Entry.{Entry}
-use Rattle.act_model.specs.Refusals.{used}
+use Rattle.act_model.specs.Refusals.{bytes_used}
 use Rattle.mpc_desk.specs.Desks.{RestsAt}
 use Rattle.mpc_desk.specs.Files.{parcel_of, parcels_in, AreActs, Stands}
 use Rattle.comet_model.specs.declared.named.NamedComet.{NamedComet}
@@ -28,7 +28,7 @@ row_length-more [] parcel = omega arith
 row_length-more (first ∷ parcels) parcel = let more = row_length-more parcels parcel in omega (arith, more)
 
 -- the entries take what their parcels take, with the first byte and the closed gate
-pub used_is : (entries : List Entry) → used entries ≡ row_length_in chained (parcels_in entries) + 2
+pub used_is : (entries : List Entry) → bytes_used entries ≡ row_length_in chained (parcels_in entries) + 2
 used_is [] = refl
 used_is (entry ∷ past) = let before = used_is past in let more = row_length-more (parcels_in past) (parcel_of entry) in omega (arith, before, more)
 
@@ -59,15 +59,15 @@ module _ {D : Type 0} (leaves : D → List ℕ → Type 0) where
       (in_doubt image (parcels_in register.entries) (parcel_of ready.entry) (desk.stands.images image left))
 
   -- the gate of what comes next stands where the bytes of the entries end
-  pub position_is : (register : RegisterValue) (journal : JournalState D) (doubt : Option Ready) → IsDesk leaves register journal doubt → journal.reached.position ≡ used register.entries
+  pub position_is : (register : RegisterValue) (journal : JournalState D) (doubt : Option Ready) → IsDesk leaves register journal doubt → journal.reached.position ≡ bytes_used register.entries
   position_is register journal doubt desk = ap (λ r. r.position) desk.stands.reached ∙ sym (used_is register.entries)
 
   -- a register with nothing in doubt
-  pub at_entries : (register : RegisterValue) (journal : JournalState D) (entries : List Entry) → register.entries ≡ entries → StandsFor leaves journal (parcels_in entries) None → used entries < 2 ^ 64 → AreActs entries
+  pub at_entries : (register : RegisterValue) (journal : JournalState D) (entries : List Entry) → register.entries ≡ entries → StandsFor leaves journal (parcels_in entries) None → bytes_used entries < 2 ^ 64 → AreActs entries
       → IsDesk leaves register journal None
   at_entries register journal entries is stands space acts = record {
     stands = subst (λ (h : List Entry). StandsFor leaves journal (parcels_in h) None) (sym is) stands;
-    space = subst (λ (h : List Entry). used h < 2 ^ 64) (sym is) space;
+    space = subst (λ (h : List Entry). bytes_used h < 2 ^ 64) (sym is) space;
     acts = subst AreActs (sym is) acts;
     next = tt;
   }

@@ -24,7 +24,7 @@ use Rattle.comet_model.specs.declared.request.CometRequest.{CometRequest}
 use Rattle.comet_model.specs.Legal.{IsLegal}
 use Rattle.comet_model.specs.Requests.{is_act}
 use Rattle.comet_model.specs.Turns.{CometTurn, IsTurn}
-use Rattle.comet_model.specs.Worlds.{WorldState, running, new_register, Event, Received, Lost, LeavesInside, Happens, World, AreStillAcknowledged}
+use Rattle.comet_model.specs.Worlds.{WorldState, running_world, new_register, Event, Received, Lost, LeavesInside, Happens, World, AreStillAcknowledged}
 use Rattle.comet_model.specs.Worlds as worlds
 use Rattle.comet_desk.specs.Files.{HoldsEntries}
 use Rattle.comet_desk.specs.Desks.{CometDeskState, CometAct, IsAtRest, MayLeave, FailsOn, ActsOn, turn_in}
@@ -107,7 +107,7 @@ module _ {D : Type 0} (on : DiskWords D) (founder : Key) (limit : ℕ) (in_force
         turn_received : (turn : CometTurn) (new : CometDeskState D) → IsTurn old.founder (Some old.limit) (deeds before.history) old.state turn new.state → after.place ≡ OnDisk new → after.received ≡ reply_in turn ∷ before.received
             → new.founder ≡ old.founder → new.limit ≡ old.limit → IsAtRest on.leaves new → Reaches world after
         turn_received turn new takes place replies same_founder same_limit rests =
-            let reached : WorldState = running world.history new.state (turn ∷ world.received) in
+            let reached : WorldState = running_world world.history new.state (turn ∷ world.received) in
             record {
               event = Received turn;
               reached = reached;
@@ -120,7 +120,7 @@ module _ {D : Type 0} (on : DiskWords D) (founder : Key) (limit : ℕ) (in_force
         turn_lost : (turn : CometTurn) (new : CometDeskState D) → IsTurn old.founder (Some old.limit) (deeds before.history) old.state turn new.state → after.place ≡ OnDisk new → after.received ≡ before.received
             → new.founder ≡ old.founder → new.limit ≡ old.limit → IsAtRest on.leaves new → Reaches world after
         turn_lost turn new takes place replies same_founder same_limit rests =
-            let reached : WorldState = running world.history new.state world.received in
+            let reached : WorldState = running_world world.history new.state world.received in
             record {
               event = Lost turn;
               reached = reached;
@@ -131,7 +131,7 @@ module _ {D : Type 0} (on : DiskWords D) (founder : Key) (limit : ℕ) (in_force
         -- a mending
         mended : (result : Result Settled Failed) (new : CometDeskState D) → IsMending on old result new → after.place ≡ OnDisk new → after.received ≡ before.received → Reaches world after
         mended (Ok settled) new m place replies =
-            let reached : WorldState = running world.history new.state world.received in
+            let reached : WorldState = running_world world.history new.state world.received in
             record {
               event = worlds.Mended;
               reached = reached;
@@ -139,7 +139,7 @@ module _ {D : Type 0} (on : DiskWords D) (founder : Key) (limit : ℕ) (in_force
               is_in = reached_in (OnDisk new) before.received reached place replies (refl, refl, m.founder ∙ here.2, m.limit ∙ here.3, m.at_rest) is.received refl;
             }
         mended (Err failed) new m place replies =
-            let reached : WorldState = running world.history new.state world.received in
+            let reached : WorldState = running_world world.history new.state world.received in
             let doubted : IsSome old.state.doubt = some_is old.state.doubt (λ none. let fails = m.nothing.1 none in absurd cc) in
             record {
               event = worlds.Unmended;
@@ -211,7 +211,7 @@ module _ {D : Type 0} (on : DiskWords D) (founder : Key) (limit : ℕ) (in_force
             let holds = at_file (on.reads disk) (λ bytes. HoldsEntries bytes register.state.settled) file reads o.stood in
             let same : world.register.settled ≡ register.state.settled = one_list one_second file world.register.settled register.state.settled at.2 holds in
             let rests : at_rest register.state.settled ≡ register.state = ap (λ (d : Option Entry). record { settled = register.state.settled; doubt = d }) (sym o.settled) in
-            let reached : WorldState = running world.history world.register world.received in
+            let reached : WorldState = running_world world.history world.register world.received in
             record {
               event = worlds.Reopened;
               reached = reached;

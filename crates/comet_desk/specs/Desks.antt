@@ -12,7 +12,7 @@ use Rattle.act_model.specs.declared.entry.Entry.{Entry}
 use Rattle.act_model.specs.declared.keeper.OfficeState.{OfficeState}
 use Rattle.act_model.specs.Conducts.{EitherWay}
 use Rattle.act_model.specs.Keepers.{RoseBy}
-use Rattle.act_model.specs.Refusals.{used, entry_size}
+use Rattle.act_model.specs.Refusals.{bytes_used, entry_size}
 use Rattle.act_model.specs.Requests.{is_act}
 use Rattle.act_model.specs.Turns.{Mends}
 use Rattle.mpc_desk.specs.Desks.{RestsAt, count_of}
@@ -58,7 +58,7 @@ pub record IsNextEntry (register : RegisterValue) (ready : Ready) : Type 0 where
   pub act : is_act ready.entry.verb ≡ true
   pub named : IsNext register.comets ready.named
   pub room : 0 < register.room
-  pub space : used register.entries + entry_size ready.entry.body < 2 ^ 64
+  pub space : bytes_used register.entries + entry_size ready.entry.body < 2 ^ 64
 
 -- the entries that are settled, and the act in doubt
 abbrev pub state_of : RegisterValue → Option Ready → OfficeState
@@ -70,7 +70,7 @@ pub record IsDesk {D : Type 0} (leaves : D → List ℕ → Type 0) (register : 
     (doubt : Option Ready) : Type 0 where
   pub stands : StandsFor leaves journal (parcels_in register.entries)
       (option_map (λ ready. parcel_of ready.entry) doubt)
-  pub space : used register.entries < 2 ^ 64
+  pub space : bytes_used register.entries < 2 ^ 64
   pub acts : AreActs register.entries
   pub next : IfSome doubt (IsNextEntry register)
 

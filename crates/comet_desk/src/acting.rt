@@ -18,7 +18,7 @@ ghost use Rattle.comet_model.specs.Conducts.{IsAcknowledged};
 ghost use Rattle.comet_model.specs.Requests.{is_act};
 ghost use Rattle.comet_model.specs.Step.{Adds, Refuses, outcome};
 ghost use Rattle.comet_model.specs.Unbroken.{UnbrokenNames};
-ghost use Rattle.comet_core.specs.Preparing.{announced};
+ghost use Rattle.comet_core.specs.Preparing.{announcement};
 ghost use Rattle.comet_desk.specs.Desks.{IsBeside, IsAtRest, ActsInTurn, TakesTurn, TakesAct};
 ghost use Rattle.comet_desk.specs.Events.{IsAct, IsQuery};
 
@@ -91,7 +91,7 @@ impl<D: Disk> CometDesk<D> {
             outcome self.old.founder (Some self.old.limit) (deeds (V.history shelf.now)) self.new.state.settled
             request.now reading ≡ Adds entry) }
         // What is refused without memory is refused so, unless an act in doubt could not be mended.
-        ensures announced { IfErr (announced request.now) (λ refusal. (result ≡ Refused refusal)
+        ensures announced { IfErr (announcement request.now) (λ refusal. (result ≡ Refused refusal)
             ⊎ ((result ≡ Refused (DiskFault false)) × (self.new.state ≡ self.old.state))) }
 
         // The register is legal beside the office, with the act in doubt and without; each number acts at most once;
@@ -164,7 +164,7 @@ impl<D: Disk> CometDesk<D> {
         ensures doubt { result ≡ Refused (DiskFault true) → IsSomeAnd self.new.state.doubt (λ entry.
             outcome self.old.founder (Some self.old.limit) (deeds (V.history shelf.now)) self.new.state.settled
             request.now reading ≡ Adds entry) }
-        ensures announced { IfErr (announced request.now) (λ refusal. (result ≡ Refused refusal)
+        ensures announced { IfErr (announcement request.now) (λ refusal. (result ≡ Refused refusal)
             ⊎ ((result ≡ Refused (DiskFault false)) × (self.new.state ≡ self.old.state))) }
         ensures beside { IsBeside (deeds (V.history shelf.now)) self.new }
         ensures founder { self.new.founder ≡ self.old.founder }
@@ -199,7 +199,7 @@ impl<D: Disk> CometDesk<D> {
           reply = result;
           new = self.new;
         }) }
-        ensures announced { IfErr (announced request.now) (λ refusal. result ≡ Refused refusal) }
+        ensures announced { IfErr (announcement request.now) (λ refusal. result ≡ Refused refusal) }
         ensures beside { IsBeside (deeds (V.history shelf.now)) self.new }
         ensures founder { self.new.founder ≡ self.old.founder }
         ensures limit { self.new.limit ≡ self.old.limit }

@@ -5,7 +5,7 @@ ghost use Rattle.std.specs.Prelude.{IsSomeAnd, OnErr};
 ghost use Rattle.call_log.specs.Counts.{Rises};
 ghost use Rattle.obs_journal.specs.Journals.{IsUnwritten};
 ghost use Rattle.act_model.specs.declared.deed.Deed.{Deed};
-ghost use Rattle.act_model.specs.Refusals.{used};
+ghost use Rattle.act_model.specs.Refusals.{bytes_used};
 ghost use Rattle.act_model.specs.Turns.{Mends};
 ghost use Rattle.mpc_desk.specs.Disks.{disk_words};
 ghost use Rattle.comet_desk.specs.Desks.{IsNextEntry, IsBeside, IsDesk, IsAtRest, settled_by, named_after};
@@ -86,9 +86,9 @@ impl<D: Disk> CometDesk<D> {
         ensures mends { IfOk result (λ _.
             Mends self.old.state.settled self.old.state.doubt self.new.state.settled) }
         ensures added_where_open { result ≡ Ok Settled.Added →
-            IfSome (D.reads self.old.disk) (λ file. slice_index file (used self.old.state.settled - 1) ≡ 1) }
+            IfSome (D.reads self.old.disk) (λ file. slice_index file (bytes_used self.old.state.settled - 1) ≡ 1) }
         ensures dropped_where_closed { result ≡ Ok Settled.Dropped →
-            IfSome (D.reads self.old.disk) (λ file. slice_index file (used self.old.state.settled - 1) ≢ 1) }
+            IfSome (D.reads self.old.disk) (λ file. slice_index file (bytes_used self.old.state.settled - 1) ≢ 1) }
 
         ensures still_in_doubt { OnErr result (self.new.state ≡ self.old.state) }
         // What it is beside before it is beside after it.

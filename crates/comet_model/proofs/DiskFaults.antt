@@ -10,7 +10,7 @@ use Rattle.act_model.specs.declared.deed.Deed.{Deed}
 use Rattle.act_model.specs.declared.entry.Entry.{Entry}
 use Rattle.act_model.specs.declared.keeper.OfficeState.{OfficeState}
 use Rattle.act_model.specs.declared.reply.Part.TheVariants as part
-use Rattle.act_model.specs.History.{Kept, kept, next_moment}
+use Rattle.act_model.specs.History.{Kept, numbered_entry, next_moment}
 use Rattle.act_model.specs.Rows.{first_row}
 use Rattle.act_model.specs.Turns.{unless_untouched}
 use Rattle.comet_model.specs.declared.heard.CometAsked.{CometAsked}
@@ -30,11 +30,11 @@ use Rattle.comet_model.specs.declared.request.CometVerb.TheVariants as verb
 use Rattle.comet_model.specs.Rows.{unless, ◌>>=◌}
 use Rattle.comet_model.specs.Finding.{found_of}
 use Rattle.comet_model.specs.Comets.{comet_of, next_named}
-use Rattle.comet_model.specs.Hearing.{size_rows, bytes_in, verb_rows, is_number_of, number_in, claimed, naming_by, if_empty, asked_of, key_rows, hear}
+use Rattle.comet_model.specs.Hearing.{size_rows, bytes_in, verb_rows, is_number_of, number_in, number_claimed, naming_by, if_empty, asked_of, key_rows, hear}
 use Rattle.comet_model.specs.Namings.{naming_of}
 use Rattle.comet_model.specs.Refusals.{half_in, already_rows, full_rows, naming_rows, names, room_rows}
 use Rattle.comet_model.specs.Register.{comets, new_entry}
-use Rattle.comet_model.specs.Step.{Outcome, Refuses, Keeps, Tells, Adds, names_within, unless_kept, unless_refused, asked_step, unless_unheard, outcome, after, step}
+use Rattle.comet_model.specs.Step.{Outcome, Refuses, Keeps, Tells, Adds, names_within, unless_kept, unless_refused, asked_step, unless_unheard, outcome, reply_and_entries, step}
 use Rattle.comet_model.specs.Turns.{CometTurn, Answers, FailsToKeep, Settles, Takes, IsTurn, Conduct}
 use Rattle.comet_model.specs.Conducts.{HadNoFault, NoDiskFaults}
 use Rattle.comet_model.proofs.Steps.{outcome_is, hearing, heard_outcome, step_is}
@@ -140,7 +140,7 @@ bytes_other NoRoom = tt
 heard_other : (founder : Key) (q : CometRequest) (bytes : List ℕ) → ErrsOther (hear founder q bytes)
 unfolding hear
 heard_other founder q bytes =
-    bound_other (claimed q.verb q.number) _ (refuses_other (verb_rows q.verb) (number_in q.verb q.number) (tt, tt) (number_other q.verb q.number))
+    bound_other (number_claimed q.verb q.number) _ (refuses_other (verb_rows q.verb) (number_in q.verb q.number) (tt, tt) (number_other q.verb q.number))
     (λ number. bound_other (asked_of q.verb bytes) _ (asked_other q.verb bytes)
     (λ asked. refuses_other (key_rows founder q.key) (Ok (record { number = number; asked = asked })) (tt, tt) tt))
 
@@ -171,7 +171,7 @@ acted_other desk (Some k) bytes goes_on is = kept_other (bytes_eq bytes k.entry.
 module _ (founder : Key) (limit : Option ℕ) (desk : List Deed) (past : List Entry) (q : CometRequest) (t : ℤ) where
   step_other_of : (bytes : List ℕ) (number : ℕ) (asked : CometAsked) → IsOtherOutcome (asked_step limit desk past number asked bytes (next_moment past t))
   step_other_of bytes number (Names naming) =
-      acted_other desk (kept past 0 number) bytes _ (done_other (names_within limit desk past bytes naming) (new_entry number bytes (next_moment past t)) (within_other limit desk past bytes naming))
+      acted_other desk (numbered_entry past 0 number) bytes _ (done_other (names_within limit desk past bytes naming) (new_entry number bytes (next_moment past t)) (within_other limit desk past bytes naming))
   step_other_of bytes number Register = tt
   step_other_of bytes number Translate = tt
 
@@ -186,7 +186,7 @@ module _ (founder : Key) (limit : Option ℕ) (desk : List Deed) (past : List En
   outcome_other : IsOtherOutcome (outcome founder limit desk past q t)
   outcome_other = subst IsOtherOutcome (sym (outcome_is founder limit desk past q t)) (opens_other (bytes_in q.body) (bytes_other q.body))
 
-after_other : (desk : List Deed) (past : List Entry) (o : Outcome) → IsOtherOutcome o → IsOtherReply (after desk past o).0
+after_other : (desk : List Deed) (past : List Entry) (o : Outcome) → IsOtherOutcome o → IsOtherReply (reply_and_entries desk past o).0
 after_other desk past (Refuses r) is = is
 after_other desk past (Keeps reply) is = is
 after_other desk past (Tells text) is = tt

@@ -22,7 +22,7 @@ use Rattle.comet_model.specs.Namings.{naming_of}
 use Rattle.comet_model.specs.Refusals.{names}
 use Rattle.comet_model.specs.Register.{named_by, with_named, comets, new_entry}
 use Rattle.comet_model.specs.Replies.{named_answer, entry_answer}
-use Rattle.comet_model.specs.Step.{Outcome, Adds, outcome, after, step}
+use Rattle.comet_model.specs.Step.{Outcome, Adds, outcome, reply_and_entries, step}
 use Rattle.comet_model.specs.Conducts.{Makes}
 use Rattle.comet_model.specs.Legal.{entry_request, IsAdded, IsLegal}
 use Rattle.comet_model.proofs.Names.{gives, gives_again, named_again}
@@ -107,7 +107,7 @@ module _ (founder : Key) (limit : Option ℕ) (desk : List Deed) (past : List En
 module _ (founder : Key) (desk : List Deed) where
   -- an entry that is added is what becomes of its request
   adds_entry : (past : List Entry) (e : Entry) → outcome founder None desk past (entry_request founder e) e.moment ≡ Adds e → (step founder None desk past (entry_request founder e) e.moment).1 ≡ e ∷ past
-  adds_entry past e is = ap (λ (p : CometReply × List Entry). p.1) (step_is founder None desk past (entry_request founder e) e.moment) ∙ ap (λ (o : Outcome). (after desk past o).1) is
+  adds_entry past e is = ap (λ (p : CometReply × List Entry). p.1) (step_is founder None desk past (entry_request founder e) e.moment) ∙ ap (λ (o : Outcome). (reply_and_entries desk past o).1) is
 
   made_entry : (past : List Entry) (e : Entry) (o : Outcome) (reply : CometReply) → Makes desk past o reply (e ∷ past) → (o ≡ Adds e) × (reply ≡ Done (entry_answer desk past e))
   made_entry past e o reply (inl same) = absurd (longer_than e past same)

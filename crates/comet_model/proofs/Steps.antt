@@ -9,7 +9,7 @@ use Rattle.act_bodies.specs.Keys.{key_text, same_key}
 use Rattle.act_model.specs.declared.deed.Deed.{Deed}
 use Rattle.act_model.specs.declared.entry.Entry.{Entry}
 use Rattle.act_model.specs.declared.reply.Part.TheVariants as part
-use Rattle.act_model.specs.History.{Kept, kept, next_moment, IsUnused}
+use Rattle.act_model.specs.History.{Kept, numbered_entry, next_moment, IsUnused}
 use Rattle.act_model.specs.Rows.{first_row}
 use Rattle.comet_model.specs.declared.heard.CometAsked.{CometAsked}
 use Rattle.comet_model.specs.declared.heard.CometAsked.TheVariants.{Names, Register, Translate}
@@ -25,10 +25,10 @@ use Rattle.comet_model.specs.declared.request.CometVerb.{CometVerb}
 use Rattle.comet_model.specs.declared.request.CometVerb.TheVariants as verb
 use Rattle.comet_model.specs.Rows.{unless, ◌>>=◌}
 use Rattle.comet_model.specs.Namings.{naming_of}
-use Rattle.comet_model.specs.Hearing.{size_rows, bytes_in, verb_rows, is_number_of, number_in, claimed, naming_by, if_empty, asked_of, key_rows, hear}
+use Rattle.comet_model.specs.Hearing.{size_rows, bytes_in, verb_rows, is_number_of, number_in, number_claimed, naming_by, if_empty, asked_of, key_rows, hear}
 use Rattle.comet_model.specs.Refusals.{names, room_rows}
 use Rattle.comet_model.specs.Register.{comets, new_entry}
-use Rattle.comet_model.specs.Step.{Outcome, Refuses, Keeps, Tells, Adds, names_within, unless_kept, unless_refused, act_step, asked_step, unless_unheard, outcome, after, step}
+use Rattle.comet_model.specs.Step.{Outcome, Refuses, Keeps, Tells, Adds, names_within, unless_kept, unless_refused, act_step, asked_step, unless_unheard, outcome, reply_and_entries, step}
 use Rattle.comet_model.specs.Conducts.{Makes}
 
 -- what was found, in two questions one after the other
@@ -103,7 +103,7 @@ module _ (founder : Key) (q : CometRequest) (bytes : List ℕ) where
   abbrev asked_heard : ℕ → Result CometHeard CometRefusal
   asked_heard number = asked_of q.verb bytes >>= whole_heard number
 
-  hear_is : hear founder q bytes ≡ (claimed q.verb q.number >>= asked_heard)
+  hear_is : hear founder q bytes ≡ (number_claimed q.verb q.number >>= asked_heard)
   unfolding hear
   hear_is = refl
 
@@ -116,7 +116,7 @@ module _ (founder : Key) (q : CometRequest) (bytes : List ℕ) where
 
   pub hears : (heard : CometHeard) → hear founder q bytes ≡ Ok heard → Hears founder q bytes heard
   hears heard is =
-      let (number, claimed_is, more) = bound (claimed q.verb q.number) asked_heard heard (sym hear_is ∙ is) in
+      let (number, claimed_is, more) = bound (number_claimed q.verb q.number) asked_heard heard (sym hear_is ∙ is) in
       let (known, number_is) = unless_ok (first_row (verb_rows q.verb)) (number_in q.verb q.number) number claimed_is in
       let (asked, asked_is, last) = bound (asked_of q.verb bytes) (whole_heard number) heard more in
       let (key, same) = unless_ok (first_row (key_rows founder q.key)) (Ok (record { number = number; asked = asked })) heard last in
@@ -170,7 +170,7 @@ pub record Added (founder : Key) (limit : Option ℕ) (desk : List Deed) (past :
   pub named : NamedComet
   pub body : bytes_in q.body ≡ Ok bytes
   pub hears : hear founder q bytes ≡ Ok (record { number = number; asked = Names naming })
-  pub unused : kept past 0 number ≡ None
+  pub unused : numbered_entry past 0 number ≡ None
   pub gives : names desk (comets desk past) naming ≡ Ok named
   pub room : first_row (room_rows limit past bytes) ≡ None
   pub entry : e ≡ new_entry number bytes (next_moment past t)
@@ -196,7 +196,7 @@ module _ (founder : Key) (limit : Option ℕ) (desk : List Deed) (past : List En
     where
       by : (asked : CometAsked) → heard.asked ≡ asked → asked_step limit desk past heard.number asked bytes (next_moment past t) ≡ Adds e → Added founder limit desk past q t e
       by (Names naming) asked_is last =
-          let (unused, (named, works), entry) = acted desk (kept past 0 heard.number) bytes (names_within limit desk past bytes naming) (new_entry heard.number bytes (next_moment past t)) e last in
+          let (unused, (named, works), entry) = acted desk (numbered_entry past 0 heard.number) bytes (names_within limit desk past bytes naming) (new_entry heard.number bytes (next_moment past t)) e last in
           let (given, gives, rest) = bound (names desk (comets desk past) naming) (if_room bytes) named works in
           let (room, same) = unless_ok (first_row (room_rows limit past bytes)) (Ok given) named rest in
           record {
@@ -233,7 +233,7 @@ module _ (founder : Key) (limit : Option ℕ) (desk : List Deed) (past : List En
 
   -- what is heard, not used and not refused is added
   pub adds_again : (bytes : List ℕ) (number : ℕ) (naming : Naming) (named : NamedComet) → bytes_in q.body ≡ Ok bytes → hear founder q bytes ≡ Ok (heard_naming number naming)
-      → kept past 0 number ≡ None → names desk (comets desk past) naming ≡ Ok named → first_row (room_rows limit past bytes) ≡ None
+      → numbered_entry past 0 number ≡ None → names desk (comets desk past) naming ≡ Ok named → first_row (room_rows limit past bytes) ≡ None
       → outcome founder limit desk past q t ≡ Adds (new_entry number bytes (next_moment past t))
   adds_again bytes number naming named body hears unused gives room =
       acts bytes number naming body hears
@@ -243,18 +243,18 @@ module _ (founder : Key) (limit : Option ℕ) (desk : List Deed) (past : List En
 
   -- a number that was used keeps its reply
   pub keeps : (bytes : List ℕ) (number : ℕ) (naming : Naming) (k : Kept) → bytes_in q.body ≡ Ok bytes → hear founder q bytes ≡ Ok (heard_naming number naming)
-      → kept past 0 number ≡ Some k → outcome founder limit desk past q t ≡ unless_kept desk (Some k) bytes (Refuses NoMemory)
+      → numbered_entry past 0 number ≡ Some k → outcome founder limit desk past q t ≡ unless_kept desk (Some k) bytes (Refuses NoMemory)
   keeps bytes number naming k body hears used =
       acts bytes number naming body hears
       ∙ ap (λ (k : Option Kept). unless_kept desk k bytes (unless_refused (names_within limit desk past bytes naming) (new_entry number bytes (next_moment past t)))) used
 
   -- the step by its outcome
-  pub step_is : step founder limit desk past q t ≡ after desk past (outcome founder limit desk past q t)
+  pub step_is : step founder limit desk past q t ≡ reply_and_entries desk past (outcome founder limit desk past q t)
   unfolding step
   step_is = refl
 
   pub no_room : q.body ≡ NoRoom → step founder limit desk past q t ≡ (Refused NoMemory, past)
-  no_room none = step_is ∙ ap (after desk past) (outcome_is ∙ ap (λ (b : Body). unless_unheard (bytes_in b >>= hearing)) none)
+  no_room none = step_is ∙ ap (reply_and_entries desk past) (outcome_is ∙ ap (λ (b : Body). unless_unheard (bytes_in b >>= hearing)) none)
 
 -- ---- what the step leaves
 
@@ -262,13 +262,13 @@ module _ (founder : Key) (limit : Option ℕ) (desk : List Deed) (past : List En
 abbrev pub Leaves : List Entry → List Entry → Type 0
 Leaves past next = (next ≡ past) ⊎ ((entry : Entry) × (next ≡ entry ∷ past) × IsUnused past entry)
 
-makes : (desk : List Deed) (past : List Entry) (o : Outcome) (reply : CometReply) (next : List Entry) → after desk past o ≡ (reply, next) → Makes desk past o reply next
+makes : (desk : List Deed) (past : List Entry) (o : Outcome) (reply : CometReply) (next : List Entry) → reply_and_entries desk past o ≡ (reply, next) → Makes desk past o reply next
 makes desk past (Refuses r) reply next is = inl (sym (ap (λ (p : CometReply × List Entry). p.1) is))
 makes desk past (Keeps kept) reply next is = inl (sym (ap (λ (p : CometReply × List Entry). p.1) is))
 makes desk past (Tells text) reply next is = inl (sym (ap (λ (p : CometReply × List Entry). p.1) is))
 makes desk past (Adds e) reply next is = inr (e, refl, sym (ap (λ (p : CometReply × List Entry). p.0) is), sym (ap (λ (p : CometReply × List Entry). p.1) is))
 
-refused_leaves : (desk : List Deed) (past : List Entry) (o : Outcome) (r : CometRefusal) (next : List Entry) → after desk past o ≡ (Refused r, next) → next ≡ past
+refused_leaves : (desk : List Deed) (past : List Entry) (o : Outcome) (r : CometRefusal) (next : List Entry) → reply_and_entries desk past o ≡ (Refused r, next) → next ≡ past
 refused_leaves desk past (Refuses x) r next is = sym (ap (λ (p : CometReply × List Entry). p.1) is)
 refused_leaves desk past (Keeps kept) r next is = sym (ap (λ (p : CometReply × List Entry). p.1) is)
 refused_leaves desk past (Tells text) r next is = sym (ap (λ (p : CometReply × List Entry). p.1) is)
@@ -284,7 +284,7 @@ module _ (founder : Key) (limit : Option ℕ) (desk : List Deed) where
   refusal_leaves past q t r next is = refused_leaves desk past (outcome founder limit desk past q t) r next (sym (step_is founder limit desk past q t) ∙ is)
 
   pub added_unused : (past : List Entry) (q : CometRequest) (t : ℤ) (e : Entry) → Added founder limit desk past q t e → IsUnused past e
-  added_unused past q t e a = ap (λ (x : Entry). kept past x.caller x.number) a.entry ∙ a.unused
+  added_unused past q t e a = ap (λ (x : Entry). numbered_entry past x.caller x.number) a.entry ∙ a.unused
 
   made_leaves : (past : List Entry) (q : CometRequest) (t : ℤ) (reply : CometReply) (next : List Entry) → Makes desk past (outcome founder limit desk past q t) reply next → Leaves past next
   made_leaves past q t reply next (inl same) = inl same

@@ -8,13 +8,13 @@ use Rattle.act_model.specs.declared.entry.Entry.{Entry}
 use Rattle.act_model.specs.declared.keeper.OfficeState.{OfficeState}
 use Rattle.act_model.specs.Conducts.{Extends, EitherWay}
 use Rattle.act_model.specs.Deeds.{deeds}
-use Rattle.act_model.specs.History.{Kept, kept, is_numbered, EachNumberOnce}
+use Rattle.act_model.specs.History.{Kept, numbered_entry, is_numbered, EachNumberOnce}
 use Rattle.act_model.specs.Worlds.{ComesToRest}
 use Rattle.comet_model.specs.declared.reply.CometReply.TheVariants.{Done}
 use Rattle.comet_model.specs.declared.request.CometRequest.{CometRequest}
 use Rattle.comet_model.specs.Requests.{is_act}
 use Rattle.comet_model.specs.Replies.{entry_answer}
-use Rattle.comet_model.specs.Step.{after}
+use Rattle.comet_model.specs.Step.{reply_and_entries}
 use Rattle.comet_model.specs.Turns.{CometTurn, IsTurn}
 use Rattle.comet_model.specs.Legal.{IsLegal}
 use Rattle.comet_model.specs.Worlds.{WorldState, new_register, Event, Received, Lost, Mended, Unmended, Stopped, StoppedInside, Reopened, Grew, LeavesEntry, LeavesInside, Happens, World, AreStillAcknowledged, AreAnsweredAgain}
@@ -32,11 +32,11 @@ kept_is : (one other : Kept) → Some one ≡ Some other → one ≡ other
 kept_is one other is = cc
 
 -- an entry that stands for a number is in the register, after those that stand before it
-kept_among : (past : List Entry) (caller number : ℕ) (k : Kept) → kept past caller number ≡ Some k → Extends (k.entry ∷ k.before) past
+kept_among : (past : List Entry) (caller number : ℕ) (k : Kept) → numbered_entry past caller number ≡ Some k → Extends (k.entry ∷ k.before) past
 kept_among [] caller number k is = absurd cc
 kept_among (e ∷ past) caller number k is = by (is_numbered caller number e) (kept_among past caller number k) is
   where
-    by : (b : Bool) → (kept past caller number ≡ Some k → Extends (k.entry ∷ k.before) past) → cond b (Some (record { entry = e; before = past })) (kept past caller number) ≡ Some k
+    by : (b : Bool) → (numbered_entry past caller number ≡ Some k → Extends (k.entry ∷ k.before) past) → cond b (Some (record { entry = e; before = past })) (numbered_entry past caller number) ≡ Some k
         → Extends (k.entry ∷ k.before) (e ∷ past)
     by true rest found = ([], let same : record { entry = e; before = past } ≡ k = kept_is (record { entry = e; before = past }) k found in ap (λ (x : Kept). x.entry ∷ x.before) same)
     by false rest found = let (newer, more) = rest found in (e ∷ newer, ap (λ (h : List Entry). e ∷ h) more)
@@ -146,7 +146,7 @@ module _ (founder : Key) (limit : Option ℕ) where
             answers =
                 inl
                 (step_is founder limit desk leaves.mended q t
-                ∙ ap (after desk leaves.mended) leaves.adds
+                ∙ ap (reply_and_entries desk leaves.mended) leaves.adds
                 ∙ ap (λ (s : OfficeState). (Done (entry_answer desk leaves.mended leaves.entry), s.settled)) (sym leaves.leaves));
             settled = ap (λ (s : OfficeState). s.doubt) leaves.leaves;
           });

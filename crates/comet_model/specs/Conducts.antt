@@ -5,7 +5,7 @@ use Rattle.read_ahead.specs.declared.body.Body.TheVariants.{Whole}
 use Rattle.act_bodies.specs.declared.key.Key.{Key}
 use Rattle.act_model.specs.declared.deed.Deed.{Deed}
 use Rattle.act_model.specs.declared.entry.Entry.{Entry}
-use Rattle.act_model.specs.History.{Kept, kept}
+use Rattle.act_model.specs.History.{Kept, numbered_entry}
 use Rattle.comet_model.specs.declared.reply.CometRefusal.TheVariants.{DiskFault, NoMemory}
 use Rattle.comet_model.specs.declared.reply.CometReply.{CometReply}
 use Rattle.comet_model.specs.declared.reply.CometReply.TheVariants.{Done, Refused}
@@ -50,7 +50,7 @@ pub record IsAcknowledged (desk : List Deed) (request : CometRequest) (text : Li
   pub entry : Kept
   pub body : request.body ≡ Whole bytes
   pub numbered : request.number ≡ Some number
-  pub found : kept later 0 number ≡ Some entry
+  pub found : numbered_entry later 0 number ≡ Some entry
   pub same : bytes_eq bytes entry.entry.body ≡ true
   pub answer : text ≡ entry_answer desk entry.before entry.entry
 

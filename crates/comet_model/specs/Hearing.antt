@@ -54,8 +54,8 @@ number_in verb None = Err (Unread part.Number)
 number_in verb (Some number) = if is_number_of verb number then Ok number else Err (Unread part.Number)
 
 -- what a request says of itself before its body is read: its number, where its verb names something
-abbrev pub claimed : CometVerb → Option ℕ → Result ℕ CometRefusal
-claimed verb number = unless (first_row (verb_rows verb)) (number_in verb number)
+abbrev pub number_claimed : CometVerb → Option ℕ → Result ℕ CometRefusal
+number_claimed verb number = unless (first_row (verb_rows verb)) (number_in verb number)
 
 -- what the body of the act asks
 abbrev pub naming_by : Option Naming → Result CometAsked CometRefusal
@@ -87,6 +87,6 @@ key_rows founder key = (not (same_key key founder), UnknownKey) ∷ []
 -- what is heard of a request with these bytes: its number, and what it asks
 unfoldable pub hear : Key → CometRequest → List ℕ → Result CometHeard CometRefusal
 hear founder request bytes = do
-  number ← claimed request.verb request.number
+  number ← number_claimed request.verb request.number
   asked ← asked_of request.verb bytes
   unless (first_row (key_rows founder request.key)) (Ok (record { number = number; asked = asked }))

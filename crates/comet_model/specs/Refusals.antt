@@ -7,7 +7,7 @@ use Rattle.comet_names.specs.declared.comet.Comet.{Comet}
 use Rattle.act_model.specs.declared.deed.Deed.{Deed}
 use Rattle.act_model.specs.declared.entry.Entry.{Entry}
 use Rattle.act_model.specs.Rows.{first_row}
-use Rattle.act_model.specs.Refusals.{used, entry_size}
+use Rattle.act_model.specs.Refusals.{bytes_used, entry_size}
 use Rattle.comet_model.specs.declared.named.Found.{Found}
 use Rattle.comet_model.specs.declared.named.Found.TheVariants as found
 use Rattle.comet_model.specs.declared.named.NamedComet.{NamedComet}
@@ -57,4 +57,4 @@ names desk past naming = do
 abbrev pub room_rows : Option ℕ → List Entry → List ℕ → List (Bool × CometRefusal)
 room_rows None past body = []
 room_rows (Some limit) past body =
-    (nat_lt limit (used past + entry_size body), JournalFull (used past) (entry_size body) limit) ∷ []
+    (nat_lt limit (bytes_used past + entry_size body), JournalFull (bytes_used past) (entry_size body) limit) ∷ []

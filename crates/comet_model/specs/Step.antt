@@ -4,7 +4,7 @@ use Rattle.act_bodies.specs.declared.key.Key.{Key}
 use Rattle.act_model.specs.declared.deed.Deed.{Deed}
 use Rattle.act_model.specs.declared.entry.Entry.{Entry}
 use Rattle.act_model.specs.Designations.{links_of}
-use Rattle.act_model.specs.History.{Kept, next_moment, next_receipt, kept}
+use Rattle.act_model.specs.History.{Kept, next_moment, next_receipt, numbered_entry}
 use Rattle.act_model.specs.Rows.{first_row}
 use Rattle.comet_model.specs.declared.heard.CometAsked.{CometAsked}
 use Rattle.comet_model.specs.declared.heard.CometAsked.TheVariants as asked
@@ -61,7 +61,7 @@ unless_refused (Err refusal) entry = Refuses refusal
 -- an act: the reply that is kept for its number; else the later refusals; else it becomes an entry
 abbrev pub act_step : Option ℕ → List Deed → List Entry → ℕ → Naming → List ℕ → ℤ → Outcome
 act_step limit desk past number naming bytes moment =
-    unless_kept desk (kept past 0 number) bytes
+    unless_kept desk (numbered_entry past 0 number) bytes
     (unless_refused (names_within limit desk past bytes naming) (new_entry number bytes moment))
 
 -- a request that was heard, which comes at this moment; a query reads the register and leaves it
@@ -85,11 +85,12 @@ outcome founder limit desk past request reading = unless_unheard do
   Ok (asked_step limit desk past heard.number heard.asked bytes (next_moment past reading))
 
 -- the reply to a request of which this becomes, and the entries that it leaves
-abbrev pub after : List Deed → List Entry → Outcome → CometReply × List Entry
-after desk past (Refuses refusal) = (Refused refusal, past)
-after desk past (Keeps reply) = (reply, past)
-after desk past (Tells text) = (Done text, past)
-after desk past (Adds entry) = (Done (entry_answer desk past entry), entry ∷ past)
+abbrev pub reply_and_entries : List Deed → List Entry → Outcome → CometReply × List Entry
+reply_and_entries desk past (Refuses refusal) = (Refused refusal, past)
+reply_and_entries desk past (Keeps reply) = (reply, past)
+reply_and_entries desk past (Tells text) = (Done text, past)
+reply_and_entries desk past (Adds entry) = (Done (entry_answer desk past entry), entry ∷ past)
 
 unfoldable pub step : Key → Option ℕ → List Deed → List Entry → CometRequest → ℤ → CometReply × List Entry
-step founder limit desk past request reading = after desk past (outcome founder limit desk past request reading)
+step founder limit desk past request reading =
+    reply_and_entries desk past (outcome founder limit desk past request reading)

@@ -123,5 +123,5 @@ readings_of turns = filter_map (λ turn. turn.reading) turns
 abbrev pub written_reply : CometReply → List ℕ
 written_reply reply = reply_frame (status_of reply) (text_of reply)
 
-abbrev pub written : List CometTurn → List ℕ
-written turns = flat_map (λ turn. written_reply turn.reply) turns
+abbrev pub written_replies : List CometTurn → List ℕ
+written_replies turns = flat_map (λ turn. written_reply turn.reply) turns

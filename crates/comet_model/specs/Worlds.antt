@@ -28,13 +28,13 @@ pub record WorldState : Type 0 where
   pub received : List CometTurn
 
 -- a register that runs beside an office with this history, of which these replies were received
-abbrev pub running : List Entry → OfficeState → List CometTurn → WorldState
-running history register received =
+abbrev pub running_world : List Entry → OfficeState → List CometTurn → WorldState
+running_world history register received =
     record { history = history; register = register; stopped = false; received = received }
 
 -- the empty register beside an office with this history
 abbrev pub new_register : List Entry → WorldState
-new_register history = running history (at_rest []) []
+new_register history = running_world history (at_rest []) []
 
 -- What may happen. A request that is sent again is a turn whose request came before, whatever became of it. A stop in a
 -- query or in a mending outside a turn is a stop at rest, since neither writes.

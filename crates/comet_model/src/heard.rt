@@ -3,7 +3,7 @@
 ghost use Rattle.std.specs.Prelude.{◌≡◌, ◌≤◌, false, length, Ok, Err, IfOk, IfErr, IfNone};
 ghost use Rattle.act_model.specs.declared.request.TheConstants.{BODY_BYTES};
 ghost use Rattle.act_model.specs.Rows.{first_row};
-ghost use Rattle.comet_model.specs.Hearing.{size_rows, bytes_in, is_number_of, claimed, hear};
+ghost use Rattle.comet_model.specs.Hearing.{size_rows, bytes_in, is_number_of, number_claimed, hear};
 ghost use Rattle.comet_model.specs.Requests.{is_act};
 ghost use Rattle.comet_model.specs.Rows.{IsDue};
 ghost use Rattle.comet_model.specs.Hearing.{naming_by, asked_of, if_empty, IsAskedInRange};
@@ -90,7 +90,7 @@ fn is_number_of(verb: CometVerb, number: u64) -> bool
 ///
 /// `Unread` for a verb that names nothing, and then for a number that a request of the verb can't have.
 pub fn claimed(verb: CometVerb, number: Option<u64>) -> Result<u64, CometRefusal>
-    ensures { result ≡ claimed verb number }
+    ensures { result ≡ number_claimed verb number }
 {
     if verb.is_unknown() {
         return Err(CometRefusal::Unread(Part::Verb));
@@ -155,7 +155,7 @@ pub fn hear(
 ) -> Result<CometHeard, CometRefusal>
     ensures due { IsDue (hear founder.now request.now bytes.now) result }
     // Memory is asked for after what the request says of itself.
-    ensures claimed { IfErr (claimed request.now.verb request.now.number) (λ refusal. result ≡ Err refusal) }
+    ensures claimed { IfErr (number_claimed request.now.verb request.now.number) (λ refusal. result ≡ Err refusal) }
     ensures query { is_act request.now.verb ≡ false → result ≡ hear founder.now request.now bytes.now }
     ensures range { IfOk result (λ heard. IsAskedInRange heard.asked) }
 {

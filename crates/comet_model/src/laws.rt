@@ -15,7 +15,7 @@ ghost use Rattle.act_model.specs.declared.entry.Entry.{Entry};
 ghost use Rattle.act_model.specs.declared.keeper.OfficeState.{OfficeState};
 ghost use Rattle.act_model.specs.Conducts.{Extends, EitherWay};
 ghost use Rattle.act_model.specs.Deeds.{deeds};
-ghost use Rattle.act_model.specs.History.{Kept, kept, EachNumberOnce};
+ghost use Rattle.act_model.specs.History.{Kept, numbered_entry, EachNumberOnce};
 ghost use Rattle.act_model.specs.Turns.{at_rest, Mends};
 ghost use Rattle.comet_model.specs.declared.named.Found.TheVariants.{Discovered};
 ghost use Rattle.comet_model.specs.declared.named.NamedComet.{NamedComet};
@@ -215,8 +215,8 @@ pub fn acknowledged_acts_are_kept()
         is_act turn.request.verb ≡ true → turn.reply ≡ Done text →
         IsAcknowledged desk turn.request text after.settled }
     ensures later { (founder : Key) (desk : List Deed) (earlier later : List Entry) (number : ℕ) (k : Kept) →
-        IsLegal founder desk later → Extends earlier later → kept earlier 0 number ≡ Some k →
-        kept later 0 number ≡ Some k }
+        IsLegal founder desk later → Extends earlier later → numbered_entry earlier 0 number ≡ Some k →
+        numbered_entry later 0 number ≡ Some k }
     ensures again { (founder : Key) (limit other : Option ℕ) (desk : List Deed) (past after later : List Entry)
         (request : CometRequest) (first again : ℤ) (text : List ℕ) → is_act request.verb ≡ true →
         step founder limit desk past request first ≡ (Done text, after) → IsLegal founder desk later →

@@ -15,7 +15,7 @@ use Rattle.comet_model.specs.declared.reply.CometReply.TheVariants.{Done}
 use Rattle.comet_model.specs.declared.request.CometRequest.{CometRequest}
 use Rattle.comet_model.specs.Conducts.{IsAcknowledged}
 use Rattle.comet_model.specs.Replies.{entry_answer}
-use Rattle.comet_model.specs.Step.{Adds, outcome, after, step}
+use Rattle.comet_model.specs.Step.{Adds, outcome, reply_and_entries, step}
 use Rattle.comet_model.specs.Turns.{CometTurn, TakesReading}
 use Rattle.comets_command.specs.Terms.{Terms, IsLegalIn, TakesIn, IsTurnIn, ConductIn}
 use Rattle.comets_command.specs.Conducted.{InsideTurn, LeavesIn, Rests, TurnsOn, Holds, KeepsEach}
@@ -42,7 +42,7 @@ from_rest terms state image legal (inr doubted) = by state.doubt legal.1 doubted
 step_adds : (founder : Key) (limit : Option ℕ) (desk : List Deed) (past : List Entry) (q : CometRequest) (t : ℤ) (entry : Entry) → outcome founder limit desk past q t ≡ Adds entry
     → step founder limit desk past q t ≡ (Done (entry_answer desk past entry), entry ∷ past)
 unfolding step
-step_adds founder limit desk past q t entry adds = ap (after desk past) adds
+step_adds founder limit desk past q t entry adds = ap (reply_and_entries desk past) adds
 
 module _ (laws : RegisterLaws) (terms : Terms) where
   -- an act that was answered is in each later legal register

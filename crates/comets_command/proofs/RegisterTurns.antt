@@ -20,7 +20,7 @@ use Rattle.comet_model.specs.declared.request.CometRequest.{CometRequest}
 use Rattle.comet_model.specs.declared.request.CometVerb.{CometVerb}
 use Rattle.comet_model.specs.Replies.{entry_answer}
 use Rattle.comet_model.specs.Requests.{is_act}
-use Rattle.comet_model.specs.Step.{Adds, outcome, after, step}
+use Rattle.comet_model.specs.Step.{Adds, outcome, reply_and_entries, step}
 use Rattle.comet_model.specs.Turns.{CometTurn, TakesReading, Answers, Settles, FailsToKeep}
 use Rattle.comet_desk.specs.Desks.{CometDeskState, CometAct, MayLeave, FailsOn, ActsOn, ActsInTurn, turn_in}
 use Rattle.comets_command.specs.Terms.{Terms, IsTurnIn}
@@ -32,7 +32,7 @@ use Rattle.comets_command.proofs.Readings.{gives_none}
 never_adds : (room : NoRoomLaws) (founder : Key) (limit : Option ℕ) (desk : List Deed) (past : List Entry) (q : CometRequest) (t : ℤ) (entry : Entry) → q.body ≡ NoRoom → outcome founder limit desk past q t ≡ Adds entry → ⊥
 unfolding step
 never_adds room founder limit desk past q t entry none adds =
-    let both : ◌≡◌ {A = CometReply × List Entry} (Refused NoMemory, past) (Done (entry_answer desk past entry), entry ∷ past) = sym (room.step founder limit desk past q t none) ∙ ap (after desk past) adds in
+    let both : ◌≡◌ {A = CometReply × List Entry} (Refused NoMemory, past) (Done (entry_answer desk past entry), entry ∷ past) = sym (room.step founder limit desk past q t none) ∙ ap (reply_and_entries desk past) adds in
     let first : ◌≡◌ {A = CometReply} (Refused NoMemory) (Done (entry_answer desk past entry)) = ap (λ (p : CometReply × List Entry). p.0) both in
     absurd cc
 

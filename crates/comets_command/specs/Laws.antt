@@ -9,7 +9,7 @@ use Rattle.act_model.specs.declared.entry.Entry.{Entry}
 use Rattle.act_model.specs.declared.keeper.OfficeState.{OfficeState}
 use Rattle.act_model.specs.Clocks.{ClockState, Gives}
 use Rattle.act_model.specs.Conducts.{Extends, EitherWay}
-use Rattle.act_model.specs.History.{Kept, kept, EachNumberOnce}
+use Rattle.act_model.specs.History.{Kept, numbered_entry, EachNumberOnce}
 use Rattle.act_model.specs.Legal.{IsLegal as IsLegalHistory}
 use Rattle.act_model.specs.Turns.{at_rest}
 use Rattle.mpc_desk.specs.Files.{Stands, StandsFirst}
@@ -52,8 +52,8 @@ pub record RegisterLaws : Type 0 where
       → is_act turn.request.verb ≡ true → turn.reply ≡ Done text
       → IsAcknowledged desk turn.request text after.settled
   pub kept : (founder : Key) (desk : List Deed) (earlier later : List Entry) (number : ℕ) (k : Kept)
-      → IsLegal founder desk later → Extends earlier later → kept earlier 0 number ≡ Some k
-      → kept later 0 number ≡ Some k
+      → IsLegal founder desk later → Extends earlier later → numbered_entry earlier 0 number ≡ Some k
+      → numbered_entry later 0 number ≡ Some k
   -- where no fault was counted nothing is in doubt, and where memory was never refused either a conduct is the step
   pub rests : (founder : Key) (limit : Option ℕ) (desk : List Deed) (past : List Entry) (after : OfficeState)
       (turns : List CometTurn) → Conduct founder limit desk (at_rest past) turns after → HadNoFault turns

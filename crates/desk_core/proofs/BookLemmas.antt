@@ -6,7 +6,7 @@ use Rattle.std.proofs.lemmas.Bool.{cases_Bool}
 use Rattle.std.proofs.lemmas.List.{take-append-le, reverse-append, reverse-reverse, length-reverse, length-map, length-append, get_or_append_left}
 use Rattle.std.proofs.lemmas.Option.{slice_get_read, get_or_from_slice_get}
 use Rattle.std.proofs.Math.Seq.{take-append_seam, get_or-append_seam}
-use Rattle.act_model.specs.History.{Kept, kept, is_numbered}
+use Rattle.act_model.specs.History.{Kept, numbered_entry, is_numbered}
 use Rattle.act_model.specs.declared.entry.Entry.{Entry}
 use Rattle.desk_core.specs.declared.filed.Filed.{Filed}
 use Rattle.desk_core.specs.Filed.{entries_of, history_of, IsFiledAt}
@@ -38,7 +38,7 @@ pub record IsPlaced (filed : List Filed) (k : Kept) : Type 0 where
   pub within : length k.before < length filed
   pub at : IsFiledAt filed (length k.before) k
 
-placed_newest : (newest : List Filed) (caller number : ℕ) (k : Kept) → kept (entries_of newest) caller number ≡ Some k → IsPlaced (reverse newest) k
+placed_newest : (newest : List Filed) (caller number : ℕ) (k : Kept) → numbered_entry (entries_of newest) caller number ≡ Some k → IsPlaced (reverse newest) k
 placed_newest [] caller number k some = absurd (cc)
 placed_newest (f ∷ older) caller number k some =
     let turned : reverse (f ∷ older) ≡ reverse older ++ f ∷ [] = reverse-append (f ∷ []) older in
@@ -48,20 +48,20 @@ placed_newest (f ∷ older) caller number k some =
     subst (λ (filed : List Filed). IsPlaced filed k) (sym turned)
     (elim (cases_Bool (is_numbered caller number f.entry)) [
       | inl same ↦
-          let is : Some own ≡ Some k = sym (ap (λ (b : Bool). cond b (Some own) (kept (entries_of older) caller number)) same) ∙ some in
+          let is : Some own ≡ Some k = sym (ap (λ (b : Bool). cond b (Some own) (numbered_entry (entries_of older) caller number)) same) ∙ some in
           let own_is : own ≡ k = cc in
           let at : IsFiledAt (reverse older ++ f ∷ []) (length (reverse older)) own =
           subst (λ (h : List Entry). IsFiledAt (reverse older ++ f ∷ []) (length (reverse older)) (record { entry = f.entry; before = h })) back (newest_at (reverse older) f) in
           subst (λ (x : Kept). IsPlaced (reverse older ++ f ∷ []) x) own_is
           (record { within = simp length-append (omega arith); at = subst (λ (n : ℕ). IsFiledAt (reverse older ++ f ∷ []) n own) (sym count) at })
       | inr other ↦
-          let past : kept (entries_of older) caller number ≡ Some k = sym (ap (λ (b : Bool). cond b (Some own) (kept (entries_of older) caller number)) other) ∙ some in
+          let past : numbered_entry (entries_of older) caller number ≡ Some k = sym (ap (λ (b : Bool). cond b (Some own) (numbered_entry (entries_of older) caller number)) other) ∙ some in
           let rest = placed_newest older caller number k past in
           let less = rest.within in
           record { within = simp length-append (omega arith); at = stays_at (reverse older) f (length k.before) k less rest.at }
     ])
 
-pub placed : (filed : List Filed) (caller number : ℕ) (k : Kept) → kept (history_of filed) caller number ≡ Some k → IsPlaced filed k
+pub placed : (filed : List Filed) (caller number : ℕ) (k : Kept) → numbered_entry (history_of filed) caller number ≡ Some k → IsPlaced filed k
 placed filed caller number k some = subst (λ (xs : List Filed). IsPlaced xs k) (reverse-reverse filed) (placed_newest (reverse filed) caller number k some)
 
 some_place : (o : Option Kept) (place : ℕ) → Some place ≡ option_map (λ k. length k.before) o → (k : Kept) × (o ≡ Some k) × (place ≡ length k.before)
@@ -71,13 +71,13 @@ some_place (Some k) place is = (k, refl, cc)
 pub found_within : (filed : List Filed) (caller number : ℕ) (o : Option ℕ) → o ≡ place_of filed caller number → IfSome o (λ place. place < length filed)
 found_within filed caller number None is = tt
 found_within filed caller number (Some place) is =
-    let k = some_place (kept (history_of filed) caller number) place is in
+    let k = some_place (numbered_entry (history_of filed) caller number) place is in
     let at = (placed filed caller number k.0 k.1).within in
     omega (arith, at, k.2)
 
 pub found_at : (filed : List Filed) (caller number : ℕ) (o : Option ℕ) → o ≡ place_of filed caller number
-    → IfSome o (λ place. (k : Kept) × (kept (history_of filed) caller number ≡ Some k) × IsFiledAt filed place k)
+    → IfSome o (λ place. (k : Kept) × (numbered_entry (history_of filed) caller number ≡ Some k) × IsFiledAt filed place k)
 found_at filed caller number None is = tt
 found_at filed caller number (Some place) is =
-    let k = some_place (kept (history_of filed) caller number) place is in
+    let k = some_place (numbered_entry (history_of filed) caller number) place is in
     (k.0, k.1, subst (λ (n : ℕ). IsFiledAt filed n k.0) (sym k.2) (placed filed caller number k.0 k.1).at)

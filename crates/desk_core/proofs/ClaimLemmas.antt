@@ -21,15 +21,15 @@ use Rattle.act_model.specs.Acts.{act_of}
 use Rattle.act_model.specs.Queries.{query_of}
 use Rattle.act_model.specs.Deeds.{deeds}
 use Rattle.act_model.specs.Hearing.{bytes_in, verb_rows, number_in, asked_in, queried_in, asked_of, caller_in, hear}
-use Rattle.act_model.specs.History.{Kept, kept, next_moment, next_receipt}
+use Rattle.act_model.specs.History.{Kept, numbered_entry, next_moment, next_receipt}
 use Rattle.act_model.specs.Refusals.{work_within}
 use Rattle.act_model.specs.Replies.{entry_answer}
 use Rattle.act_model.specs.Requests.{is_act}
 use Rattle.act_model.specs.Roster.{members, caller_of}
 use Rattle.act_model.specs.Rows.{first_row, unless, ◌>>=◌, IsDue}
-use Rattle.act_model.specs.Step.{Outcome, Refuses, Keeps, Tells, Adds, outcome, unless_unheard, heard_step, act_step, query_step, query_in, told, tells, unless_kept, unless_refused, new_entry, kept_reply, is_resend}
+use Rattle.act_model.specs.Step.{Outcome, Refuses, Keeps, Tells, Adds, outcome, unless_unheard, heard_step, act_step, query_step, query_in, answer_of_query, tells, unless_kept, unless_refused, new_entry, kept_reply, is_resend}
 use Rattle.desk_core.specs.declared.hearing.Claim.{Claim}
-use Rattle.desk_core.specs.Claims.{claim_of, announced, heard_by, query_heard, kept_for, act_by, told_by}
+use Rattle.desk_core.specs.Claims.{claim_of, announcement, heard_by, query_heard, kept_for, act_by, told_by}
 use Rattle.desk_core.specs.Preparing.{IsRefused}
 
 -- ---- what is heard, by what a request says of itself
@@ -73,10 +73,10 @@ module _ (claim : Claim) (verb : Verb) (bytes : List ℕ) where
   query_who query who act is = heard_who (asked.Query query) who (asked_query (Some query) act is)
 
   pub told_unheard : (past : List Entry) (r : Refusal) → heard_by claim verb bytes ≡ Err r → told_by past claim verb bytes ≡ Err r
-  told_unheard past r is = ap (λ (x : Result Heard Refusal). x >>= λ heard. query_in heard.asked >>= told past heard.caller.number) is
+  told_unheard past r is = ap (λ (x : Result Heard Refusal). x >>= λ heard. query_in heard.asked >>= answer_of_query past heard.caller.number) is
 
-  pub told_heard : (past : List Entry) (asks : Caller × Query) → heard_by claim verb bytes ≡ Ok (query_heard claim verb asks) → told_by past claim verb bytes ≡ told past asks.0.number asks.1
-  told_heard past asks is = ap (λ (x : Result Heard Refusal). x >>= λ heard. query_in heard.asked >>= told past heard.caller.number) is
+  pub told_heard : (past : List Entry) (asks : Caller × Query) → heard_by claim verb bytes ≡ Ok (query_heard claim verb asks) → told_by past claim verb bytes ≡ answer_of_query past asks.0.number asks.1
+  told_heard past asks is = ap (λ (x : Result Heard Refusal). x >>= λ heard. query_in heard.asked >>= answer_of_query past heard.caller.number) is
 
 module _ (limit : Option ℕ) (past : List Entry) (bytes : List ℕ) (moment : ℤ) (verb : Verb) (number : ℕ) where
   abbrev steps : Result Heard Refusal → Outcome
@@ -91,7 +91,7 @@ module _ (limit : Option ℕ) (past : List Entry) (bytes : List ℕ) (moment : �
       ap (λ (b : Bool). cond b (act_step limit past heard bytes moment) (query_step past heard)) act
 
   as_query : (what : Result Asked Refusal) (who : Option Caller) → is_act verb ≡ false
-      → steps (hears verb number what who) ≡ tells (hears verb number what who >>= λ heard. query_in heard.asked >>= told past heard.caller.number)
+      → steps (hears verb number what who) ≡ tells (hears verb number what who >>= λ heard. query_in heard.asked >>= answer_of_query past heard.caller.number)
   as_query (Err refusal) who query = refl
   as_query (Ok asked) None query = refl
   as_query (Ok asked) (Some caller) query =
@@ -142,11 +142,11 @@ module _ (founder : Key) (limit : Option ℕ) (past : List Entry) (q : Request) 
 
 -- ---- what is refused before memory is asked for
 
-pub no_bytes : (founder : Key) (enrolled : List Member) (q : Request) (r : Refusal) → bytes_in q.body ≡ Err r → announced founder enrolled q ≡ Err r
+pub no_bytes : (founder : Key) (enrolled : List Member) (q : Request) (r : Refusal) → bytes_in q.body ≡ Err r → announcement founder enrolled q ≡ Err r
 no_bytes founder enrolled q r is = ap (λ (x : Result (List ℕ) Refusal). x >>= λ bytes. claim_of founder enrolled q.verb q.number q.key) is
 
 pub has_bytes : (founder : Key) (enrolled : List Member) (q : Request) (bytes : List ℕ) (claim : Result Claim Refusal) → bytes_in q.body ≡ Ok bytes → claim_of founder enrolled q.verb q.number q.key ≡ claim
-    → announced founder enrolled q ≡ claim
+    → announcement founder enrolled q ≡ claim
 has_bytes founder enrolled q bytes claim is claims = ap (λ (x : Result (List ℕ) Refusal). x >>= λ bytes. claim_of founder enrolled q.verb q.number q.key) is ∙ claims
 
 -- a refusal that is due is the one that is answered
@@ -189,9 +189,9 @@ is_heard claim verb bytes heard is =
     record { caller = so.0; number = so.1; verb_is = so.2 }
 
 -- its number stands for an entry, or for none
-kept_heard : (past : List Entry) (claim : Claim) (verb : Verb) (heard : Heard) → IsHeard claim verb heard → kept_for past claim ≡ kept past heard.caller.number heard.number
+kept_heard : (past : List Entry) (claim : Claim) (verb : Verb) (heard : Heard) → IsHeard claim verb heard → kept_for past claim ≡ numbered_entry past heard.caller.number heard.number
 kept_heard past claim verb heard is =
-    ap (λ (who : Option Caller). kept_for past (record { number = claim.number; caller = who })) is.caller ∙ ap (λ (n : ℕ). kept past heard.caller.number n) (sym is.number)
+    ap (λ (who : Option Caller). kept_for past (record { number = claim.number; caller = who })) is.caller ∙ ap (λ (n : ℕ). numbered_entry past heard.caller.number n) (sym is.number)
 
 module _ (limit : Option ℕ) (past : List Entry) (claim : Claim) (verb : Verb) (bytes : List ℕ) (moment : ℤ) (heard : Heard) (hears : heard_by claim verb bytes ≡ Ok heard) where
   by_kept : (o : Option Kept) → kept_for past claim ≡ o → act_by limit past claim verb bytes moment ≡ unless_kept o heard bytes (unless_refused (work_within limit past bytes moment heard) (new_entry heard bytes moment))
@@ -219,7 +219,7 @@ pub record AddsNew (founder : Key) (past : List Entry) (q : Request) (t : ℤ) (
   pub body_is : bytes_in q.body ≡ Ok bytes
   pub number_is : number_in q.verb q.number ≡ Ok number
   pub who : caller_of founder (members (deeds past)) q.key ≡ Some caller
-  pub unused : kept past caller.number number ≡ None
+  pub unused : numbered_entry past caller.number number ≡ None
   pub is : e ≡ record { caller = caller.number; number = number; moment = next_moment past t; verb = q.verb; body = bytes }
 
 not_refused : {A : Type 0} (o : Outcome) (r : Refusal) (e : Entry) → o ≡ Refuses r → o ≡ Adds e → A
@@ -254,7 +254,7 @@ module _ (founder : Key) (limit : Option ℕ) (past : List Entry) (q : Request) 
       let says = claim_is (first_row (verb_rows q.verb)) (number_in q.verb q.number) (caller_of founder (members (deeds past)) q.key) claim claims in
       let steps : act_step limit past heard bytes (next_moment past t) ≡ Adds e =
       sym (outcome_act founder limit past q t bytes claim body claims act ∙ act_heard limit past claim q.verb bytes (next_moment past t) heard hears) ∙ adds in
-      let new = none_kept (kept past heard.caller.number heard.number) heard bytes (unless_refused (work_within limit past bytes (next_moment past t) heard) (new_entry heard bytes (next_moment past t))) e steps in
+      let new = none_kept (numbered_entry past heard.caller.number heard.number) heard bytes (unless_refused (work_within limit past bytes (next_moment past t) heard) (new_entry heard bytes (next_moment past t))) e steps in
       let entry : e ≡ new_entry heard bytes (next_moment past t) = one_added (work_within limit past bytes (next_moment past t) heard) (new_entry heard bytes (next_moment past t)) e new.1 in
       record {
         bytes = bytes;

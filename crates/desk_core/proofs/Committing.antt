@@ -13,7 +13,7 @@ use Rattle.act_model.specs.Deeds.{deeds}
 use Rattle.act_model.specs.History.{next_receipt}
 use Rattle.act_model.specs.Holdings.{Holdings, with_deed, holdings}
 use Rattle.act_model.specs.OfficeTables.{tables_of}
-use Rattle.act_model.specs.Refusals.{entry_size, used as used_bytes}
+use Rattle.act_model.specs.Refusals.{entry_size, bytes_used as used_bytes}
 use Rattle.act_model.specs.Replies.{entry_answer}
 use Rattle.act_model.specs.Roster.{members, with_enrolled}
 use Rattle.desk_core.specs.declared.filed.Filed.{Filed}

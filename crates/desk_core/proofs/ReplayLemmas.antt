@@ -11,11 +11,11 @@ use Rattle.act_model.specs.Legal.{entry_request, IsAdded}
 use Rattle.act_model.specs.declared.reply.Refusal.{Refusal}
 use Rattle.act_model.specs.declared.roster.Caller.{Caller}
 use Rattle.act_model.specs.Hearing.{size_rows, is_number_of}
-use Rattle.act_model.specs.History.{kept, next_moment}
+use Rattle.act_model.specs.History.{numbered_entry, next_moment}
 use Rattle.act_model.specs.Requests.{is_act}
 use Rattle.act_model.specs.Roster.{key_at, next_caller}
 use Rattle.act_model.specs.Rows.{first_row, unless}
-use Rattle.act_model.specs.Step.{Outcome, Refuses, Keeps, Tells, Adds, outcome, step, after}
+use Rattle.act_model.specs.Step.{Outcome, Refuses, Keeps, Tells, Adds, outcome, step, reply_and_history}
 use Rattle.tracklet_file.specs.Numbering.{numbered}
 use Rattle.desk_core.specs.declared.replaying.ReplayFault.{ReplayFault}
 use Rattle.desk_core.specs.Replaying.{act_with, entry_of, MayFollow}
@@ -26,7 +26,7 @@ use Rattle.desk_core.proofs.ClaimLemmas.{adds_new}
 longer : (e : Entry) (past : List Entry) → past ≡ e ∷ past → {A : Type 0} → A
 longer e past is = let lengths = ap length is in absurd (omega arith)
 
-made_entry : (past : List Entry) (e : Entry) (o : Outcome) → (after past o).1 ≡ e ∷ past → o ≡ Adds e
+made_entry : (past : List Entry) (e : Entry) (o : Outcome) → (reply_and_history past o).1 ≡ e ∷ past → o ≡ Adds e
 made_entry past e (Refuses r) is = longer e past is
 made_entry past e (Keeps reply) is = longer e past is
 made_entry past e (Tells text) is = longer e past is
@@ -36,7 +36,7 @@ module _ (founder : Key) (past : List Entry) (e : Entry) where
   -- the step adds what becomes of the entry's request
   pub adds_entry : outcome founder None past (entry_request founder past e) e.moment ≡ Adds e → (step founder None past (entry_request founder past e) e.moment).1 ≡ e ∷ past
   unfolding step
-  adds_entry is = ap (λ (o : Outcome). (after past o).1) is
+  adds_entry is = ap (λ (o : Outcome). (reply_and_history past o).1) is
 
   -- and an entry that is added is what becomes of its request
   pub entry_added : IsAdded founder past e → outcome founder None past (entry_request founder past e) e.moment ≡ Adds e
@@ -88,7 +88,7 @@ module _ (founder : Key) (past : List Entry) (e : Entry) (act : is_act e.verb �
         size = (size_taken (first_row (size_rows e.body)) e.body new.bytes new.body_is).0;
         number = (number_taken (is_number_of e.verb e.number) e.number new.number _ new.number_is).0;
         caller = ap (option_map (λ (known : Caller). known.number)) new.who ∙ ap (λ (n : ℕ). Some n) (sym caller);
-        unused = ap (λ (c : ℕ). kept past c e.number) caller ∙ ap (kept past new.caller.number) number ∙ new.unused;
+        unused = ap (λ (c : ℕ). numbered_entry past c e.number) caller ∙ ap (numbered_entry past new.caller.number) number ∙ new.unused;
         moment = sym (ap (λ (x : Entry). x.moment) new.is);
       }
 

@@ -15,7 +15,7 @@ use Rattle.act_model.specs.declared.request.Verb.{Verb}
 use Rattle.act_model.specs.declared.request.Verb.TheVariants.{Enrol, Station, Code, Submit80, SubmitPsv, Designate, Attribute, Release, Identify, Separate, Verdict, Number, Retract, Opening}
 use Rattle.act_model.specs.declared.roster.Caller.{Caller}
 use Rattle.act_model.specs.Hearing.{asked_of, caller_in}
-use Rattle.act_model.specs.History.{Kept, kept, next_receipt}
+use Rattle.act_model.specs.History.{Kept, numbered_entry, next_receipt}
 use Rattle.act_model.specs.Replies.{entry_answer}
 use Rattle.act_model.specs.Requests.{is_act, verb_code, same_verb}
 use Rattle.act_model.specs.Rows.{◌>>=◌}
@@ -73,10 +73,10 @@ asked_again verb bytes entry act read same =
 record Used (past : List Entry) (claim : Claim) (k : Kept) : Type 0 where
   caller : Caller
   who : claim.caller ≡ Some caller
-  there : kept past caller.number claim.number ≡ Some k
+  there : numbered_entry past caller.number claim.number ≡ Some k
 
 used_by : (past : List Entry) (number : ℕ) (who : Option Caller) (k : Kept) → kept_for past (record { number = number; caller = who }) ≡ Some k
-    → (caller : Caller) × (who ≡ Some caller) × (kept past caller.number number ≡ Some k)
+    → (caller : Caller) × (who ≡ Some caller) × (numbered_entry past caller.number number ≡ Some k)
 used_by past number None k is = absurd cc
 used_by past number (Some caller) k is = (caller, refl, is)
 
@@ -109,7 +109,7 @@ stands_at filed past claim place history is =
     let some = some_placed (kept_for past claim) place is in
     let k = some.0 in
     let by = used past claim k some.1 in
-    let there : kept (history_of filed) by.caller.number claim.number ≡ Some k = ap (λ (h : List Entry). kept h by.caller.number claim.number) history ∙ by.there in
+    let there : numbered_entry (history_of filed) by.caller.number claim.number ≡ Some k = ap (λ (h : List Entry). numbered_entry h by.caller.number claim.number) history ∙ by.there in
     let at = placed filed by.caller.number claim.number k there in
     record {
       k = k;

@@ -17,11 +17,11 @@ use Rattle.act_model.specs.Rows.{◌>>=◌, IsDue}
 use Rattle.act_model.specs.Requests.{is_act}
 use Rattle.act_model.specs.Roster.{members, with_enrolled}
 use Rattle.act_model.specs.Deeds.{deeds}
-use Rattle.act_model.specs.History.{Kept, kept, next_moment}
+use Rattle.act_model.specs.History.{Kept, numbered_entry, next_moment}
 use Rattle.act_model.specs.Hearing.{bytes_in, hear}
 use Rattle.act_model.specs.Refusals.{work_within}
 use Rattle.act_model.specs.Turns.{Answers}
-use Rattle.act_model.specs.Step.{Outcome, Refuses, Tells, outcome, unless_unheard, heard_step, act_step, query_step, query_in, told, tells, unless_kept, unless_refused, new_entry, step, after}
+use Rattle.act_model.specs.Step.{Outcome, Refuses, Tells, outcome, unless_unheard, heard_step, act_step, query_step, query_in, answer_of_query, tells, unless_kept, unless_refused, new_entry, step, reply_and_history}
 use Rattle.desk_core.specs.Office.{Room, Fits}
 use Rattle.desk_core.proofs.ClaimLemmas.{outcome_bytes}
 use Rattle.desk_core.specs.Preparing.{IsRefused, Prepares, IsPrepared, IsTold}
@@ -35,11 +35,11 @@ module _ (founder : Key) (limit : Option ℕ) (past : List Entry) (q : Request) 
 
   pub answers_told : (text : List ℕ) → outcome founder limit past q t ≡ Tells text → Answers founder limit past q t (Done text) past
   unfolding step
-  answers_told text is = inl (ap (after past) is)
+  answers_told text is = inl (ap (reply_and_history past) is)
 
   pub answers_refused : (r : Refusal) → IsRefused (outcome founder limit past q t) r → Answers founder limit past q t (Refused r) past
   unfolding step
-  answers_refused r (inl is) = inl (ap (after past) is)
+  answers_refused r (inl is) = inl (ap (reply_and_history past) is)
   answers_refused r (inr wants) = inr (ap (λ (r : Refusal). Refused r) wants, refl)
 
 -- what a query is told, where this becomes of it

@@ -3,7 +3,7 @@ use Rattle.std.specs.Prelude.{◌≡◌, ℕ, List, length, Option}
 use Rattle.std.specs.Option.{option_map}
 use Rattle.std.specs.declared.cmp.Ordering.{Ordering}
 use Rattle.ordered_list.specs.Orders.{found}
-use Rattle.act_model.specs.History.{kept}
+use Rattle.act_model.specs.History.{numbered_entry}
 use Rattle.desk_core.specs.declared.filed.Filed.{Filed}
 use Rattle.desk_core.specs.declared.book.UsedNumber.{UsedNumber}
 use Rattle.desk_core.specs.Filed.{history_of}
@@ -15,7 +15,7 @@ pub record BookValue : Type 0 where
 
 -- the place, counted from 0 at the oldest entry, of the newest entry of this caller with this number
 abbrev pub place_of : List Filed → ℕ → ℕ → Option ℕ
-place_of filed caller number = option_map (λ k. length k.before) (kept (history_of filed) caller number)
+place_of filed caller number = option_map (λ k. length k.before) (numbered_entry (history_of filed) caller number)
 
 -- an item of the index that finds the one of the caller's number
 abbrev pub number_key : ℕ → ℕ → UsedNumber

@@ -12,10 +12,10 @@ use Rattle.act_model.specs.declared.request.Verb.{Verb}
 use Rattle.act_model.specs.declared.roster.Caller.{Caller}
 use Rattle.act_model.specs.declared.roster.Member.{Member}
 use Rattle.act_model.specs.Rows.{first_row, unless, ◌>>=◌}
-use Rattle.act_model.specs.History.{Kept, kept}
+use Rattle.act_model.specs.History.{Kept, numbered_entry}
 use Rattle.act_model.specs.Hearing.{bytes_in, verb_rows, number_in, asked_of, caller_in}
 use Rattle.act_model.specs.Roster.{caller_of}
-use Rattle.act_model.specs.Step.{Outcome, unless_unheard, act_step, query_in, told}
+use Rattle.act_model.specs.Step.{Outcome, unless_unheard, act_step, query_in, answer_of_query}
 use Rattle.desk_core.specs.declared.hearing.Claim.{Claim}
 
 -- what a request with this verb, number and key says of itself, where these are enrolled
@@ -26,8 +26,8 @@ claim_of founder enrolled verb number key =
       Ok (record { number = number; caller = caller_of founder enrolled key })
 
 -- the same of a whole request, or the refusal that it meets before memory is asked for
-abbrev pub announced : Key → List Member → Request → Result Claim Refusal
-announced founder enrolled request = do
+abbrev pub announcement : Key → List Member → Request → Result Claim Refusal
+announcement founder enrolled request = do
   bytes ← bytes_in request.body
   claim_of founder enrolled request.verb request.number request.key
 
@@ -45,7 +45,7 @@ query_heard claim verb asks =
 
 -- the entry that the number of such a request stands for, where its caller has used the number
 abbrev pub kept_for : List Entry → Claim → Option Kept
-kept_for past claim = option_and_then (λ caller. kept past caller.number claim.number) claim.caller
+kept_for past claim = option_and_then (λ caller. numbered_entry past caller.number claim.number) claim.caller
 
 -- what becomes of an act that said so much of itself, at this moment
 abbrev pub act_by : Option ℕ → List Entry → Claim → Verb → List ℕ → ℤ → Outcome
@@ -58,4 +58,4 @@ abbrev pub told_by : List Entry → Claim → Verb → List ℕ → Result (List
 told_by past claim verb bytes = do
   heard ← heard_by claim verb bytes
   query ← query_in heard.asked
-  told past heard.caller.number query
+  answer_of_query past heard.caller.number query

@@ -4,7 +4,7 @@ use Rattle.act_model.specs.declared.entry.Entry.{Entry}
 use Rattle.act_model.specs.declared.reply.Refusal.{Refusal}
 use Rattle.act_model.specs.declared.reply.Refusal.TheVariants.{NoMemory}
 use Rattle.act_model.specs.declared.reply.Reply.{Reply}
-use Rattle.act_model.specs.Refusals.{entry_size, used}
+use Rattle.act_model.specs.Refusals.{entry_size, bytes_used}
 use Rattle.act_model.specs.Step.{Outcome, Refuses, Keeps, Tells, Adds}
 use Rattle.desk_core.specs.declared.prepared.Prep.{Prep}
 use Rattle.desk_core.specs.declared.prepared.Prep.TheVariants as prep
@@ -16,7 +16,7 @@ IsRefused due refusal = (due ≡ Refuses refusal) ⊎ (refusal ≡ NoMemory)
 
 -- a journal with this limit has room for one more entry with this body; without a limit it always has
 abbrev pub IsWithin : Option ℕ → List Entry → List ℕ → Type 0
-IsWithin limit past body = IfSome limit (λ most. used past + entry_size body ≤ most)
+IsWithin limit past body = IfSome limit (λ most. bytes_used past + entry_size body ≤ most)
 
 -- A reply is kept where the number was used. A refusal is the one that the request meets. An act is ready where it
 -- becomes an entry, at the history at which it was worked out, and there is room for it, in the journal too.

@@ -6,7 +6,7 @@ use Rattle.ordered_list.specs.Orders.{found}
 use Rattle.act_bodies.specs.declared.key.Key.{Key}
 use Rattle.act_model.specs.declared.roster.Caller.{Caller}
 use Rattle.act_model.specs.declared.roster.Member.{Member}
-use Rattle.act_model.specs.Roster.{enrolled_as, founding}
+use Rattle.act_model.specs.Roster.{enrolled_as, founding_officer}
 use Rattle.desk_core.specs.declared.known_key.KnownKey.{KnownKey}
 
 -- the callers in the order in which they were enrolled, and for how many more there is room
@@ -16,7 +16,7 @@ pub record RosterValue : Type 0 where
 
 -- an item of the index that finds the one with this key
 abbrev pub key_item : Key → KnownKey
-key_item key = record { key = key; caller = founding }
+key_item key = record { key = key; caller = founding_officer }
 
 -- the caller that an item tells of
 abbrev pub known_caller : Option KnownKey → Option Caller

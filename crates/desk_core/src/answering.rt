@@ -5,7 +5,7 @@ ghost use Rattle.act_model.specs.declared.reply.Refusal.{Refusal};
 ghost use Rattle.act_model.specs.Queries.{IsReadQuery};
 ghost use Rattle.act_model.specs.Rows.{IsDue};
 ghost use Rattle.act_model.specs.Requests.{is_act};
-ghost use Rattle.act_model.specs.Step.{outcome, told, Refuses};
+ghost use Rattle.act_model.specs.Step.{outcome, answer_of_query, Refuses};
 ghost use Rattle.desk_core.specs.Claims.{told_by};
 ghost use Rattle.desk_core.specs.Preparing.{IsTold};
 
@@ -52,8 +52,8 @@ impl Core {
     /// What a caller's query is told.
     fn told(&self, alloc: Global, caller: u32, query: Query) -> Result<Bytes, Refusal>
         requires { IsReadQuery query }
-        ensures due { IsDue (told self.now.history caller query) result }
-        ensures refused { IfErr (told self.now.history caller query) (λ refusal. result ≡ Err refusal) }
+        ensures due { IsDue (answer_of_query self.now.history caller query) result }
+        ensures refused { IfErr (answer_of_query self.now.history caller query) (λ refusal. result ≡ Err refusal) }
     {
         match answer(alloc, self, caller, &query) {
             Reply::Done(text) => Ok(text),

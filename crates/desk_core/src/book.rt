@@ -4,7 +4,7 @@ ghost use Rattle.std.specs.Prelude.{◌≡◌, ◌<◌, ◌≤◌, ◌∷◌, []
 ghost use Rattle.std.specs.Prelude.{option_map, option_copied, reverse};
 ghost use Rattle.ordered_list.specs.Orders.{found};
 ghost use Rattle.ordered_list.specs.Contents.{UsesOne};
-ghost use Rattle.act_model.specs.History.{Kept, kept};
+ghost use Rattle.act_model.specs.History.{Kept, numbered_entry};
 ghost use Rattle.desk_core.specs.Filed.{history_of, done_reply, AreAnswered, IsFiledAt};
 ghost use Rattle.desk_core.specs.Book.{number_key, place_in, place_of};
 
@@ -78,8 +78,9 @@ impl Book {
     pub fn find(&self, caller: u32, number: u64) -> Option<usize>
         ensures within { IfSome result (λ place. place < length self.now.items) }
         ensures found { IfSome result (λ place. (k : Kept)
-            × (kept (history_of self.now.items) caller number ≡ Some k) × IsFiledAt self.now.items place k) }
-        ensures none { IfNone result (kept (history_of self.now.items) caller number ≡ None) }
+            × (numbered_entry (history_of self.now.items) caller number ≡ Some k)
+            × IsFiledAt self.now.items place k) }
+        ensures none { IfNone result (numbered_entry (history_of self.now.items) caller number ≡ None) }
         ensures place { result ≡ place_of self.now.items caller number }
     {
         look_up(&self.numbers, caller, number)
@@ -88,7 +89,8 @@ impl Book {
     /// The reply that is kept for the caller's number. None for a number that the caller has not used.
     pub fn kept(&self, caller: u32, number: u64) -> Option<&Reply>
         requires { AreAnswered (reverse self.now.items) }
-        ensures { option_copied result ≡ option_map done_reply (kept (history_of self.now.items) caller number) }
+        ensures { option_copied result
+            ≡ option_map done_reply (numbered_entry (history_of self.now.items) caller number) }
     {
         match self.find(caller, number) {
             Some(place) => Some(reply_at(self.as_slice(), place)),

@@ -2,7 +2,7 @@
 
 ghost use Rattle.std.specs.Prelude.{◌≡◌, ◌<◌, ◌^◌, length, IfSome, IfNone};
 ghost use Rattle.act_model.specs.Rows.{first_row};
-ghost use Rattle.act_model.specs.Refusals.{entry_size, used, full_rows};
+ghost use Rattle.act_model.specs.Refusals.{entry_size, bytes_used, full_rows};
 ghost use Rattle.desk_core.specs.Preparing.{IsWithin};
 
 use crate::office::Core;
@@ -18,7 +18,7 @@ pub fn entry_size(body: &[u8]) -> u64
 impl Core {
     /// The refusal of an entry for which a journal with this limit has no room.
     pub(crate) fn full_refusal(&self, limit: Option<u64>, body: &[u8]) -> Option<Refusal>
-        requires space { IfSome limit (λ _. used self.now.history < 2 ^ 64) }
+        requires space { IfSome limit (λ _. bytes_used self.now.history < 2 ^ 64) }
         ensures row { result ≡ first_row (full_rows limit self.now.history body.now) }
         ensures within { IfNone result (IsWithin limit self.now.history body.now) }
     {

@@ -10,10 +10,10 @@ ghost use Rattle.act_model.specs.Deeds.{deeds};
 ghost use Rattle.act_model.specs.OfficeTables.{tables_of};
 ghost use Rattle.act_model.specs.Holdings.{holdings};
 ghost use Rattle.act_model.specs.History.{next_receipt};
-ghost use Rattle.act_model.specs.Refusals.{used};
+ghost use Rattle.act_model.specs.Refusals.{bytes_used};
 ghost use Rattle.act_model.specs.Step.{outcome, Refuses};
 ghost use Rattle.act_model.specs.Turns.{Answers};
-ghost use Rattle.desk_core.specs.Claims.{announced};
+ghost use Rattle.desk_core.specs.Claims.{announcement};
 ghost use Rattle.desk_core.specs.Filed.{history_of, AreAnswered, WereRead};
 ghost use Rattle.desk_core.specs.Office.{IsReadyAt, IsRoomFor, UsesRoom, held_in};
 ghost use Rattle.desk_core.specs.Objects.{StandFor};
@@ -59,7 +59,7 @@ impl Model for Core {
     ghost use Rattle.act_model.specs.Roster.{members as members_of};
     ghost use Rattle.act_model.specs.OfficeTables.{tables_of};
     ghost use Rattle.act_model.specs.Holdings.{holdings};
-    ghost use Rattle.act_model.specs.Refusals.{used as used_bytes};
+    ghost use Rattle.act_model.specs.Refusals.{bytes_used as used_bytes};
     ghost use Rattle.desk_core.specs.Office.{Office, held_in};
     ghost use Rattle.desk_core.specs.Objects.{StandFor};
     ghost use Rattle.desk_core.specs.Filed.{history_of, AreAnswered, WereRead};
@@ -149,12 +149,12 @@ impl Core {
     /// sent again isn't read again, so that memory is needed for a copy of its answer alone.
     pub fn prepare(&mut self, request: &Request, reading: Instant, limit: Option<u64>) -> Prep
         requires act { is_act request.now.verb ≡ true }
-        requires space { IfSome limit (λ _. used self.old.history < 2 ^ 64) }
+        requires space { IfSome limit (λ _. bytes_used self.old.history < 2 ^ 64) }
         ensures answer { Prepares limit self.old.history
             (outcome self.old.founder limit self.old.history request.now reading) self.new.spare result }
         ensures no_room { request.now.body ≡ Body.NoRoom → result ≡ Prep.Refused Refusal.NoMemory }
         ensures announced { IfErr
-            (announced self.old.founder (members (deeds self.old.history)) request.now)
+            (announcement self.old.founder (members (deeds self.old.history)) request.now)
             (λ refusal. result ≡ Prep.Refused refusal) }
         ensures history { self.new.history ≡ self.old.history }
         ensures founder { self.new.founder ≡ self.old.founder }
@@ -286,7 +286,7 @@ impl Core {
 
     /// How many bytes of a journal the entries take, where that is a number of the type.
     pub(crate) fn used(&self) -> u64
-        ensures { used self.now.history < 2 ^ 64 → result ≡ used self.now.history }
+        ensures { bytes_used self.now.history < 2 ^ 64 → result ≡ bytes_used self.now.history }
     {
         self.used
     }

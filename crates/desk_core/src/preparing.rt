@@ -12,11 +12,11 @@ ghost use Rattle.act_model.specs.OfficeTables.{tables_of, with_row};
 ghost use Rattle.act_model.specs.Deeds.{deed_of, deeds};
 ghost use Rattle.act_model.specs.History.{next_receipt, next_moment};
 ghost use Rattle.act_model.specs.Hearing.{asked_of};
-ghost use Rattle.act_model.specs.Refusals.{used, work_within};
+ghost use Rattle.act_model.specs.Refusals.{bytes_used, work_within};
 ghost use Rattle.desk_core.specs.Doing.{IsAtOnce};
 ghost use Rattle.act_model.specs.Replies.{deed_answer};
 ghost use Rattle.act_model.specs.Step.{outcome, unless_refused, new_entry};
-ghost use Rattle.desk_core.specs.Claims.{claim_of, announced, kept_for, act_by};
+ghost use Rattle.desk_core.specs.Claims.{claim_of, announcement, kept_for, act_by};
 ghost use Rattle.desk_core.specs.Filed.{WasRead};
 ghost use Rattle.desk_core.specs.Office.{IsOfAct, IsReadyAt, IsRoomFor, Fits};
 ghost use Rattle.desk_core.specs.Preparing.{IsPrepared, IsReplied};
@@ -74,11 +74,11 @@ impl Core {
         limit: Option<u64>,
     ) -> Result<Prep, Refusal>
         requires act { is_act request.now.verb ≡ true }
-        requires space { IfSome limit (λ _. used self.old.history < 2 ^ 64) }
+        requires space { IfSome limit (λ _. bytes_used self.old.history < 2 ^ 64) }
         ensures answer { IsPrepared limit self.old.history
             (outcome self.old.founder limit self.old.history request.now reading) self.new.spare result }
         ensures announced { IfErr
-            (announced self.old.founder (members (deeds self.old.history)) request.now)
+            (announcement self.old.founder (members (deeds self.old.history)) request.now)
             (λ refusal. result ≡ Err refusal) }
         ensures history { self.new.history ≡ self.old.history }
         ensures founder { self.new.founder ≡ self.old.founder }
@@ -116,7 +116,7 @@ impl Core {
     ) -> Result<Prep, Refusal>
         requires act { is_act verb ≡ true }
         requires short { length bytes.now ≤ BODY_BYTES }
-        requires space { IfSome limit (λ _. used self.old.history < 2 ^ 64) }
+        requires space { IfSome limit (λ _. bytes_used self.old.history < 2 ^ 64) }
         ensures answer { IsPrepared limit self.old.history
             (act_by limit self.old.history claim verb bytes.now
             (next_moment self.old.history reading)) self.new.spare result }
@@ -183,7 +183,7 @@ impl Core {
     ) -> Result<Prep, Refusal>
         requires act { is_act heard.verb ≡ true }
         requires short { length bytes.now ≤ BODY_BYTES }
-        requires space { IfSome limit (λ _. used self.old.history < 2 ^ 64) }
+        requires space { IfSome limit (λ _. bytes_used self.old.history < 2 ^ 64) }
         requires asked { asked_of heard.verb bytes.now ≡ Ok heard.asked }
         requires read { IsReadAsked heard.asked }
         ensures answer { IsPrepared limit self.old.history

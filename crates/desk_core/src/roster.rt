@@ -3,7 +3,7 @@
 ghost use Rattle.std.specs.Prelude.{◌≡◌, ◌<◌, ◌≤◌, ◌∷◌, [], ◌++◌, length, reverse, IfOk, OnOk};
 ghost use Rattle.ordered_list.specs.Contents.{UsesOne};
 ghost use Rattle.act_model.specs.declared.roster.TheConstants.{CALLERS};
-ghost use Rattle.act_model.specs.Roster.{caller_of, enrolled_as, founding, with_enrolled};
+ghost use Rattle.act_model.specs.Roster.{caller_of, enrolled_as, founding_officer, with_enrolled};
 
 use crate::known_key::KnownKey;
 use act_model::{Caller, Deed, Key, Member, Rank};
@@ -38,7 +38,7 @@ impl Model for Roster {
 
 /// The founding officer, who is caller 0.
 fn founding() -> Caller
-    ensures { result ≡ founding }
+    ensures { result ≡ founding_officer }
 {
     Caller {
         number: 0,

@@ -15,7 +15,7 @@ use Rattle.frame_service.specs.declared.serving.Stop.{Stop}
 use Rattle.frame_service.specs.declared.serving.Stop.TheVariants as stop
 use Rattle.frame_service.specs.Exchanges.{Exchange, frames_of, replies_of, Attending, Attends}
 use Rattle.frame_service.specs.Runs.{Run, AwaitsNext, offset_at, AreServed, AnswersFrames, Stops}
-use Rattle.frame_service.specs.Steps.{Standing, answering, IsUntouched, AnswersFrame, TurnsFrame, TakesStep, Progress}
+use Rattle.frame_service.specs.Steps.{Standing, answering_of, IsUntouched, AnswersFrame, TurnsFrame, TakesStep, Progress}
 use Rattle.frame_service.proofs.Served.{FrameLaws, replies_more, attends_more, served_bytes, served_more}
 
 -- where no frame comes any more, a byte has come
@@ -224,7 +224,7 @@ module _ {S : Type 0} (left : S → Option (List ℕ)) (gives : Passes S) {A : T
 module _ {S : Type 0} (left : S → Option (List ℕ)) (gives : Passes S) {A : Type 0} (answers : Attending A → Exchange → Attending A → Type 0) (old new : Standing S A) (offset : ℕ) where
   -- the frame that was read was answered
   pub step_answered : (read : ReadFrame) (size : ℕ) → (piece : List ℕ) × Comes left gives (AwaitsFrame old.ahead) old.source new.source piece × IsFrameRead (old.ahead ++ piece) read new.ahead
-      → ((front behind : List ℕ) (r : IsFrameRead front read behind) → AnswersFrame answers (answering old) (answering new) r.frame (Ok size)) → size ≡ read.size
+      → ((front behind : List ℕ) (r : IsFrameRead front read behind) → AnswersFrame answers (answering_of old) (answering_of new) r.frame (Ok size)) → size ≡ read.size
       → TakesStep left gives answers old new offset (Ok size)
   step_answered read size (piece, came, r) answered size_is =
       record {
@@ -235,7 +235,7 @@ module _ {S : Type 0} (left : S → Option (List ℕ)) (gives : Passes S) {A : T
 
   -- the sink failed inside its reply
   pub step_cut : (read : ReadFrame) (failed : Failed) → (piece : List ℕ) × Comes left gives (AwaitsFrame old.ahead) old.source new.source piece × IsFrameRead (old.ahead ++ piece) read new.ahead
-      → ((front behind : List ℕ) (r : IsFrameRead front read behind) → AnswersFrame answers (answering old) (answering new) r.frame (Err failed))
+      → ((front behind : List ℕ) (r : IsFrameRead front read behind) → AnswersFrame answers (answering_of old) (answering_of new) r.frame (Err failed))
       → TakesStep left gives answers old new offset (Err stop.WriteFailed)
   step_cut read failed (piece, came, r) answered =
       record {

@@ -36,8 +36,8 @@ pub record Attending (A : Type 0) : Type 0 where
   pub clock : ClockState
 
 -- an attendant, and what a clock tells of itself
-abbrev pub attending : {A C : Type 0} → (C → ℕ → Option ℤ) → (C → ℤ) → A → C → Attending A
-attending reading last attendant clock = record { attendant = attendant; clock = clock_of reading last clock }
+abbrev pub attending_of : {A C : Type 0} → (C → ℕ → Option ℤ) → (C → ℤ) → A → C → Attending A
+attending_of reading last attendant clock = record { attendant = attendant; clock = clock_of reading last clock }
 
 -- these frames were answered, each from where the one before it left the attendant and its clock
 abbrev pub Attends : {A : Type 0} → (Attending A → Exchange → Attending A → Type 0) → Attending A → List Exchange

@@ -29,8 +29,8 @@ pub record Answering (A : Type 0) : Type 0 where
   pub taken : Option (List ℕ)
 
 -- serving as it stands, without the source
-abbrev pub answering : {S A : Type 0} → Standing S A → Answering A
-answering standing = record { at = standing.at; taken = standing.taken }
+abbrev pub answering_of : {S A : Type 0} → Standing S A → Answering A
+answering_of standing = record { at = standing.at; taken = standing.taken }
 
 -- a reply was written whole, or a front of it and not all
 abbrev pub Writes : Option (List ℕ) → Option (List ℕ) → List ℕ → Result ℕ Failed → Type 0
@@ -51,7 +51,7 @@ pub record TurnsFrame {S A : Type 0} (answers : Attending A → Exchange → Att
   pub good : IsFrame frame
   pub stands : front ≡ framed frame new.ahead
   pub size_is : size ≡ length (framed frame [])
-  pub answers_it : AnswersFrame answers (answering old) (answering new) frame result
+  pub answers_it : AnswersFrame answers (answering_of old) (answering_of new) frame result
 
 -- the attendant, its clock and the sink are as they were
 pub record IsUntouched {S A : Type 0} (old new : Standing S A) : Type 0 where

@@ -1,7 +1,7 @@
 //! What answers frames.
 
 ghost use Rattle.frame_grammar.specs.Frames.{Frame};
-ghost use Rattle.frame_service.specs.Exchanges.{Attending, attending, Exchange, IsReadAs, spoken_bytes};
+ghost use Rattle.frame_service.specs.Exchanges.{Attending, attending_of, Exchange, IsReadAs, spoken_bytes};
 
 use crate::spoken::Spoken;
 use desk_io::Clock;
@@ -17,7 +17,7 @@ pub trait Attendant {
     /// Answers a frame, as it was read. It may take memory, and may read the clock.
     fn answer<C: Clock>(&mut self, alloc: Global, read: ReadFrame, clock: &mut C) -> Spoken
         ensures { (frame : Frame) → IsReadAs frame read → answers
-            (attending C.reading C.last self.old clock.old)
+            (attending_of C.reading C.last self.old clock.old)
             (record { frame = frame; reply = spoken_bytes result })
-            (attending C.reading C.last self.new clock.new) };
+            (attending_of C.reading C.last self.new clock.new) };
 }

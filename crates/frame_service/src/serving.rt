@@ -5,7 +5,7 @@ ghost use Rattle.std.specs.Io.KnownBytes.{Appends};
 ghost use Rattle.call_log.specs.Counts.{Rises};
 ghost use Rattle.frame_reader.specs.Frames.{IsFrameRead};
 ghost use Rattle.read_ahead.specs.Reading.{Supplies, work};
-ghost use Rattle.frame_service.specs.Exchanges.{Exchange, attending, Attends};
+ghost use Rattle.frame_service.specs.Exchanges.{Exchange, attending_of, Attends};
 ghost use Rattle.frame_service.specs.Runs.{Run, AwaitsNext, Stops};
 ghost use Rattle.frame_service.specs.Steps.{AnswersFrame, TakesStep, SourceFaults, SinkFaults};
 
@@ -38,8 +38,8 @@ fn answer_frame<A: Attendant, K: Sink, C: Clock>(
     clock: &mut C,
 ) -> Result<u64, Failed>
     ensures answers { (front rest : List ℕ) (r : IsFrameRead front read rest) → AnswersFrame A.answers
-        (record { at = attending C.reading C.last attendant.old clock.old; taken = K.taken sink.old })
-        (record { at = attending C.reading C.last attendant.new clock.new; taken = K.taken sink.new })
+        (record { at = attending_of C.reading C.last attendant.old clock.old; taken = K.taken sink.old })
+        (record { at = attending_of C.reading C.last attendant.new clock.new; taken = K.taken sink.new })
         r.frame result }
     ensures size { IfOk result (λ size. size ≡ read.size) }
     ensures counts { K.faults sink.old ≤ K.faults sink.new }
@@ -67,13 +67,13 @@ fn serve_next<A: Attendant, S: Source, K: Sink, C: Clock>(
 ) -> Result<u64, Stop>
     ensures step { TakesStep S.left S.gives A.answers
         (record {
-          at = attending C.reading C.last attendant.old clock.old;
+          at = attending_of C.reading C.last attendant.old clock.old;
           taken = K.taken sink.old;
           source = source.old;
           ahead = reader.old;
         })
         (record {
-          at = attending C.reading C.last attendant.new clock.new;
+          at = attending_of C.reading C.last attendant.new clock.new;
           taken = K.taken sink.new;
           source = source.new;
           ahead = reader.new;
@@ -115,8 +115,8 @@ pub fn serve<A: Attendant, S: Source, K: Sink, C: Clock>(
         × Supplies S.left S.gives (AwaitsNext run.answered) source.old source.new run.came run.more
         × Appends (K.taken sink.old) (K.taken sink.new) run.texts
         × Stops run result served
-        × Attends A.answers (attending C.reading C.last attendant.old clock.old) served
-        (attending C.reading C.last attendant.new clock.new) }
+        × Attends A.answers (attending_of C.reading C.last attendant.old clock.old) served
+        (attending_of C.reading C.last attendant.new clock.new) }
     ensures read_cause { result ≡ Stop.ReadFailed → Rises (S.faults source.old) (S.faults source.new) }
     ensures read_faultless { (result ≡ Stop.ReadFailed → ⊥) → S.faults source.new ≡ S.faults source.old }
     ensures write_cause { result ≡ Stop.WriteFailed → Rises (K.faults sink.old) (K.faults sink.new) }

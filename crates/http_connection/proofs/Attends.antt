@@ -12,7 +12,7 @@ use Rattle.intake_lock.specs.declared.view.View.{View}
 use Rattle.act_model.specs.declared.keeper.Stamps.{Stamps}
 use Rattle.intake_lock.specs.Stamps.{StampsOn}
 use Rattle.intake_lock.specs.Items.{IsTrue, AreTrue, AreStamped}
-use Rattle.intake_lock.specs.Views.{seen}
+use Rattle.intake_lock.specs.Views.{history_seen}
 use Rattle.desk_http.specs.Answers.{IfKept, IsRequestRead}
 use Rattle.desk_http.specs.Heads.{Message}
 use Rattle.act_model.specs.Clocks.{ClockState, Gives}
@@ -81,18 +81,18 @@ attends_more laws before between after a b c es message item so_far call asks =
     let founder = before.office.founder in
     let limit = before.office.limit in
     let items = items_more es e in
-    let here : IsTrue founder limit (seen after) item =
-    subst (λ (l : Option ℕ). IsTrue founder l (seen after) item) so_far.limit (subst (λ (f : Key). IsTrue f between.office.limit (seen after) item) so_far.founder call.true_of) in
-    let least = laws.longer (seen before) (seen between) so_far.grows in
+    let here : IsTrue founder limit (history_seen after) item =
+    subst (λ (l : Option ℕ). IsTrue founder l (history_seen after) item) so_far.limit (subst (λ (f : Key). IsTrue f between.office.limit (history_seen after) item) so_far.founder call.true_of) in
+    let least = laws.longer (history_seen before) (history_seen between) so_far.grows in
     record {
       asks = all_more IsExchange es e so_far.asks (record { asks = asks; reads = call.call.reads });
       mine = call.mine ∙ ap (λ (l : List Item). item ∷ l) so_far.mine ∙ sym (ap (λ (l : List Item). l ++ before.mine) items);
-      true_of = subst (λ (l : List Item). AreTrue founder limit (seen after) l) (sym items)
-          (here, are_true_later laws founder limit (seen between) (seen after) (items_of es) call.grows so_far.true_of);
+      true_of = subst (λ (l : List Item). AreTrue founder limit (history_seen after) l) (sym items)
+          (here, are_true_later laws founder limit (history_seen between) (history_seen after) (items_of es) call.grows so_far.true_of);
       causes = subst (λ (l : List Item). AllByRecursion HasCause l) (sym items) (call.cause, so_far.causes);
-      order = subst (λ (l : List Item). AreInOrder founder limit (seen after) (length (seen before)) l) (sym items)
-          (order_more laws founder limit (length (seen before)) (seen between) (seen after) item (items_of es) least call.grows call.place so_far.true_of so_far.order);
-      grows = laws.follow (seen before) (seen between) (seen after) so_far.grows call.grows;
+      order = subst (λ (l : List Item). AreInOrder founder limit (history_seen after) (length (history_seen before)) l) (sym items)
+          (order_more laws founder limit (length (history_seen before)) (history_seen between) (history_seen after) item (items_of es) least call.grows call.place so_far.true_of so_far.order);
+      grows = laws.follow (history_seen before) (history_seen between) (history_seen after) so_far.grows call.grows;
       stamps = laws.stamps_follow before.office.stamps between.office.stamps after.office.stamps so_far.stamps call.stamps;
       stamped = subst (λ (l : List Item). AreStamped after.office.stamps l) (sym items)
           (laws.has_stamp call.entered after.office item call.call, laws.stamped_later between.office.stamps after.office.stamps (items_of es) call.stamps so_far.stamped);

@@ -9,7 +9,7 @@ use Rattle.act_model.specs.declared.reply.Reply.TheVariants.{Refused}
 use Rattle.act_model.specs.declared.reply.Refusal.TheVariants.{DiskFault}
 use Rattle.act_model.specs.declared.request.Request.{Request}
 use Rattle.act_model.specs.Conducts.{Extends}
-use Rattle.act_model.specs.Step.{Outcome, Adds, outcome, after, step}
+use Rattle.act_model.specs.Step.{Outcome, Adds, outcome, reply_and_history, step}
 use Rattle.act_model.specs.Turns.{Answers}
 use Rattle.intake_lock.specs.declared.view.Item.{Item}
 use Rattle.act_model.specs.declared.keeper.Stamp.{Stamp}
@@ -21,7 +21,7 @@ use Rattle.http_connection.specs.Laws.{CallLaws}
 step_adds : (founder : Key) (limit : Option ℕ) (past : List Entry) (q : Request) (t : ℤ) (e : Entry) (reply : Reply) (next : List Entry) → outcome founder limit past q t ≡ Adds e
     → step founder limit past q t ≡ (reply, next) → next ≡ e ∷ past
 unfolding step
-step_adds founder limit past q t e reply next adds is = sym (ap (λ (p : Reply × List Entry). p.1) is) ∙ ap (λ (o : Outcome). (after past o).1) adds
+step_adds founder limit past q t e reply next adds is = sym (ap (λ (p : Reply × List Entry). p.1) is) ∙ ap (λ (o : Outcome). (reply_and_history past o).1) adds
 
 module _ (laws : CallLaws) (founder : Key) (limit : Option ℕ) where
   -- ---- where a call stands

@@ -10,24 +10,24 @@ use Rattle.intake_lock.specs.declared.view.Item.{Item}
 use Rattle.intake_lock.specs.declared.view.View.{View}
 use Rattle.intake_lock.specs.Stamps.{StampsOn}
 use Rattle.intake_lock.specs.Items.{IsTrue}
-use Rattle.intake_lock.specs.Views.{seen, holding, published, idle}
+use Rattle.intake_lock.specs.Views.{history_seen, holding_view, published_view, idle}
 use Rattle.act_model.specs.Clocks.{ClockState, Gives}
 use Rattle.http_connection.specs.Calls.{Asks, TakesCall}
 use Rattle.http_connection.specs.Laws.{CallLaws}
 use Rattle.http_connection.proofs.Calls.{StepKnowsNoDisk, caused}
 
 module _ (laws : CallLaws) (never : StepKnowsNoDisk) (before : View) (ticket : ℕ) (first last : Office) (items noted : List Item) (request : Request) (reply : Reply) (clock clock_after : ClockState)
-    (founder : first.founder ≡ before.office.founder) (limit : first.limit ≡ before.office.limit) (goes_on : Extends (seen before) first.state.settled) (stamps : StampsOn before.office.stamps first.stamps) (none : items ≡ [])
+    (founder : first.founder ≡ before.office.founder) (limit : first.limit ≡ before.office.limit) (goes_on : Extends (history_seen before) first.state.settled) (stamps : StampsOn before.office.stamps first.stamps) (none : items ≡ [])
     (asks : Asks (record { office = first; items = items; clock = clock }) (record { office = last; items = noted; clock = clock_after }) request reply) where
   -- the pass that has the turn's calls has this one more
-  taken_here : (item : Item) × (item.request ≡ request) × (item.reply ≡ reply) × TakesCall before (idle (published last noted (holding ticket first before))) clock clock_after item
+  taken_here : (item : Item) × (item.request ≡ request) × (item.reply ≡ reply) × TakesCall before (idle (published_view last noted (holding_view ticket first before))) clock clock_after item
   taken_here =
       let item = asks.noted.0 in
       let of_item = asks.noted.2 in
       let here = laws.here first last item of_item.calls in
       let true_here : IsTrue before.office.founder before.office.limit last.state.settled item =
       subst (λ (l : Option ℕ). IsTrue before.office.founder l last.state.settled item) limit (subst (λ (f : Key). IsTrue f first.limit last.state.settled item) founder here) in
-      let least = laws.longer (seen before) first.state.settled goes_on in
+      let least = laws.longer (history_seen before) first.state.settled goes_on in
       let place = laws.place first last item of_item.calls in (
         item,
         of_item.asked,
@@ -40,7 +40,7 @@ module _ (laws : CallLaws) (never : StepKnowsNoDisk) (before : View) (ticket : �
           true_of = true_here;
           cause = caused never before.office.founder before.office.limit last.state.settled item true_here;
           place = omega arith;
-          grows = laws.follow (seen before) first.state.settled last.state.settled goes_on (laws.grows first last item of_item.calls);
+          grows = laws.follow (history_seen before) first.state.settled last.state.settled goes_on (laws.grows first last item of_item.calls);
           stamps = laws.stamps_follow before.office.stamps first.stamps last.stamps stamps (laws.stamps first last item of_item.calls);
           clock = subst (λ (r : Option ℤ). Gives clock clock_after (option_to_list r)) (sym of_item.read) asks.clock;
           founder = of_item.calls.founder ∙ founder;
@@ -48,8 +48,8 @@ module _ (laws : CallLaws) (never : StepKnowsNoDisk) (before : View) (ticket : �
         },
       )
 
-  pub taken : (entered turned after : View) → entered ≡ holding ticket first before → turned ≡ entered → after ≡ idle (published last noted turned)
+  pub taken : (entered turned after : View) → entered ≡ holding_view ticket first before → turned ≡ entered → after ≡ idle (published_view last noted turned)
       → (item : Item) × (item.request ≡ request) × (item.reply ≡ reply) × TakesCall before after clock clock_after item
   taken entered turned after enters same leaves =
-      let view : after ≡ idle (published last noted (holding ticket first before)) = leaves ∙ ap (λ (v : View). idle (published last noted v)) (same ∙ enters) in
+      let view : after ≡ idle (published_view last noted (holding_view ticket first before)) = leaves ∙ ap (λ (v : View). idle (published_view last noted v)) (same ∙ enters) in
       subst (λ (v : View). (item : Item) × (item.request ≡ request) × (item.reply ≡ reply) × TakesCall before v clock clock_after item) (sym view) taken_here

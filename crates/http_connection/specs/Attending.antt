@@ -16,7 +16,7 @@ use Rattle.intake_lock.specs.declared.view.Item.{Item}
 use Rattle.intake_lock.specs.declared.view.View.{View}
 use Rattle.intake_lock.specs.Stamps.{StampsOn}
 use Rattle.intake_lock.specs.Items.{AreTrue, AreStamped}
-use Rattle.intake_lock.specs.Views.{seen}
+use Rattle.intake_lock.specs.Views.{history_seen}
 use Rattle.desk_http.specs.Answers.{IfKept}
 use Rattle.desk_http.specs.Heads.{Message, IsMessage, IsStream}
 use Rattle.desk_http.specs.ReplyTexts.{answer_of, unread_answer}
@@ -64,11 +64,11 @@ readings_in exchanges = filter_map (λ exchange. exchange.item.reading) exchange
 pub record Attends (before after : View) (was now : ClockState) (exchanges : List Exchange) : Type 0 where
   pub asks : AllByRecursion IsExchange exchanges
   pub mine : after.mine ≡ items_of exchanges ++ before.mine
-  pub true_of : AreTrue before.office.founder before.office.limit (seen after) (items_of exchanges)
+  pub true_of : AreTrue before.office.founder before.office.limit (history_seen after) (items_of exchanges)
   pub causes : AllByRecursion HasCause (items_of exchanges)
-  pub order : AreInOrder before.office.founder before.office.limit (seen after) (length (seen before))
+  pub order : AreInOrder before.office.founder before.office.limit (history_seen after) (length (history_seen before))
       (items_of exchanges)
-  pub grows : Extends (seen before) (seen after)
+  pub grows : Extends (history_seen before) (history_seen after)
   pub stamps : StampsOn before.office.stamps after.office.stamps
   pub stamped : AreStamped after.office.stamps (items_of exchanges)
   pub clock : Gives was now (readings_in exchanges)
@@ -185,7 +185,7 @@ pub record IsAttended {S : Type 0} (left : S → Option (List ℕ)) (gives : Pas
   pub most : length link.exchanges ≤ ANSWERS
   pub ends : Ends link ended
   pub faultless : HadNoRise (items_of link.exchanges) →
-      AllByRecursion (IsStepped before.view.office.founder before.view.office.limit (seen after.view))
+      AllByRecursion (IsStepped before.view.office.founder before.view.office.limit (history_seen after.view))
       (items_of link.exchanges)
 
 -- ---- causes

@@ -14,7 +14,7 @@ use Rattle.intake_lock.specs.declared.view.Item.{Item}
 use Rattle.intake_lock.specs.declared.view.View.{View}
 use Rattle.intake_lock.specs.Stamps.{StampsOn}
 use Rattle.intake_lock.specs.Items.{reading_of, AddsAt, IsTrue, Calls, Noted}
-use Rattle.intake_lock.specs.Views.{seen}
+use Rattle.intake_lock.specs.Views.{history_seen}
 use Rattle.act_model.specs.Clocks.{ClockState, Gives}
 
 -- ---- one call
@@ -42,12 +42,12 @@ HasCause item = (doubt : Bool) → item.reply ≡ Refused (DiskFault doubt) → 
 pub record TakesCall (before after : View) (was now : ClockState) (item : Item) : Type 0 where
   pub mine : after.mine ≡ item ∷ before.mine
   pub entered : Office
-  pub goes_on : Extends (seen before) entered.state.settled
+  pub goes_on : Extends (history_seen before) entered.state.settled
   pub call : Calls entered item after.office
-  pub true_of : IsTrue before.office.founder before.office.limit (seen after) item
+  pub true_of : IsTrue before.office.founder before.office.limit (history_seen after) item
   pub cause : HasCause item
-  pub place : length (seen before) ≤ item.position
-  pub grows : Extends (seen before) (seen after)
+  pub place : length (history_seen before) ≤ item.position
+  pub grows : Extends (history_seen before) (history_seen after)
   pub stamps : StampsOn before.office.stamps after.office.stamps
   pub clock : Gives was now (option_to_list item.reading)
   pub founder : after.office.founder ≡ before.office.founder

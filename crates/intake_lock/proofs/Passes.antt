@@ -21,7 +21,7 @@ use Rattle.intake_lock.specs.declared.view.Stage.{Stage}
 use Rattle.intake_lock.specs.declared.view.Stage.TheVariants.{Idle}
 use Rattle.intake_lock.specs.declared.view.View.{View}
 use Rattle.intake_lock.specs.Items.{AreTrue, RisesBy, rises}
-use Rattle.intake_lock.specs.Views.{seen, live, one_if_live, ticketed, one_if_ticketed, made_by, rises_by, HasTicketAt, HasTicket, HasTurnAt, HasTurn, stem, branch, joined, spent, one_in, first_view}
+use Rattle.intake_lock.specs.Views.{history_seen, live, one_if_live, ticket_count, one_if_ticketed, made_by, rises_by, HasTicketAt, HasTicket, HasTurnAt, HasTurn, stem, branch, joint_view, spent_view, one_in, first_view}
 use Rattle.intake_lock.specs.Rule.{MOST, word, FitsStage, IsKnown, Fits, At, Apart, Latest, IsCall, IsHome, IsOut, Standing, Closes}
 use Rattle.intake_lock.proofs.Histories.{same_length, extends_length, StepLaw, extends_refl, comes_kept, are_true_later, are_true_both, rises_none}
 use Rattle.intake_lock.proofs.StampLemmas.{stamps_refl, stamped_both, come_first}
@@ -86,11 +86,11 @@ module _ (steps : StepLaw) {V : Type 0} (office_of : V → Office) (opening : Of
         let count = h.rooted.count in
         let made_sum = sum_same s.views id v w at made_by refl in
         let rises_sum = sum_same s.views id v w at rises_by refl in
-        let ticket_sum = sum_same s.views id v w at ticketed refl in
+        let ticket_sum = sum_same s.views id v w at ticket_count refl in
         let live_sum = sum_same s.views id v w at live (stem_alive ∙ sym alive) in
         let made_push = sum_push made_by vs b in
         let rises_push = sum_push rises_by vs b in
-        let ticket_push = sum_push ticketed vs b in
+        let ticket_push = sum_push ticket_count vs b in
         let live_push = sum_push live vs b in
         let made = h.made in
         let total = h.tickets in
@@ -149,21 +149,21 @@ module _ (steps : StepLaw) {V : Type 0} (office_of : V → Office) (opening : Of
   -- ---- join
 
   module _ (id other out : ℕ) (v w : View) (root : v.role ≡ Root out) (rests : v.stage ≡ Idle) (branched : w.role ≡ Branch) (rests' : w.stage ≡ Idle) where
-    both_role : (joined v w).role ≡ Root (out - 1)
+    both_role : (joint_view v w).role ≡ Root (out - 1)
     both_role = ap one_in root
 
-    both_alive : live (joined v w) ≡ 1
+    both_alive : live (joint_view v w) ≡ 1
     both_alive = ap one_if_live both_role
 
     module _ (s : State (Option V) View) (h : Rule s) (at : At s.views id v) (apart : ¬ (other ≡ id)) (at' : At s.views other w) where
       abbrev both : View
-      both = joined v w
+      both = joint_view v w
 
       abbrev first : List View
       first = set s.views id both
 
       abbrev second : List View
-      second = set first other spent
+      second = set first other spent_view
 
       join_at : At first other w
       join_at = set_else s.views id other both apart ∙ at'
@@ -174,13 +174,13 @@ module _ (steps : StepLaw) {V : Type 0} (office_of : V → Office) (opening : Of
       known_w : IsKnown opening h.office w
       known_w = (live_known opening h.office h.drawn h.served w (ap one_if_live branched) (h.fits other w at')).0
 
-      true_in : (longest : List Entry) → Extends (seen v) longest → Extends (seen w) longest → AreTrue opening.founder opening.limit longest (w.mine ++ v.mine)
+      true_in : (longest : List Entry) → Extends (history_seen v) longest → Extends (history_seen w) longest → AreTrue opening.founder opening.limit longest (w.mine ++ v.mine)
       true_in longest over_v over_w =
           are_true_both opening.founder opening.limit longest w.mine v.mine
-          (are_true_later steps opening.founder opening.limit (seen w) longest w.mine over_w known_w.true_of)
-          (are_true_later steps opening.founder opening.limit (seen v) longest v.mine over_v known_v.true_of)
+          (are_true_later steps opening.founder opening.limit (history_seen w) longest w.mine over_w known_w.true_of)
+          (are_true_later steps opening.founder opening.limit (history_seen v) longest v.mine over_v known_v.true_of)
 
-      both_known : (b : Bool) → nat_lt (length (seen v)) (length (seen w)) ≡ b
+      both_known : (b : Bool) → nat_lt (length (history_seen v)) (length (history_seen w)) ≡ b
           → IsKnown opening h.office (record { role = one_in v.role; stage = Idle; office = cond b w.office v.office; also = (cond b v.office w.office).state.settled; mine = w.mine ++ v.mine; made = v.made + w.made })
       both_known true is =
           record {
@@ -188,9 +188,9 @@ module _ (steps : StepLaw) {V : Type 0} (office_of : V → Office) (opening : Of
             limit = known_w.limit;
             first = known_w.first;
             also = known_v.first;
-            true_of = true_in (seen w)
-                (Rattle.intake_lock.proofs.Histories.shorter_begins (seen v) (seen w) h.office.state.settled known_v.first known_w.first (grind (arith, nat_tests)))
-                (extends_refl (seen w));
+            true_of = true_in (history_seen w)
+                (Rattle.intake_lock.proofs.Histories.shorter_begins (history_seen v) (history_seen w) h.office.state.settled known_v.first known_w.first (grind (arith, nat_tests)))
+                (extends_refl (history_seen w));
             stamps = known_w.stamps;
             stamped = stamped_both h.office.stamps w.mine v.mine known_w.stamped known_v.stamped;
           }
@@ -200,46 +200,46 @@ module _ (steps : StepLaw) {V : Type 0} (office_of : V → Office) (opening : Of
             limit = known_v.limit;
             first = known_v.first;
             also = known_w.first;
-            true_of = true_in (seen v)
-                (extends_refl (seen v))
-                (Rattle.intake_lock.proofs.Histories.shorter_begins (seen w) (seen v) h.office.state.settled known_w.first known_v.first (grind (arith, nat_tests)));
+            true_of = true_in (history_seen v)
+                (extends_refl (history_seen v))
+                (Rattle.intake_lock.proofs.Histories.shorter_begins (history_seen w) (history_seen v) h.office.state.settled known_w.first known_v.first (grind (arith, nat_tests)));
             stamps = known_v.stamps;
             stamped = stamped_both h.office.stamps w.mine v.mine known_w.stamped known_v.stamped;
           }
 
       -- the calls of both are the root's now
       at_both : At second id both
-      at_both = set_else first other id spent (λ same. apart (sym same)) ∙ set_here s.views id both (at_below s.views id v at)
+      at_both = set_else first other id spent_view (λ same. apart (sym same)) ∙ set_here s.views id both (at_below s.views id v at)
 
       join_calls : (item : Item) → IsCall s.views item → IsCall second item
       join_calls item (j, u, there, has) = dite (ℕ_discrete j other)
           (λ same. (id, both, at_both, Contains-append_left w.mine v.mine item (subst (λ (x : View). Contains x.mine item) (sym (one_there s.views other j w u (sym same) at' there)) has)))
           (λ not_other. dite (ℕ_discrete j id)
           (λ same. (id, both, at_both, Contains-append_right w.mine v.mine item (subst (λ (x : View). Contains x.mine item) (sym (one_there s.views id j v u (sym same) at there)) has)))
-          (λ not_id. (j, u, set_else first other j spent not_other ∙ (set_else s.views id j both not_id ∙ there), has)))
+          (λ not_id. (j, u, set_else first other j spent_view not_other ∙ (set_else s.views id j both not_id ∙ there), has)))
 
-      both_latest : (b : Bool) → nat_lt (length (seen v)) (length (seen w)) ≡ b → (seen v ≡ h.office.state.settled) ⊎ (seen w ≡ h.office.state.settled)
+      both_latest : (b : Bool) → nat_lt (length (history_seen v)) (length (history_seen w)) ≡ b → (history_seen v ≡ h.office.state.settled) ⊎ (history_seen w ≡ h.office.state.settled)
           → (cond b w.office v.office).state.settled ≡ h.office.state.settled
       both_latest true is (inl all) =
           let whole = ap length all in
-          let within = extends_length (seen w) h.office.state.settled known_w.first in
+          let within = extends_length (history_seen w) h.office.state.settled known_w.first in
           absurd (grind (arith, nat_tests))
       both_latest true is (inr all) = all
       both_latest false is (inl all) = all
       both_latest false is (inr all) =
           let whole = ap length all in
-          same_length (seen v) h.office.state.settled known_v.first (grind (arith, nat_tests))
+          same_length (history_seen v) h.office.state.settled known_v.first (grind (arith, nat_tests))
 
       join_latest : Latest h.office s.views → Latest h.office second
       join_latest (j, u, there, is) = dite (ℕ_discrete j other)
-          (λ same. (id, both, at_both, both_latest (nat_lt (length (seen v)) (length (seen w))) refl (inr (ap seen (one_there s.views other j w u (sym same) at' there) ∙ is))))
+          (λ same. (id, both, at_both, both_latest (nat_lt (length (history_seen v)) (length (history_seen w))) refl (inr (ap history_seen (one_there s.views other j w u (sym same) at' there) ∙ is))))
           (λ not_other. dite (ℕ_discrete j id)
-          (λ same. (id, both, at_both, both_latest (nat_lt (length (seen v)) (length (seen w))) refl (inl (ap seen (one_there s.views id j v u (sym same) at there) ∙ is))))
-          (λ not_id. (j, u, set_else first other j spent not_other ∙ (set_else s.views id j both not_id ∙ there), is)))
+          (λ same. (id, both, at_both, both_latest (nat_lt (length (history_seen v)) (length (history_seen w))) refl (inl (ap history_seen (one_there s.views id j v u (sym same) at there) ∙ is))))
+          (λ not_id. (j, u, set_else first other j spent_view not_other ∙ (set_else s.views id j both not_id ∙ there), is)))
 
       join_roots : (j n : ℕ) (u : View) → At second j u → u.role ≡ Root n → (j ≡ id) × (n ≡ out - 1)
       join_roots j n u there is =
-          each first other w spent join_at (λ j u. (n : ℕ) → u.role ≡ Root n → (j ≡ id) × (n ≡ out - 1))
+          each first other w spent_view join_at (λ j u. (n : ℕ) → u.role ≡ Root n → (j ≡ id) × (n ≡ out - 1))
           (λ n is. absurd cc)
           (λ j u not_other there n is. each s.views id v both at (λ j u. (n : ℕ) → u.role ≡ Root n → (j ≡ id) × (n ≡ out - 1))
           (λ n is. (refl, root_number n (out - 1) (sym is ∙ both_role)))
@@ -258,15 +258,15 @@ module _ (steps : StepLaw) {V : Type 0} (office_of : V → Office) (opening : Of
           let idle_weighs = ap one_if_ticketed rests in
           let idle_weighs' = ap one_if_ticketed rests' in
           let live_first = sum_set live s.views id v both at in
-          let live_second = sum_set live first other w spent join_at in
+          let live_second = sum_set live first other w spent_view join_at in
           let live_both = both_alive in
           let made_first = sum_set made_by s.views id v both at in
-          let made_second = sum_set made_by first other w spent join_at in
+          let made_second = sum_set made_by first other w spent_view join_at in
           let rises_first = sum_set rises_by s.views id v both at in
-          let rises_second = sum_set rises_by first other w spent join_at in
+          let rises_second = sum_set rises_by first other w spent_view join_at in
           let rises_both = sum_by-append (λ (i : Item). i.rise) w.mine v.mine in
-          let ticket_first = sum_set ticketed s.views id v both at in
-          let ticket_second = sum_set ticketed first other w spent join_at in
+          let ticket_first = sum_set ticket_count s.views id v both at in
+          let ticket_second = sum_set ticket_count first other w spent_view join_at in
           let made = h.made in
           let total = h.tickets in
           record {
@@ -277,17 +277,17 @@ module _ (steps : StepLaw) {V : Type 0} (office_of : V → Office) (opening : Of
             founder = h.founder;
             limit = h.limit;
             tickets = omega arith;
-            fits = each first other w spent join_at (λ j u. Fits opening h.office h.drawn h.served u)
+            fits = each first other w spent_view join_at (λ j u. Fits opening h.office h.drawn h.served u)
                 (record { stage = refl; calls = refl; made = refl })
                 (λ j u not_other there. each s.views id v both at (λ j u. Fits opening h.office h.drawn h.served u)
-                (fits_live opening h.office h.drawn h.served both both_alive (both_known (nat_lt (length (seen v)) (length (seen w))) refl) tt)
+                (fits_live opening h.office h.drawn h.served both both_alive (both_known (nat_lt (length (history_seen v)) (length (history_seen w))) refl) tt)
                 (λ j u not_id there. h.fits j u there)
                 j u there);
-            apart = apart_set first other w spent join_at (λ j u ticket not_other there has has'. has)
+            apart = apart_set first other w spent_view join_at (λ j u ticket not_other there has has'. has)
                 (apart_set s.views id v both at (λ j u ticket not_id there has has'. has) h.apart);
             rooted = record { root = id; out = out - 1; most = omega arith; count = omega arith; there = (both, at_both, both_role); one = λ j n u there is. join_roots j n u there is };
             latest = join_latest h.latest;
-            kept = kept_set first other w spent join_at office_of h.office s.homes (λ has. subst HasTurnAt rests' has) (λ has. has)
+            kept = kept_set first other w spent_view join_at office_of h.office s.homes (λ has. subst HasTurnAt rests' has) (λ has. has)
                 (kept_set s.views id v both at office_of h.office s.homes (λ has. subst HasTurnAt rests has) (λ has. has) h.kept);
             made = omega arith;
             legal = h.legal;
@@ -295,15 +295,15 @@ module _ (steps : StepLaw) {V : Type 0} (office_of : V → Office) (opening : Of
             counts = subst (λ (n : ℕ). RisesBy n opening.faults h.office.faults) (omega arith) h.counts;
           }
 
-    pub joins : Joins Rule id v other w (joined v w) spent
+    pub joins : Joins Rule id v other w (joint_view v w) spent_view
     joins s h at apart there =
-        join_rule s h at apart (sym (set_else s.views id other (joined v w) apart) ∙ there)
+        join_rule s h at apart (sym (set_else s.views id other (joint_view v w) apart) ∙ there)
 
 -- the shorter history is no longer than the longer one
-pub also_short : (v w : View) → length (joined v w).also ≤ length (seen (joined v w))
-also_short v w = by (nat_lt (length (seen v)) (length (seen w))) refl
+pub also_short : (v w : View) → length (joint_view v w).also ≤ length (history_seen (joint_view v w))
+also_short v w = by (nat_lt (length (history_seen v)) (length (history_seen w))) refl
   where
-    by : (b : Bool) → nat_lt (length (seen v)) (length (seen w)) ≡ b → length (cond b v.office w.office).state.settled ≤ length (cond b w.office v.office).state.settled
+    by : (b : Bool) → nat_lt (length (history_seen v)) (length (history_seen w)) ≡ b → length (cond b v.office w.office).state.settled ≤ length (cond b w.office v.office).state.settled
     by true is = grind (arith, nat_tests)
     by false is = grind (arith, nat_tests)
 
@@ -389,10 +389,10 @@ module _ {V : Type 0} (office_of : V → Office) where
         nothing : (item : Item) → Contains [] item → ⊥
         nothing item (k, low, is) = omega arith
 
-    sum_only : (f : View → ℕ) → f spent ≡ 0 → ((j : ℕ) (u : View) → j ≢ id → At s.views j u → f u ≡ 0) → sum_by f s.views ≡ f v
+    sum_only : (f : View → ℕ) → f spent_view ≡ 0 → ((j : ℕ) (u : View) → j ≢ id → At s.views j u → f u ≡ 0) → sum_by f s.views ≡ f v
     sum_only f none others =
-        let all = sum_set f s.views id v spent at in
-        let nothing = sum_none f (set s.views id spent) (λ j u there. each s.views id v spent at (λ j u. f u ≡ 0) none others j u there) in
+        let all = sum_set f s.views id v spent_view at in
+        let nothing = sum_none f (set s.views id spent_view) (λ j u there. each s.views id v spent_view at (λ j u. f u ≡ 0) none others j u there) in
         omega arith
 
     pub closes : (keeper : V) × (get_elem? s.homes 0 ≡ slot.some (slot.some (Some keeper))) × Closes opening v (office_of keeper)
@@ -427,7 +427,7 @@ is_root (Root out) is = (out, refl)
 is_root Branch is = absurd is
 is_root Spent is = absurd is
 
-pub joined_live : (v w : View) (out : ℕ) → v.role ≡ Root out → live (joined v w) ≡ 1
+pub joined_live : (v w : View) (out : ℕ) → v.role ≡ Root out → live (joint_view v w) ≡ 1
 joined_live v w out root = ap (λ (r : Role). one_if_live (one_in r)) root
 
 -- ---- what a closed table has

@@ -19,7 +19,7 @@ use Rattle.intake_lock.specs.declared.view.Stage.TheVariants.{Idle, Waiting, Hol
 use Rattle.intake_lock.specs.declared.view.View.{View}
 use Rattle.intake_lock.specs.Stamps.{StampsOn}
 use Rattle.intake_lock.specs.Items.{AreTrue, Called, RisesBy, rises}
-use Rattle.intake_lock.specs.Views.{seen, live, ticketed, one_if_ticketed, made_by, rises_by, HasTicketAt, HasTicket, HasTurnAt, HasTurn, waiting, holding, published, idle}
+use Rattle.intake_lock.specs.Views.{history_seen, live, ticket_count, one_if_ticketed, made_by, rises_by, HasTicketAt, HasTicket, HasTurnAt, HasTurn, waiting_view, holding_view, published_view, idle}
 use Rattle.intake_lock.specs.Rule.{word, FitsStage, IsKnown, Fits, At, IsHome, IsOut, Standing}
 use Rattle.intake_lock.specs.Plays.{Mine, Draws, Gets, Looks, Publishes, Leaves, Tells}
 use Rattle.intake_lock.proofs.Histories.{StepLaw, extends_refl, extends_on, extends_length, shorter_begins, comes_kept, comes_more, called_same, called_extends, called_true, called_counts, LegalLaw, called_legal, are_true_later, are_true_both}
@@ -44,9 +44,9 @@ module _ (steps : StepLaw) {V : Type 0} (office_of : V → Office) (opening : Of
 
   module _ (s : State (Option V) View) (h : Standing office_of opening s) where
     -- a ticket that is out isn't far from the one that is served
-    near : sum_by ticketed s.views ≤ 1001
+    near : sum_by ticket_count s.views ≤ 1001
     near =
-        let le = sum_le ticketed live s.views (λ i x at. ticket_weighs opening h.office h.drawn h.served x (h.fits i x at)) in
+        let le = sum_le ticket_count live s.views (λ i x at. ticket_weighs opening h.office h.drawn h.served x (h.fits i x at)) in
         let count = h.rooted.count in
         let most = h.rooted.most in
         omega arith
@@ -65,13 +65,13 @@ module _ (steps : StepLaw) {V : Type 0} (office_of : V → Office) (opening : Of
 
   module _ (slots id : ℕ) (m : Mine V) (one : live m.0 ≡ 1) (rests : m.0.stage ≡ Idle) where
     draw_rule : (s : State (Option V) View) → Rule s → (at : At s.views id m.0)
-        → (h : Rule s) → Rule (stepped s 0 ((slice_index s.words 0 + 1) % 2 ^ 64) id m.1 (waiting h.drawn m.0) keeps)
+        → (h : Rule s) → Rule (stepped s 0 ((slice_index s.words 0 + 1) % 2 ^ 64) id m.1 (waiting_view h.drawn m.0) keeps)
     draw_rule s _ at h =
         let v : View = m.0 in
-        let w : View = waiting h.drawn v in
+        let w : View = waiting_view h.drawn v in
         let known = live_known opening h.office h.drawn h.served v one (h.fits id v at) in
         let weighs = ap one_if_ticketed rests in
-        let sums = sum_set ticketed s.views id v w at in
+        let sums = sum_set ticket_count s.views id v w at in
         let total = h.tickets in
         record {
           office = h.office;
@@ -103,7 +103,7 @@ module _ (steps : StepLaw) {V : Type 0} (office_of : V → Office) (opening : Of
 
     pub draws : Allows Rule slots id m 0 (λ n. (n + 1) % 2 ^ 64) (Draws m)
     draws s h len at bound = (
-      waiting h.drawn m.0,
+      waiting_view h.drawn m.0,
       keeps,
       tt,
       draw_rule s h at h,
@@ -135,7 +135,7 @@ module _ (steps : StepLaw) {V : Type 0} (office_of : V → Office) (opening : Of
             absurd (subst HasTurnAt waits (subst HasTurn (sym (one_there s.views id k.id v k.view (sym same) at k.at)) k.turn))
 
         abbrev got : View
-        got = holding ticket h.office v
+        got = holding_view ticket h.office v
 
         look_rule : (keeper : V) → s.homes ≡ slot.some (Some keeper) ∷ [] → Rule (stepped s 1 (slice_index s.words 1) id m.1 got (takes 0 (Some keeper)))
         look_rule keeper home =
@@ -149,10 +149,10 @@ module _ (steps : StepLaw) {V : Type 0} (office_of : V → Office) (opening : Of
               words = ap (λ (ws : List ℕ). slice_set ws 1 (slice_index ws 1)) h.words;
               founder = h.founder;
               limit = h.limit;
-              tickets = h.tickets ∙ ap (λ (n : ℕ). h.served + n) (sym (sum_same s.views id v got at ticketed (sym weighs)));
+              tickets = h.tickets ∙ ap (λ (n : ℕ). h.served + n) (sym (sum_same s.views id v got at ticket_count (sym weighs)));
               fits = each s.views id v got at (λ j u. Fits opening h.office h.drawn h.served u)
                   (fits_live opening h.office h.drawn h.served got one
-                  (record { founder = h.founder; limit = h.limit; first = extends_refl h.office.state.settled; also = known.also; true_of = are_true_later steps opening.founder opening.limit (seen v) h.office.state.settled v.mine known.first known.true_of; stamps = stamps_refl h.office.stamps; stamped = known.stamped })
+                  (record { founder = h.founder; limit = h.limit; first = extends_refl h.office.state.settled; also = known.also; true_of = are_true_later steps opening.founder opening.limit (history_seen v) h.office.state.settled v.mine known.first known.true_of; stamps = stamps_refl h.office.stamps; stamped = known.stamped })
                   (sym served, omega arith, refl))
                   (λ j u other at'. h.fits j u at');
               apart = apart_set s.views id v got at
@@ -176,15 +176,15 @@ module _ (steps : StepLaw) {V : Type 0} (office_of : V → Office) (opening : Of
         look_hit empty =
             let k = look_home h.kept in
             let known = look_known in
-            let seat : (got, (0, Some k.keeper) ∷ m.1) ≡ (holding ticket (office_of k.keeper) v, (0, Some k.keeper) ∷ []) =
-            ap (λ (o : Office). (holding ticket o v, (0, Some k.keeper) ∷ m.1)) (sym k.stands) ∙ ap (λ (c : List (ℕ × Option V)). (holding ticket (office_of k.keeper) v, (0, Some k.keeper) ∷ c)) empty in
+            let seat : (got, (0, Some k.keeper) ∷ m.1) ≡ (holding_view ticket (office_of k.keeper) v, (0, Some k.keeper) ∷ []) =
+            ap (λ (o : Office). (holding_view ticket o v, (0, Some k.keeper) ∷ m.1)) (sym k.stands) ∙ ap (λ (c : List (ℕ × Option V)). (holding_view ticket (office_of k.keeper) v, (0, Some k.keeper) ∷ c)) empty in
             let gets : Gets office_of ticket m (got, (0, Some k.keeper) ∷ m.1) =
             record {
               keeper = k.keeper;
               seat = seat;
               founder = ap (λ (o : Office). o.founder) k.stands ∙ h.founder ∙ sym known.founder;
               limit = ap (λ (o : Office). o.limit) k.stands ∙ h.limit ∙ sym known.limit;
-              grows = subst (λ (o : Office). Extends (seen v) o.state.settled) (sym k.stands) known.first;
+              grows = subst (λ (o : Office). Extends (history_seen v) o.state.settled) (sym k.stands) known.first;
               stamps = subst (λ (o : Office). StampsOn v.office.stamps o.stamps) (sym k.stands) known.stamps;
             } in (
               got,
@@ -209,7 +209,7 @@ module _ (steps : StepLaw) {V : Type 0} (office_of : V → Office) (opening : Of
         λ t is. inl (
           λ same.
               other
-              (word_apart h.served ticket h.drawn (sum_by ticketed s.views) look_range.0 look_range.1 (let total = h.tickets in omega arith) (near s h)
+              (word_apart h.served ticket h.drawn (sum_by ticket_count s.views) look_range.0 look_range.1 (let total = h.tickets in omega arith) (near s h)
               (sym (ap (λ (ws : List ℕ). slice_index ws 1) h.words) ∙ same ∙ ap word (sym (one_ticket ticket t (sym waits ∙ is))))),
           refl,
         ),
@@ -222,7 +222,7 @@ module _ (steps : StepLaw) {V : Type 0} (office_of : V → Office) (opening : Of
 
   module _ (slots id ticket : ℕ) (m : Mine V) (one : live m.0 ≡ 1) (turn : m.0.stage ≡ Holding ticket) (items : List Item) (later : Office) (law : LegalLaw) (called : Called m.0.office items later) (n : ℕ) (is : n ≡ length later.state.settled) (within : n < 2 ^ 64) where
     abbrev told : View
-    told = published later items m.0
+    told = published_view later items m.0
 
     module _ (s : State (Option V) View) (h : Rule s) (at : At s.views id m.0) where
       publish_known : IsKnown opening h.office m.0 × FitsStage h.office h.drawn h.served m.0 (Holding ticket)
@@ -260,7 +260,7 @@ module _ (steps : StepLaw) {V : Type 0} (office_of : V → Office) (opening : Of
           let both = sum_by-append (λ (i : Item). i.rise) items m.0.mine in
           let before = h.made in
           let lengths = extends_length h.office.state.settled later.state.settled grows in
-          let was : length (seen m.0) ≡ length h.office.state.settled = ap (λ (o : Office). length o.state.settled) known.1.2 in
+          let was : length (history_seen m.0) ≡ length h.office.state.settled = ap (λ (o : Office). length o.state.settled) known.1.2 in
           let counted = called_counts (sum_by rises_by s.views) opening.faults h.office later items h.counts publish_called in
           let total : sum_by rises_by s.views + rises items ≡ sum_by rises_by (set s.views id told) = omega arith in
           record {
@@ -270,7 +270,7 @@ module _ (steps : StepLaw) {V : Type 0} (office_of : V → Office) (opening : Of
             words = ap (λ (ws : List ℕ). slice_set ws 2 n) h.words ∙ ap (λ (x : ℕ). word h.drawn ∷ word h.served ∷ x ∷ []) (word_of n (length later.state.settled) is within);
             founder = same.0 ∙ h.founder;
             limit = same.1 ∙ h.limit;
-            tickets = h.tickets ∙ ap (λ (x : ℕ). h.served + x) (sym (sum_same s.views id m.0 told at ticketed refl));
+            tickets = h.tickets ∙ ap (λ (x : ℕ). h.served + x) (sym (sum_same s.views id m.0 told at ticket_count refl));
             fits = each s.views id m.0 told at (λ j u. Fits opening later h.drawn h.served u)
                 (fits_live opening later h.drawn h.served told one
                 (record {
@@ -280,7 +280,7 @@ module _ (steps : StepLaw) {V : Type 0} (office_of : V → Office) (opening : Of
                   also = extends_on m.0.also h.office.state.settled later.state.settled known.0.also grows;
                   true_of = are_true_both opening.founder opening.limit later.state.settled items m.0.mine
                       (subst (λ (l : Option ℕ). AreTrue opening.founder l later.state.settled items) h.limit (subst (λ (f : Key). AreTrue f h.office.limit later.state.settled items) h.founder (called_true steps h.office later items publish_called)))
-                      (are_true_later steps opening.founder opening.limit (seen m.0) later.state.settled m.0.mine (extends_on (seen m.0) h.office.state.settled later.state.settled known.0.first grows) known.0.true_of);
+                      (are_true_later steps opening.founder opening.limit (history_seen m.0) later.state.settled m.0.mine (extends_on (history_seen m.0) h.office.state.settled later.state.settled known.0.first grows) known.0.true_of);
                   stamps = stamps_refl later.stamps;
                   stamped = stamped_both later.stamps items m.0.mine (called_stamped h.office later items publish_called)
                       (stamped_later h.office.stamps later.stamps m.0.mine publish_on known.0.stamped);
@@ -331,7 +331,7 @@ module _ (steps : StepLaw) {V : Type 0} (office_of : V → Office) (opening : Of
       next_rule =
           let known = next_known in
           let weighs = ap one_if_ticketed turn in
-          let sums = sum_set ticketed s.views id m.0 (idle m.0) at in
+          let sums = sum_set ticket_count s.views id m.0 (idle m.0) at in
           let total = h.tickets in
           let w : View = idle m.0 in
           record {
@@ -372,12 +372,12 @@ module _ (steps : StepLaw) {V : Type 0} (office_of : V → Office) (opening : Of
 
   -- ---- tell
 
-  pub tells : (slots id : ℕ) (m : Mine V) → live m.0 ≡ 1 → length m.0.also ≤ length (seen m.0) → Allows Rule slots id m 0 (λ n. n) (λ _. Tells m)
+  pub tells : (slots id : ℕ) (m : Mine V) → live m.0 ≡ 1 → length m.0.also ≤ length (history_seen m.0) → Allows Rule slots id m 0 (λ n. n) (λ _. Tells m)
   tells slots id m one short s h len at bound =
       let known = (live_known opening h.office h.drawn h.served m.0 one (h.fits id m.0 at)).0 in (
         m.0,
         keeps,
         tt,
         still s h 0 id m.0 at (subst (λ (ws : List ℕ). slice_set ws 0 (slice_index ws 0) ≡ ws) (sym h.words) refl) m.1,
-        (refl, shorter_begins m.0.also (seen m.0) h.office.state.settled known.also known.first short),
+        (refl, shorter_begins m.0.also (history_seen m.0) h.office.state.settled known.also known.first short),
       )

@@ -14,7 +14,7 @@ use Rattle.intake_lock.specs.declared.view.Role.TheVariants.{Root, Branch, Spent
 use Rattle.intake_lock.specs.declared.view.Stage.{Stage}
 use Rattle.intake_lock.specs.declared.view.Stage.TheVariants.{Idle, Waiting, Holding}
 use Rattle.intake_lock.specs.declared.view.View.{View}
-use Rattle.intake_lock.specs.Views.{seen, live, one_if_live, ticketed, one_if_ticketed, HasTicketAt, HasTicket, HasTurnAt, HasTurn}
+use Rattle.intake_lock.specs.Views.{history_seen, live, one_if_live, ticket_count, one_if_ticketed, HasTicketAt, HasTicket, HasTurnAt, HasTurn}
 use Rattle.intake_lock.specs.Stamps.{StampsOn}
 use Rattle.intake_lock.specs.Rule.{FitsStage, IsKnown, FitsRole, Fits, At, Apart, Rooted, Latest, IsCall, IsHome, IsOut}
 use Rattle.intake_lock.proofs.Histories.{extends_on}
@@ -75,7 +75,7 @@ module _ (opening office : Office) (drawn served : ℕ) (v : View) where
   pub turn_ticket : Fits opening office drawn served v → HasTurn v → HasTicket v served
   turn_ticket fits has = role_turn v.role fits has
 
-  stage_weighs : (role : Role) → FitsRole opening office drawn served v role → ticketed v ≤ one_if_live role
+  stage_weighs : (role : Role) → FitsRole opening office drawn served v role → ticket_count v ≤ one_if_live role
   stage_weighs (Root out) fits = one v.stage
     where
       one : (stage : Stage) → one_if_ticketed stage ≤ 1
@@ -91,7 +91,7 @@ module _ (opening office : Office) (drawn served : ℕ) (v : View) where
   stage_weighs Spent fits = let none = ap one_if_ticketed fits.stage in omega arith
 
   -- only live views have tickets
-  pub ticket_weighs : Fits opening office drawn served v → ticketed v ≤ live v
+  pub ticket_weighs : Fits opening office drawn served v → ticket_count v ≤ live v
   ticket_weighs fits = stage_weighs v.role fits
 
 -- a view of a longer history, with other tickets
@@ -100,7 +100,7 @@ known_later opening office later v grows on k =
     record {
       founder = k.founder;
       limit = k.limit;
-      first = extends_on (seen v) office.state.settled later.state.settled k.first grows;
+      first = extends_on (history_seen v) office.state.settled later.state.settled k.first grows;
       also = extends_on v.also office.state.settled later.state.settled k.also grows;
       true_of = k.true_of;
       stamps = stamps_on v.office.stamps office.stamps later.stamps k.stamps on;
@@ -166,9 +166,9 @@ module _ (views : List View) (id : ℕ) (v w : View) (at : At views id v) where
             each (λ j u. (n : ℕ) → u.role ≡ Root n → (j ≡ r.root) × (n ≡ r.out)) (λ n is. r.one id n v at (sym same ∙ is)) (λ j u other at n is. r.one j n u at is) j u at' n is;
       }
 
-  pub latest_set : (office : Office) → seen w ≡ seen v → Latest office views → Latest office changed
+  pub latest_set : (office : Office) → history_seen w ≡ history_seen v → Latest office views → Latest office changed
   latest_set office same (j, u, there, is) = dite (ℕ_discrete j id)
-      (λ j_is. (id, w, here, same ∙ ap seen (one_there views id j v u (sym j_is) at there) ∙ is))
+      (λ j_is. (id, w, here, same ∙ ap history_seen (one_there views id j v u (sym j_is) at there) ∙ is))
       (λ other. (j, u, set_else views id j w other ∙ there, is))
 
   pub calls_set : ((item : Item) → Contains v.mine item → Contains w.mine item) → (item : Item) → IsCall views item → IsCall changed item

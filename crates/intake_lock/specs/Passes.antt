@@ -7,7 +7,7 @@ use Rattle.intake_lock.specs.declared.view.Role.{Role}
 use Rattle.intake_lock.specs.declared.view.Role.TheVariants.{Root, Branch, Spent}
 use Rattle.intake_lock.specs.declared.view.View.{View}
 use Rattle.intake_lock.specs.Rule.{MOST}
-use Rattle.intake_lock.specs.Views.{spent}
+use Rattle.intake_lock.specs.Views.{spent_view}
 
 -- a lock: which one it is, and the office that its keeper stood for when it was made
 pub record LockState : Type 0 where
@@ -31,7 +31,7 @@ pub record TurnState : Type 0 where
 
 -- the view that a pass keeps
 abbrev pub view_in : List View → View
-view_in [] = spent
+view_in [] = spent_view
 view_in (v ∷ views) = v
 
 -- a root with fewer branches out than there may be

@@ -8,7 +8,7 @@ use Rattle.intake_lock.specs.declared.view.Stage.TheVariants.{Waiting}
 use Rattle.intake_lock.specs.declared.view.View.{View}
 use Rattle.intake_lock.specs.Stamps.{StampsOn}
 use Rattle.intake_lock.specs.Rule.{word}
-use Rattle.intake_lock.specs.Views.{seen, waiting, holding, published, idle}
+use Rattle.intake_lock.specs.Views.{history_seen, waiting_view, holding_view, published_view, idle}
 
 -- a pass's view, and the slot if it holds it
 abbrev pub Mine : Type 0 → Type 0
@@ -17,16 +17,16 @@ Mine V = Me (Option V) View
 module _ {V : Type 0} where
   -- a ticket was drawn
   abbrev pub Draws : Mine V → ℕ → Mine V → Type 0
-  Draws m found n = (ticket : ℕ) × (found ≡ word ticket) × (n ≡ (waiting ticket m.0, m.1))
+  Draws m found n = (ticket : ℕ) × (found ≡ word ticket) × (n ≡ (waiting_view ticket m.0, m.1))
 
   module _ (office_of : V → Office) where
     -- the ticket is served: the pass has the turn, with the keeper, and has seen the office that it stands for
     pub record Gets (ticket : ℕ) (m : Mine V) (n : Mine V) : Type 0 where
       pub keeper : V
-      pub seat : n ≡ (holding ticket (office_of keeper) m.0, (0, Some keeper) ∷ [])
+      pub seat : n ≡ (holding_view ticket (office_of keeper) m.0, (0, Some keeper) ∷ [])
       pub founder : (office_of keeper).founder ≡ m.0.office.founder
       pub limit : (office_of keeper).limit ≡ m.0.office.limit
-      pub grows : Extends (seen m.0) (office_of keeper).state.settled
+      pub grows : Extends (history_seen m.0) (office_of keeper).state.settled
       pub stamps : StampsOn m.0.office.stamps (office_of keeper).stamps
 
     -- another ticket is served, and nothing changed; or the pass's own
@@ -36,7 +36,7 @@ module _ {V : Type 0} where
 
   -- these calls were published, and this office seen
   abbrev pub Publishes : Office → List Item → Mine V → Mine V → Type 0
-  Publishes office items m n = n ≡ (published office items m.0, m.1)
+  Publishes office items m n = n ≡ (published_view office items m.0, m.1)
 
   -- the turn was given on, and the slot is at home
   abbrev pub Leaves : Mine V → Mine V → Type 0
@@ -44,4 +44,4 @@ module _ {V : Type 0} where
 
   -- nothing changed, and the shorter of two histories that were seen begins the longer
   abbrev pub Tells : Mine V → Mine V → Type 0
-  Tells m n = (n ≡ m) × Extends m.0.also (seen m.0)
+  Tells m n = (n ≡ m) × Extends m.0.also (history_seen m.0)

@@ -20,7 +20,7 @@ use Rattle.intake_lock.specs.declared.view.Stage.TheVariants.{Idle, Waiting, Hol
 use Rattle.intake_lock.specs.declared.view.View.{View}
 use Rattle.intake_lock.specs.Stamps.{Gave, StampsOn}
 use Rattle.intake_lock.specs.Items.{AddsEntry, AreTrue, AreStamped, IsStampOf, RisesBy}
-use Rattle.intake_lock.specs.Views.{seen, live, ticketed, made_by, rises_by, HasTicket, HasTurn}
+use Rattle.intake_lock.specs.Views.{history_seen, live, ticket_count, made_by, rises_by, HasTicket, HasTurn}
 
 -- the greatest number of passes that may be live
 abbrev pub MOST : ℕ
@@ -44,9 +44,9 @@ FitsStage office drawn served v (Holding ticket) = (ticket ≡ served) × (serve
 pub record IsKnown (opening office : Office) (v : View) : Type 0 where
   pub founder : v.office.founder ≡ opening.founder
   pub limit : v.office.limit ≡ opening.limit
-  pub first : Extends (seen v) office.state.settled
+  pub first : Extends (history_seen v) office.state.settled
   pub also : Extends v.also office.state.settled
-  pub true_of : AreTrue opening.founder opening.limit (seen v) v.mine
+  pub true_of : AreTrue opening.founder opening.limit (history_seen v) v.mine
   pub stamps : StampsOn v.office.stamps office.stamps
   pub stamped : AreStamped office.stamps v.mine
 
@@ -85,7 +85,7 @@ pub record Rooted (views : List View) : Type 0 where
 
 -- some pass has seen the whole history
 abbrev pub Latest : Office → List View → Type 0
-Latest office views = (id : ℕ) × (v : View) × At views id v × (seen v ≡ office.state.settled)
+Latest office views = (id : ℕ) × (v : View) × At views id v × (history_seen v ≡ office.state.settled)
 
 -- the call of some pass
 abbrev pub IsCall : List View → Item → Type 0
@@ -148,7 +148,7 @@ module _ {V : Type 0} (office_of : V → Office) where
     pub words : s.words ≡ word drawn ∷ word served ∷ word (length office.state.settled) ∷ []
     pub founder : office.founder ≡ opening.founder
     pub limit : office.limit ≡ opening.limit
-    pub tickets : drawn ≡ served + sum_by ticketed s.views
+    pub tickets : drawn ≡ served + sum_by ticket_count s.views
     pub fits : (id : ℕ) (v : View) → At s.views id v → Fits opening office drawn served v
     pub apart : Apart s.views
     pub rooted : Rooted s.views
@@ -168,7 +168,7 @@ module _ {V : Type 0} (office_of : V → Office) where
 pub record Closes (opening : Office) (view : View) (office : Office) : Type 0 where
   pub founder : office.founder ≡ opening.founder
   pub limit : office.limit ≡ opening.limit
-  pub seen : Extends (seen view) office.state.settled
+  pub seen : Extends (history_seen view) office.state.settled
   pub made : length office.state.settled ≡ length opening.state.settled + view.made
   pub legal : StaysLegal opening office
   pub comes : Comes opening office (view ∷ [])

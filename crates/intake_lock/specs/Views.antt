@@ -11,8 +11,8 @@ use Rattle.intake_lock.specs.declared.view.View.{View}
 use Rattle.intake_lock.specs.Items.{rises}
 
 -- the history that a pass has seen
-abbrev pub seen : View → List Entry
-seen v = v.office.state.settled
+abbrev pub history_seen : View → List Entry
+history_seen v = v.office.state.settled
 
 -- ---- what is counted
 
@@ -31,8 +31,8 @@ one_if_ticketed (Waiting ticket) = 1
 one_if_ticketed (Holding ticket) = 1
 
 -- 1 for a pass that has drawn a ticket and not left yet
-abbrev pub ticketed : View → ℕ
-ticketed v = one_if_ticketed v.stage
+abbrev pub ticket_count : View → ℕ
+ticket_count v = one_if_ticketed v.stage
 
 abbrev pub made_by : View → ℕ
 made_by v = v.made
@@ -66,20 +66,20 @@ HasTurn v = HasTurnAt v.stage
 abbrev pub first_view : Office → View
 first_view office = record { role = Root 0; stage = Idle; office = office; also = []; mine = []; made = 0 }
 
-abbrev pub waiting : ℕ → View → View
-waiting ticket v = record v { stage = Waiting ticket }
+abbrev pub waiting_view : ℕ → View → View
+waiting_view ticket v = record v { stage = Waiting ticket }
 
 -- the pass has the turn, and has seen the office
-abbrev pub holding : ℕ → Office → View → View
-holding ticket office v = record v { stage = Holding ticket; office = office }
+abbrev pub holding_view : ℕ → Office → View → View
+holding_view ticket office v = record v { stage = Holding ticket; office = office }
 
 -- the office after these calls was seen, which are the pass's own
-abbrev pub published : Office → List Item → View → View
-published office items v =
+abbrev pub published_view : Office → List Item → View → View
+published_view office items v =
     record v {
       office = office;
       mine = items ++ v.mine;
-      made = v.made + (length office.state.settled - length (seen v));
+      made = v.made + (length office.state.settled - length (history_seen v));
     }
 
 abbrev pub idle : View → View
@@ -110,8 +110,8 @@ abbrev pub shorter_office : Office → Office → Office
 shorter_office a b = if nat_lt (length a.state.settled) (length b.state.settled) then a else b
 
 -- two passes together: the longer history, both one's calls, and what both made
-abbrev pub joined : View → View → View
-joined v w =
+abbrev pub joint_view : View → View → View
+joint_view v w =
     record {
       role = one_in v.role;
       stage = Idle;
@@ -122,8 +122,8 @@ joined v w =
     }
 
 -- what is left of a pass that was joined
-abbrev pub spent : View
-spent =
+abbrev pub spent_view : View
+spent_view =
     record {
       role = Spent;
       stage = Idle;

@@ -10,8 +10,9 @@ ghost use Rattle.intake_lock.specs.Items.{Called};
 ghost use Rattle.intake_lock.specs.Passes.{MaySplit, IsRoot};
 ghost use Rattle.intake_lock.specs.Plays.{Gets};
 ghost use Rattle.intake_lock.specs.Rule.{word, Closes};
-ghost use Rattle.intake_lock.specs.Views.{live, seen, first_view, waiting, holding, published, idle, stem, branch};
-ghost use Rattle.intake_lock.specs.Views.{joined};
+ghost use Rattle.intake_lock.specs.Views.{live, history_seen, first_view, waiting_view, holding_view, published_view};
+ghost use Rattle.intake_lock.specs.Views.{idle, stem, branch};
+ghost use Rattle.intake_lock.specs.Views.{joint_view};
 
 use crate::keeping::{DRAWN, KEEPER, LENGTH, LockTable, SERVED, Seat, Words};
 use crate::pass::Pass;
@@ -92,10 +93,10 @@ impl<V: Keeper> TurnLock<V> {
     pub fn enter<R: Wait>(&self, rt: &R, pass: Pass) -> Turn<V>
         requires { pass.lock ≡ self.now.id }
         ensures lock { (result.lock ≡ pass.lock) × (result.id ≡ pass.id) }
-        ensures pass { (ticket : ℕ) × (result.view ≡ holding ticket result.office pass.view) }
+        ensures pass { (ticket : ℕ) × (result.view ≡ holding_view ticket result.office pass.view) }
         ensures office { (result.office.founder ≡ pass.view.office.founder)
             × (result.office.limit ≡ pass.view.office.limit) }
-        ensures grows { Extends (seen pass.view) result.office.state.settled }
+        ensures grows { Extends (history_seen pass.view) result.office.state.settled }
         ensures stamps { StampsOn pass.view.office.stamps result.office.stamps }
         ensures items { result.items ≡ [] }
     {
@@ -121,7 +122,7 @@ impl<V: Keeper> TurnLock<V> {
     pub fn leave(&self, turn: Turn<V>) -> Pass
         requires { turn.lock ≡ self.now.id }
         ensures lock { (result.lock ≡ turn.lock) × (result.id ≡ turn.id) }
-        ensures pass { result.view ≡ idle (published turn.office turn.items turn.view) }
+        ensures pass { result.view ≡ idle (published_view turn.office turn.items turn.view) }
     {
         act_model::laws::steps_add_one_entry();
         let Turn {
@@ -176,8 +177,9 @@ impl<V: Keeper> TurnLock<V> {
         requires root { IsRoot pass.view.role }
         requires branch { other.view.role ≡ Branch }
         ensures lock { (result.lock ≡ pass.lock) × (result.id ≡ pass.id) }
-        ensures view { result.view ≡ joined pass.view other.view }
-        ensures seen { Extends (seen pass.view) (seen result.view) × Extends (seen other.view) (seen result.view) }
+        ensures view { result.view ≡ joint_view pass.view other.view }
+        ensures seen { Extends (history_seen pass.view) (history_seen result.view)
+            × Extends (history_seen other.view) (history_seen result.view) }
     {
         act_model::laws::steps_add_one_entry();
         let Pass { badge } = pass;
@@ -268,7 +270,7 @@ fn publish<V: Keeper, W: Turned>(words: &Words<V>, seat: &mut Seat<V>, _log: &Ma
     requires office { W.office ≡ V.office keeper.now }
     requires called { Called seat.old.me.0.office W.items W.office }
     ensures seat { (seat.new.table_id ≡ seat.old.table_id) × (seat.new.id ≡ seat.old.id) }
-    ensures told { seat.new.me ≡ (published W.office W.items seat.old.me.0, seat.old.me.1) }
+    ensures told { seat.new.me ≡ (published_view W.office W.items seat.old.me.0, seat.old.me.1) }
 {
     act_model::laws::steps_add_one_entry();
     act_model::laws::histories_are_legal();

@@ -6,7 +6,7 @@ ghost use Rattle.act_model.specs.declared.reply.Reply.{Reply};
 ghost use Rattle.act_model.specs.declared.request.Request.{Request};
 ghost use Rattle.intake_lock.specs.declared.view.Item.{Item};
 ghost use Rattle.intake_lock.specs.Plays.{Draws, Looks, Publishes, Leaves, Tells};
-ghost use Rattle.intake_lock.specs.Views.{spent, stem, branch, joined};
+ghost use Rattle.intake_lock.specs.Views.{spent_view, stem, branch, joint_view};
 
 use crate::view::View;
 use act_model::Keeper;
@@ -37,7 +37,7 @@ pub trait Turned {
 }
 
 impl Turned for Brand {
-    ghost office = { spent.office };
+    ghost office = { spent_view.office };
 
     ghost items = { [] };
 }
@@ -78,7 +78,7 @@ impl Split<View> for Fork {
 pub struct Merge;
 
 impl Join<View> for Merge {
-    ghost both = { joined };
+    ghost both = { joint_view };
 
-    ghost spent = { spent };
+    ghost spent = { spent_view };
 }

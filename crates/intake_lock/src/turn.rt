@@ -9,7 +9,7 @@ ghost use Rattle.read_ahead.specs.declared.body.Body.TheVariants.{NoRoom};
 ghost use Rattle.act_model.specs.declared.request.Verb.TheVariants.{Unknown};
 ghost use Rattle.act_model.specs.Requests.{is_act};
 ghost use Rattle.intake_lock.specs.Items.{TakesTurn, Noted};
-ghost use Rattle.intake_lock.specs.Views.{spent};
+ghost use Rattle.intake_lock.specs.Views.{spent_view};
 
 use crate::keeping::Seat;
 use crate::view::{Item, View};
@@ -55,15 +55,15 @@ pub trait Answered {
 }
 
 impl Answered for Brand {
-    ghost before = { spent.office };
+    ghost before = { spent_view.office };
 
-    ghost request = { record { key = spent.office.founder; number = None; verb = Unknown; body = NoRoom } };
+    ghost request = { record { key = spent_view.office.founder; number = None; verb = Unknown; body = NoRoom } };
 
     ghost reading = { None };
 
     ghost reply = { Done [] };
 
-    ghost after = { spent.office };
+    ghost after = { spent_view.office };
 }
 
 /// Notes a call.

@@ -7,5 +7,5 @@ pub record FileState : Type 0 where
   pub faults : ℕ
 
 -- nothing of its rows
-abbrev pub untold : Option MirrorRows
-untold = None
+abbrev pub no_rows_told : Option MirrorRows
+no_rows_told = None

@@ -5,7 +5,7 @@ ghost use Rattle.std.specs.List.{AllByRecursion};
 ghost use Rattle.call_log.specs.Counts.{one_more, Rises};
 ghost use Rattle.mirror_store.specs.Rows.{IsObjectRow, IsSightRow, AreReplaceable};
 ghost use Rattle.mirror_store.specs.Mirrors.{IsReplaced, TellsObjects, TellsBetween};
-ghost use Rattle.mirror_sqlite.specs.FileMirrors.{untold};
+ghost use Rattle.mirror_sqlite.specs.FileMirrors.{no_rows_told};
 
 use crate::faults::faults_after;
 use crate::keeping::{Opening, asked};
@@ -81,7 +81,7 @@ impl Opening<FileStore<File>> for HostRuntime {
 }
 
 impl Mirror for FileMirror {
-    ghost told = { λ _. untold };
+    ghost told = { λ _. no_rows_told };
 
     ghost faults = { λ mirror. mirror.faults };
 
@@ -90,8 +90,8 @@ impl Mirror for FileMirror {
         ensures failed { result ≡ Err MirrorErr.Failed → self.new ≡ record { faults = one_more self.old.faults } }
         ensures passed { result ≢ Err MirrorErr.Failed → self.new ≡ self.old }
 
-        ensures replaced { OnOk result (IsReplaced untold untold rows.now) }
-        ensures kept { OnErr result (untold ≡ untold) }
+        ensures replaced { OnOk result (IsReplaced no_rows_told no_rows_told rows.now) }
+        ensures kept { OnErr result (no_rows_told ≡ no_rows_told) }
         ensures counts { self.old.faults ≤ self.new.faults }
         ensures cause { result ≡ Err MirrorErr.Failed → Rises self.old.faults self.new.faults }
         ensures faultless { result ≢ Err MirrorErr.Failed → self.new.faults ≡ self.old.faults }
@@ -105,9 +105,9 @@ impl Mirror for FileMirror {
         ensures failed { result ≡ Err MirrorErr.Failed → self.new ≡ record { faults = one_more self.old.faults } }
         ensures passed { result ≢ Err MirrorErr.Failed → self.new ≡ self.old }
 
-        ensures objects { IfOk result (λ rows. TellsObjects untold rows) }
+        ensures objects { IfOk result (λ rows. TellsObjects no_rows_told rows) }
         ensures in_range { IfOk result (λ rows. AllByRecursion IsObjectRow rows) }
-        ensures kept { untold ≡ untold }
+        ensures kept { no_rows_told ≡ no_rows_told }
         ensures counts { self.old.faults ≤ self.new.faults }
         ensures cause { result ≡ Err MirrorErr.Failed → Rises self.old.faults self.new.faults }
         ensures faultless { result ≢ Err MirrorErr.Failed → self.new.faults ≡ self.old.faults }
@@ -122,9 +122,9 @@ impl Mirror for FileMirror {
         ensures failed { result ≡ Err MirrorErr.Failed → self.new ≡ record { faults = one_more self.old.faults } }
         ensures passed { result ≢ Err MirrorErr.Failed → self.new ≡ self.old }
 
-        ensures sights { IfOk result (λ rows. TellsBetween untold from to rows) }
+        ensures sights { IfOk result (λ rows. TellsBetween no_rows_told from to rows) }
         ensures in_range { IfOk result (λ rows. AllByRecursion IsSightRow rows) }
-        ensures kept { untold ≡ untold }
+        ensures kept { no_rows_told ≡ no_rows_told }
         ensures counts { self.old.faults ≤ self.new.faults }
         ensures cause { result ≡ Err MirrorErr.Failed → Rises self.old.faults self.new.faults }
         ensures faultless { result ≢ Err MirrorErr.Failed → self.new.faults ≡ self.old.faults }

@@ -118,8 +118,8 @@ RefusesBy (Some count) result = (result ≡ Err (TooMany count)) ⊎ (result ≡
 -- ---- what is told of a refresh
 
 -- the entries of the history, and the rows of both lists
-abbrev pub refreshed : List Entry → Refreshed
-refreshed history =
+abbrev pub refresh_result : List Entry → Refreshed
+refresh_result history =
     record {
       entries = length history;
       objects = length (mirrored history).objects;

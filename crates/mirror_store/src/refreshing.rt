@@ -6,7 +6,7 @@ ghost use Rattle.act_model.specs.Deeds.{deeds};
 ghost use Rattle.act_model.specs.Designations.{links_of, principals};
 ghost use Rattle.act_model.specs.Observations.{observations};
 ghost use Rattle.mirror_store.specs.declared.refreshing.RefreshFault.{RefreshFault};
-ghost use Rattle.mirror_store.specs.Mirrored.{greatest, mirrored, refreshed, too_many, uncountable, RefusesBy};
+ghost use Rattle.mirror_store.specs.Mirrored.{greatest, mirrored, refresh_result, too_many, uncountable, RefusesBy};
 ghost use Rattle.mirror_store.specs.Mirrors.{IsReplaced};
 
 use crate::laws;
@@ -121,7 +121,7 @@ fn rows_of<V: Shelf>(alloc: Global, shelf: &V) -> Result<MirrorRows, RefreshFaul
 fn told_of<V: Shelf>(shelf: &V, rows: &MirrorRows) -> Refreshed
     requires rows { rows.now ≡ mirrored (V.history shelf.now) }
     requires countable { uncountable (V.history shelf.now) ≡ None }
-    ensures { result ≡ refreshed (V.history shelf.now) }
+    ensures { result ≡ refresh_result (V.history shelf.now) }
 {
     Refreshed {
         entries: shelf.tally().entries,
@@ -143,7 +143,7 @@ pub fn refresh<V: Shelf, M: Mirror>(
 ) -> Result<Refreshed, RefreshFault>
     ensures replaced { OnOk result
         (IsReplaced (M.told mirror.old) (M.told mirror.new) (mirrored (V.history shelf.now))) }
-    ensures numbers { IfOk result (λ numbers. numbers ≡ refreshed (V.history shelf.now)) }
+    ensures numbers { IfOk result (λ numbers. numbers ≡ refresh_result (V.history shelf.now)) }
     ensures kept { OnErr result (M.told mirror.new ≡ M.told mirror.old) }
     ensures too_many { RefusesBy (uncountable (V.history shelf.now)) result }
     ensures accepted { greatest < observations (deeds (V.history shelf.now)) →

@@ -17,9 +17,9 @@ use Rattle.act_model.specs.declared.reply.Reply.{Reply}
 use Rattle.act_model.specs.declared.reply.Reply.TheVariants.{Done, Refused}
 use Rattle.act_model.specs.declared.request.Request.{Request}
 use Rattle.act_model.specs.Legal.{IsLegal}
-use Rattle.act_model.specs.Refusals.{used, entry_size}
+use Rattle.act_model.specs.Refusals.{bytes_used, entry_size}
 use Rattle.act_model.specs.Replies.{entry_answer}
-use Rattle.act_model.specs.Step.{Keeps, Adds, outcome, after, step}
+use Rattle.act_model.specs.Step.{Keeps, Adds, outcome, reply_and_history, step}
 use Rattle.act_model.specs.Turns.{Answers, unless_untouched}
 use Rattle.desk_core.specs.Office.{Office as CoreState, Ready, IsOfAct, IsReadyAt, IsRoomFor}
 use Rattle.desk_core.specs.Preparing.{IsRefused}
@@ -33,16 +33,16 @@ use Rattle.mpc_desk.proofs.Mended.{at_history}
 module _ (founder : Key) (limit : Option ℕ) (past : List Entry) (q : Request) (t : ℤ) where
   pub answers_kept : (reply : Reply) → outcome founder limit past q t ≡ Keeps reply → Answers founder limit past q t reply past
   unfolding step
-  answers_kept reply is = inl (ap (after past) is)
+  answers_kept reply is = inl (ap (reply_and_history past) is)
 
   pub answers_refused : (refusal : Refusal) → IsRefused (outcome founder limit past q t) refusal → Answers founder limit past q t (Refused refusal) past
   unfolding step
-  answers_refused refusal (inl is) = inl (ap (after past) is)
+  answers_refused refusal (inl is) = inl (ap (reply_and_history past) is)
   answers_refused refusal (inr wants) = inr (ap (λ (r : Refusal). Refused r) wants, refl)
 
   step_adds : (entry : Entry) → outcome founder limit past q t ≡ Adds entry → step founder limit past q t ≡ (Done (entry_answer past entry), entry ∷ past)
   unfolding step
-  step_adds entry is = ap (after past) is
+  step_adds entry is = ap (reply_and_history past) is
 
   pub answers_ready : (entry : Entry) (reply : Reply) (text : List ℕ) → outcome founder limit past q t ≡ Adds entry → reply ≡ Done text → text ≡ entry_answer past entry → Answers founder limit past q t reply (entry ∷ past)
   answers_ready entry reply text is says answer =
@@ -70,7 +70,7 @@ module _ {D : Type 0} (leaves : D → List ℕ → Type 0) (core now : CoreState
       (at_history leaves now journal core.history history here.stands here.space (subst (λ (k : Key). IsLegal k core.history) (sym founder) here.legal.0) here.acts)
 
   -- the journal has room for one more parcel
-  pub room_is : (limit : ℕ) (body : List ℕ) → limit < 2 ^ 64 → used core.history + entry_size body ≤ limit → used core.history + entry_size body < 2 ^ 64
+  pub room_is : (limit : ℕ) (body : List ℕ) → limit < 2 ^ 64 → bytes_used core.history + entry_size body ≤ limit → bytes_used core.history + entry_size body < 2 ^ 64
   room_is limit body fits within = omega arith
 
   module _ (limit : ℕ) (q : Request) (t : ℤ) (legals : (founder : Key) (limit : Option ℕ) (past after : List Entry) (request : Request) (reading : ℤ) (reply : Reply) → IsLegal founder past → IsInstantNs reading → step founder limit past request reading ≡ (reply, after) → IsLegal founder after)
@@ -82,7 +82,7 @@ module _ {D : Type 0} (leaves : D → List ℕ → Type 0) (core now : CoreState
     under k is h legal = subst (λ (k : Key). IsLegal k h) (sym is) legal
 
     -- the entry was kept
-    pub kept_desk : (new : CoreState) (after : JournalState D) (parcel : RawParcel) → parcel ≡ parcel_of e → new.history ≡ e ∷ now.history → new.founder ≡ now.founder → IsOfAct e → used core.history + entry_size e.body < 2 ^ 64
+    pub kept_desk : (new : CoreState) (after : JournalState D) (parcel : RawParcel) → parcel ≡ parcel_of e → new.history ≡ e ∷ now.history → new.founder ≡ now.founder → IsOfAct e → bytes_used core.history + entry_size e.body < 2 ^ 64
         → ((parcels : List RawParcel) → StandsFor leaves journal parcels None → StandsFor leaves after (parcels ++ parcel ∷ []) None) → IsDesk leaves new after doubt
     kept_desk new after parcel same more founder' act space added =
         subst (IsDesk leaves new after) (sym (no_doubt doubt none))
@@ -91,17 +91,17 @@ module _ {D : Type 0} (leaves : D → List ℕ → Type 0) (core now : CoreState
         space (under new.founder (founder' ∙ founder) (e ∷ core.history) legal_more) (act.0, here.acts))
 
     -- the entry is in doubt
-    pub doubted_desk : (after : JournalState D) (parcel : RawParcel) (ready : Ready) → ready.entry ≡ e → parcel ≡ parcel_of e → IsOfAct ready.entry → IsReadyAt now.history ready → IsRoomFor ready.deed now.spare → used core.history + entry_size ready.entry.body < 2 ^ 64
+    pub doubted_desk : (after : JournalState D) (parcel : RawParcel) (ready : Ready) → ready.entry ≡ e → parcel ≡ parcel_of e → IsOfAct ready.entry → IsReadyAt now.history ready → IsRoomFor ready.deed now.spare → bytes_used core.history + entry_size ready.entry.body < 2 ^ 64
         → ((parcels : List RawParcel) → StandsFor leaves journal parcels None → StandsFor leaves after parcels (Some parcel)) → IsDesk leaves now after (Some ready)
     doubted_desk after parcel ready is same act at room space in_doubt = record {
       stands = subst (λ (h : List Entry). StandsFor leaves after (parcels_in h) (Some (parcel_of ready.entry))) (sym history) (subst (λ (p : RawParcel). StandsFor leaves after (parcels_in core.history) (Some p)) (same ∙ ap parcel_of (sym is)) (in_doubt (parcels_in core.history) here.stands));
-      space = subst (λ (h : List Entry). used h < 2 ^ 64) (sym history) here.space;
+      space = subst (λ (h : List Entry). bytes_used h < 2 ^ 64) (sym history) here.space;
       legal = (
         under now.founder founder now.history (subst (IsLegal core.founder) (sym history) here.legal.0),
         under now.founder founder (ready.entry ∷ now.history) (subst (IsLegal core.founder) (ap (λ (x : Entry). x ∷ core.history) (sym is) ∙ ap (λ (h : List Entry). ready.entry ∷ h) (sym history)) legal_more),
       );
       acts = subst AreActs (sym history) here.acts;
-      next = record { act = act; at = at; room = room; space = subst (λ (h : List Entry). used h + entry_size ready.entry.body < 2 ^ 64) (sym history) space };
+      next = record { act = act; at = at; room = room; space = subst (λ (h : List Entry). bytes_used h + entry_size ready.entry.body < 2 ^ 64) (sym history) space };
     }
 
   -- the entry isn't kept

@@ -5,7 +5,7 @@ use Rattle.obs_journal.specs.Formats.{room_in, row_length_in}
 use Rattle.obs_journal.specs.Chains.{IsChain, chained}
 use Rattle.obs_journal.specs.Journals.{JournalState, IsDoubtfulIn}
 use Rattle.act_model.specs.declared.entry.Entry.{Entry}
-use Rattle.act_model.specs.Refusals.{used}
+use Rattle.act_model.specs.Refusals.{bytes_used}
 use Rattle.desk_core.specs.Office.{Office, Ready}
 use Rattle.mpc_desk.specs.Files.{parcel_of, parcels_in, AreActs, Stands}
 use Rattle.mpc_desk.specs.Desks.{IsDesk, RestsAt, state_of}
@@ -19,7 +19,7 @@ row_length-more [] parcel = omega arith
 row_length-more (first ∷ parcels) parcel = let more = row_length-more parcels parcel in omega (arith, more)
 
 -- the entries take what their parcels take, with the first byte and the closed gate
-pub used_is : (history : List Entry) → used history ≡ row_length_in chained (parcels_in history) + 2
+pub used_is : (history : List Entry) → bytes_used history ≡ row_length_in chained (parcels_in history) + 2
 used_is [] = refl
 used_is (entry ∷ past) = let before = used_is past in let more = row_length-more (parcels_in past) (parcel_of entry) in omega (arith, before, more)
 

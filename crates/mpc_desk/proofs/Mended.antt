@@ -8,7 +8,7 @@ use Rattle.obs_journal.specs.Parcels.{RawParcel}
 use Rattle.obs_journal.specs.Journals.{JournalState, StandsFor}
 use Rattle.act_model.specs.declared.entry.Entry.{Entry}
 use Rattle.act_model.specs.Legal.{IsLegal}
-use Rattle.act_model.specs.Refusals.{used}
+use Rattle.act_model.specs.Refusals.{bytes_used}
 use Rattle.desk_core.specs.Office.{Office, Ready}
 use Rattle.mpc_desk.specs.Files.{parcel_of, parcels_in, AreActs}
 use Rattle.mpc_desk.specs.Desks.{IsDesk, settled_by}
@@ -20,15 +20,15 @@ gate_is reads P position used is read = subst (λ (n : ℕ). IfSome reads (λ fi
 
 module _ {D : Type 0} (leaves : D → List ℕ → Type 0) where
   -- the gate of what comes next stands where the bytes of the history end
-  pub position_is : (core : Office) (journal : JournalState D) (doubt : Option Ready) → IsDesk leaves core journal doubt → journal.reached.position ≡ used core.history
+  pub position_is : (core : Office) (journal : JournalState D) (doubt : Option Ready) → IsDesk leaves core journal doubt → journal.reached.position ≡ bytes_used core.history
   position_is core journal doubt desk = ap (λ r. r.position) desk.stands.reached ∙ sym (used_is core.history)
 
   -- a desk with nothing in doubt
-  pub at_history : (core : Office) (journal : JournalState D) (history : List Entry) → core.history ≡ history → StandsFor leaves journal (parcels_in history) None → used history < 2 ^ 64 → IsLegal core.founder history → AreActs history
+  pub at_history : (core : Office) (journal : JournalState D) (history : List Entry) → core.history ≡ history → StandsFor leaves journal (parcels_in history) None → bytes_used history < 2 ^ 64 → IsLegal core.founder history → AreActs history
       → IsDesk leaves core journal None
   at_history core journal history is stands space legal acts = record {
     stands = subst (λ (h : List Entry). StandsFor leaves journal (parcels_in h) None) (sym is) stands;
-    space = subst (λ (h : List Entry). used h < 2 ^ 64) (sym is) space;
+    space = subst (λ (h : List Entry). bytes_used h < 2 ^ 64) (sym is) space;
     legal = (subst (IsLegal core.founder) (sym is) legal, tt);
     acts = subst AreActs (sym is) acts;
     next = tt;

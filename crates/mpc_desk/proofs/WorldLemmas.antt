@@ -16,7 +16,7 @@ use Rattle.act_model.specs.declared.reply.Reply.{Reply}
 use Rattle.act_model.specs.declared.request.Request.{Request}
 use Rattle.act_model.specs.Requests.{is_act}
 use Rattle.act_model.specs.Turns.{Turn, at_rest, Mends, IsTurn}
-use Rattle.act_model.specs.Worlds.{WorldState, running, new_office, Event, Received, Lost, ComesToRest, LeavesInside, Happens, World, AreStillAcknowledged}
+use Rattle.act_model.specs.Worlds.{WorldState, running_world, new_office, Event, Received, Lost, ComesToRest, LeavesInside, Happens, World, AreStillAcknowledged}
 use Rattle.act_model.specs.Worlds as worlds
 use Rattle.mpc_desk.specs.Files.{Stands}
 use Rattle.mpc_desk.specs.Desks.{DeskState, DeskAct, RestsAt, IsAtRest, MayLeave, FailsOn, ActsOn, turn_in}
@@ -95,7 +95,7 @@ module _ {D : Type 0} (on : DiskWords D) (founder : Key) (limit : ℕ) (in_force
       turn_received : (turn : Turn) (new : PairState D) → IsTurn old.chained.founder (Some old.chained.limit) old.chained.state turn new.chained.state → after.place ≡ AtDesk new → after.received ≡ reply_in turn ∷ before.received
           → new.chained.founder ≡ old.chained.founder → new.chained.limit ≡ old.chained.limit → IsAtRest on.leaves new.chained → Reaches world after
       turn_received turn new takes place replies same_founder same_limit rests =
-          let reached : WorldState = running new.chained.state (turn ∷ world.received) in
+          let reached : WorldState = running_world new.chained.state (turn ∷ world.received) in
           record {
             event = Received turn;
             reached = reached;
@@ -108,7 +108,7 @@ module _ {D : Type 0} (on : DiskWords D) (founder : Key) (limit : ℕ) (in_force
       turn_lost : (turn : Turn) (new : PairState D) → IsTurn old.chained.founder (Some old.chained.limit) old.chained.state turn new.chained.state → after.place ≡ AtDesk new → after.received ≡ before.received
           → new.chained.founder ≡ old.chained.founder → new.chained.limit ≡ old.chained.limit → IsAtRest on.leaves new.chained → Reaches world after
       turn_lost turn new takes place replies same_founder same_limit rests =
-          let reached : WorldState = running new.chained.state world.received in
+          let reached : WorldState = running_world new.chained.state world.received in
           record {
             event = Lost turn;
             reached = reached;
@@ -119,7 +119,7 @@ module _ {D : Type 0} (on : DiskWords D) (founder : Key) (limit : ℕ) (in_force
       -- a mending
       mended : (result : Result Settled Failed) (new : PairState D) → IsMending on old.chained result new.chained → after.place ≡ AtDesk new → after.received ≡ before.received → Reaches world after
       mended (Ok settled) new m place replies =
-          let reached : WorldState = running new.chained.state world.received in
+          let reached : WorldState = running_world new.chained.state world.received in
           record {
             event = worlds.Mended;
             reached = reached;
@@ -127,7 +127,7 @@ module _ {D : Type 0} (on : DiskWords D) (founder : Key) (limit : ℕ) (in_force
             is_in = reached_in (AtDesk new) before.received reached place replies (refl, refl, m.founder ∙ here.2, m.limit ∙ here.3, m.at_rest) is.received;
           }
       mended (Err failed) new m place replies =
-          let reached : WorldState = running new.chained.state world.received in
+          let reached : WorldState = running_world new.chained.state world.received in
           let doubted : IsSome old.chained.state.doubt = some_is old.chained.state.doubt (λ none. let fails = m.nothing.1 none in absurd cc) in
           record {
             event = worlds.Unmended;
@@ -204,7 +204,7 @@ module _ {D : Type 0} (on : DiskWords D) (founder : Key) (limit : ℕ) (in_force
           let desk = office.chained in
           let same : world.office.settled ≡ desk.state.settled = one_both one_list one_chain files world.office.settled desk.state.settled at.2 (o.stood files reads) in
           let rests : at_rest desk.state.settled ≡ desk.state = ap (λ (d : Option Entry). record { settled = desk.state.settled; doubt = d }) (sym o.settled) in
-          let reached : WorldState = running world.office world.received in
+          let reached : WorldState = running_world world.office world.received in
           record {
             event = worlds.Reopened;
             reached = reached;

@@ -6,8 +6,8 @@ use Rattle.act_model.specs.Observations.{observations}
 use Rattle.act_model.specs.Places.{added_by}
 
 -- how many observations were accepted in a history, retracted ones included
-abbrev pub accepted : List Entry → ℕ
-accepted history = observations (deeds history)
+abbrev pub accepted_count : List Entry → ℕ
+accepted_count history = observations (deeds history)
 
 -- how many lines of the entry are accepted at this history
 abbrev pub accepted_of : List Entry → Entry → ℕ
@@ -23,4 +23,4 @@ accepted_from past (entry ∷ newer) = accepted_from past newer + accepted_of (n
 pub record AddsLines (earlier later : List Entry) : Type 0 where
   pub newer : List Entry
   pub grown : later ≡ newer ++ earlier
-  pub lines : accepted later ≡ accepted earlier + accepted_from earlier newer
+  pub lines : accepted_count later ≡ accepted_count earlier + accepted_from earlier newer

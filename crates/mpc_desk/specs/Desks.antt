@@ -15,7 +15,7 @@ use Rattle.act_model.specs.declared.request.Request.{Request}
 use Rattle.act_model.specs.Conducts.{EitherWay}
 use Rattle.act_model.specs.Keepers.{RoseBy}
 use Rattle.act_model.specs.Legal.{IsLegal}
-use Rattle.act_model.specs.Refusals.{used, entry_size}
+use Rattle.act_model.specs.Refusals.{bytes_used, entry_size}
 use Rattle.act_model.specs.Step.{Adds, outcome}
 use Rattle.act_model.specs.Turns.{Turn, Mends, FailsToMend, FailsToKeep, Settles}
 use Rattle.desk_core.specs.Office.{Office as CoreState, Ready, IsOfAct, IsReadyAt, IsRoomFor}
@@ -36,7 +36,7 @@ pub record IsNext (core : CoreState) (ready : Ready) : Type 0 where
   pub act : IsOfAct ready.entry
   pub at : IsReadyAt core.history ready
   pub room : IsRoomFor ready.deed core.spare
-  pub space : used core.history + entry_size ready.entry.body < 2 ^ 64
+  pub space : bytes_used core.history + entry_size ready.entry.body < 2 ^ 64
 
 -- the office as its core and the act in doubt have it
 abbrev pub state_of : CoreState → Option Ready → OfficeState
@@ -46,7 +46,7 @@ state_of core doubt = record { settled = core.history; doubt = option_map (λ re
 pub record IsDesk {D : Type 0} (leaves : D → List ℕ → Type 0) (core : CoreState) (journal : JournalState D)
     (doubt : Option Ready) : Type 0 where
   pub stands : StandsFor leaves journal (parcels_in core.history) (option_map (λ ready. parcel_of ready.entry) doubt)
-  pub space : used core.history < 2 ^ 64
+  pub space : bytes_used core.history < 2 ^ 64
   pub legal : EitherWay (IsLegal core.founder) (state_of core doubt)
   pub acts : AreActs core.history
   pub next : IfSome doubt (IsNext core)

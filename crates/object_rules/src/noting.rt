@@ -11,7 +11,7 @@ ghost use Rattle.act_model.specs.Designations.{with_row_act, with_link, with_all
 ghost use Rattle.act_model.specs.Holdings.{with_homes};
 ghost use Rattle.act_model.specs.Numbers.{with_numbers};
 ghost use Rattle.act_model.specs.Fitting.{AreTracklets};
-ghost use Rattle.act_model.specs.Verdicts.{voided, judged_by};
+ghost use Rattle.act_model.specs.Verdicts.{voided_verdicts, judged_by};
 ghost use Rattle.object_rules.specs.Noting.{RowsDeed, LinksDeed, TouchesDeed, NumbersDeed, HomesDeed};
 ghost use Rattle.object_rules.specs.Noting.{AreWithin, AreUnlinked, linked_by, registered_by, returned_by, homed_by};
 ghost use Rattle.object_rules.specs.Noting.{held_in, object_in, object_of_seen_in, with_deed_homes};
@@ -123,7 +123,8 @@ fn give(register: &mut Register, pairs: &[Numbering])
 /// Voids the verdict on an object.
 fn void(register: &mut Register, object: Option<Designation>)
     ensures verdicts { (acts : List VerdictAct) →
-        VerdictsStandFor register.old.verdicts acts → VerdictsStandFor register.new.verdicts (voided object ++ acts) }
+        VerdictsStandFor register.old.verdicts acts
+        → VerdictsStandFor register.new.verdicts (voided_verdicts object ++ acts) }
     ensures numbered { register.new.numbered ≡ register.old.numbered }
     ensures spare { register.old.spare ≤ register.new.spare }
     ensures no_more { register.new.spare ≤ register.old.spare + 1 }

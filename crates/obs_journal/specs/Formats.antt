@@ -31,9 +31,9 @@ seal_length Plain = 0
 seal_length Chained = 32
 
 -- the seal that the 32 bytes which are kept of it stand for: of a plain one nothing is kept
-abbrev pub kept : Format → List ℕ → List ℕ
-kept Plain digest = []
-kept Chained digest = digest
+abbrev pub kept_seal : Format → List ℕ → List ℕ
+kept_seal Plain digest = []
+kept_seal Chained digest = digest
 
 -- the last seal after these parcels
 abbrev pub last_seal : Format → List ℕ → List RawParcel → List ℕ

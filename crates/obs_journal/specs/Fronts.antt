@@ -2,7 +2,7 @@
 use Rattle.std.specs.Prelude.{◌≡◌, ◌≢◌, ℕ, ◌+◌, ◌≤◌, ◌<◌, List, [], ◌∷◌, ◌++◌}
 use Rattle.std.specs.Int.{w32, w64, to_be_bytes, cast_unsigned}
 use Rattle.obs_journal.specs.Parcels.{RawParcel, IsParcel, parcel_bytes}
-use Rattle.obs_journal.specs.Formats.{seal, seal_length, room_in, kept}
+use Rattle.obs_journal.specs.Formats.{seal, seal_length, room_in, kept_seal}
 use Rattle.obs_journal.specs.Files.{NoParcelIn}
 use Rattle.obs_journal.specs.declared.format.Format.{Format}
 use Rattle.obs_journal.specs.declared.gates.Head.{Head}
@@ -58,4 +58,4 @@ IsInside format (Open parcel digest) left = room_in format parcel < left
 abbrev pub IsSealed : Format → List ℕ → Front → Type 0
 IsSealed format last Closed = Unit {0}
 IsSealed format last Damaged = Unit {0}
-IsSealed format last (Open parcel digest) = kept format digest ≡ seal format last (parcel_bytes parcel)
+IsSealed format last (Open parcel digest) = kept_seal format digest ≡ seal format last (parcel_bytes parcel)

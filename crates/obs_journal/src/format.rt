@@ -2,7 +2,7 @@
 
 ghost use Rattle.std.specs.Prelude.{◌≡◌, ◌↔◌, length, IsTrue};
 ghost use Rattle.obs_journal.specs.Parcels.{parcel_bytes};
-ghost use Rattle.obs_journal.specs.Formats.{file_number, head, seal, seal_length, room_in, kept};
+ghost use Rattle.obs_journal.specs.Formats.{file_number, head, seal, seal_length, room_in, kept_seal};
 
 use crate::parcel::chain_digest;
 use crate::{DIGEST_BYTES, Parcel};
@@ -56,7 +56,7 @@ impl Format {
 
     /// What is kept of a parcel's seal, where this is kept of the last one.
     pub(crate) fn next(self, last: &[u8; DIGEST_BYTES], parcel: &Parcel) -> [u8; DIGEST_BYTES]
-        ensures { kept self result ≡ seal self (kept self last.now) (parcel_bytes parcel.now) }
+        ensures { kept_seal self result ≡ seal self (kept_seal self last.now) (parcel_bytes parcel.now) }
     {
         match self {
             Format::Plain => *last,
@@ -66,7 +66,7 @@ impl Format {
 
     /// Whether these bytes are the seal of which this is kept.
     pub(crate) fn is_seal(self, digest: &[u8; DIGEST_BYTES], bytes: &[u8]) -> bool
-        ensures { IsTrue result ↔ (bytes.now ≡ kept self digest.now) }
+        ensures { IsTrue result ↔ (bytes.now ≡ kept_seal self digest.now) }
     {
         match self {
             Format::Plain => bytes.is_empty(),

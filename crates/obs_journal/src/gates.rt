@@ -5,7 +5,7 @@ ghost use Rattle.std.specs.Prelude.{min, IfOk, IfSome, IsErrOf, IsNone, IsTrue, 
 ghost use Rattle.std.specs.Int.{w32, w64, to_be_bytes};
 ghost use Rattle.call_log.specs.Counts.{Rises};
 ghost use Rattle.obs_journal.specs.Parcels.{RawParcel, IsParcel};
-ghost use Rattle.obs_journal.specs.Formats.{seal, seal_length, kept};
+ghost use Rattle.obs_journal.specs.Formats.{seal, seal_length, kept_seal};
 ghost use Rattle.obs_journal.specs.Files.{NoParcelIn};
 ghost use Rattle.obs_journal.specs.Fronts.{head_spelled, HasRoom, StandsAtFront, StandsBehind, IsInside, IsSealed};
 ghost use Rattle.obs_journal.specs.Journals.{IsUnwritten};
@@ -131,12 +131,12 @@ fn read_parcel<D: Disk>(
     requires most { head.counted ≤ 1048597 }
     requires place { at + (head.counted - 21) + seal_length format < 2 ^ 64 }
     ensures behind { IfOk result (λ front. IfSome (D.reads disk.old)
-        (λ file. StandsBehind format (kept format last.now) head (drop at file) front)) }
+        (λ file. StandsBehind format (kept_seal format last.now) head (drop at file) front)) }
     ensures long { (parcel : RawParcel) (digest : List ℕ) → result ≡ Ok (Front.Open parcel digest) →
         length parcel.body + 21 ≡ head.counted }
     ensures fits { (parcel : RawParcel) (digest : List ℕ) → result ≡ Ok (Front.Open parcel digest) →
         IsParcel parcel }
-    ensures sealed { IfOk result (λ front. IsSealed format (kept format last.now) front) }
+    ensures sealed { IfOk result (λ front. IsSealed format (kept_seal format last.now) front) }
     ensures not_closed { result ≢ Ok Front.Closed }
 
     ensures unwritten { IsUnwritten D.reads D.moment D.since disk.old disk.new }
@@ -178,9 +178,9 @@ pub(crate) fn read_front<D: Disk>(
 ) -> Result<Front, OpenFault>
     requires { gate < end }
     ensures front { IfOk result (λ front. IfSome (D.reads disk.old) (λ file. length file ≡ end →
-        StandsAtFront format (kept format last.now) (drop gate file) front)) }
+        StandsAtFront format (kept_seal format last.now) (drop gate file) front)) }
     ensures inside { IfOk result (λ front. IsInside format front (end - gate)) }
-    ensures sealed { IfOk result (λ front. IsSealed format (kept format last.now) front) }
+    ensures sealed { IfOk result (λ front. IsSealed format (kept_seal format last.now) front) }
 
     ensures unwritten { IsUnwritten D.reads D.moment D.since disk.old disk.new }
     ensures counts { D.faults disk.old ≤ D.faults disk.new }

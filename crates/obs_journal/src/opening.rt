@@ -6,7 +6,7 @@ ghost use Rattle.call_log.specs.Counts.{Rises};
 ghost use Rattle.disk_model.specs.Crashes.{During};
 ghost use Rattle.obs_journal.specs.Files.{IsFresh, IsRow, IsRowIn, Spells, HasHead, IsBrokenIn, IsDamagedAt};
 ghost use Rattle.obs_journal.specs.Parcels.{RawParcel};
-ghost use Rattle.obs_journal.specs.Formats.{file_number, head, first_seal, last_seal, front_length, kept};
+ghost use Rattle.obs_journal.specs.Formats.{file_number, head, first_seal, last_seal, front_length, kept_seal};
 ghost use Rattle.obs_journal.specs.Chains.{IsInForce, IsChain, IsBrokenAt, reached_after};
 ghost use Rattle.obs_journal.specs.Journals.{IsUnwritten};
 ghost use Rattle.obs_journal.specs.Opening.{parcels_of, placed_in, placed_from, SpellsAlike};
@@ -47,7 +47,7 @@ fn read_row<D: Disk>(
     ensures offsets { IfOk result (λ row. row.0 ≡ placed_in format (length (head format)) (parcels_of row.0)) }
     ensures position { IfOk result (λ row. row.1.position ≡ front_length format (parcels_of row.0) + 1) }
     ensures last { IfOk result (λ row.
-        kept format row.1.last ≡ last_seal format (first_seal format) (parcels_of row.0)) }
+        kept_seal format row.1.last ≡ last_seal format (first_seal format) (parcels_of row.0)) }
     ensures damaged { (file offset : ℕ) → result ≡ Err (OpenFault.Damaged file offset) → (file ≡ file_number format)
         × IfSome (D.reads disk.old) (λ bytes. length bytes ≡ end → IsBrokenIn format bytes offset) }
 

@@ -11,7 +11,7 @@ use Rattle.act_model.specs.declared.request.Request.{Request}
 use Rattle.act_model.specs.Keepers.{TakesTurn}
 use Rattle.act_model.specs.Replies.{entry_answer}
 use Rattle.act_model.specs.Requests.{is_act}
-use Rattle.act_model.specs.Step.{Keeps, Adds, outcome, after, step}
+use Rattle.act_model.specs.Step.{Keeps, Adds, outcome, reply_and_history, step}
 use Rattle.act_model.specs.Turns.{Answers}
 use Rattle.desk_core.specs.Office.{Office}
 use Rattle.desk_core.specs.Preparing.{IsRefused}
@@ -22,17 +22,17 @@ use Rattle.plain_keeper.specs.Plain.{plain_office}
 module _ (founder : Key) (limit : Option ℕ) (past : List Entry) (q : Request) (t : ℤ) where
   pub answers_kept : (reply : Reply) → outcome founder limit past q t ≡ Keeps reply → Answers founder limit past q t reply past
   unfolding step
-  answers_kept reply is = inl (ap (after past) is)
+  answers_kept reply is = inl (ap (reply_and_history past) is)
 
   pub answers_refused : (refusal : Refusal) → IsRefused (outcome founder limit past q t) refusal → Answers founder limit past q t (Refused refusal) past
   unfolding step
-  answers_refused refusal (inl is) = inl (ap (after past) is)
+  answers_refused refusal (inl is) = inl (ap (reply_and_history past) is)
   answers_refused refusal (inr wants) = inr (ap (λ (r : Refusal). Refused r) wants, refl)
 
   pub answers_ready : (entry : Entry) (reply : Reply) (text : List ℕ) → outcome founder limit past q t ≡ Adds entry → reply ≡ Done text → text ≡ entry_answer past entry → Answers founder limit past q t reply (entry ∷ past)
   unfolding step
   answers_ready entry reply text is says answer =
-      inl (ap (after past) is ∙ ap (λ (r : Reply). (r, entry ∷ past)) (sym (says ∙ ap (λ (x : List ℕ). Done x) answer)))
+      inl (ap (reply_and_history past) is ∙ ap (λ (r : Reply). (r, entry ∷ past)) (sym (says ∙ ap (λ (x : List ℕ). Done x) answer)))
 
 -- ---- turns
 

@@ -16,7 +16,7 @@ use Rattle.act_model.specs.declared.reply.Reply.TheVariants.{Done, Refused}
 use Rattle.act_model.specs.Keepers.{RoseBy}
 use Rattle.act_model.specs.Replies.{entry_answer}
 use Rattle.act_model.specs.Requests.{is_act}
-use Rattle.act_model.specs.Step.{Adds, outcome, after, step}
+use Rattle.act_model.specs.Step.{Adds, outcome, reply_and_history, step}
 use Rattle.act_model.specs.Turns.{Turn, TakesReading, Answers, Settles, FailsToKeep, IsTurn}
 use Rattle.mpc_desk.specs.Desks.{DeskState, MayLeave, FailsOn, ActsOn, ActsInTurn, count_of, turn_of}
 use Rattle.act_model.specs.Clocks.{ClockState}
@@ -29,7 +29,7 @@ use Rattle.run_command.proofs.Laws.{WantLaws}
 never_adds : (wants : WantLaws) (founder : Key) (limit : Option ℕ) (past : List Entry) (q : Request) (t : ℤ) (entry : Entry) → q.body ≡ NoRoom → outcome founder limit past q t ≡ Adds entry → ⊥
 unfolding step
 never_adds wants founder limit past q t entry none adds =
-    let both : ◌≡◌ {A = Reply × List Entry} (Refused NoMemory, past) (Done (entry_answer past entry), entry ∷ past) = sym (wants.no_step founder limit past q t none) ∙ ap (after past) adds in
+    let both : ◌≡◌ {A = Reply × List Entry} (Refused NoMemory, past) (Done (entry_answer past entry), entry ∷ past) = sym (wants.no_step founder limit past q t none) ∙ ap (reply_and_history past) adds in
     let first : ◌≡◌ {A = Reply} (Refused NoMemory) (Done (entry_answer past entry)) = ap (λ (p : Reply × List Entry). p.0) both in
     absurd cc
 

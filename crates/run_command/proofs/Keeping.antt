@@ -12,7 +12,7 @@ use Rattle.act_model.specs.Conducts.{Extends, EitherWay, IsAcknowledged}
 use Rattle.act_model.specs.Legal.{IsLegal}
 use Rattle.act_model.specs.Replies.{entry_answer}
 use Rattle.act_model.specs.Requests.{is_act}
-use Rattle.act_model.specs.Step.{Adds, outcome, after, step}
+use Rattle.act_model.specs.Step.{Adds, outcome, reply_and_history, step}
 use Rattle.act_model.specs.Turns.{Turn, TakesReading, Takes, Settles, FailsToKeep, Mends, IsTurn, Conduct, at_rest}
 use Rattle.mpc_desk.specs.Desks.{RestsAt}
 use Rattle.mpc_desk.specs.Files.{Stands}
@@ -41,7 +41,7 @@ from_rest founder state image legal (inr doubted) = by state.doubt legal.1 doubt
 step_adds : (founder : Key) (limit : Option ℕ) (past : List Entry) (q : Request) (t : ℤ) (entry : Entry) → outcome founder limit past q t ≡ Adds entry
     → step founder limit past q t ≡ (Done (entry_answer past entry), entry ∷ past)
 unfolding step
-step_adds founder limit past q t entry adds = ap (after past) adds
+step_adds founder limit past q t entry adds = ap (reply_and_history past) adds
 
 -- an act that was answered is in each later legal history
 stays_answered : KeptLaws → (founder : Key) (mended : List Entry) (q : Request) (text : List ℕ) (settled later : List Entry) → IsLegal founder later → Extends settled later

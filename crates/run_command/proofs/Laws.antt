@@ -10,7 +10,7 @@ use Rattle.act_model.specs.declared.reply.Refusal.{Refusal}
 use Rattle.act_model.specs.declared.reply.Refusal.TheVariants.{NoMemory}
 use Rattle.act_model.specs.declared.reply.Reply.{Reply}
 use Rattle.act_model.specs.declared.reply.Reply.TheVariants.{Done, Refused}
-use Rattle.act_model.specs.History.{Kept, kept, EachNumberOnce}
+use Rattle.act_model.specs.History.{Kept, numbered_entry, EachNumberOnce}
 use Rattle.act_model.specs.Legal.{IsLegal}
 use Rattle.act_model.specs.Places.{OnePlace}
 use Rattle.act_model.specs.Requests.{is_act}
@@ -28,7 +28,7 @@ pub record KeptLaws : Type 0 where
   pub legal_conduct : (founder : Key) (limit : Option ℕ) (before after : OfficeState) (turns : List Turn) → EitherWay (IsLegal founder) before → Conduct founder limit before turns after → EitherWay (IsLegal founder) after
   pub acknowledged : (founder : Key) (limit : Option ℕ) (before after : OfficeState) (turn : Turn) (text : List ℕ) → IsTurn founder limit before turn after → is_act turn.request.verb ≡ true → turn.reply ≡ Done text
       → (mended : List Entry) × Mends before.settled before.doubt mended × IsAcknowledged founder mended turn.request text after.settled
-  pub kept : (founder : Key) (earlier later : List Entry) (caller number : ℕ) (k : Kept) → IsLegal founder later → Extends earlier later → kept earlier caller number ≡ Some k → kept later caller number ≡ Some k
+  pub kept : (founder : Key) (earlier later : List Entry) (caller number : ℕ) (k : Kept) → IsLegal founder later → Extends earlier later → numbered_entry earlier caller number ≡ Some k → numbered_entry later caller number ≡ Some k
 
 pub record OfficeLaws : Type 0 where
   pub keeps : KeptLaws

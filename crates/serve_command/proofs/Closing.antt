@@ -15,7 +15,7 @@ use Rattle.intake_lock.specs.declared.view.View.{View}
 use Rattle.act_model.specs.declared.keeper.Stamps.{Stamps}
 use Rattle.intake_lock.specs.Items.{IsTrue, AreTrue, HasStamp, AreStamped, RisesBy}
 use Rattle.intake_lock.specs.Rule.{IsCall, IsOrigin, Origins, StampsCome, Closes}
-use Rattle.intake_lock.specs.Views.{seen, first_view}
+use Rattle.intake_lock.specs.Views.{history_seen, first_view}
 use Rattle.act_model.specs.Clocks.{ClockState}
 use Rattle.http_connection.specs.Calls.{HasCause, AreInOrder}
 use Rattle.serve_command.specs.declared.ends.LinkEnd.{LinkEnd}
@@ -54,10 +54,10 @@ module _ {I O : Type 0} (on : LinkWords I O) where
   calls_true stays clock opening history [] each = tt
   calls_true stays clock opening history (a ∷ rest) each =
       all_append (IsTrue opening.founder opening.limit history) (calls_of a) (calls_in rest)
-      (all_weaker (IsTrue a.start.view.office.founder a.start.view.office.limit (seen a.after)) (IsTrue opening.founder opening.limit history)
+      (all_weaker (IsTrue a.start.view.office.founder a.start.view.office.limit (history_seen a.after)) (IsTrue opening.founder opening.limit history)
       (λ item true_there. subst (λ (k : Key). IsTrue k opening.limit history item) each.0.founder
       (subst (λ (l : Option ℕ). IsTrue a.start.view.office.founder l history item) each.0.limit
-      (stays a.start.view.office.founder a.start.view.office.limit (seen a.after) history item each.0.last true_there)))
+      (stays a.start.view.office.founder a.start.view.office.limit (history_seen a.after) history item each.0.last true_there)))
       (calls_of a) a.attended.attended.attends.true_of)
       (calls_true stays clock opening history rest each.1)
 
@@ -69,8 +69,8 @@ module _ {I O : Type 0} (on : LinkWords I O) where
       let was = a.attended.attended.attends in (
         subst (λ (k : Key). AreInOrder k opening.limit history (length opening.state.settled) (calls_of a)) each.0.founder
             (subst (λ (l : Option ℕ). AreInOrder a.start.view.office.founder l history (length opening.state.settled) (calls_of a)) each.0.limit
-            (stays a.start.view.office.founder a.start.view.office.limit (seen a.after) history (length (seen a.start.view)) (length opening.state.settled)
-            (calls_of a) each.0.last (no_longer opening.state.settled (seen a.start.view) each.0.first) was.true_of was.order)),
+            (stays a.start.view.office.founder a.start.view.office.limit (history_seen a.after) history (length (history_seen a.start.view)) (length opening.state.settled)
+            (calls_of a) each.0.last (no_longer opening.state.settled (history_seen a.start.view) each.0.first) was.true_of was.order)),
         all_in_order stays clock opening history rest each.1,
       )
 
@@ -155,7 +155,7 @@ module _ {I O : Type 0} (on : LinkWords I O) where
       let same : IsPermutation view.mine calls =
       IsPermutation-sym calls view.mine (subst (λ (l : List Item). IsPermutation l view.mine) (append-nil calls) gathers.calls) in
       let each : AllByRecursion (IsBetween start.clock opening office.state.settled) gathers.attendances =
-      between_on on other start.clock opening opening (seen view) office.state.settled another refl refl (extends_same opening.state.settled)
+      between_on on other start.clock opening opening (history_seen view) office.state.settled another refl refl (extends_same opening.state.settled)
       closes.seen gathers.attendances gathers.each in
       record {
         attendances = gathers.attendances;

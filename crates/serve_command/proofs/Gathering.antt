@@ -11,7 +11,7 @@ use Rattle.act_model.specs.declared.keeper.Office.{Office}
 use Rattle.act_model.specs.Conducts.{Extends}
 use Rattle.intake_lock.specs.declared.view.Item.{Item}
 use Rattle.intake_lock.specs.declared.view.View.{View}
-use Rattle.intake_lock.specs.Views.{seen, stem, branch, joined, longer_office}
+use Rattle.intake_lock.specs.Views.{history_seen, stem, branch, joint_view, longer_office}
 use Rattle.act_model.specs.Clocks.{ClockState}
 use Rattle.serve_command.specs.declared.ends.LinkEnd.{LinkEnd}
 use Rattle.serve_command.specs.declared.accepting.Stop.{Stop}
@@ -65,8 +65,8 @@ module _ {I O : Type 0} (on : LinkWords I O) where
       founder = each.0.founder ∙ founder;
       limit = each.0.limit ∙ limit;
       another = another_on other clock a.start.clock same each.0.another;
-      first = extends_on earlier.state.settled opening.state.settled (seen a.start.view) begins each.0.first;
-      last = extends_on (seen a.after) later last each.0.last ends;
+      first = extends_on earlier.state.settled opening.state.settled (history_seen a.start.view) begins each.0.first;
+      last = extends_on (history_seen a.after) later last each.0.last ends;
     },
     between_on clock other opening earlier later last same founder limit begins ends rest each.1,
   )
@@ -83,7 +83,7 @@ module _ {I O : Type 0} (on : LinkWords I O) where
         ended = sym (append-nil start.ends);
         each = tt;
         calls = IsPermutation-refl start.view.mine;
-        grows = extends_same (seen start.view);
+        grows = extends_same (history_seen start.view);
         founder = refl;
         limit = refl;
         stops = stops;
@@ -146,8 +146,8 @@ module _ {I O : Type 0} (on : LinkWords I O) where
     -- the link was attended by a branch, while the root took in the others
     pub branch_joins : (w : View) → IsLinkAttended on (link_start (branch start.view)) end w
         → Gathers on (others_start (stem start.view)) others
-        → Extends (seen others.view) (seen (joined others.view w)) → Extends (seen w) (seen (joined others.view w))
-        → Gathers on start (all_end (joined others.view w))
+        → Extends (history_seen others.view) (history_seen (joint_view others.view w)) → Extends (history_seen w) (history_seen (joint_view others.view w))
+        → Gathers on start (all_end (joint_view others.view w))
     branch_joins w attended rest root_grows branch_grows =
         let v = start.view in
         let r = others.view in
@@ -162,17 +162,17 @@ module _ {I O : Type 0} (on : LinkWords I O) where
               founder = refl;
               limit = refl;
               another = another;
-              first = extends_same (seen v);
+              first = extends_same (history_seen v);
               last = branch_grows;
             },
-            between_on mine_clock start.clock v.office v.office (seen r) (seen (joined r w)) kept refl refl (extends_same (seen v)) root_grows
+            between_on mine_clock start.clock v.office v.office (history_seen r) (history_seen (joint_view r w)) kept refl refl (extends_same (history_seen v)) root_grows
                 rest.attendances rest.each,
           );
           calls = subst (λ (l : List Item). IsPermutation ((calls_of a ++ calls_in rest.attendances) ++ v.mine) (l ++ r.mine)) (sym made)
               (subst (λ (l : List Item). IsPermutation l (calls_of a ++ r.mine))
               (sym (append_assoc (calls_of a) (calls_in rest.attendances) v.mine))
               (IsPermutation-append_right (calls_of a) (calls_in rest.attendances ++ v.mine) r.mine rest.calls));
-          grows = extends_on (seen v) (seen r) (seen (joined r w)) rest.grows root_grows;
+          grows = extends_on (history_seen v) (history_seen r) (history_seen (joint_view r w)) rest.grows root_grows;
           founder = longer_founder r.office w.office v.office.founder rest.founder attended.attended.attends.founder;
           limit = longer_limit r.office w.office v.office.limit rest.limit attended.attended.attends.limit;
           stops = stops_on start.most (source, sink) (map link_of rest.attendances) start.door mid others.door others.stop some gave same rest.stops;
@@ -195,10 +195,10 @@ module _ {I O : Type 0} (on : LinkWords I O) where
               founder = refl;
               limit = refl;
               another = another;
-              first = extends_same (seen v);
+              first = extends_same (history_seen v);
               last = rest.grows;
             },
-            between_on mine_clock start.clock w.office v.office (seen r) (seen r) kept was.founder was.limit was.grows (extends_same (seen r))
+            between_on mine_clock start.clock w.office v.office (history_seen r) (history_seen r) kept was.founder was.limit was.grows (extends_same (history_seen r))
                 rest.attendances rest.each,
           );
           calls = IsPermutation-trans ((calls_of a ++ calls_in rest.attendances) ++ v.mine)
@@ -209,7 +209,7 @@ module _ {I O : Type 0} (on : LinkWords I O) where
               (ap (λ (l : List Item). calls_in rest.attendances ++ l) was.mine
               ∙ sym (append_assoc (calls_in rest.attendances) (calls_of a) v.mine))
               rest.calls);
-          grows = extends_on (seen v) (seen w) (seen r) was.grows rest.grows;
+          grows = extends_on (history_seen v) (history_seen w) (history_seen r) was.grows rest.grows;
           founder = rest.founder ∙ was.founder;
           limit = rest.limit ∙ was.limit;
           stops = stops_on start.most (source, sink) (map link_of rest.attendances) start.door mid others.door others.stop some gave same rest.stops;
@@ -217,18 +217,18 @@ module _ {I O : Type 0} (on : LinkWords I O) where
 
     -- the same, of what the calls ensure
     pub branch_joined : (stem_view branch_view w last : View) (items : List (LinkEnd I O)) → stem_view ≡ stem start.view
-        → branch_view ≡ branch start.view → last ≡ joined others.view w → items ≡ others.ends ++ end ∷ []
+        → branch_view ≡ branch start.view → last ≡ joint_view others.view w → items ≡ others.ends ++ end ∷ []
         → IsLinkAttended on (link_start branch_view) end w → Gathers on (others_start stem_view) others
-        → Extends (seen others.view) (seen last) → Extends (seen w) (seen last)
+        → Extends (history_seen others.view) (history_seen last) → Extends (history_seen w) (history_seen last)
         → Gathers on start (record { view = last; door = others.door; ends = items; stop = others.stop })
     branch_joined stem_view branch_view w last items stem_is branch_is last_is items_is attended rest root_grows branch_grows =
         subst (λ (l : View). Gathers on start (record { view = l; door = others.door; ends = items; stop = others.stop })) (sym last_is)
-        (subst (λ (l : List (LinkEnd I O)). Gathers on start (record { view = joined others.view w; door = others.door; ends = l; stop = others.stop })) (sym items_is)
+        (subst (λ (l : List (LinkEnd I O)). Gathers on start (record { view = joint_view others.view w; door = others.door; ends = l; stop = others.stop })) (sym items_is)
         (branch_joins w
         (subst (λ (l : View). IsLinkAttended on (link_start l) end w) branch_is attended)
         (subst (λ (l : View). Gathers on (others_start l) others) stem_is rest)
-        (subst (λ (l : View). Extends (seen others.view) (seen l)) last_is root_grows)
-        (subst (λ (l : View). Extends (seen w) (seen l)) last_is branch_grows)))
+        (subst (λ (l : View). Extends (history_seen others.view) (history_seen l)) last_is root_grows)
+        (subst (λ (l : View). Extends (history_seen w) (history_seen l)) last_is branch_grows)))
 
     pub root_went_on : (root_view w : View) (items : List (LinkEnd I O)) → root_view ≡ start.view → items ≡ others.ends ++ end ∷ []
         → IsLinkAttended on (link_start root_view) end w → Gathers on (others_start w) others

@@ -30,7 +30,7 @@ use Rattle.serve_command.specs.declared.ends.LinkEnd.{LinkEnd}
 use Rattle.serve_command.specs.Gathering.{DoorState}
 use Rattle.serve_command.specs.Links.{LinkWords}
 use Rattle.serve_command.specs.Serving.{AreStampsOf, Serves}
-use Rattle.serve_command.specs.Images.{Asks, AskedBy, WatchedState, StandsWithin, IsWatched, Answered, WasAsked, stamp_of, stamping, Keeps, HasPassed, WasBetween, IsKept, KeepsDone, Asked, request_in, reading_in}
+use Rattle.serve_command.specs.Images.{Asks, AskedBy, WatchedState, StandsWithin, IsWatched, Answered, WasAsked, stamp_of, stamping_office, Keeps, HasPassed, WasBetween, IsKept, KeepsDone, Asked, request_in, reading_in}
 use Rattle.serve_command.proofs.Gathering.{extends_on}
 use Rattle.serve_command.proofs.WatchLemmas.{AllMore, GrowthLaws, step_adds, within_on, rests_within, act_within, watched_more, keeps_more, moved, watched_during}
 
@@ -48,7 +48,7 @@ module _ {D : Type 0} (moment : D → ℕ) (since : D → ℕ → List ℕ → T
   pub stamped_act : (old new : DeskState D) (answered more : Answered D) (reading : ℤ) (noted : Asked) → request_in noted.items ≡ request → reading_in noted.items ≡ reading → more ≡ answered ++ (new, noted) ∷ []
       → TakesTurn (office_of faults old) request (Some reading) reply (office_of faults new)
       → ActsInTurn moment since faults (record { old = old; request = request; reading = reading; reply = reply; new = new })
-      → TakesTurn (stamping moment faults old answered) request (Some reading) reply (stamping moment faults new more)
+      → TakesTurn (stamping_office moment faults old answered) request (Some reading) reply (stamping_office moment faults new more)
   stamped_act old new answered more reading noted request_is reading_is is turn inside = record {
     rise = turn.rise;
     turn = turn.turn;
@@ -68,7 +68,7 @@ module _ {D : Type 0} (moment : D → ℕ) (since : D → ℕ → List ℕ → T
   }
 
   pub stamped_query : (desk : DeskState D) (answered : Answered D) → TakesTurn (office_of faults desk) request None reply (office_of faults desk)
-      → TakesTurn (stamping moment faults desk answered) request None reply (stamping moment faults desk answered)
+      → TakesTurn (stamping_office moment faults desk answered) request None reply (stamping_office moment faults desk answered)
   stamped_query desk answered turn =
       record { rise = turn.rise; turn = turn.turn; counts = turn.counts; founder = turn.founder; limit = turn.limit; stamps = refl }
 
@@ -163,18 +163,18 @@ passed_on {D = D} laws moment since faults leaves only first from images old new
 module _ {D I O : Type 0} (on : LinkWords I O) (moment : D → ℕ) (faults : D → ℕ) (clock : ClockState) (door after : DoorState I O) (most : ℕ) (ends : List (LinkEnd I O)) (stop : Option Stop)
     (desk last : DeskState D) (opened closed : WatchedState D) where
   pub serves_watched : opened ≡ record { desk = desk; answered = [] } → last ≡ closed.desk
-      → Serves on (record { clock = clock; office = stamping moment faults opened.desk opened.answered; door = door; most = most })
-      (record { office = stamping moment faults closed.desk closed.answered; door = after; ends = ends; stop = stop })
-      → Serves on (record { clock = clock; office = stamping moment faults desk []; door = door; most = most })
-      (record { office = stamping moment faults last closed.answered; door = after; ends = ends; stop = stop })
+      → Serves on (record { clock = clock; office = stamping_office moment faults opened.desk opened.answered; door = door; most = most })
+      (record { office = stamping_office moment faults closed.desk closed.answered; door = after; ends = ends; stop = stop })
+      → Serves on (record { clock = clock; office = stamping_office moment faults desk []; door = door; most = most })
+      (record { office = stamping_office moment faults last closed.answered; door = after; ends = ends; stop = stop })
   serves_watched opened_is last_is serves =
       subst
-      (λ (d : DeskState D). Serves on (record { clock = clock; office = stamping moment faults desk []; door = door; most = most })
-      (record { office = stamping moment faults d closed.answered; door = after; ends = ends; stop = stop }))
+      (λ (d : DeskState D). Serves on (record { clock = clock; office = stamping_office moment faults desk []; door = door; most = most })
+      (record { office = stamping_office moment faults d closed.answered; door = after; ends = ends; stop = stop }))
       (sym last_is)
       (subst
-      (λ (w : WatchedState D). Serves on (record { clock = clock; office = stamping moment faults w.desk w.answered; door = door; most = most })
-      (record { office = stamping moment faults closed.desk closed.answered; door = after; ends = ends; stop = stop }))
+      (λ (w : WatchedState D). Serves on (record { clock = clock; office = stamping_office moment faults w.desk w.answered; door = door; most = most })
+      (record { office = stamping_office moment faults closed.desk closed.answered; door = after; ends = ends; stop = stop }))
       opened_is serves)
 
 pub same_limit : (a b : ℕ) → Some a ≡ Some b → a ≡ b
@@ -288,7 +288,7 @@ module _ (one : OneBeginning) (laws : GrowthLaws) (resends : Resends) (founder :
 module _ {D : Type 0} (one : OneBeginning) (laws : GrowthLaws) (resends : Resends) (starts : Begins) (moment : D → ℕ) (since : D → ℕ → List ℕ → Type 0) (faults : D → ℕ) (opened left : DeskState D)
     (answered : Answered D) (were : AllByRecursion (λ then. WasBetween moment since (WasAsked answered) opened left then.0) answered)
     (legal : IsLegal opened.founder left.state.settled) (calls : List Item) (true_of : AreTrue opened.founder (Some opened.limit) left.state.settled calls)
-    (stamps : AreStampsOf (stamping moment faults opened []) (stamping moment faults left answered) calls) where
+    (stamps : AreStampsOf (stamping_office moment faults opened []) (stamping_office moment faults left answered) calls) where
   pub asked_by : AllMore opened.founder (Some opened.limit) (WasAsked answered) (AskedBy calls)
   asked_by past request reading entry adds (then, (k, low, at), request_is, reading_is, left_is) =
       let f : DeskState D × Asked → Stamp = λ one. stamp_of moment one.0 one.1 in
@@ -298,7 +298,7 @@ module _ {D : Type 0} (one : OneBeginning) (laws : GrowthLaws) (resends : Resend
       by (f then) refl begins (stamps (f then) (k, image.0, image.1))
     where
       by : (given : Stamp) → given ≡ stamp_of moment then.0 then.1 → Extends past left.state.settled
-          → Gave (stamping moment faults opened []).stamps given ⊎ ((item : Item) × Contains calls item × IsStampOf item given) → AskedBy calls past request reading
+          → Gave (stamping_office moment faults opened []).stamps given ⊎ ((item : Item) × Contains calls item × IsStampOf item given) → AskedBy calls past request reading
       by given given_is begins (inl none) = absurd (no_stamp given none)
       by given given_is begins (inr (item, (n, under, there), stamp)) =
           let asks : item.request ≡ request = stamp.request ∙ ap (λ (s : Stamp). s.request) given_is ∙ request_is in

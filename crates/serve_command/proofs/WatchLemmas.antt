@@ -14,7 +14,7 @@ use Rattle.act_model.specs.Conducts.{Extends, EitherWay, Makes}
 use Rattle.act_model.specs.Keepers.{TakesTurn}
 use Rattle.act_model.specs.Legal.{IsLegal}
 use Rattle.act_model.specs.Replies.{entry_answer}
-use Rattle.act_model.specs.Step.{Outcome, Adds, outcome, after, step}
+use Rattle.act_model.specs.Step.{Outcome, Adds, outcome, reply_and_history, step}
 use Rattle.act_model.specs.Turns.{Turn, Conduct, Mends, Settles, FailsToKeep, unless_untouched, Answers}
 use Rattle.mpc_desk.specs.Desks.{DeskState, RestsAt, MayLeave, FailsOn, ActsOn, ActsInTurn, turn_of, office_of}
 use Rattle.mpc_desk.specs.Files.{Stands}
@@ -109,7 +109,7 @@ moved old new founder limit P has = subst (λ (k : Key). P k (Some new.limit)) (
 pub step_adds : (founder : Key) (limit : Option ℕ) (past : List Entry) (q : Request) (t : ℤ) (entry : Entry) → outcome founder limit past q t ≡ Adds entry
     → step founder limit past q t ≡ (Done (entry_answer past entry), entry ∷ past)
 unfolding step
-step_adds founder limit past q t entry adds = ap (after past) adds
+step_adds founder limit past q t entry adds = ap (reply_and_history past) adds
 
 untouched_settled : (doubt : Bool) (past : List Entry) (entry : Entry) → (unless_untouched doubt past entry).settled ≡ past
 untouched_settled doubt past entry = refl

@@ -12,7 +12,7 @@ use Rattle.intake_lock.specs.declared.view.Role.TheVariants.{Root}
 use Rattle.intake_lock.specs.declared.view.View.{View}
 use Rattle.intake_lock.specs.Passes.{PassState}
 use Rattle.intake_lock.specs.Rule.{MOST}
-use Rattle.intake_lock.specs.Views.{seen}
+use Rattle.intake_lock.specs.Views.{history_seen}
 use Rattle.act_model.specs.Clocks.{ClockState}
 use Rattle.serve_command.specs.declared.ends.LinkEnd.{LinkEnd}
 use Rattle.serve_command.specs.declared.accepting.Stop.{Stop}
@@ -60,8 +60,8 @@ pub record IsBetween {I O : Type 0} {on : LinkWords I O} (clock : ClockState) (o
   pub founder : attendance.start.view.office.founder ≡ opening.founder
   pub limit : attendance.start.view.office.limit ≡ opening.limit
   pub another : IsAnother clock attendance.start.clock
-  pub first : Extends opening.state.settled (seen attendance.start.view)
-  pub last : Extends (seen attendance.after) later
+  pub first : Extends opening.state.settled (history_seen attendance.start.view)
+  pub last : Extends (history_seen attendance.after) later
 
 -- what there is before links are taken in: what the root knows, the clock, the door, how many links may come, and the
 -- ends of earlier ones
@@ -92,9 +92,9 @@ pub record Gathers {I O : Type 0} (on : LinkWords I O) (start : GatherStart I O)
   pub attendances : List (Attendance on)
   pub gave : Gives start.door.links end.door.links (map link_of attendances)
   pub ended : end.ends ≡ start.ends ++ reverse (map end_of attendances)
-  pub each : AllByRecursion (IsBetween start.clock start.view.office (seen end.view)) attendances
+  pub each : AllByRecursion (IsBetween start.clock start.view.office (history_seen end.view)) attendances
   pub calls : IsPermutation (calls_in attendances ++ start.view.mine) end.view.mine
-  pub grows : Extends (seen start.view) (seen end.view)
+  pub grows : Extends (history_seen start.view) (history_seen end.view)
   pub founder : end.view.office.founder ≡ start.view.office.founder
   pub limit : end.view.office.limit ≡ start.view.office.limit
   pub stops : Stops start.most (map link_of attendances) start.door end.door end.stop

@@ -109,8 +109,8 @@ pub record WatchedState (D : Type 0) : Type 0 where
   pub answered : Answered D
 
 -- the office of a desk that stamps its acts
-abbrev pub stamping : {D : Type 0} (moment : D → ℕ) (faults : D → ℕ) → DeskState D → Answered D → Office
-stamping moment faults desk answered =
+abbrev pub stamping_office : {D : Type 0} (moment : D → ℕ) (faults : D → ℕ) → DeskState D → Answered D → Office
+stamping_office moment faults desk answered =
     record (office_of faults desk) {
       stamps = Some (record {
         moment = moment desk.disk;

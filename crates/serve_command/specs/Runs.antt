@@ -20,7 +20,7 @@ use Rattle.command_ends.specs.Left.{IsLeft}
 use Rattle.serve_command.specs.declared.accepting.Stop.{Stop}
 use Rattle.serve_command.specs.declared.accepting.Stop.TheVariants as stops
 use Rattle.serve_command.specs.declared.ends.LinkEnd.{LinkEnd}
-use Rattle.serve_command.specs.Images.{Answered, stamping, AskedBy, KeepsDone, LeavesInService}
+use Rattle.serve_command.specs.Images.{Answered, stamping_office, AskedBy, KeepsDone, LeavesInService}
 use Rattle.serve_command.specs.Links.{LinkWords, calls_in}
 use Rattle.serve_command.specs.Gathering.{DoorState}
 use Rattle.serve_command.specs.Serving.{IsNoDiskFault, Serves}
@@ -110,12 +110,12 @@ pub record Runs {D I O : Type 0} (on : DiskWords D) (links : LinkWords I O) (sta
   pub serves : Serves links
       (record {
         clock = start.clock;
-        office = stamping on.moment on.faults opened.chained [];
+        office = stamping_office on.moment on.faults opened.chained [];
         door = start.door;
         most = start.most;
       })
       (record {
-        office = stamping on.moment on.faults left answered;
+        office = stamping_office on.moment on.faults left answered;
         door = end.door;
         ends = end.ends;
         stop = stop;

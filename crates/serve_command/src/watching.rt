@@ -9,7 +9,7 @@ ghost use Rattle.act_model.specs.Legal.{IsLegal};
 ghost use Rattle.intake_lock.specs.Rule.{MOST};
 ghost use Rattle.mpc_desk.specs.Desks.{DeskState};
 ghost use Rattle.serve_command.specs.Gathering.{door_of};
-ghost use Rattle.serve_command.specs.Images.{StandsWithin, Answered, WasAsked, stamping, HasPassed, WasBetween};
+ghost use Rattle.serve_command.specs.Images.{StandsWithin, Answered, WasAsked, stamping_office, HasPassed, WasBetween};
 ghost use Rattle.serve_command.specs.Links.{link_words};
 ghost use Rattle.serve_command.specs.Serving.{Serves};
 
@@ -105,7 +105,7 @@ impl<D: Disk, W: Opening> Watched<D, W> {
 }
 
 impl<D: Disk, W: Opening> Keeper for Watched<D, W> {
-    ghost office = { λ w. stamping D.moment D.faults w.desk w.answered };
+    ghost office = { λ w. stamping_office D.moment D.faults w.desk w.answered };
 
     fn act(&mut self, request: &Request, reading: Instant) -> Reply {
         office_laws::histories_grow();
@@ -153,12 +153,12 @@ pub(crate) fn attend_watched<
         × Serves (link_words G.In.left G.In.gives G.In.faults G.In.is_open G.Out.taken G.Out.faults G.Out.is_open)
         (record {
           clock = clock_of C.reading C.last clock.old;
-          office = stamping D.moment D.faults desk [];
+          office = stamping_office D.moment D.faults desk [];
           door = door_of G.links G.faults door.old;
           most = connections;
         })
         (record {
-          office = stamping D.moment D.faults result.keeper answered;
+          office = stamping_office D.moment D.faults result.keeper answered;
           door = door_of G.links G.faults door.new;
           ends = result.ends.items;
           stop = result.stop;

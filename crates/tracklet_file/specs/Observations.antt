@@ -3,11 +3,11 @@ use Rattle.std.specs.Prelude.{◌≡◌, ℕ, ℤ, Bool, true, false, ◌&&◌, 
 use Rattle.std.specs.Prelude.{IsSome, slice_get, if◌then◌else◌, Result, Ok, Err}
 use Rattle.std.specs.List.{list_any}
 use Rattle.std.specs.Option.{option_map, option_map_or, option_and_then}
-use Rattle.std.specs.Str.{bytes_eq}
 use Rattle.std.specs.Ordering.{int_eq}
 use Rattle.obs_record.specs.declared.line.Line.{Line}
 use Rattle.obs_record.specs.declared.rule.RuleCode.{RuleCode}
 use Rattle.obs_record.specs.declared.short.Short.{Short}
+use Rattle.obs_record.specs.Short.{same_short}
 use Rattle.obs_record.specs.declared.sighting.Sighting.{Sighting}
 use Rattle.tracklet_file.specs.declared.observation.Observation.{Observation}
 use Rattle.tracklet_file.specs.Numbering.{next_number, numbered, changed_at}
@@ -34,14 +34,10 @@ is_live observations k = option_map_or (λ o. o.live) (numbered observations k) 
 
 -- ---- a position at a time
 
--- the two codes of stations are the same
-abbrev pub same_station : Short → Short → Bool
-same_station a b = (a.len == b.len) && bytes_eq a.bytes b.bytes
-
 -- it was observed from this station, at this time and position
 abbrev pub is_at : Short → ℤ → ℕ → ℤ → Sighting → Bool
 is_at station time ra dec s =
-    same_station s.station station && (int_eq s.time time && ((s.ra == ra) && int_eq s.dec dec))
+    same_short s.station station && (int_eq s.time time && ((s.ra == ra) && int_eq s.dec dec))
 
 -- the observation is live, and of this station, time and position
 abbrev pub is_live_at : Short → ℤ → ℕ → ℤ → Observation → Bool

@@ -1,7 +1,7 @@
 use Rattle.std.proofs.Common.{ap, sym, subst, ◌∙◌, arith}
 use Rattle.std.specs.Prelude.{reverse}
 use Rattle.std.proofs.lemmas.List.{take_all}
-use Rattle.batch_rules.specs.Earlier.{Finds, pointed}
+use Rattle.batch_rules.specs.Earlier.{Finds, pointed_sightings}
 use Rattle.batch_rules.proofs.Pointed.{pointed_more}
 use Rattle.batch_rules.proofs.earlier.index_of.Goals as goal
 
@@ -11,4 +11,4 @@ loop-s-preserved c =
 
 pub returns : goal.returns
 returns c =
-    subst (Finds _) (ap (λ xs. reverse (pointed xs)) (take_all c.loop-s.s-index c.deref-s-items.result.now c.loop-s-test.false ∙ c.deref-s-items.ensures.value)) c.loop-s.invariant
+    subst (Finds _) (ap (λ xs. reverse (pointed_sightings xs)) (take_all c.loop-s.s-index c.deref-s-items.result.now c.loop-s-test.false ∙ c.deref-s-items.ensures.value)) c.loop-s.invariant

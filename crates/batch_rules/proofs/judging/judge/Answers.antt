@@ -5,7 +5,7 @@ use Rattle.obs_record.specs.declared.sighting.Sighting.{Sighting}
 use Rattle.act_model.specs.BatchRules.{group_fault, firsts_of, checked_lines, passed_in, rulings_among, batch_rulings}
 use Rattle.batch_rules.specs.declared.keys.GroupKey.{GroupKey}
 use Rattle.batch_rules.specs.declared.groups.Summary.{Summary}
-use Rattle.batch_rules.specs.Earlier.{pointed, line_of}
+use Rattle.batch_rules.specs.Earlier.{pointed_sightings, line_of}
 use Rattle.batch_rules.specs.Groups.{AreApart}
 use Rattle.batch_rules.specs.Points.{found_at, point_of}
 use Rattle.batch_rules.specs.Numbers.{keys_after, ruling_by}
@@ -16,7 +16,7 @@ use Rattle.batch_rules.proofs.judging.judge.Goals as goal
 pub summaries-requires : goal.summaries-requires
 summaries-requires g c =
     let office = g.V.Known.office c.args.known.now in
-    let passed_is : pointed c.in_ok-checked.passed.items ≡ passed_in (checked_lines office c.args.tables.now c.args.moment [] c.args.batch.now) =
+    let passed_is : pointed_sightings c.in_ok-checked.passed.items ≡ passed_in (checked_lines office c.args.tables.now c.args.moment [] c.args.batch.now) =
     c.in_ok-checked.ensures.passed ∙ ap passed_in (c.in_ok-checked.ensures.lines ∙ ap (checked_lines office c.args.tables.now c.args.moment []) c.as_slice.ensures) in
     subst AreApart (sym passed_is) (passed_apart office c.args.tables.now c.args.moment c.args.batch.now)
 

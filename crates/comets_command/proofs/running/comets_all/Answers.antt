@@ -1,7 +1,7 @@
 use Rattle.std.proofs.Common.{◌≡◌, ◌-◌, length, refl, sym, subst, ◌∙◌, arith}
 use Rattle.act_model.specs.Clocks.{clock_of}
 use Rattle.act_model.specs.Deeds.{deeds}
-use Rattle.frame_service.specs.Exchanges.{attending}
+use Rattle.frame_service.specs.Exchanges.{attending_of}
 use Rattle.mpc_desk.specs.Pairs.{pair}
 use Rattle.command_ends.specs.declared.status.Status.{Status}
 use Rattle.command_ends.specs.Courses.{change}
@@ -61,7 +61,7 @@ overflow_sub-added g c =
     let terms = terms_at c.args.founder office.chained.state.settled in
     let left = c.apart-office.result.1 in
     let s = c.serve-stop.ensures.stops in
-    let t = turns_of laws.readings on terms s.1 (attending g.C.Clock.reading g.C.Clock.last c.new-front.result c.args.clock.now) (attending g.C.Clock.reading g.C.Clock.last c.serve-stop.new.attendant c.serve-stop.new.clock)
+    let t = turns_of laws.readings on terms s.1 (attending_of g.C.Clock.reading g.C.Clock.last c.new-front.result c.args.clock.now) (attending_of g.C.Clock.reading g.C.Clock.last c.serve-stop.new.attendant c.serve-stop.new.clock)
     (terms_opened on c.args.founder office c.args.comets opened opens c.new-front.result c.new-front.ensures.office c.new-front.ensures.register) s.5 in
     let takes = takes_between on terms t.turns c.new-front.result.register c.serve-stop.new.attendant.register opened left c.new-front.ensures.register c.apart-office.ensures.register t.takes in
     let mends = finish_mends on left c.finish-status.new.register c.serve-stop.result c.finish-status.result c.finish-status.ensures in
@@ -83,7 +83,7 @@ returns-clause-ends g c =
     let last = c.finish-status.new.register in
     let ended = c.end_reading-2.result in
     let s = c.serve-stop.ensures.stops in
-    let t = turns_of laws.readings on terms s.1 (attending g.C.Clock.reading g.C.Clock.last c.new-front.result c.args.clock.now) (attending g.C.Clock.reading g.C.Clock.last c.serve-stop.new.attendant c.serve-stop.new.clock)
+    let t = turns_of laws.readings on terms s.1 (attending_of g.C.Clock.reading g.C.Clock.last c.new-front.result c.args.clock.now) (attending_of g.C.Clock.reading g.C.Clock.last c.serve-stop.new.attendant c.serve-stop.new.clock)
     (terms_opened on c.args.founder office c.args.comets opened opens c.new-front.result c.new-front.ensures.office c.new-front.ensures.register) s.5 in
     let takes = takes_between on terms t.turns c.new-front.result.register c.serve-stop.new.attendant.register opened left c.new-front.ensures.register c.apart-office.ensures.register t.takes in
     let start = pair c.args.disk c.args.second in

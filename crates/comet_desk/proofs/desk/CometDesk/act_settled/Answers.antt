@@ -8,7 +8,7 @@ use Rattle.obs_journal.specs.Parcels.{RawParcel}
 use Rattle.act_model.specs.declared.entry.Entry.{Entry}
 use Rattle.act_model.specs.declared.request.TheConstants.{BODY_BYTES}
 use Rattle.act_model.specs.Deeds.{deeds}
-use Rattle.act_model.specs.Refusals.{used, entry_size}
+use Rattle.act_model.specs.Refusals.{bytes_used, entry_size}
 use Rattle.mpc_desk.specs.Files.{parcel_of}
 use Rattle.comet_model.specs.declared.reply.CometRefusal.TheVariants.{NoMemory, DiskFault}
 use Rattle.comet_model.specs.declared.reply.CometReply.TheVariants.{Refused}
@@ -65,7 +65,7 @@ parcel_of-requires g c = record { short = subst (λ (e : Entry). length e.body �
 
 pub append-requires-clause-space : goal.append-requires-clause-space
 append-requires-clause-space g c =
-    let at : c.self.inside.journal.reached.position ≡ used c.self.inside.register.entries = position_is g.D.Disk.leaves c.self.inside.register c.self.inside.journal c.self.inside.doubt c.self.invariant in
+    let at : c.self.inside.journal.reached.position ≡ bytes_used c.self.inside.register.entries = position_is g.D.Disk.leaves c.self.inside.register c.self.inside.journal c.self.inside.doubt c.self.invariant in
     let within = c.in-Ready.ensures.answer.4 in
     let sized : room_in chained c.in-Ok.parcel ≡ entry_size c.in-Ready.prepared.entry.body = ap (λ (p : RawParcel). room_in chained p) (c.in-Ok.ensures ∙ ap parcel_of c.entry.ensures) in
     omega (arith, at, within, sized, c.self.ranges)

@@ -3,14 +3,14 @@ use Rattle.atomic_table.specs.Table.{rest}
 use Rattle.intake_lock.specs.declared.view.Stage.TheVariants.{Holding}
 use Rattle.intake_lock.specs.declared.view.View.{View}
 use Rattle.intake_lock.specs.Passes.{LockState, TurnState}
-use Rattle.intake_lock.specs.Views.{live, published}
+use Rattle.intake_lock.specs.Views.{live, published_view}
 use Rattle.intake_lock.proofs.Steps.{leaves}
 use Rattle.intake_lock.proofs.lock.TurnLock.leave.Goals as goal
 
 pub fetch_add-served-requires : goal.fetch_add-served-requires
 fetch_add-served-requires g c =
     let words : c.self.inside.table.shared.table_id.words ≡ 3 = c.self.invariant.0 in
-    let told : c.exchange.new.seat.me.0 ≡ published (g.V.Keeper.office c.turn.inside.keeper) c.turn.inside.log.view c.turn.inside.seat.me.0 =
+    let told : c.exchange.new.seat.me.0 ≡ published_view (g.V.Keeper.office c.turn.inside.keeper) c.turn.inside.log.view c.turn.inside.seat.me.0 =
     ap (λ (m : View × List (ℕ × Option g.row.V.Denot)). m.0) c.exchange.ensures.3 ∙ ap (λ (m : View × List (ℕ × Option g.row.V.Denot)). m.0) c.publish.ensures.told in
     let held : c.exchange.new.seat.me.1 ≡ (0, Some c.turn.inside.keeper) ∷ [] =
     ap (λ (m : View × List (ℕ × Option g.row.V.Denot)). m.1) c.exchange.ensures.3

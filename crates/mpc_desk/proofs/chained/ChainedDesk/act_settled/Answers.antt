@@ -8,7 +8,7 @@ use Rattle.obs_journal.specs.Parcels.{RawParcel}
 use Rattle.act_model.specs.declared.entry.Entry.{Entry}
 use Rattle.act_model.specs.declared.reply.Refusal.TheVariants.{NoMemory, DiskFault}
 use Rattle.act_model.specs.declared.reply.Reply.TheVariants.{Refused}
-use Rattle.act_model.specs.Refusals.{used, entry_size}
+use Rattle.act_model.specs.Refusals.{bytes_used, entry_size}
 use Rattle.desk_core.specs.Office.{IsOfAct, IsReadyAt}
 use Rattle.mpc_desk.specs.Files.{parcel_of}
 use Rattle.mpc_desk.specs.Desks.{DeskState, TakesAct, state_of}
@@ -34,7 +34,7 @@ returns-in_default-clause-takes g c =
 
 pub append-requires-clause-space : goal.append-requires-clause-space
 append-requires-clause-space g c =
-    let at : c.self.inside.journal.reached.position ≡ used c.self.inside.core.history = position_is g.D.Disk.leaves c.self.inside.core c.self.inside.journal c.self.inside.doubt c.self.invariant in
+    let at : c.self.inside.journal.reached.position ≡ bytes_used c.self.inside.core.history = position_is g.D.Disk.leaves c.self.inside.core c.self.inside.journal c.self.inside.doubt c.self.invariant in
     let within = c.in-Ready.ensures.answer.3 in
     let sized : room_in chained c.in-Ok.parcel ≡ entry_size c.in-Ready.prepared.entry.body = ap (λ (p : RawParcel). room_in chained p) (c.in-Ok.ensures ∙ ap parcel_of c.entry.ensures.entry) in
     omega (arith, at, within, sized, c.self.ranges)

@@ -1,6 +1,6 @@
 use Rattle.std.proofs.Common.{◌≡◌, ◌≢◌, ℕ, ◌-◌, Option, sym, ap, subst, ◌∙◌, rules}
 use Rattle.std.specs.Prelude.{IfSome, slice_index}
-use Rattle.act_model.specs.Refusals.{used}
+use Rattle.act_model.specs.Refusals.{bytes_used}
 use Rattle.desk_core.specs.Office.{Ready}
 use Rattle.mpc_desk.specs.Desks.{DeskState, IsDesk, settled_by}
 use Rattle.mpc_desk.proofs.FileLemmas.{rests}
@@ -26,14 +26,14 @@ invariant_of-self-2 g c =
 
 pub returns-clause-added_where_open : goal.returns-clause-added_where_open
 returns-clause-added_where_open g c = λ added.
-    gate_is (g.D.Disk.reads c.args.self.now.disk) (λ (byte : ℕ). byte ≡ 1) c.self.inside.journal.reached.position (used c.args.self.now.state.settled)
-    (position_is g.D.Disk.leaves c.self.inside.core c.self.inside.journal c.self.inside.doubt c.self.invariant ∙ ap (λ (d : DeskState g.row.D.Denot). used d.state.settled) c.self.view_is)
+    gate_is (g.D.Disk.reads c.args.self.now.disk) (λ (byte : ℕ). byte ≡ 1) c.self.inside.journal.reached.position (bytes_used c.args.self.now.state.settled)
+    (position_is g.D.Disk.leaves c.self.inside.core c.self.inside.journal c.self.inside.doubt c.self.invariant ∙ ap (λ (d : DeskState g.row.D.Denot). bytes_used d.state.settled) c.self.view_is)
     (subst (λ (d : DeskState g.row.D.Denot). IfSome (g.D.Disk.reads d.disk) (λ file. slice_index file (c.self.inside.journal.reached.position - 1) ≡ 1)) c.self.view_is (c.in-Ok.ensures.added_where_open added))
 
 pub returns-clause-dropped_where_closed : goal.returns-clause-dropped_where_closed
 returns-clause-dropped_where_closed g c = λ dropped.
-    gate_is (g.D.Disk.reads c.args.self.now.disk) (λ (byte : ℕ). byte ≢ 1) c.self.inside.journal.reached.position (used c.args.self.now.state.settled)
-    (position_is g.D.Disk.leaves c.self.inside.core c.self.inside.journal c.self.inside.doubt c.self.invariant ∙ ap (λ (d : DeskState g.row.D.Denot). used d.state.settled) c.self.view_is)
+    gate_is (g.D.Disk.reads c.args.self.now.disk) (λ (byte : ℕ). byte ≢ 1) c.self.inside.journal.reached.position (bytes_used c.args.self.now.state.settled)
+    (position_is g.D.Disk.leaves c.self.inside.core c.self.inside.journal c.self.inside.doubt c.self.invariant ∙ ap (λ (d : DeskState g.row.D.Denot). bytes_used d.state.settled) c.self.view_is)
     (subst (λ (d : DeskState g.row.D.Denot). IfSome (g.D.Disk.reads d.disk) (λ file. slice_index file (c.self.inside.journal.reached.position - 1) ≢ 1)) c.self.view_is (c.in-Ok.ensures.dropped_where_closed dropped))
 
 pub returns-clause-at_rest : goal.returns-clause-at_rest
