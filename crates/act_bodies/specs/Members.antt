@@ -33,11 +33,11 @@ use Rattle.act_bodies.specs.Keys.{key_of}
 unfoldable pub value_of : List ℕ → Option Data
 value_of bytes = if is_utf8 bytes then read bytes else None
 
--- the value is an object of so many members
+-- the value is an object of this many members
 abbrev pub has_members : ℕ → Data → Bool
 has_members count value = option_map_or (λ members. members_len members == count) (as_object value) false
 
--- the object of so many members that bytes are read into
+-- the object of this many members that bytes are read into
 unfoldable pub object_of : ℕ → List ℕ → Option Data
 object_of count bytes = value_of bytes >>= λ value. if has_members count value then Some value else None
 

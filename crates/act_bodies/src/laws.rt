@@ -28,8 +28,8 @@ pub fn letters_are_printed()
     ensures { (bytes : List ℕ) (code : Code) → code_of bytes ≡ Some code → IsLetterOf code.kind code.letter }
 {}
 
-/// The half-month that a body opens is one of the years 1925 to 2099. So many of its designations were given as it can
-/// have, and those that are carried are different ones of them, at most 100.
+/// The half-month that a body opens is one of the years 1925 to 2099. This many of its designations were given as it
+/// can have, and those that are carried are different ones of them, at most 100.
 pub fn openings_are_in_range()
     ensures { (bytes : List ℕ) (opening : Opening) → opening_of bytes ≡ Some opening → IsOpening opening }
 {}

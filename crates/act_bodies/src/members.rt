@@ -26,7 +26,7 @@ fn value_of(alloc: Global, body: &[u8]) -> Result<Value, BodyFault>
     }
 }
 
-/// Whether the value is an object of so many members.
+/// Whether the value is an object of this many members.
 fn has_members(count: usize, value: &Value) -> bool
     ensures { result ≡ has_members count (view value.now) }
 {
@@ -36,7 +36,7 @@ fn has_members(count: usize, value: &Value) -> bool
     }
 }
 
-/// The object of so many members that a body is.
+/// The object of this many members that a body is.
 #[tactic(auto, unfolding(crate::specs::Members::object_of))]
 pub fn object_of(alloc: Global, count: usize, body: &[u8]) -> Result<Value, BodyFault>
     ensures read { IfOk result (λ value. object_of count body.now ≡ Some (view value)) }

@@ -11,7 +11,7 @@ AreReadings-append told from (x ∷ xs) ys first then =
     let k : from + length (x ∷ xs) ≡ (from + 1) + length xs = omega arith in
     (first.0, AreReadings-append told (from + 1) xs ys first.1 (subst (λ (n : ℕ). AreReadings told n ys) k then))
 
--- the next readings of a clock that gave so many
+-- the next readings of a clock that gave this many
 AreReadings-later : (told next : ℕ → Option ℤ) (n : ℕ) → ((k : ℕ) → next k ≡ told (k + n)) → (from : ℕ) (ys : List ℤ) → AreReadings next from ys → AreReadings told (from + n) ys
 AreReadings-later told next n later from [] are = tt
 AreReadings-later told next n later from (y ∷ ys) are =

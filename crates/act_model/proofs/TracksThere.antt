@@ -35,7 +35,7 @@ use Rattle.act_model.proofs.Legal.{by_deed}
 abbrev IsThere : ℕ → ℕ → Type 0
 IsThere n track = (1 ≤ track) × (track ≤ n)
 
--- the tracklets of all are among so many
+-- the tracklets of all are among this many
 abbrev pub AreThere : ℕ → List Observation → Type 0
 AreThere n [] = Unit {0}
 AreThere n (o ∷ observations) = IsThere n o.track × AreThere n observations
@@ -82,7 +82,7 @@ abbrev pub AreTakenThere : ℕ → List Taken → Type 0
 AreTakenThere now [] = Unit {0}
 AreTakenThere now (taken ∷ lines) = IsFoundThere now taken.found × AreTakenThere (tracks_with now taken.found) lines
 
--- the tracklets are so many, and have all observations
+-- the tracklets are this many, and have all observations
 record Stands (held : Holdings) (now : ℕ) : Type 0 where
   count : length held.tracklets ≡ now
   there : AreThere now held.observations

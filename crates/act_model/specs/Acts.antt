@@ -112,7 +112,7 @@ act_of Opening body = read_as opening_act (opening_of body)
 act_of _ body = Err Unread
 
 -- What reading a body makes sure of: a station's last day isn't before its first; the tracklets that are to become an
--- object are one at least, and at most 100; so many numbers are asked for, from a number that can be given; and a
+-- object are one at least, and at most 100; this many numbers are asked for, from a number that can be given; and a
 -- half-month is taken over with a count that it can have, and with at most 100 different orders up to this count.
 abbrev pub IsRead : Act → Type 0
 IsRead (act.Station code name from to) = from ≤ℤ to

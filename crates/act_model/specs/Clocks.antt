@@ -1,4 +1,4 @@
--- What a clock tells of itself, and the readings that it gave.
+-- What a clock says about itself, and the readings that it gave.
 use Rattle.std.specs.Prelude.{◌≡◌, ℕ, ◌+◌, ℤ, List, [], ◌∷◌, length, Option}
 use Rattle.act_model.specs.Turns.{AreReadings}
 
@@ -7,7 +7,7 @@ pub record ClockState : Type 0 where
   pub to_come : ℕ → Option ℤ
   pub last : ℤ
 
--- what a clock tells of itself
+-- what a clock says about itself
 abbrev pub clock_of : {C : Type 0} → (C → ℕ → Option ℤ) → (C → ℤ) → C → ClockState
 clock_of reading last clock = record { to_come = reading clock; last = last clock }
 

@@ -143,7 +143,7 @@ abbrev pub next_rows : Option ℕ → ℕ → List (Bool × Refusal)
 next_rows None first = []
 next_rows (Some next) first = (not (first == next), NotNext next) ∷ []
 
--- numbers from the first on for at most so many of the objects that can be numbered
+-- numbers from the first on for at most this many of the objects that can be numbered
 abbrev pub number_rows : List Numbering → (first most : ℕ) → List Designation → List (Bool × Refusal)
 number_rows numbered first most objects =
     next_rows (next_number numbered) first
@@ -189,7 +189,7 @@ designates held rows tracklets =
     unless (first_row (designate_rows held tracklets))
     (designates_seen rows tracklets (seen_in held.observations tracklets))
 
--- A half-month is taken over, in which so many designations were given elsewhere. Those with these orders become
+-- A half-month is taken over, in which this many designations were given elsewhere. Those with these orders become
 -- objects.
 abbrev pub opens : List RowAct → HalfMonth → (given : ℕ) (carried : List ℕ) → Result Deed Refusal
 opens rows half given carried = unless (first_row (opening_rows rows half)) (Ok (Opened half given carried))
@@ -212,7 +212,7 @@ separates acts s = unless (first_row (separate_rows acts s)) (Ok (Separated s))
 abbrev pub judges : List LinkAct → Designation → (u oppositions : ℕ) → Result Deed Refusal
 judges acts d u oppositions = unless (first_row (verdict_rows acts d)) (Ok (Judged d u oppositions))
 
--- numbers for at most so many of these objects
+-- numbers for at most this many of these objects
 abbrev pub numbers : List Numbering → (first most : ℕ) → List Designation → Result Deed Refusal
 numbers numbered first most objects =
     unless (first_row (number_rows numbered first most objects))

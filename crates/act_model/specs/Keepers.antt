@@ -11,7 +11,7 @@ use Rattle.act_model.specs.Turns.{IsTurn}
 abbrev pub RoseBy : ℕ → ℕ → ℕ → Type 0
 RoseBy rise before after = after ≡ min (before + rise) (2 ^ 64 - 1)
 
--- An act got a stamp, with what was asked, the clock's reading, and so many settled entries: the newest, which stands
+-- An act got a stamp, with what was asked, the clock's reading, and this many settled entries: the newest, which stands
 -- last. Its moment is the keeper's after the act, which is no earlier than the one before.
 pub record StampsAct (before : Stamps) (request : Request) (reading : ℤ) (count : ℕ) (after : Option Stamps)
     : Type 0 where
@@ -22,8 +22,8 @@ pub record StampsAct (before : Stamps) (request : Request) (reading : ℤ) (coun
   pub later : before.moment ≤ given.moment
   pub now : after ≡ Some (record { moment = given.moment; given = before.given ++ given ∷ [] })
 
--- An act with this reading got a stamp, with so many settled entries. A query got none, and nor did an act where no act
--- is stamped.
+-- An act with this reading got a stamp, with this many settled entries. A query got none, and nor did an act where no
+-- act is stamped.
 abbrev pub IsStamped : Option Stamps → Request → Option ℤ → ℕ → Option Stamps → Type 0
 IsStamped None request reading count after = after ≡ None
 IsStamped (Some before) request None count after = after ≡ Some before

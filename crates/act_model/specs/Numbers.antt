@@ -51,6 +51,6 @@ numbered_from first [] = []
 numbered_from first (d ∷ more) = record { designation = d; number = record { 0 = first } }
     ∷ numbered_from (first + 1) more
 
--- the last of so many numbers from the first on
+-- the last of this many numbers from the first on
 abbrev pub last_number : ℕ → List Designation → ℕ
 last_number first designations = (first + length designations) - 1

@@ -33,7 +33,7 @@ use Rattle.act_model.specs.Texts.{line_of, header_name, receipt_line, caller_lin
 use Rattle.act_model.specs.Texts.{refused_line, designation_text, half_month_text, object_line, object_lines}
 use Rattle.act_model.specs.Texts.{number_lines}
 
--- the answer to a line that was taken in so, where so many observations came before it
+-- the answer to a line that was taken in so, where this many observations came before it
 abbrev pub line_answer : ℕ → ℕ → Result Placed RuleCode → List ℕ
 line_answer before number (Ok placed) = accepted_line number (before + 1) placed.track
 line_answer before number (Err rule) = refused_line number rule
@@ -49,8 +49,8 @@ line_answers [] before = []
 line_answers (taken ∷ lines) before =
     line_answer before taken.line taken.found ++ line_answers lines (observations_with before taken.found)
 
--- the answer to a batch of these lines that became the entry with this receipt, where so many observations came before
--- it
+-- the answer to a batch of these lines that became the entry with this receipt, where this many observations came
+-- before it
 unfoldable pub batch_answer : ℕ → ℕ → List Taken → List ℕ
 batch_answer receipt before lines =
     receipt_line receipt ++ (counts_line (accepted_in lines) (refused_in lines) ++ line_answers lines before)

@@ -132,8 +132,8 @@ abbrev pub unless_unheard : Result Outcome Refusal → Outcome
 unless_unheard (Ok outcome) = outcome
 unless_unheard (Err refusal) = Refuses refusal
 
--- what becomes of a request at a history, with this reading of the clock, where the journal may have so many bytes: its
--- bytes are taken, it is heard, and it makes its step
+-- what becomes of a request at a history, with this reading of the clock, where the journal may have this many bytes:
+-- its bytes are taken, it is heard, and it makes its step
 unfoldable pub outcome : Key → Option ℕ → List Entry → Request → ℤ → Outcome
 outcome founder limit past request reading = unless_unheard do
   bytes ← bytes_in request.body

@@ -7,7 +7,7 @@ use Rattle.act_model.specs.Deeds.{deeds}
 use Rattle.act_model.specs.Holdings.{Holdings, holdings}
 use Rattle.act_model.specs.Texts.{count_line}
 
--- the tally of so many entries and of what they brought
+-- the tally of this many entries and of what they brought
 abbrev pub tally_of : ℕ → Holdings → Tally
 tally_of entries held =
     record {

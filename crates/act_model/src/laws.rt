@@ -168,7 +168,7 @@ pub fn conducts_are_worlds()
     ensures world { (founder : Key) (limit : Option ℕ) (before after : OfficeState) (received turns : List Turn) →
         Conduct founder limit before turns after →
         World founder limit (running_world before received) (map Received turns)
-            (running_world after (reverse turns ++ received)) }
+        (running_world after (reverse turns ++ received)) }
     ensures conduct { (founder : Key) (limit : Option ℕ) (before after : WorldState) (turns : List Turn) →
         World founder limit before (map Received turns) after →
         Conduct founder limit before.office turns after.office }

@@ -156,7 +156,7 @@ fn push_line_answers(out: &mut Bytes, lines: &TakenLines, before: u64) -> Result
     Ok(())
 }
 
-/// The answer to a batch of these lines that became the entry with this receipt, where the office had so many
+/// The answer to a batch of these lines that became the entry with this receipt, where the office had this many
 /// observations before it: the receipt, how many lines were accepted and refused, and a line for each with the numbers
 /// of its observation and its tracklet, or with the rule that it breaks. Observations and tracklets count from 1.
 ///

@@ -127,7 +127,7 @@ module _ (laws : Laws) where
   unfolding name_of
   named_exactly text name = printed_exactly text name
 
-  -- names of one kind: what is told of each name gives those that are read
+  -- names of one kind: what is said about each name gives those that are read
   name_field : {A : Type 0} (name : A → Name) (from : Result Name NameFault → Result A RuleCode) → ((r : Result Name NameFault) → MatchResult (from r) (λ x. r ≡ Ok (name x)) (λ other. other ≡ S3))
       → ((x : A) → from (Ok (name x)) ≡ Ok x) → IsReadingOf S3 (λ text x. IsPrintedAs (name x) text) (λ text. from (name_of text))
   name_field name from told kept = record {

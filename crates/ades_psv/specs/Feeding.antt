@@ -72,8 +72,8 @@ ended_at progress = ended progress.count (progress.place, progress.found)
 unfoldable pub read_end : Progress → Result (List Line) (HeaderFault × ℕ)
 read_end progress = read_lines progress (lines progress.rest) [] >>= ended_at
 
--- The reader can take so many bytes more: the numbers of its lines have 32 bits then. Once there is a fault it lets go
--- what is fed.
+-- The reader can take this many bytes more: the numbers of its lines have 32 bits then. Once there is a fault it lets
+-- go what is fed.
 abbrev pub HasRoom : Fed → ℕ → Type 0
 HasRoom (Ok progress) more = progress.count + length progress.rest + more < 4294967295
 HasRoom (Err fault) more = Unit {0}

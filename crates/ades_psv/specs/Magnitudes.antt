@@ -6,7 +6,7 @@ use Rattle.obs_record.specs.declared.rule.RuleCode.{RuleCode}
 use Rattle.obs_record.specs.declared.rule.RuleCode.TheVariants.{S9}
 use Rattle.ades_psv.specs.Optional.{unless_empty}
 
--- the text is this magnitude, of at most 99.99, with so many decimals
+-- the text is this magnitude, of at most 99.99, with this many decimals
 pub record IsMagnitude (text : List ℕ) (read : ℕ × ℕ) : Type 0 where
   -- 1 or 2 digits, then a point and at most six decimals or nothing
   pub parts : NumberParts

@@ -50,7 +50,7 @@ pub fn one_text()
     laws::lines();
 }
 
-/// A reader can take so many bytes more where they and those that were fed are together fewer than 4,294,967,295.
+/// A reader can take this many bytes more where they and those that were fed are together fewer than 4,294,967,295.
 #[tactic(auto, using(crate::proofs::Readers::text_room))]
 pub fn room()
     ensures { (text : List ℕ) (more : ℕ) → length text + more < 4294967295 → HasRoom (fed unfed text) more }

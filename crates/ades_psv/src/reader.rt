@@ -99,7 +99,7 @@ impl PsvReader {
         PsvReader::with_room(alloc, 0)
     }
 
-    /// The same, with room for so many lines, so that their list isn't moved while they come.
+    /// The same, with room for this many lines, so that their list isn't moved while they come.
     #[tactic(auto, using(crate::proofs::Readers::fed_nothing))]
     fn with_room(alloc: Global, lines: usize) -> Result<PsvReader, NoMemory>
         ensures { IfOk result (λ reader. reader ≡ unfed) }

@@ -122,8 +122,8 @@ module _ (texts : TextLaws) where
       let wide : 3 - ra_digits units ≡ 16 - length text = omega (arith, digits, ap length spelled.text_is, length-number_spelling p, ap decimals_width twelve) in
       rw (made_same p (ra_digits units) (ra_steps units) digits twelve below steps, ← spelled.text_is, wide) refl
 
-  -- What is spelled in sixteen bytes, with the sign of its value, is written again: it has a sign, two digits and twelve
-  -- decimals.
+  -- What is spelled in sixteen bytes, with the sign of its value, is written again: it has a sign, two digits and
+  -- twelve decimals.
   pub dec_degrees_text_again : (units : ℤ) (text : List ℕ) → length text ≡ 16 → get_or text 0 0 ≡ sign_byte (is_negative units) → ReadsDecDegrees text (Ok units) → dec_degrees_text units ≡ text
   dec_degrees_text_again units text wide first right =
       let p : Bool × NumberParts = right.0 in

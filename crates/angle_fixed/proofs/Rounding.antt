@@ -11,7 +11,7 @@ power_of_ten_positive count = omega (arith, one-le-pow count 10 (omega arith))
 
 -- ---- the unit of the last decimal
 
--- a second is a whole number of units of so many decimals
+-- a second is a whole number of units of this many decimals
 pub record IsUnit (second count : ℕ) : Type 0 where
   pub some : 0 < last_unit second count
   pub whole : 10 ^ count * last_unit second count ≡ second
@@ -29,7 +29,7 @@ unit_of_time count few = unit_of 37500000 count (omega arith) few
 pub unit_of_arc : (count : ℕ) → count ≤ 2 → IsUnit arcsecond count
 unit_of_arc count few = unit_of 2500000 count (omega arith) (omega arith)
 
--- so many seconds in units of their last decimal
+-- this many seconds in units of their last decimal
 pub whole_units : (limit second count : ℕ) → IsUnit second count → limit * 10 ^ count * last_unit second count ≡ limit * second
 whole_units limit second count unit = mul_assoc limit (10 ^ count) (last_unit second count) ∙ ap (λ (k : ℕ). limit * k) unit.whole
 
@@ -77,12 +77,12 @@ parts_of-steps_of p minute second value =
     let first : seconds / 60 / 60 ≡ p.whole = omega arith in
     rw (s, v, third, second, first) refl
 
--- parts below so many seconds are less than these in units of their last decimal
+-- parts below this many seconds are less than these in units of their last decimal
 pub steps_below : (p : Parts) (limit : ℕ) → (p.whole * 60 + p.minute) * 60 + p.second < limit → p.value < 10 ^ p.count → steps_of p < limit * 10 ^ p.count
 steps_below p limit seconds value =
     omega (arith, mul-add-lt ((p.whole * 60 + p.minute) * 60 + p.second) (10 ^ p.count) p.value limit seconds value, mul_comm limit (10 ^ p.count))
 
--- the value of parts, where a second is so many units of their last decimal
+-- the value of parts, where a second is this many units of their last decimal
 units-steps : (p : Parts) (second unit : ℕ) → 10 ^ p.count * unit ≡ second
     → p.whole * (3600 * second) + p.minute * (60 * second) + p.second * second + p.value * unit ≡ steps_of p * unit
 units-steps p second unit is = rw (← is) (omega arith)

@@ -90,7 +90,7 @@ ReadsDecDegrees text (Err Range) = (p : Bool × NumberParts) × IsSpelledSignedD
 abbrev pub twelfth_decimal : ℕ
 twelfth_decimal = 9
 
--- the parts of so many units of the twelfth decimal, with so many digits before the point
+-- the parts of this many units of the twelfth decimal, with this many digits before the point
 abbrev pub twelve_decimals : ℕ → ℕ → NumberParts
 twelve_decimals digits steps = record { digits = digits; whole = steps / 10 ^ 12; count = 12; value = steps % 10 ^ 12 }
 

@@ -8,11 +8,11 @@ use Rattle.angle_fixed.specs.Angles.{Parts, spelling, sign_byte, signed, circle,
 abbrev pub nearest : ℕ → ℕ → ℕ
 nearest value step = (2 * value + step) / (2 * step)
 
--- the unit of the last of so many decimals of a second
+-- the unit of the last of this many decimals of a second
 abbrev pub last_unit : ℕ → ℕ → ℕ
 last_unit second count = second / 10 ^ count
 
--- the parts of so many units of the last decimal, carried into seconds, minutes and hours or degrees
+-- the parts of this many units of the last decimal, carried into seconds, minutes and hours or degrees
 abbrev pub parts_of : ℕ → ℕ → Parts
 parts_of count steps = record {
   whole = steps / 10 ^ count / 60 / 60;

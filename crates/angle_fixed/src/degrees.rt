@@ -20,7 +20,7 @@ use ascii_text::units::decimals_units;
 // As many decimals are read.
 const MOST_DECIMALS: usize = 12;
 
-// Degrees with so many digits before the point at most, and with twelve decimals at most.
+// Degrees with this many digits before the point at most, and with twelve decimals at most.
 fn degrees(most: usize, text: &[u8]) -> Option<Option<DecimalNumber>>
     requires { most ≤ 3 }
     ensures exact { option_map (λ found. option_map (λ d. number_parts d) found) result

@@ -160,7 +160,7 @@ run_past most text more =
     let read = run_read text 0 in
     rw (← run_is text _ (digit_run text) read.0 refl (omega arith) (sym read.1), lt-ltb most (digit_run text) more) refl
 
--- Decimals that are written are read where they are at most so many, and neither a digit nor a point follows.
+-- Decimals that are written are read where they are at most this many, and neither a digit nor a point follows.
 pub decimals_within_again : (most count value : ℕ) (rest : List ℕ) → value < 10 ^ count → digit_run rest ≡ 0 → (get_or rest 0 0 ≡ 46 → ⊥)
     → decimals_within most (decimals_text count value ++ rest) ≡ at_most most ((count, value), rest)
 unfolding decimals_within

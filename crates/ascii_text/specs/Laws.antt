@@ -69,7 +69,7 @@ pub record TextLaws : Type 0 where
       → decimals_at (decimals_text count value ++ rest) ≡ Some ((count, value), rest)
   pub decimals_takes : (text : List ℕ) (x : (ℕ × ℕ) × List ℕ) → decimals_at text ≡ Some x → TakesDecimals text x
   pub length-decimals_text : (count value : ℕ) → length (decimals_text count value) ≡ decimals_width count
-  -- The same of decimals of which at most so many are taken; where they are more, nothing stands in their place.
+  -- The same of decimals of which at most this many are taken; where they are more, nothing stands in their place.
   pub decimals_within_again : (most count value : ℕ) (rest : List ℕ) → value < 10 ^ count → digit_run rest ≡ 0
       → (slice_index rest 0 ≡ point → ⊥)
       → decimals_within most (decimals_text count value ++ rest) ≡ at_most most ((count, value), rest)

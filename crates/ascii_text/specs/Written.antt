@@ -1,4 +1,4 @@
--- What contracts see of a decimal number that was read, of which so many decimals at most were worked out.
+-- What contracts see of a decimal number that was read, of which this many decimals at most were worked out.
 use Rattle.std.specs.Prelude.{ℕ, ◌==◌, if◌then◌else◌, List, length, Option, Some, None, option_map}
 use Rattle.ascii_text.specs.declared.numbers.DecimalNumber.{DecimalNumber}
 use Rattle.ascii_text.specs.Reading.{◌>>=◌, decimals_within}

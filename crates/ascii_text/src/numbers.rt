@@ -17,7 +17,7 @@ pub struct DecimalNumber {
     pub decimals: Decimals,
 }
 
-// All the digits at the front, at most so many: how many there are, their value, and the text after them.
+// All the digits at the front, at most this many: how many there are, their value, and the text after them.
 #[tactic(auto, unfolding(crate::specs::DecimalNumbers::whole_at, crate::specs::Reading::run_at))]
 fn whole_front(most: usize, text: &[u8]) -> Option<(usize, u64, &[u8])>
     requires { most ≤ 18 }
@@ -32,7 +32,7 @@ fn whole_front(most: usize, text: &[u8]) -> Option<(usize, u64, &[u8])>
     Some((digits.count, digits.value, rest))
 }
 
-// The decimal number that the whole text is, with at most so many decimals.
+// The decimal number that the whole text is, with at most this many decimals.
 #[tactic(auto, unfolding(crate::specs::Written::number_within))]
 fn number_within(most: usize, few: usize, text: &[u8]) -> Option<Option<DecimalNumber>>
     requires most { most ≤ 18 }

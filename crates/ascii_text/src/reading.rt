@@ -74,8 +74,8 @@ pub struct Decimals {
     pub value: u64,
 }
 
-/// The decimal digits at the front of a text, at most so many of them, and the text after them. Each byte is looked at
-/// once.
+/// The decimal digits at the front of a text, at most this many of them, and the text after them. Each byte is looked
+/// at once.
 pub(crate) fn digits_front(most: usize, text: &[u8]) -> (Decimals, &[u8])
     requires { most ≤ 18 }
     ensures value { Some (result.0.value, result.1.now) ≡ digits_at radixes.Ten result.0.count text.now }

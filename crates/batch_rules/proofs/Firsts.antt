@@ -172,6 +172,6 @@ module _ (found : GroupKey → Option Summary) (checked : List Line) (told : (s 
       ap (λ (ks : List GroupKey). map (ruling_by found ks) checked) keys_told
       ∙ map_same (ruling_by found (map group_key (firsts_of (passed_in checked)))) (ruling_among (passed_in checked)) checked same_ruling
 
-  -- and so many groups have an accepted line
+  -- and this many groups have an accepted line
   pub groups_told : length (keys_after found [] checked) ≡ length (firsts_of (passed_in checked))
   groups_told = ap (λ (ks : List GroupKey). length ks) keys_told ∙ length-map (firsts_of (passed_in checked)) group_key

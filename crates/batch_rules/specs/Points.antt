@@ -1,4 +1,4 @@
--- Lines as points of their groups, and what is told of a group.
+-- Lines as points of their groups, and what is said about a group.
 use Rattle.std.specs.Prelude.{ℕ, ℤ, pos, ◌+ℤ◌, int_lt, ◌==◌, ◌||◌, List, [], ◌∷◌, Option, Some, None, slice_index_or}
 use Rattle.std.specs.Prelude.{if◌then◌else◌}
 use Rattle.std.specs.List.{position_or_len}
@@ -17,7 +17,7 @@ place_of keys s = position_or_len (same_key (group_key s)) keys
 abbrev pub point_of : List GroupKey → Sighting → Point
 point_of keys s = record { time = s.time; dec = s.dec; group = place_of keys s }
 
--- ---- what is told of groups: None of one whose lines didn't come in the order of time
+-- ---- what is said about groups: None of one whose lines didn't come in the order of time
 
 -- a group with one more line, which is later than the others of its day, or no part of it
 abbrev pub next_told : Option Summary → ℤ → ℤ → Option Summary
@@ -26,19 +26,19 @@ next_told (Some group) time dec =
     if int_lt (group.first +ℤ pos nanos_of_a_day) time || int_lt group.last time
     then Some (with_later (Some group) time dec) else None
 
--- what is told of the group at a place after points in the order of time, the latest first
+-- what is said about the group at a place after points in the order of time, the latest first
 abbrev pub told_after : List (Option Summary) → List Point → ℕ → Option Summary
 told_after told [] group = slice_index_or told group None
 told_after told (p ∷ earlier) group =
     if p.group == group then Some (with_later (told_after told earlier group) p.time p.dec)
     else told_after told earlier group
 
--- the keys of groups, each once; what is told of each group, at the same place; and the points of lines
+-- the keys of groups, each once; what is said about each group, at the same place; and the points of lines
 pub record KeptGroups : Type 0 where
   pub keys : List GroupKey
   pub told : List (Option Summary)
   pub points : List Point
 
--- what is told of the group with a key, if it is there
+-- what is said about the group with a key, if it is there
 abbrev pub found_at : KeptGroups → GroupKey → Option Summary
 found_at groups key = slice_index_or groups.told (position_or_len (same_key key) groups.keys) None

@@ -108,7 +108,7 @@ fn note(times: &mut Option<Times>, index: &mut Option<Index>, s: &Sighting) -> R
 }
 
 impl<'a> Earlier<'a> {
-    /// None yet, with room for so many.
+    /// None yet, with room for this many.
     pub(crate) fn with_capacity(alloc: Global, capacity: usize) -> Result<Earlier<'a>, NoMemory>
         ensures { IfOk result (λ earlier. earlier ≡ []) }
     {

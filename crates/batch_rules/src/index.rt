@@ -20,7 +20,7 @@ pub(crate) struct Index {
 }
 
 impl Index {
-    /// That of no observations, with room for so many, so that it doesn't grow while they come.
+    /// That of no observations, with room for this many, so that it doesn't grow while they come.
     pub(crate) fn with_capacity(alloc: Global, capacity: usize) -> Result<Index, NoMemory>
         ensures { IfOk result (λ index. Finds index []) }
     {

@@ -81,7 +81,7 @@ fn ruling(
     })
 }
 
-// The rulings on all lines, by what is told of their groups.
+// The rulings on all lines, by what is said about their groups.
 fn rulings(alloc: Global, groups: &Groups, checked: &[Checked]) -> Result<Rulings, NoMemory>
     requires points { groups.now.points ≡ map (point_of groups.now.keys) (passed_in (map line_of checked.now)) }
     requires within { All (λ p. p.group < length groups.now.keys) groups.now.points }

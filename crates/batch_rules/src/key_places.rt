@@ -49,7 +49,7 @@ fn is_same(keys: &[GroupKey], place: usize, key: &GroupKey) -> bool
 }
 
 impl GroupKeys {
-    /// No keys, with room for so many.
+    /// No keys, with room for this many.
     ///
     /// # Errors
     ///

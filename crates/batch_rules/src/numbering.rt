@@ -30,7 +30,7 @@ impl Model for Numbering {
 }
 
 impl Numbering {
-    /// That of so many groups, none of which has a number.
+    /// That of this many groups, none of which has a number.
     ///
     /// # Errors
     ///

@@ -50,7 +50,7 @@ fn is_same(times: &[i64], place: usize, time: Instant) -> bool
 }
 
 impl Times {
-    /// Those of no observations, with room for so many, so that they don't grow while they come.
+    /// Those of no observations, with room for this many, so that they don't grow while they come.
     pub(crate) fn with_capacity(alloc: Global, capacity: usize) -> Result<Times, NoMemory>
         ensures { IfOk result (λ times. HasTimes times []) }
     {

@@ -24,7 +24,7 @@ pub(crate) fn front<V: Shelf>(alloc: Global, shelf: &V) -> Result<Bytes, NoMemor
     Ok(out)
 }
 
-/// The head of the object with this principal, which has so many live observations.
+/// The head of the object with this principal, which has this many live observations.
 pub(crate) fn object_head<V: Shelf>(
     alloc: Global,
     shelf: &V,

@@ -24,7 +24,7 @@ pub record SpellsMagnitude (written : Written) (text : List ℕ) : Type 0 where
   pub spelling : text ≡ whole_text written.whole
       ++ (decimals_text written.decimals.count written.decimals.value ++ blanks space)
 
--- columns 66 to 70: five blanks, or a magnitude with so many decimals
+-- columns 66 to 70: five blanks, or a magnitude with this many decimals
 abbrev pub IsMagnitudeText : List ℕ → Option ℕ → ℕ → Type 0
 IsMagnitudeText text None count = (text ≡ blanks 5) × (count ≡ 0)
 IsMagnitudeText text (Some mag) count =

@@ -53,7 +53,7 @@ impl EightyReader {
         EightyReader::with_room(alloc, 0)
     }
 
-    /// The same, with room for so many lines, so that their list isn't moved while they come.
+    /// The same, with room for this many lines, so that their list isn't moved while they come.
     fn with_room(alloc: Global, lines: usize) -> Result<EightyReader, NoMemory>
         ensures { IfOk result (λ reader. reader ≡ progress_of []) }
     {

@@ -22,7 +22,7 @@ place_of entries number = option_map (λ k. length k.before) (numbered_entry ent
 abbrev pub number_key : ℕ → UsedNumber
 number_key number = record { number = number; place = 0 }
 
--- the place that an item tells of
+-- the place that an item gives
 abbrev pub place_in : Option UsedNumber → Option ℕ
 place_in item = option_map (λ n. n.place) item
 
@@ -31,7 +31,7 @@ abbrev pub AreFounders : List Entry → Type 0
 AreFounders entries = AllByRecursion (λ entry. entry.caller ≡ 0) entries
 
 -- Each entry is the founding officer's. Each number finds the place of the newest entry that has it, and nothing where
--- no entry has. So many bytes of a journal the entries take, as far as that is a number of the type.
+-- no entry has. This many bytes of a journal the entries take, as far as that is a number of the type.
 pub record IsKept (cmp : UsedNumber → UsedNumber → Ordering) (numbers : List UsedNumber) (entries : List Entry)
     (bytes : ℕ) : Type 0 where
   pub founders : AreFounders entries

@@ -21,11 +21,11 @@ pub record CometsValue : Type 0 where
   pub items : List NamedComet
   pub room : ℕ
 
--- the item of a half-month that has so many comets
+-- the item of a half-month that has this many comets
 abbrev pub count_key : HalfMonth → ℕ → Count
 count_key half comets = record { half = half; comets = comets }
 
--- how many an item tells of
+-- how many an item gives
 abbrev pub count_by : Option Count → ℕ
 count_by item = option_map_or (λ count. count.comets) item 0
 
@@ -33,7 +33,7 @@ count_by item = option_map_or (λ count. count.comets) item 0
 abbrev pub object_key : Designation → Comet → KnownObject
 object_key object comet = record { object = object; comet = comet }
 
--- the name that an item tells of
+-- the name that an item gives
 abbrev pub comet_by : Option KnownObject → Option Comet
 comet_by item = option_map (λ known. known.comet) item
 

@@ -178,7 +178,7 @@ fn begin<D: Disk>(
 }
 
 impl<D: Disk> CometDesk<D> {
-    /// Opens the register of the founding officer with this key on its disk, where the file may have so many bytes,
+    /// Opens the register of the founding officer with this key on its disk, where the file may have this many bytes,
     /// beside an office that is read. The disk is made safe, and where its file is in force its parcels are read, and
     /// the entry of each is taken in, by all rules of the register. Else the register has no entries, and the file is
     /// made one that is in force. It takes memory.

@@ -120,7 +120,7 @@ module _ (held : Holdings) (rows : List RowAct) (tracklets : List ℕ) (deed : D
 
 -- ---- what was read
 
--- so many tracklets are at most that a body may name
+-- this many tracklets are at most that a body may name
 abbrev pub IsFew : Act → Type 0
 IsFew (act.Designate tracklets) = (1 ≤ length tracklets) × (length tracklets ≤ 100)
 IsFew _ = Unit {0}

@@ -89,8 +89,8 @@ module _ (founder : Key) (limit : Option ℕ) (desk : List Deed) (past : List En
   pub named_added : named_by desk (comets desk past) e ≡ Some a.named
   named_added = named_again desk (comets desk past) e a.naming a.named read_is a.gives
 
-  -- The entry's own request becomes the entry, under any founding officer, and where the same comets stand before it and
-  -- the same was found of its designation.
+  -- The entry's own request becomes the entry, under any founding officer, and where the same comets stand before it
+  -- and the same was found of its designation.
   pub added_own : (founder' : Key) (desk' : List Deed) → comets desk' past ≡ comets desk past → found_of desk' a.naming.object ≡ found_of desk a.naming.object
       → outcome founder' None desk' past (entry_request founder' e) e.moment ≡ Adds e
   added_own founder' desk' same found =

@@ -77,7 +77,7 @@ unless_unheard (Ok outcome) = outcome
 unless_unheard (Err refusal) = Refuses refusal
 
 -- What becomes of a request at a register, with this reading of the clock, where these are the office's deeds and the
--- journal may have so many bytes: its bytes are taken, it is heard, and it makes its step.
+-- journal may have this many bytes: its bytes are taken, it is heard, and it makes its step.
 unfoldable pub outcome : Key → Option ℕ → List Deed → List Entry → CometRequest → ℤ → Outcome
 outcome founder limit desk past request reading = unless_unheard do
   bytes ← bytes_in request.body

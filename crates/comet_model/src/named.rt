@@ -48,7 +48,7 @@ pub fn half_in(object: Designation, found: Found) -> Result<HalfMonth, CometRefu
     }
 }
 
-/// The name that an object gets that was discovered in this half-month, which has so many comets. The name that its
+/// The name that an object gets that was discovered in this half-month, which has this many comets. The name that its
 /// designation has already is None where it has none.
 ///
 /// # Errors

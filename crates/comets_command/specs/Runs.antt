@@ -44,8 +44,8 @@ pub record Course (D : Type 0) : Type 0 where
 
 -- ---- the register
 
--- The entries at the end are those at the start and so many newer ones. They are legal, each number stands for at most
--- one of them, the comets of each half-month are numbered without gap or repeat, and no designation has two.
+-- The entries at the end are those at the start and this many newer ones. They are legal, each number stands for at
+-- most one of them, the comets of each half-month are numbered without gap or repeat, and no designation has two.
 pub record IsLeft (terms : Terms) (first last : List Entry) (added : ℕ) : Type 0 where
   pub entries : length last ≡ length first + added
   pub goes_on : Extends first last

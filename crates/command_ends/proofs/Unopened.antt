@@ -84,7 +84,7 @@ module _ {D : Type 0} (on : DiskWords D) (founder : Key) (disks now : DiskPair D
     first_unwritten = λ known. record { same = refl; no_image = during_nothing disks.first (λ _. ⊥) };
   })
 
--- the status tells of what damage it is
+-- the status says what damage it is
 status_damaged : (fault : OpenFault) (file offset : ℕ) → status_of fault ≡ Damaged file offset → fault ≡ opening.Damaged file offset
 status_damaged opening.DiskFault file offset is = absurd cc
 status_damaged (opening.Damaged number place) file offset is = cc

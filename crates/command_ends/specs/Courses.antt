@@ -1,4 +1,4 @@
--- What a command finds outside and what it leaves there: each thing before it and after it, and how each tells of
+-- What a command finds outside and what it leaves there: each thing before it and after it, and what each says about
 -- itself.
 use Rattle.std.specs.Prelude.{◌≡◌, ◌≤◌, ℕ, List, Option, Bool}
 use Rattle.call_log.specs.Counts.{Rises}
@@ -9,7 +9,7 @@ use Rattle.command_ends.specs.Disks.{DiskWords}
 use Rattle.command_ends.specs.declared.status.Status.{Status}
 use Rattle.command_ends.specs.declared.status.Status.TheVariants.{DiskFault, ReadFault, WriteFault}
 
--- ---- what each tells of itself
+-- ---- what each says about itself
 
 pub record SourceWords (S : Type 0) : Type 1 where
   pub left : S → Option (List ℕ)

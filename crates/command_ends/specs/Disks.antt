@@ -1,4 +1,4 @@
--- What the disk under a command tells of itself.
+-- What the disk under a command says about itself.
 use Rattle.std.specs.Prelude.{ℕ}
 use Rattle.act_model.specs.Keepers.{RoseBy}
 use Rattle.mpc_desk.specs.Desks.{count_of}

@@ -6,7 +6,7 @@ use Rattle.act_model.specs.Places.{OnePlace}
 use Rattle.act_model.specs.Unbroken.{UnbrokenRows, UnbrokenNumbers}
 use Rattle.mpc_desk.specs.Accepted.{AddsLines}
 
--- The history at the end has so many entries more, and each caller's number stands for at most one. Each accepted
+-- The history at the end has this many entries more, and each caller's number stands for at most one. Each accepted
 -- observation stands in exactly one place, the designations of each half-month follow one another without gap or
 -- repeat, and so do the numbers. Each newer entry added its own accepted lines to the accepted observations, and took
 -- none away.

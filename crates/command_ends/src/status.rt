@@ -39,7 +39,7 @@ pub enum Status {
     /// The mirror failed.
     #[error("MirrorFault")]
     MirrorFault,
-    /// There are more rows than a mirror can count: so many accepted observations, or so many objects.
+    /// There are more rows than a mirror can count: this many accepted observations, or this many objects.
     #[error("TooMany {count}")]
     TooMany { count: u64 },
 }

@@ -19,11 +19,11 @@ pub type Words = ItemList<Bytes>;
 pub enum Command {
     /// To answer the frames of standard input; the key is the founding officer's.
     Run { key: Key },
-    /// To attend so many connections, 1 to 1,000; the key is the founding officer's.
+    /// To attend this many connections, 1 to 1,000; the key is the founding officer's.
     Serve { key: Key, connections: u32 },
     /// To write the catalogue.
     Export,
-    /// To run the made-up requests that this number starts, of so many objects, 1 to 20,000.
+    /// To run the made-up requests that this number starts, of this many objects, 1 to 20,000.
     Workload { seed: u64, count: u32 },
     /// To copy the catalogue into its mirror.
     Mirror,

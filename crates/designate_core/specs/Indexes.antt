@@ -12,11 +12,11 @@ use Rattle.designate_core.specs.Takes.{RowAct, given_in, discovery_of}
 use Rattle.designate_core.specs.RowEntries.{act_of, AreNamed}
 use Rattle.designate_core.specs.Unbroken.{AreFitting}
 
--- the entry of a half-month in which so many were given
+-- the entry of a half-month in which this many were given
 abbrev pub count_of : HalfMonth → ℕ → Count
 count_of half given = record { half = half; given = given }
 
--- how many an entry tells of
+-- how many an entry gives
 abbrev pub given_by : Option Count → ℕ
 given_by entry = option_map_or (λ count. count.given) entry 0
 
@@ -24,7 +24,7 @@ given_by entry = option_map_or (λ count. count.given) entry 0
 abbrev pub entry_of : Designation → ℕ → Discovery
 entry_of d observation = record { designation = d; observation = observation }
 
--- the observation that an entry tells of
+-- the observation that an entry gives
 abbrev pub observation_by : Option Discovery → Option ℕ
 observation_by entry = option_map (λ discovery. discovery.observation) entry
 

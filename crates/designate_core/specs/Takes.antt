@@ -14,7 +14,7 @@ pub record Take : Type 0 where
   pub half : HalfMonth
   pub discovery : ℕ
 
--- a half-month is opened, in which so many designations were given elsewhere; an object takes a designation
+-- a half-month is opened, in which this many designations were given elsewhere; an object takes a designation
 pub data RowAct : Type 0 where
   Opened : HalfMonth → ℕ → RowAct
   Took : Take → RowAct

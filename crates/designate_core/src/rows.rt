@@ -98,8 +98,8 @@ impl Rows {
         }
     }
 
-    /// Opens a half-month, which isn't begun: so many designations, 1 to its limit, were given in it elsewhere, and the
-    /// next order is one more. Other half-months stay. It takes no memory: `reserve` has left room.
+    /// Opens a half-month, which isn't begun: this many designations, 1 to its limit, were given in it elsewhere, and
+    /// the next order is one more. Other half-months stay. It takes no memory: `reserve` has left room.
     pub fn open(&mut self, half: HalfMonth, given: u32)
         requires unbegun { IsFalse (is_begun half self.old.acts) }
         requires from { 1 ≤ given }

@@ -21,7 +21,7 @@ place_of filed caller number = option_map (λ k. length k.before) (numbered_entr
 abbrev pub number_key : ℕ → ℕ → UsedNumber
 number_key caller number = record { caller = caller; number = number; place = 0 }
 
--- the place that an item tells of
+-- the place that an item gives
 abbrev pub place_in : Option UsedNumber → Option ℕ
 place_in item = option_map (λ n. n.place) item
 

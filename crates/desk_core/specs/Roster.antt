@@ -18,7 +18,7 @@ pub record RosterValue : Type 0 where
 abbrev pub key_item : Key → KnownKey
 key_item key = record { key = key; caller = founding_officer }
 
--- the caller that an item tells of
+-- the caller that an item gives
 abbrev pub known_caller : Option KnownKey → Option Caller
 known_caller item = option_map (λ k. k.caller) item
 

@@ -44,7 +44,7 @@ fn is_another(caller: u32, sent: Option<u32>) -> bool
     }
 }
 
-/// Whether so many tracklets and so many lines of a batch can be counted on together. No office comes near it.
+/// Whether this many tracklets and this many lines of a batch can be counted on together. No office comes near it.
 fn are_countable(tracks: u64, lines: u64) -> bool
     ensures { IsTrue result ↔ ((tracks < 2 ^ 62) × (lines < 2 ^ 62)) }
 {

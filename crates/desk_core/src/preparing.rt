@@ -36,7 +36,7 @@ use packed_names::Designation;
 use station_tables::Tables;
 use std::alloc::{AllocError, Global};
 
-/// Whether the numbers of so many observations and of so many more fit 64 bits. No memory holds as many.
+/// Whether the numbers of this many observations and of this many more fit 64 bits. No memory holds as many.
 fn are_numbered(before: u64, more: u64) -> bool
     ensures { IsTrue result ↔ (before + more < 2 ^ 64) }
 {

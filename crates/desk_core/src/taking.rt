@@ -78,7 +78,7 @@ fn tracks_with(
     }
 }
 
-/// The lines of a batch with the rulings on them, line by line, where the office had so many tracklets before it.
+/// The lines of a batch with the rulings on them, line by line, where the office had this many tracklets before it.
 ///
 /// # Errors
 ///

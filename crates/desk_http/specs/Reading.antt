@@ -7,16 +7,16 @@ use Rattle.desk_http.specs.declared.TheConstants.{HEAD_BYTES}
 use Rattle.desk_http.specs.declared.scan.Looked.{Looked}
 use Rattle.desk_http.specs.declared.scan.Scan.TheVariants.{Blank}
 
--- So many of the bytes were parsed, and can still become a head or end inside its target. No more have come since than
--- they are, and no line feed but those of empty lines in front. So a fault that settles the head is found where the
--- line feed after it comes, or before twice the bytes have come that settle it.
+-- This many of the bytes were parsed, and can still become a head or end inside its target. No more have come since
+-- than they are, and no line feed but those of empty lines in front. So a fault that settles the head is found where
+-- the line feed after it comes, or before twice the bytes have come that settle it.
 pub record IsParsed (bytes : List ℕ) (parsed : ℕ) : Type 0 where
   pub within : parsed ≤ length bytes
   pub half : length bytes ≤ parsed + parsed
   pub may : MayBecomeRequest (take parsed bytes)
   pub lines : (scanned bytes ≡ Blank) ⊎ ¬ (Contains (drop parsed bytes) 10)
 
--- how far bytes were looked at: all of them, up to this place of a head, and so many were parsed
+-- how far bytes were looked at: all of them, up to this place of a head, and this many were parsed
 pub record IsLooked (bytes : List ℕ) (looked : Looked) : Type 0 where
   pub scan : looked.scan ≡ scanned bytes
   pub seen : looked.seen ≡ length bytes

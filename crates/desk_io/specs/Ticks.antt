@@ -9,6 +9,7 @@ pub record TickState : Type 0 where
   pub next : ℤ
   pub step : ℕ
 
--- the k-th reading to come, counted from 0: so many steps after the next one, but no later than the last moment of 2199
+-- the k-th reading to come, counted from 0: this many steps after the next one, but no later than the last moment of
+-- 2199
 abbrev pub tick : TickState → ℕ → ℤ
 tick clock k = int_min (clock.next +ℤ pos (k * clock.step)) last_instant

@@ -61,7 +61,7 @@ fn in_years(moment: Instant) -> Instant
     moment
 }
 
-// The moment so many nanoseconds later, but no later than the last moment of the year 2199.
+// The moment this many nanoseconds later, but no later than the last moment of the year 2199.
 fn later(moment: Instant, step: u64) -> Instant
     ensures next { result ≡ tick (record { last = moment; next = moment; step = step }) 1 }
     ensures held { moment ≤ℤ last_instant }

@@ -142,7 +142,7 @@ impl Model for MemSink {
 }
 
 impl MemSink {
-    /// A sink that takes at most so many bytes. Its calls are counted from 1, and those that `fails`
+    /// A sink that takes at most this many bytes. Its calls are counted from 1, and those that `fails`
     /// lists fail.
     ///
     /// # Errors

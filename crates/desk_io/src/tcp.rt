@@ -34,7 +34,7 @@ fn place_of(listener: &TcpListener, port: u16) -> io::Result<SocketAddr>
     Ok(place)
 }
 
-// A listener beside the place that the system told of it.
+// A listener beside the place that the system said about it.
 #[derive(Debug, Drop)]
 struct Listening {
     listener: TcpListener,

@@ -36,7 +36,7 @@ pub fn write_over(file: &mut Vec<u8>, at: usize, bytes: &[u8])
     replace(file, at, bytes);
 }
 
-// Which part of so many bytes reaches the file, from where to where: none, all, the front half, the back half, the
+// Which part of this many bytes reaches the file, from where to where: none, all, the front half, the back half, the
 // last byte.
 fn part(digit: u64, count: usize) -> (usize, usize)
     ensures order { result.0 ≤ result.1 }

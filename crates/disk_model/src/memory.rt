@@ -74,7 +74,7 @@ impl MemDisk {
     }
 }
 
-// Where a write of so many bytes ends in a file of this length, or where the file ends, if that is later.
+// Where a write of this many bytes ends in a file of this length, or where the file ends, if that is later.
 fn end_after(len: usize, at: u64, count: usize) -> u128
     ensures none { count ≡ 0 → result ≡ len }
     ensures some { 0 < count → result ≡ max len (at + count) }
@@ -85,7 +85,7 @@ fn end_after(len: usize, at: u64, count: usize) -> u128
     (at as u128 + count as u128).max(len as u128)
 }
 
-// Whether the record has room for one deed more, which writes so many bytes, beside a file of this length.
+// Whether the record has room for one deed more, which writes this many bytes, beside a file of this length.
 fn has_room(deeds: &Record, count: usize, len: u128) -> bool
     requires { len ≤ 2 ^ 66 }
     ensures { IsTrue result ↔ (len + (32 + count + record_size deeds.now.deeds) ≤ deeds.now.capacity) }

@@ -9,7 +9,7 @@ use std::os::unix::fs::{FileExt, MetadataExt, OpenOptionsExt};
 use std::rt::Files;
 use std::{fs, io};
 
-/// What the system tells of what stands under a name, or of the file that is open.
+/// What the system says about what stands under a name, or of the file that is open.
 #[derive(Clone, Copy, Debug, PartialEq, Eq)]
 pub struct Seen {
     /// Whether it is a regular file: no folder, link, pipe or device.

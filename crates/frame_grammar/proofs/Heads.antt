@@ -22,7 +22,7 @@ token_part class most stop low some = record {
   sample_good = record { some = lit< tt; few = omega arith; each = (sample_is class, tt) };
 }
 
--- numbers of at most so many digits
+-- numbers of at most this many digits
 abbrev pub Below : ℕ → ℕ → Type 0
 Below digits n = n < 10 ^ digits
 

@@ -4,7 +4,8 @@ use Rattle.frame_grammar.specs.declared.parts.Unread.{Unread}
 use Rattle.frame_grammar.specs.declared.parts.Unread.TheVariants as unread
 use Rattle.frame_grammar.specs.Reading.{Fails}
 
--- what a part has that others may follow: its bytes stand before what follows, a text has one at its front, and there is one
+-- what a part has that others may follow: its bytes stand before what follows, a text has one at its front, and there
+-- is one
 pub record IsPart {V : Type 0} (good : V → Type 0) (spelled : V → List ℕ → List ℕ) : Type 0 where
   pub before : (v : V) (rest more : List ℕ) → spelled v rest ++ more ≡ spelled v (rest ++ more)
   pub one : (v w : V) (x y : List ℕ) → good v → good w → spelled v x ≡ spelled w y → (v ≡ w) × (x ≡ y)

@@ -20,7 +20,8 @@ head_is x y xs ys e = cc
 tail_is : (x y : ℕ) (xs ys : List ℕ) → x ∷ xs ≡ y ∷ ys → xs ≡ ys
 tail_is x y xs ys e = cc
 
--- a text of the class before its end, held against bytes of the class before a byte: they end together, or the text has that byte
+-- a text of the class before its end, held against bytes of the class before a byte: they end together, or the text has
+-- that byte
 module _ (P : ℕ → Type 0) (stop : ℕ) (apart : (byte : ℕ) → P byte → byte ≢ stop) where
   compare : (text front : List ℕ) (byte : ℕ) (rest tail : List ℕ) → AllByRecursion P text → AllByRecursion P front → text ++ stop ∷ rest ≡ front ++ byte ∷ tail
       → ((text ≡ front) × (stop ≡ byte) × (rest ≡ tail)) ⊎ ((beyond : List ℕ) × (text ≡ front ++ byte ∷ beyond))
@@ -97,7 +98,8 @@ sample_is classes.Printable = (lit≤ tt, lit≤ tt)
 sample_is classes.Digit = (lit≤ tt, lit≤ tt)
 sample_is classes.Verb = inl (lit≤ tt, lit≤ tt)
 
--- bytes of the class, few enough: the byte that ends the field completes it, after one of the class where there is none yet
+-- bytes of the class, few enough: the byte that ends the field completes it, after one of the class where there is none
+-- yet
 token_begins : (class : Class) (most stop : ℕ) → 0 < most → (bytes : List ℕ) → IsBegun (IsOf class) most bytes → Begins (IsToken (IsOf class) most) (stopped stop) bytes
 token_begins class most stop some [] begun = (sample class ∷ stop ∷ [], sample class ∷ [], record { some = omega arith; few = omega arith; each = (sample_is class, tt) }, refl)
 token_begins class most stop some (b ∷ bytes) begun = (stop ∷ [], b ∷ bytes, record { some = omega arith; few = begun.few; each = begun.each }, refl)

@@ -82,7 +82,7 @@ HasZeroInFront stop (first ∷ second ∷ rest) = (first ≡ 48) × (second ≢ 
 abbrev pub parts_of : Head → HeadParts
 parts_of head = record { key = head.key.now; number = head.number; verb = head.verb.now; length = head.length }
 
--- the bytes begin with this head, which takes so many of them
+-- the bytes begin with this head, which takes this many of them
 pub record IsHeadAt (bytes : List ℕ) (h : HeadParts) (size : ℕ) : Type 0 where
   pub good : IsHead h
   pub spelled : bytes ≡ headed h (drop size bytes)

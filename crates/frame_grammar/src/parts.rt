@@ -100,7 +100,7 @@ fn has_zero_in_front(stop: u8, bytes: &[u8]) -> bool
     }
 }
 
-/// The number at the front, without leading zeros and of at most so many digits, before the byte
+/// The number at the front, without leading zeros and of at most this many digits, before the byte
 /// that ends it, and the bytes after it.
 ///
 /// # Errors

@@ -14,7 +14,7 @@ use Rattle.frame_reader.specs.declared.head.HeldFront.TheVariants as fronts
 
 -- ---- frames
 
--- a frame stands at the front of the bytes, before this rest, and was read: each of its parts, what is told of its
+-- a frame stands at the front of the bytes, before this rest, and was read: each of its parts, what is said about its
 -- body, and how many bytes it has
 pub record IsFrameRead (front : List ℕ) (read : ReadFrame) (rest : List ℕ) : Type 0 where
   pub frame : Frame

@@ -8,7 +8,7 @@ use Rattle.act_model.specs.Clocks.{ClockState, clock_of}
 use Rattle.act_model.specs.Replies.{text_bytes}
 use Rattle.frame_service.specs.declared.spoken.Spoken.{Spoken}
 
--- the parts of a frame were read so, and what is told of its body is true
+-- the parts of a frame were read so, and what is said about its body is true
 pub record IsReadAs (frame : Frame) (read : ReadFrame) : Type 0 where
   pub key : read.key.items ≡ frame.key
   pub number : read.number ≡ frame.number
@@ -35,7 +35,7 @@ pub record Attending (A : Type 0) : Type 0 where
   pub attendant : A
   pub clock : ClockState
 
--- an attendant, and what a clock tells of itself
+-- an attendant, and what a clock says about itself
 abbrev pub attending_of : {A C : Type 0} → (C → ℕ → Option ℤ) → (C → ℤ) → A → C → Attending A
 attending_of reading last attendant clock = record { attendant = attendant; clock = clock_of reading last clock }
 

@@ -59,7 +59,7 @@ pub record IsUntouched {S A : Type 0} (old new : Standing S A) : Type 0 where
   pub sink : Keeps old.taken new.taken
 
 -- What became of the bytes at the front, those that were read ahead and those that came, where the source has `left`: a
--- frame of so many bytes was answered, or serving stops, at the offset at which the front begins.
+-- frame of this many bytes was answered, or serving stops, at the offset at which the front begins.
 abbrev pub Turns : {S A : Type 0} → (Attending A → Exchange → Attending A → Type 0) → Standing S A → Standing S A
     → List ℕ → Option (List ℕ) → (offset : ℕ) → Result ℕ Stop → Type 0
 Turns answers old new front left offset (Ok size) = TurnsFrame answers old new front size (Ok size)

@@ -45,8 +45,8 @@ module _ (laws : StreamLaws) where
 
 -- ---- how far a connection has come
 
--- The bytes that came are messages that were asked, none of which asks to close, before those that are read ahead. The answers
--- to them were written, and so many there are.
+-- The bytes that came are messages that were asked, none of which asks to close, before those that are read ahead. The
+-- answers to them were written, and this many there are.
 pub record Progress {S : Type 0} (left : S → Option (List ℕ)) (gives : Passes S) (start now : Standing S) (ahead : List ℕ) (answered : ℕ) : Type 0 where
   pub came : List ℕ
   pub exchanges : List Exchange

@@ -77,16 +77,16 @@ pub record Attends (before after : View) (was now : ClockState) (exchanges : Lis
 
 -- ---- what is written
 
--- the answer is the last one of its connection, where so many were given before: the message asks to close, or it is
+-- the answer is the last one of its connection, where this many were given before: the message asks to close, or it is
 -- the 1,000th
 abbrev pub is_last : ℕ → Bool → Bool
 is_last before closes = closes || (before + 1 == ANSWERS)
 
--- the answer to a message, where so many were given before
+-- the answer to a message, where this many were given before
 abbrev pub answer_to : ℕ → Exchange → List ℕ
 answer_to before exchange = answer_of exchange.item.reply (is_last before exchange.message.parts.closes)
 
--- the answers, where so many were given before
+-- the answers, where this many were given before
 abbrev pub answers : ℕ → List Exchange → List ℕ
 answers before [] = []
 answers before (exchange ∷ exchanges) = answer_to before exchange ++ answers (before + 1) exchanges
@@ -132,7 +132,7 @@ pub record IsCutOff (link : Link) : Type 0 where
   pub few : length link.exchanges < ANSWERS
   pub texts : link.texts ≡ answers 0 link.exchanges
 
--- all messages before the last one were answered whole, and they ask to go on; of the answer to the last one so many
+-- all messages before the last one were answered whole, and they ask to go on; of the answer to the last one this many
 -- bytes were written
 pub record IsPartly (link : Link) (written : ℕ) : Type 0 where
   pub first : List Exchange

@@ -48,7 +48,7 @@ IsRefused old new (Some NoMemory) = ⊥
 abbrev pub IsUntouched : Answering → Answering → Type 0
 IsUntouched before after = (after.view ≡ before.view) × (after.clock ≡ before.clock)
 
--- the request was asked by a call of the pass, and answered where so many were answered before
+-- the request was asked by a call of the pass, and answered where this many were answered before
 pub record AnswersRequest (before after : Answering) (answered : ℕ) (closes : Bool) (result : Option Left) (item : Item)
     : Type 0 where
   pub call : TakesCall before.view after.view before.clock after.clock item

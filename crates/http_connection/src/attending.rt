@@ -18,7 +18,7 @@ use intake_lock::{Pass, TurnLock};
 use std::alloc::Global;
 use std::sync::Wait;
 
-// Whether an answer is the last one of its connection, where so many were given before.
+// Whether an answer is the last one of its connection, where this many were given before.
 fn is_last(answered: usize, closes: bool) -> bool
     requires { answered < ANSWERS }
     ensures { result ≡ is_last answered closes }

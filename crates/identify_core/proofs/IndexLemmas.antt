@@ -15,7 +15,7 @@ use Rattle.identify_core.proofs.OrderLemmas.{designation_order}
 reads_designation : (d : Designation) (entry : PrincipalEntry) → ties (derived.ghosts).cmp (entry_key d) entry ≡ eq_by_cmp designation_cmp entry.designation d
 reads_designation d entry = ap is_eq (designation_order entry.designation d)
 
--- the principal that the one entry or the other tells of
+-- the principal that the one entry or the other gives
 principal_by_either : (b : Bool) (x y : Option PrincipalEntry) → principal_by (cond b x y) ≡ cond b (principal_by x) (principal_by y)
 principal_by_either true x y = refl
 principal_by_either false x y = refl

@@ -46,21 +46,10 @@ provisional_same one other same =
 
 survey_same : (one other : Survey) → survey_place one ≡ survey_place other → one ≡ other
 survey_same PalomarLeiden PalomarLeiden e = refl
-survey_same PalomarLeiden T1 e = cc
-survey_same PalomarLeiden T2 e = cc
-survey_same PalomarLeiden T3 e = cc
-survey_same T1 PalomarLeiden e = cc
 survey_same T1 T1 e = refl
-survey_same T1 T2 e = cc
-survey_same T1 T3 e = cc
-survey_same T2 PalomarLeiden e = cc
-survey_same T2 T1 e = cc
 survey_same T2 T2 e = refl
-survey_same T2 T3 e = cc
-survey_same T3 PalomarLeiden e = cc
-survey_same T3 T1 e = cc
-survey_same T3 T2 e = cc
 survey_same T3 T3 e = refl
+survey_same one other e = cc
 
 pub designation_same : (d e : Designation) → eq_by_cmp designation_cmp d e ≡ true → d ≡ e
 designation_same (designations.Provisional one) (designations.Provisional other) same = let e = provisional_same one other same in ap (λ (p : Provisional). let d : Designation = designations.Provisional p in d) e
@@ -82,21 +71,10 @@ total_too R S same total = record {
 
 survey_order : (one other : Survey) → (surveys.ghosts).cmp one other ≡ nat_cmp (survey_place one) (survey_place other)
 survey_order PalomarLeiden PalomarLeiden = refl
-survey_order PalomarLeiden T1 = refl
-survey_order PalomarLeiden T2 = refl
-survey_order PalomarLeiden T3 = refl
-survey_order T1 PalomarLeiden = refl
 survey_order T1 T1 = refl
-survey_order T1 T2 = refl
-survey_order T1 T3 = refl
-survey_order T2 PalomarLeiden = refl
-survey_order T2 T1 = refl
 survey_order T2 T2 = refl
-survey_order T2 T3 = refl
-survey_order T3 PalomarLeiden = refl
-survey_order T3 T1 = refl
-survey_order T3 T2 = refl
 survey_order T3 T3 = refl
+survey_order one other = refl
 
 pub designation_order : (d e : Designation) → (derived.ghosts).cmp d e ≡ designation_cmp d e
 designation_order (designations.Provisional one) (designations.Provisional other) = refl

@@ -66,7 +66,7 @@ partitioned test down (x ∷ links) up zero (suc j) d le low passes = down x (ge
 partitioned test down (x ∷ links) up (suc i) zero d le low passes = absurd (omega (arith, le))
 partitioned test down (x ∷ links) up (suc i) (suc j) d le low passes = partitioned test down links up.1 i j d (omega (arith, le)) (omega (arith, low)) passes
 
--- where the first link that fails a test stands, so many pass it
+-- where the first link that fails a test stands, this many pass it
 pub prefix_from : (test : Link → Bool) (links : List Link) (i : ℕ) (d : Link) → i ≤ length links → IsPartitionPoint (λ l. test l ≡ true) (λ l. test l ≡ false) links i → i ≡ prefix_len test links
 prefix_from test links i d within point = sym (prefix_len_is test links i d within (λ k low. point.0 k d (omega arith) low) (λ low. point.1 i d (omega arith) low))
 
@@ -145,7 +145,7 @@ place_removed y (x ∷ links) (suc k) up low = by (is_lt (link_cmp x y)) (place_
 
 -- ---- a link that is moved
 
--- the first of so many links comes after the others
+-- the first of this many links comes after the others
 to_last : (x y : Link) (links : List Link) (k : ℕ) → k ≤ length links → set ((take k links ++ x ∷ []) ++ drop k links) k y ≡ insert links k y
 to_last x y links zero low = refl
 to_last x y [] (suc k) low = absurd (omega (arith, low))

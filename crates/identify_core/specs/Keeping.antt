@@ -42,7 +42,7 @@ EachOnce links = (d : Designation) → count_by (has_member d) links ≤ 1
 abbrev pub entry_key : Designation → PrincipalEntry
 entry_key d = record { designation = d; principal = d }
 
--- the principal that an entry tells of
+-- the principal that an entry gives
 abbrev pub principal_by : Option PrincipalEntry → Option Designation
 principal_by entry = option_map (λ e. e.principal) entry
 

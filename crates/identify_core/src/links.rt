@@ -72,7 +72,7 @@ impl Links {
         self.reserve_many(1)
     }
 
-    /// Takes the memory for so many more designations. The links stay, whatever the answer.
+    /// Takes the memory for this many more designations. The links stay, whatever the answer.
     ///
     /// # Errors
     ///

@@ -86,7 +86,7 @@ rises items = sum_by (λ item. item.rise) items
 abbrev pub turn_of : Item → Turn
 turn_of item = record { request = item.request; reading = item.reading; reply = item.reply; rise = item.rise }
 
--- the call was answered at so many entries of the settled history, after mending
+-- the call was answered at this many entries of the settled history, after mending
 abbrev pub TakesAt : Key → Option ℕ → OfficeState → Item → Option ℤ → OfficeState → Type 0
 TakesAt founder limit before item (Some reading) after =
     (FailsToMend before (turn_of item) after × (item.position ≡ length before.settled))
@@ -100,8 +100,8 @@ pub record IsStampOf (item : Item) (given : Stamp) : Type 0 where
   pub request : item.request ≡ given.request
   pub reading : item.reading ≡ Some given.reading
 
--- An act got a stamp, with so many settled entries: the newest, which stands last. Its moment is the office's after the
--- act, which is no earlier than the one before.
+-- An act got a stamp, with this many settled entries: the newest, which stands last. Its moment is the office's after
+-- the act, which is no earlier than the one before.
 pub record StampsAct (stamps : Stamps) (item : Item) (count : ℕ) (after : Option Stamps) : Type 0 where
   pub given : Stamp
   pub of_call : IsStampOf item given
@@ -109,8 +109,8 @@ pub record StampsAct (stamps : Stamps) (item : Item) (count : ℕ) (after : Opti
   pub later : stamps.moment ≤ given.moment
   pub now : after ≡ Some (record { moment = given.moment; given = stamps.given ++ given ∷ [] })
 
--- An act with this reading got a stamp, with so many settled entries. A query got none, and nor did an act where no act
--- is stamped.
+-- An act with this reading got a stamp, with this many settled entries. A query got none, and nor did an act where no
+-- act is stamped.
 abbrev pub Stamped : Item → Option Stamps → Option ℤ → ℕ → Option Stamps → Type 0
 Stamped item None reading count after = (item.stamp ≡ None) × (after ≡ None)
 Stamped item (Some stamps) None count after = (item.stamp ≡ None) × (after ≡ Some stamps)

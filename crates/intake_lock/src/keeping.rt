@@ -6,7 +6,7 @@ use atomic_table::{Seat as TableSeat, Shared, Table, TableRule};
 use std::alloc::Global;
 use std::snapshot::Snapshot;
 
-/// The rule. The table is told of the keeper with which the lock was made.
+/// The rule. The table knows the keeper with which the lock was made.
 pub struct Turns;
 
 impl<V: Keeper> TableRule<Option<V>, View, Snapshot<V>> for Turns {

@@ -22,7 +22,7 @@ pub struct Item {
 
 /// Which pass it is.
 pub enum Role {
-    /// The one that came with the lock, with so many branches that are not joined yet.
+    /// The one that came with the lock, with this many branches that are not joined yet.
     Root(u64),
     /// One that was split from the root.
     Branch,

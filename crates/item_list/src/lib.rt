@@ -39,7 +39,7 @@ impl<T> ItemList<T> {
         }
     }
 
-    /// The empty list with room for so many items.
+    /// The empty list with room for this many items.
     ///
     /// # Errors
     ///
@@ -97,7 +97,7 @@ impl<T: Drop> ItemList<T> {
         self.items.into_iter()
     }
 
-    /// Keeps so many items from the front, all of them where there are no more.
+    /// Keeps this many items from the front, all of them where there are no more.
     pub fn truncate(&mut self, count: u64)
         ensures { self.new ≡ take count self.old }
     {

@@ -8,7 +8,7 @@ use Rattle.std.specs.Io.KnownBytes.{Appends}
 use Rattle.desk_io.specs.Outside.{AppendsPart}
 use Rattle.look_command.proofs.Joining.{part_of_front, part_behind_front}
 
--- the sink took the lines of the first so many rows, and those of the others are left
+-- the sink took the lines of the first this many rows, and those of the others are left
 pub record IsSent {Row : Type 0} (line : Row → List ℕ) (old now : Option (List ℕ)) (rows : List Row) (count : ℕ) : Type 0 where
   pub front : List ℕ
   pub joined : flat_map line rows ≡ front ++ flat_map line (drop count rows)

@@ -3,7 +3,7 @@ use Rattle.std.specs.Prelude.{◌≡◌, ℕ, ◌-◌, ◌/◌, ◌^◌, bit_and
 use Rattle.std.specs.Int.{bit_at}
 use Rattle.mark_index.specs.declared.table.Slot.{Slot}
 
--- the slot of a mark, of so many
+-- the slot of a mark, of this many
 unfoldable pub slot_of : ℕ → ℕ → ℕ
 slot_of slots mark = bit_and mark (slots - 1)
 

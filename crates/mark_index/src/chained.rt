@@ -9,7 +9,7 @@ use item_list::NoMemory;
 use std::alloc::{AllocError, Global};
 use std::marker::Model;
 
-/// For so many entries memory is taken at least.
+/// For this many entries memory is taken at least.
 const LEAST_ROOM: usize = 16;
 
 /// The marks of a list's entries, and where each is.
@@ -50,7 +50,7 @@ impl MarkIndex {
         MarkIndex::with_capacity(alloc, 0)
     }
 
-    /// The index of an empty list, with room for so many entries.
+    /// The index of an empty list, with room for this many entries.
     ///
     /// # Errors
     ///
@@ -87,8 +87,8 @@ impl MarkIndex {
         (u32::MAX as usize - self.marks.len()).min(marks.min(befores))
     }
 
-    /// Takes the memory for so many more entries. Where there is too little, the index grows to four times its size, if
-    /// the memory is there, since each mark is put into the new tables.
+    /// Takes the memory for this many more entries. Where there is too little, the index grows to four times its size,
+    /// if the memory is there, since each mark is put into the new tables.
     ///
     /// # Errors
     ///
@@ -105,7 +105,7 @@ impl MarkIndex {
         self.grow(more)
     }
 
-    // Makes the tables anew, with room for so many more entries: there is too little.
+    // Makes the tables anew, with room for this many more entries: there is too little.
     fn grow(&mut self, more: usize) -> Result<(), NoMemory>
         requires { self.old.room < more }
         ensures marks { self.new.marks ≡ self.old.marks }

@@ -14,7 +14,7 @@ pub(crate) struct Slot {
     pub(crate) tags: u32,
 }
 
-/// The slot of a mark, of so many.
+/// The slot of a mark, of this many.
 #[inline(always)]
 #[tactic(auto, unfolding(crate::specs::Slots::slot_of))]
 pub(crate) fn slot_of(mark: u32, slots: usize) -> usize

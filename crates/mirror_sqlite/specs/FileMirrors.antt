@@ -1,4 +1,4 @@
--- What a mirror over a file tells of itself.
+-- What a mirror over a file says about itself.
 use Rattle.std.specs.Prelude.{ℕ, Option, None}
 use Rattle.mirror_store.specs.declared.rows.MirrorRows.{MirrorRows}
 

@@ -115,7 +115,7 @@ abbrev pub RefusesBy : {A : Type 0} → Option ℕ → Result A RefreshFault →
 RefusesBy None result = (count : ℕ) → result ≡ Err (TooMany count) → ⊥
 RefusesBy (Some count) result = (result ≡ Err (TooMany count)) ⊎ (result ≡ Err NoMemory)
 
--- ---- what is told of a refresh
+-- ---- what is said about a refresh
 
 -- the entries of the history, and the rows of both lists
 abbrev pub refresh_result : List Entry → Refreshed

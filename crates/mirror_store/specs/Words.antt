@@ -1,4 +1,4 @@
--- What a mirror tells of itself.
+-- What a mirror says about itself.
 use Rattle.std.specs.Prelude.{ℕ, Option}
 use Rattle.mirror_store.specs.declared.rows.MirrorRows.{MirrorRows}
 

@@ -38,7 +38,7 @@ pub struct Refreshed {
 pub enum RefreshFault {
     /// The mirror failed, and its count of faults rose.
     Failed,
-    /// There are more than 4,294,967,295 accepted observations, or else so many objects.
+    /// There are more than 4,294,967,295 accepted observations, or else this many objects.
     TooMany {
         /// How many there are.
         count: u64,
@@ -117,7 +117,7 @@ fn rows_of<V: Shelf>(alloc: Global, shelf: &V) -> Result<MirrorRows, RefreshFaul
     }
 }
 
-/// What is told of the rows of an office, once they are in a mirror.
+/// What is said about the rows of an office, once they are in a mirror.
 fn told_of<V: Shelf>(shelf: &V, rows: &MirrorRows) -> Refreshed
     requires rows { rows.now ≡ mirrored (V.history shelf.now) }
     requires countable { uncountable (V.history shelf.now) ≡ None }

@@ -137,8 +137,8 @@ module _ {D : Type 0} (on : DiskWords D) (as_read : (disk : D) (file : List ℕ)
           (λ chain. chain_alike parcels spelled spells.file spells.file_is second second_is chain)
           carried.now
 
-    -- what a crash may leave: the first disk spells the same parcels all along, and they are carried into the second, or
-    -- it stays
+    -- what a crash may leave: the first disk spells the same parcels all along, and they are carried into the second,
+    -- or it stays
     pub moved : (in_force : (file : List ℕ) (ps : List RawParcel) → IsChain file ps → IsInForce file) → During on.moment on.since old.first new.first (SpellsAlike (on.reads old.first))
         → During on.moment on.since old.second new.second (λ _. ⊥) ⊎ IsCarriedOver on old.first old.second new.second → DuringBoth on old new (SpellAlike on old)
     moved in_force first (inl stays) = record {

@@ -1,8 +1,8 @@
--- What the disk under an office tells of itself.
+-- What the disk under an office says about itself.
 use Rattle.std.specs.Prelude.{ℕ, List, Option}
 
--- what disks of one kind tell of themselves: the bytes that reads give, the images that a crash may leave now and since
--- an earlier moment, and how often a call failed
+-- what disks of one kind say about themselves: the bytes that reads give, the images that a crash may leave now and
+-- since an earlier moment, and how often a call failed
 pub record DiskWords (D : Type 0) : Type 1 where
   pub reads : D → Option (List ℕ)
   pub leaves : D → List ℕ → Type 0

@@ -226,11 +226,11 @@ fn move_over<D: Disk>(
 }
 
 impl<D: Disk> Desk<D> {
-    /// Opens the office of the founding officer with this key on its two disks, where the second file may have so many
-    /// bytes. The second disk is made safe, and where its file is in force its parcels are read, and the entry of each
-    /// is taken in, by all rules of the office. Else those of the first file are, which gets its first gate where it is
-    /// fresh, and the history is carried over: the second file is in force then. The key begins with a plus and has at
-    /// most 33 bytes. It takes memory.
+    /// Opens the office of the founding officer with this key on its two disks, where the second file may have this
+    /// many bytes. The second disk is made safe, and where its file is in force its parcels are read, and the entry of
+    /// each is taken in, by all rules of the office. Else those of the first file are, which gets its first gate where
+    /// it is fresh, and the history is carried over: the second file is in force then. The key begins with a plus and
+    /// has at most 33 bytes. It takes memory.
     ///
     /// # Errors
     /// The disks come back beside the fault: `DiskFault` where one of them failed; `Damaged` where the file that counts

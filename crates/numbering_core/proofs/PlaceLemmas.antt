@@ -23,7 +23,7 @@ here n newest past same = ap (λ (b : Bool). cond b (Some newest.designation) (n
 elsewhere : (n : ℕ) (newest : Numbering) (past : List Numbering) → newest.number.0 ≢ n → named (newest ∷ past) n ≡ named past n
 elsewhere n newest past other = ap (λ (b : Bool). cond b (Some newest.designation) (named past n)) (ne_eqb newest.number.0 n other)
 
--- so many places before the newest
+-- this many places before the newest
 number_back : (first : ℕ) (numbered : List Numbering) (back : ℕ) (d : Numbering) → AreFrom first numbered → back < length numbered → (get_or numbered back d).number.0 + back + 1 ≡ first + length numbered
 number_back first [] back d from within = absurd (omega arith)
 number_back first (newest ∷ past) zero d from within = omega (arith, from.0)

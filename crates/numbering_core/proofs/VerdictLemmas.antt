@@ -17,7 +17,7 @@ use Rattle.numbering_core.specs.contracts.entry.VerdictEntryOrd.TheImpl as deriv
 reads_principal : OrderLaws → (d : Designation) (v : VerdictEntry) → ties (derived.ghosts).cmp (verdict_key d) v ≡ eq_by_cmp designation_cmp v.principal d
 reads_principal orders d v = ap is_eq (orders.compared v.principal d)
 
--- the verdict that the one entry or the other tells of
+-- the verdict that the one entry or the other gives
 verdict_by_either : (b : Bool) (x y : Option VerdictEntry) → verdict_by (cond b x y) ≡ cond b (verdict_by x) (verdict_by y)
 verdict_by_either true x y = refl
 verdict_by_either false x y = refl

@@ -11,7 +11,7 @@ use Rattle.numbering_core.specs.declared.entry.VerdictEntry.{VerdictEntry}
 use Rattle.numbering_core.specs.declared.entry.NumberEntry.{NumberEntry}
 use Rattle.numbering_core.specs.Numbers.{number_of, IsUnbroken}
 
--- the verdict that an entry tells of
+-- the verdict that an entry gives
 abbrev pub verdict_in : VerdictEntry → Verdict
 verdict_in entry = record { principal = entry.principal; u = entry.u; oppositions = entry.oppositions }
 
@@ -30,7 +30,7 @@ verdict_key p = record { principal = p; u = 0; oppositions = 0 }
 abbrev pub entry_key : Designation → NumberEntry
 entry_key d = record { designation = d; number = record { 0 = 0 } }
 
--- the number that an entry tells of
+-- the number that an entry gives
 abbrev pub number_by : Option NumberEntry → Option Number
 number_by entry = option_map (λ e. e.number) entry
 

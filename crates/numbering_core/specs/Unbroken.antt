@@ -19,7 +19,7 @@ first_number [] = 0
 first_number (n ∷ []) = n
 first_number (n ∷ m ∷ ns) = first_number (m ∷ ns)
 
--- so many numbers from the first on, the last one first
+-- this many numbers from the first on, the last one first
 abbrev pub down_to : ℕ → ℕ → List ℕ
 down_to first zero = []
 down_to first (suc more) = (first + more) ∷ down_to first more

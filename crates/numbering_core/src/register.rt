@@ -73,7 +73,7 @@ impl Register {
         })
     }
 
-    /// Takes the memory for so many more verdicts and as many more numbers. What is registered stays, whatever the
+    /// Takes the memory for this many more verdicts and as many more numbers. What is registered stays, whatever the
     /// answer.
     ///
     /// # Errors

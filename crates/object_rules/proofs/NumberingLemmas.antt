@@ -23,7 +23,7 @@ module _ {X : Type 0} (test : X → Bool) where
       by true = omega arith
       by false = omega arith
 
-  -- and there are at most so many still
+  -- and there are at most this many still
   pub walked_within : (x : X) (found new : List X) (most : ℕ) → new ≡ found ++ filter test (x ∷ []) → length found ≤ most → ¬ (length found ≡ most) → length new ≤ most
   walked_within x found new most new_is within other =
       let count : length new ≡ length found + length (filter test (x ∷ [])) = ap length new_is ∙ length-append found (filter test (x ∷ [])) in

@@ -236,7 +236,7 @@ pub fn judges<L: Ledger>(
     })
 }
 
-/// A half-month is taken over, in which so many designations were given elsewhere. Those with these orders become
+/// A half-month is taken over, in which this many designations were given elsewhere. Those with these orders become
 /// objects of this office.
 ///
 /// # Errors

@@ -48,7 +48,7 @@ fn push_eligible<L: Ledger>(
     Ok(())
 }
 
-/// The first of the principals among designations whose objects can be numbered, at most so many.
+/// The first of the principals among designations whose objects can be numbered, at most this many.
 fn first_eligible<L: Ledger>(
     office: &L,
     alloc: Global,
@@ -70,7 +70,7 @@ fn first_eligible<L: Ledger>(
     Ok(found)
 }
 
-/// The first principals of the objects that can be numbered, in the order of designations, at most so many. It walks
+/// The first principals of the objects that can be numbered, in the order of designations, at most this many. It walks
 /// the designations that have a good verdict and no number.
 fn eligible<L: Ledger>(
     office: &L,
@@ -99,7 +99,7 @@ fn not_next<L: Ledger>(office: &L, first: u32) -> Option<Refusal>
     }
 }
 
-/// The last of the numbers that so many designations get, from the first on.
+/// The last of the numbers that this many designations get, from the first on.
 fn last_number(first: u32, designations: &[Designation]) -> u64
     requires { IsNumber first }
     ensures { result ≡ last_number first designations.now }
@@ -159,7 +159,7 @@ fn numbers_for(alloc: Global, first: u32, chosen: &[Designation]) -> Result<Deed
 }
 
 /// Objects that can be numbered get numbers, from the first number upwards, in the order of their principal
-/// designations; at most so many of them. An object can be numbered where it has no number, a live observation, and a
+/// designations; at most this many of them. An object can be numbered where it has no number, a live observation, and a
 /// good verdict in force.
 ///
 /// # Errors

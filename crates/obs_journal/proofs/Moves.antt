@@ -182,7 +182,7 @@ row_one_more ps p digest is =
     row_behind Chained (first_seal Chained) ps [] (1 ∷ (parcel_bytes p ++ digest)) ∙ ap (λ l. row Chained (first_seal Chained) ps (1 ∷ (parcel_bytes p ++ l))) (is ∙ sym (append-nil (seal Chained (last_seal Chained (first_seal Chained) ps) (parcel_bytes p))))
     ∙ sym (row-append Chained (first_seal Chained) ps (p ∷ []) [])
 
--- so many parcels are written behind the first byte
+-- this many parcels are written behind the first byte
 pub record IsWritten {D : Type 0} (reads : D → Option (List ℕ)) (leaves : D → List ℕ → Type 0) (ps : List RawParcel) (gate : ℕ) (last : List ℕ) (old new : D) : Type 0 where
   pub gate_is : gate ≡ row_length_in Chained ps + 1
   pub last_is : last ≡ last_seal Chained (first_seal Chained) ps

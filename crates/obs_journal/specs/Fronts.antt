@@ -25,7 +25,7 @@ with_body head body = record {
   body = body;
 }
 
--- a head whose parcel, with its seal and the gates before and after it, takes so many bytes or fewer
+-- a head whose parcel, with its seal and the gates before and after it, takes this many bytes or fewer
 pub record HasRoom (format : Format) (counted left : ℕ) : Type 0 where
   pub least : 21 ≤ counted
   pub most : counted ≤ 1048597
@@ -48,7 +48,7 @@ StandsBehind format last head bytes (Open parcel digest) =
     (rest : List ℕ) × (head_spelled head ++ bytes
     ≡ parcel_bytes parcel ++ (seal format last (parcel_bytes parcel) ++ rest))
 
--- the parcel, if there is one, its seal and the gate after it are among so many bytes
+-- the parcel, if there is one, its seal and the gate after it are among this many bytes
 abbrev pub IsInside : Format → Front → ℕ → Type 0
 IsInside format Closed left = Unit {0}
 IsInside format Damaged left = Unit {0}

@@ -161,7 +161,7 @@ pub(crate) fn chain_digest(last: &[u8; DIGEST_BYTES], bytes: &[u8]) -> [u8; DIGE
     hasher.finalize()
 }
 
-// The bytes but for so many at the end.
+// The bytes but for this many at the end.
 fn without(bytes: &[u8], count: usize) -> &[u8]
     requires { count ≤ length bytes.now }
     ensures { result.now ≡ take (length bytes.now - count) bytes.now }

@@ -36,7 +36,7 @@ pub(crate) fn is_open_for_good<D: Disk>(disk: &mut D, gate: u64) -> Result<bool,
     reads_open(disk, gate)
 }
 
-/// Puts so many bytes of the file, from this offset on, after those that are there, a piece after the other. False
+/// Puts this many bytes of the file, from this offset on, after those that are there, a piece after the other. False
 /// where the file ends before.
 pub(crate) fn read_bytes<D: Disk>(
     disk: &mut D,

@@ -32,7 +32,7 @@ impl Short {
         }
     }
 
-    /// The bytes of the text that are kept, which are so many.
+    /// The bytes of the text that are kept, which are this many.
     #[inline(always)]
     fn of_front(len: usize, text: &[u8]) -> Short
         requires { len ≡ min (length text.now) 12 }

@@ -21,7 +21,7 @@ unit_whole count h =
     let whole = day_in_units count h in
     ap (λ (k : ℕ). k * 10 ^ count) (div-eq_of_eq-mul_left (ten_pow_positive count) whole) ∙ sym whole
 
--- ---- decimals of a whole, a day or a second, that is so many units
+-- ---- decimals of a whole, a day or a second, that is this many units
 
 -- they are less than the whole
 pub decimals_below : (decimals count unit whole : ℕ) → unit * 10 ^ count ≡ whole → 0 < whole → decimals < 10 ^ count → decimals * unit < whole

@@ -41,7 +41,7 @@ time_of_day clock = (
 pub seconds_below : (clock : WrittenClock) → IsTimeOfDay clock → seconds_of clock < 86_400
 seconds_below clock is = omega (arith, is.hour, is.minute, is.second)
 
--- the time of day after so many seconds, and how many they are
+-- the time of day after this many seconds, and how many they are
 pub seconds_of_clock : (seconds : ℕ) → seconds_of (clock_of seconds) ≡ seconds
 seconds_of_clock seconds = omega arith
 

@@ -1,4 +1,5 @@
--- One text for a moment and a number of decimals: it is read as the rounded moment, and a text that was read is written.
+-- One text for a moment and a number of decimals: it is read as the rounded moment, and a text that was read is
+-- written.
 use Rattle.std.proofs.Common.{◌≡◌, ℕ, suc, ◌+◌, ◌*◌, ◌/◌, ◌^◌, ◌<◌, ◌≤◌, inl, List, length, sym, ap, subst, ◌∙◌, arith, ℤ, pos, negsuc, neg_ℤ, mul_comm, add-mul, length-append, ◌-◌, ◌++◌, refl}
 use Rattle.std.specs.Prelude.{Result, Ok}
 use Rattle.std.proofs.Math.Nat.{eq_of_mul-eq-mul_right}

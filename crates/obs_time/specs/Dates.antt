@@ -13,7 +13,7 @@ DateExists year month day = IsDate (pos year) (pos month) (pos day)
 abbrev pub day_number : ℕ → ℕ → ℕ → ℤ
 day_number year month day = days_from_civil (pos year) month day
 
--- the moment so many nanoseconds after the start of the day with that number
+-- the moment this many nanoseconds after the start of the day with that number
 abbrev pub moment : ℤ → ℕ → ℤ
 moment day ns_of_day = (day *ℤ pos nanos_of_a_day) +ℤ pos ns_of_day
 

@@ -45,7 +45,7 @@ day_at text = do
   if nat_le 1 decimals.0.0 && are_blanks decimals.1 then Some
       (record { date = date.0; count = decimals.0.0; decimals = decimals.0.1 }) else None
 
--- the nanoseconds of one in the last place of so many decimals of a day
+-- the nanoseconds of one in the last place of this many decimals of a day
 abbrev pub decimal_unit : ℕ → ℕ
 decimal_unit count = nanos_of_a_day / 10 ^ count
 

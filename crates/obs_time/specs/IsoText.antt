@@ -142,7 +142,7 @@ IsIsoVerdict iso =
 abbrev pub IsIsoAnswer : List ℕ → Result ℤ TimeFault → Type 0
 IsIsoAnswer text answer = Answers SpellsIso judge_iso Spelling text answer
 
--- the time of day after so many seconds of it
+-- the time of day after this many seconds of it
 abbrev pub clock_of : ℕ → WrittenClock
 clock_of seconds = record { hour = seconds / 3600; minute = seconds / 60 % 60; second = seconds % 60 }
 

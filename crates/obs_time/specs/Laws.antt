@@ -21,7 +21,7 @@ pub record TimeLaws : Type 0 where
       ↔ (answer ≡ judge_day day)
   pub iso_judged : (iso : WrittenIso) (answer : Result ℤ TimeFault) → IsIsoVerdict iso answer
       ↔ (answer ≡ judge_iso iso)
-  -- a moment has one text of a width with so many decimals of the day
+  -- a moment has one text of a width with this many decimals of the day
   pub one_text : (t : ℤ) (count : ℕ) (a b : List ℕ) → count ≤ 6 → IsTextOf t count a → IsTextOf t count b
       → length a ≡ length b
       → a ≡ b

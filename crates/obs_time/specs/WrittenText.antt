@@ -5,7 +5,7 @@ use Rattle.obs_time.specs.DayText.{WrittenDay, SpellsDay, IsMomentOf, day_text, 
 use Rattle.obs_time.specs.Calendar.{date_of_day}
 use Rattle.obs_time.specs.Rounding.{rounded}
 
--- the text spells a day that the calendar has, with so many decimals, whose moment is the rounded value
+-- the text spells a day that the calendar has, with this many decimals, whose moment is the rounded value
 pub record IsTextOf (t : ℤ) (count : ℕ) (text : List ℕ) : Type 0 where
   pub day : WrittenDay
   pub spelled : SpellsDay day text
@@ -21,6 +21,6 @@ day_numbers t count = record {
   decimals = ns_of_day t / decimal_unit count;
 }
 
--- the text of a moment with so many decimals: the day of the rounded moment, and blanks up to the place of six
+-- the text of a moment with this many decimals: the day of the rounded moment, and blanks up to the place of six
 unfoldable pub day_text_of : ℤ → ℕ → List ℕ
 day_text_of t count = day_text (day_numbers (rounded t (decimal_unit count)) count) (6 - count)

@@ -16,7 +16,7 @@ use ascii_text::units::place_units;
 /// The greatest number of decimals of a day that are read.
 const MOST_DECIMALS: usize = 6;
 
-/// The nanoseconds of one in the last of so many decimals, 0.000001 day.
+/// The nanoseconds of one in the last of this many decimals, 0.000001 day.
 const LAST_DECIMAL: u64 = 86_400_000;
 
 /// A date as it is written, with decimals of the day.
@@ -46,7 +46,7 @@ fn day_at(text: &[u8; 17]) -> Option<Day>
     })
 }
 
-/// The nanoseconds of one in the last place of so many decimals of a day.
+/// The nanoseconds of one in the last place of this many decimals of a day.
 pub(crate) fn decimal_unit(count: usize) -> u64
     requires { count ≤ 6 }
     ensures value { result ≡ decimal_unit count }

@@ -34,7 +34,7 @@ impl Model for Instant {
 }
 
 impl Instant {
-    /// The moment so many nanoseconds after 1970-01-01T00:00:00, or None outside the years 1800 to 2199.
+    /// The moment this many nanoseconds after 1970-01-01T00:00:00, or None outside the years 1800 to 2199.
     pub fn new(ns: i64) -> Option<Instant>
         ensures some { IsSome result ↔ IsInstantNs ns }
         ensures years { (civil : Civil) → IsCivilOf ns civil → (IsSome result ↔ IsObservedYear civil.year) }
@@ -63,7 +63,7 @@ impl Instant {
         self.ns
     }
 
-    /// The moment so many nanoseconds after the start of a day.
+    /// The moment this many nanoseconds after the start of a day.
     pub(crate) fn at(day: i32, ns_of_day: u64) -> Instant
         requires day { IsObservedDay day }
         requires time { ns_of_day < nanos_of_a_day }

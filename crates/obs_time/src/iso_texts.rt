@@ -33,7 +33,7 @@ pub fn write_iso(t: Instant) -> [u8; 30]
     out.into_inner().unwrap()
 }
 
-/// Writes the time of day after so many seconds of it, `hh:mm:ss`.
+/// Writes the time of day after this many seconds of it, `hh:mm:ss`.
 fn put_clock(out: &mut ArrayVec<u8, 30>, seconds: u64)
     requires room { array_vec_len out.old + 8 ≤ 30 }
     requires day { seconds < 86_400 }

@@ -29,7 +29,7 @@ fn rounded(t: Instant, count: usize) -> i64
     }
 }
 
-/// The date and the time of day of a moment that is rounded to so many decimals of the day.
+/// The date and the time of day of a moment that is rounded to this many decimals of the day.
 pub(crate) fn rounded_civil(t: Instant, count: usize) -> Civil
     requires { count ≤ 6 }
     ensures civil { IsCivilOf (rounded t (decimal_unit count)) result }

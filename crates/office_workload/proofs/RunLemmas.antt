@@ -71,7 +71,7 @@ refused_first past first second refusal (inr is) = inr (λ rest. ap (history_aft
 
 -- ---- the requests of objects
 
--- what is left of the requests of so many objects, once those of the first ones were taken
+-- what is left of the requests of this many objects, once those of the first ones were taken
 abbrev pub left_after : (seed before left : ℕ) → List Request
 left_after seed before left = flat_map (object_requests seed) (range_with_len (before + 1) left)
 

@@ -9,7 +9,7 @@ date_text time =
     codes "2024 01 " ++ (digits_text Ten 2 (1 + time / 10000) ++ (46 ∷ (digits_text Ten 4 (time % 10000)
     ++ codes "  ")))
 
--- a value in hours or degrees, minutes and seconds with so many decimals, counted in units of the last decimal
+-- a value in hours or degrees, minutes and seconds with this many decimals, counted in units of the last decimal
 unfoldable pub sexagesimal : (decimals value : ℕ) → List ℕ
 sexagesimal decimals value =
     digits_text Ten 2 (value / 10 ^ decimals / 3600) ++ (32 ∷ (digits_text Ten 2 (value / 10 ^ decimals / 60 % 60)

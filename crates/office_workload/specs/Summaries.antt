@@ -1,4 +1,4 @@
--- What is told of the office after the workload.
+-- What is said about the office after the workload.
 use Rattle.std.specs.Prelude.{ℕ, ◌-◌, List, [], ◌++◌, length, slice_get, codes, Option, Some, None, Result, Ok, Err}
 use Rattle.packed_names.specs.declared.name.Designation.{Designation}
 use Rattle.act_model.specs.declared.entry.Entry.{Entry}
@@ -33,17 +33,17 @@ last_designation past = last_of (principals (links_of (deeds past)))
 unfoldable pub catalogue_line : ℕ → List ℕ
 catalogue_line bytes = line_of (numbered (codes "catalogue ") bytes ++ codes " bytes")
 
--- what is told of this history
+-- what is said about this history
 unfoldable pub summary_at : (seed count : ℕ) → List Entry → List ℕ
 summary_at seed count past =
     head_line seed count ++ (tally_text (tally past)
     ++ (last_line (last_designation past) ++ catalogue_line (length (catalogue past))))
 
--- what is told of what the requests came to: of a refusal its line alone
+-- what is said about what the requests came to: of a refusal its line alone
 abbrev pub told_of : (seed count : ℕ) → Result (List Entry) Refusal → List ℕ
 told_of seed count (Ok past) = summary_at seed count past
 told_of seed count (Err refusal) = refusal_text refusal
 
--- what is told of the workload
+-- what is said about the workload
 unfoldable pub summary : (seed count : ℕ) → List ℕ
 summary seed count = told_of seed count (history_after [] (workload seed count))

@@ -42,7 +42,7 @@ designation i = request_with (2 * i + 1) Designate (designation_body i)
 abbrev pub object_requests : (seed i : ℕ) → List Request
 object_requests seed i = submission i (number_at seed i) ∷ designation i ∷ []
 
--- the requests under the numbers from 1 on: the station's, and then those of so many objects
+-- the requests under the numbers from 1 on: the station's, and then those of this many objects
 unfoldable pub workload : (seed count : ℕ) → List Request
 workload seed count = station_request ∷ flat_map (object_requests seed) (range_with_len 1 count)
 

@@ -1,4 +1,4 @@
-//! A made-up workload: the requests of one officer by which an office in memory gets so many objects, and the summary
+//! A made-up workload: the requests of one officer by which an office in memory gets this many objects, and the summary
 //! of the office after them.
 //!
 //! The request with a given place is a written function of the seed and the place (`specs/Workloads.antt`), and so is

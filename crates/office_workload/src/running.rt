@@ -93,7 +93,7 @@ fn take_object(alloc: Global, keeper: &mut PlainKeeper, i: u64, x: u64) -> Resul
     }
 }
 
-/// Takes the requests of so many objects.
+/// Takes the requests of this many objects.
 fn take_objects(
     alloc: Global,
     keeper: &mut PlainKeeper,

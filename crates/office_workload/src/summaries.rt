@@ -1,4 +1,4 @@
-//! What is told of the office after the workload.
+//! What is said about the office after the workload.
 
 ghost use Rattle.std.specs.Prelude.{◌≡◌, ◌≤◌, ◌++◌, false, length, IfOk, OnOk};
 ghost use Rattle.act_model.specs.Catalogue.{catalogue};
@@ -82,7 +82,7 @@ fn push_summary<V: Shelf>(
     push_catalogue(out, bytes)
 }
 
-/// What is told of an office.
+/// What is said about an office.
 fn summary_at<V: Shelf>(alloc: Global, shelf: &V, seed: u64, count: u64) -> Result<Bytes, NoMemory>
     ensures { IfOk result (λ text. text ≡ summary_at seed count (V.history shelf.now)) }
 {
@@ -109,7 +109,7 @@ fn is_no_memory(refusal: &Refusal) -> bool
     matches!(refusal, Refusal::NoMemory)
 }
 
-/// What is told of a refusal: nothing where memory was refused.
+/// What is said about a refusal: nothing where memory was refused.
 fn told_refusal(alloc: Global, refusal: Refusal) -> Result<Bytes, NoMemory>
     ensures text { IfOk result (λ text. text ≡ refusal_text refusal) }
     ensures other { IfOk result (λ _. is_no_memory refusal ≡ false) }
@@ -120,10 +120,10 @@ fn told_refusal(alloc: Global, refusal: Refusal) -> Result<Bytes, NoMemory>
     refusal_text(alloc, refusal)
 }
 
-/// The summary of the workload that this seed starts, of so many objects, at most 20,000. The requests are taken by an
-/// office in memory one after another; then the tally of the office is told, its last designation, and how many bytes
-/// its catalogue has. Where a request is refused, the lines of the first refusal stand in the summary's place. It takes
-/// memory.
+/// The summary of the workload that this seed starts, of this many objects, at most 20,000. The requests are taken by
+/// an office in memory one after another; then the tally of the office is told, its last designation, and how many
+/// bytes its catalogue has. Where a request is refused, the lines of the first refusal stand in the summary's place. It
+/// takes memory.
 ///
 /// # Errors
 ///

@@ -8,7 +8,7 @@ abbrev pub below : {T : Type 0} → (T → T → Ordering) → T → List T → 
 below cmp key [] = 0
 below cmp key (first ∷ rest) = match_ordering (cmp first key) (below cmp key rest + 1) 0 0
 
--- so many of the newest items stand before a place of the merged list: an item stands there at the place that is the
+-- this many of the newest items stand before a place of the merged list: an item stands there at the place that is the
 -- sum of its places in both lists
 pub record IsPassed {T : Type 0} (cmp : T → T → Ordering) (settled newest : List T) (place count : ℕ) : Type 0 where
   pub within : count ≤ length newest

@@ -17,7 +17,7 @@ pub struct Provisional {
 
 /// How many designations the half-month has: 14,791,836 in the years 2000 to 2061, and 15,500 in the others.
 ///
-/// So many have a packed form. The half-month is of a year from 1925 to 2099, with an index from 0 to 23.
+/// This many have a packed form. The half-month is of a year from 1925 to 2099, with an index from 0 to 23.
 pub fn limit(half: HalfMonth) -> u32
     requires { IsHalfMonth half }
     ensures { result ≡ limit_of half }

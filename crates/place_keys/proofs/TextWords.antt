@@ -32,7 +32,7 @@ same_number (x ∷ xs) (y ∷ ys) long first other same =
     let rest : number_l 256 xs ≡ number_l 256 ys = omega (arith, low, other_low, sum) in
     ap (λ (z : ℕ). z ∷ xs) here ∙ ap (λ (zs : List ℕ). y ∷ zs) (same_number xs ys (omega (arith, long)) (λ i. first (suc i)) (λ i. other (suc i)) rest)
 
--- how many numbers so many bytes have
+-- how many numbers this many bytes have
 abbrev bound : ℕ → ℕ
 bound zero = 1
 bound (suc n) = 256 * bound n

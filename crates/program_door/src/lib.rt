@@ -49,7 +49,7 @@ impl<
     R: Net<Listener = TcpListener, Stream = TcpStream> + Clock + Copy,
     W: Write + Drop,
 > ServingDoor<R, W> {
-    /// This door for so many links, which says where it serves on this writer.
+    /// This door for this many links, which says where it serves on this writer.
     pub fn new(door: TcpDoor<R>, wanted: u64, says: W) -> ServingDoor<R, W>
         ensures { result ≡ record { wanted = wanted; faults = 0 } }
     {

@@ -13,7 +13,8 @@ kept_longer None (Some longer) text piece before now = absurd now
 kept_longer (Some bytes) (Some longer) text piece before now = now ∙ ap (λ (t : List ℕ). t ++ piece) before
 
 module _ {S : Type 0} (left : S → Option (List ℕ)) (gives : Passes S) where
-  -- pieces came; a text was used from the front, of which so many bytes of all are missing and which was kept where there was memory
+  -- pieces came; a text was used from the front, of which this many bytes of all are missing and which was kept where
+  -- there was memory
   pub record IsTaken (before after : S) (ahead rest : List ℕ) (size missing : ℕ) (kept : Option (List ℕ)) : Type 0 where
     pub piece : List ℕ
     pub came : Comes left gives (LacksText ahead size) before after piece

@@ -35,7 +35,7 @@ work reads ahead = reads * (BUFFER_BYTES + 1) + length ahead
 abbrev pub LacksText : List ℕ → ℕ → List ℕ → Type 0
 LacksText ahead size came = length (ahead ++ came) < size
 
--- a text of so many bytes stands at the front, before this rest, and was read; what is told of it is true
+-- a text of this many bytes stands at the front, before this rest, and was read; what is said about it is true
 pub record IsTextRead (front : List ℕ) (size : ℕ) (IsTold : List ℕ → Type 0) (rest : List ℕ) : Type 0 where
   pub text : List ℕ
   pub stands : front ≡ text ++ rest
@@ -46,8 +46,8 @@ pub record IsTextRead (front : List ℕ) (size : ℕ) (IsTold : List ℕ → Typ
 abbrev pub IsAllOf : Option (List ℕ) → List ℕ → Type 0
 IsAllOf kept text = IfSome kept (λ bytes. bytes ≡ text)
 
--- What is told of a body is true of its text: what was kept is all of it, what is too long to be kept has this length,
--- and memory was refused only for what isn't too long.
+-- What is said about a body is true of its text: what was kept is all of it, what is too long to be kept has this
+-- length, and memory was refused only for what isn't too long.
 abbrev pub IsBody : Body → List ℕ → Type 0
 IsBody (bodies.Whole bytes) text = (bytes ≡ text) × (length text ≤ BODY_BYTES)
 IsBody (bodies.TooLong size) text = (size ≡ length text) × (BODY_BYTES < size)

@@ -62,7 +62,7 @@ impl ReadAhead {
         &all[start..end]
     }
 
-    /// An empty text with room for so many bytes. None where memory for it is refused.
+    /// An empty text with room for this many bytes. None where memory for it is refused.
     pub fn room_for(&self, size: u64) -> Option<Bytes>
         ensures { IfSome result (λ bytes. bytes ≡ []) }
     {
@@ -81,7 +81,7 @@ impl ReadAhead {
         }
     }
 
-    /// Uses so many bytes from the front; there are as many.
+    /// Uses this many bytes from the front; there are as many.
     pub fn skip(&mut self, count: usize)
         requires { count ≤ length self.old }
         ensures { self.new ≡ drop count self.old }

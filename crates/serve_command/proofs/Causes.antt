@@ -38,8 +38,8 @@ pub record Undamaged : Type 0 where
 rises_last : (a b c d calls rise : ℕ) → a ≤ b → RisesBy calls (count_of b) (count_of c) → 0 < rise → RoseBy rise (count_of c) (count_of d) → Rises a d
 rises_last a b c d calls rise later grew some rose = omega arith
 
--- a status with which the call may end once the office was opened: one that the links and the last mending may leave, or
--- that of a fault in writing the lines
+-- a status with which the call may end once the office was opened: one that the links and the last mending may leave,
+-- or that of a fault in writing the lines
 abbrev pub IsOwn : Status → Type 0
 IsOwn status = IsFromMending status ⊎ (status ≡ WriteFault)
 

@@ -244,8 +244,8 @@ no_stamp : (stamp : Stamp) → Contains [] stamp → ⊥
 no_stamp stamp (n, low, is) = omega arith
 
 module _ (one : OneBeginning) (laws : GrowthLaws) (resends : Resends) (founder : Key) (limit : Option ℕ) (later : List Entry) where
-  -- A call whose stamp has as many entries as this history, and for which the step adds an entry there, stands there: it
-  -- left that history, and if it had added the newest entry, it would be a resend there.
+  -- A call whose stamp has as many entries as this history, and for which the step adds an entry there, stands there:
+  -- it left that history, and if it had added the newest entry, it would be a resend there.
   stands_there : (past : List Entry) (request : Request) (reading : ℤ) (entry : Entry) → outcome founder limit past request reading ≡ Adds entry → IsLegal founder past → Extends past later
       → (item : Item) → IsTrue founder limit later item → (given : Stamp) → item.stamp ≡ Some given → given.entries ≡ length past → item.request ≡ request → item.reading ≡ Some reading
       → item.position ≡ length past

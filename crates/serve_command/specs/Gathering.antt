@@ -38,7 +38,7 @@ Stops most came before after Shut =
 Stops most came before after Failed = (length came < most) × Rises before.faults after.faults
 Stops most came before after NoMemory = after.faults ≡ before.faults
 
--- a root from which so many more branches may be split
+-- a root from which this many more branches may be split
 abbrev pub IsRootFor : ℕ → Role → Type 0
 IsRootFor more role = (out : ℕ) × (role ≡ Root out) × (out + more ≤ MOST)
 

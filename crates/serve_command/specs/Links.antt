@@ -10,7 +10,7 @@ use Rattle.http_connection.specs.Streams.{HasNoHeadFault}
 use Rattle.http_connection.specs.Attending.{items_of, IsAttended, ReadCounts, WriteCounts, IsEndedOrWanting}
 use Rattle.serve_command.specs.declared.ends.LinkEnd.{LinkEnd}
 
--- what the sources and the sinks of a door's links tell of themselves
+-- what the sources and the sinks of a door's links say about themselves
 pub record LinkWords (I O : Type 0) : Type 1 where
   pub left : I → Option (List ℕ)
   pub gives : Passes I

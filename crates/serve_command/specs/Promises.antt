@@ -14,7 +14,7 @@ use Rattle.serve_command.specs.Gathering.{door_of}
 use Rattle.serve_command.specs.Links.{LinkWords}
 use Rattle.serve_command.specs.Runs.{Ends}
 
--- what a door tells of itself, and its links of themselves
+-- what a door says about itself, and its links of themselves
 pub record DoorWords (G I O : Type 0) : Type 1 where
   pub links : G → Option (List (I × O))
   pub faults : G → ℕ

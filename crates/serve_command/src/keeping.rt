@@ -29,9 +29,9 @@ pub struct Attended<V, I, O> {
     pub stop: Option<Stop>,
 }
 
-/// Attends up to so many links of a door, at most 1,000, with a keeper of the office without an act in doubt: each link
-/// in a thread of its own, while the next one is awaited. The links take turns at the keeper, and each has a clock of
-/// its own.
+/// Attends up to this many links of a door, at most 1,000, with a keeper of the office without an act in doubt: each
+/// link in a thread of its own, while the next one is awaited. The links take turns at the keeper, and each has a clock
+/// of its own.
 ///
 /// Where memory for the links is refused, none is awaited, and door, clock and keeper are as they were. It returns when
 /// all links were left.

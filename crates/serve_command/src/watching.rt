@@ -127,8 +127,8 @@ impl<D: Disk, W: Opening> Keeper for Watched<D, W> {
     }
 }
 
-/// Attends up to so many links of a door, with a desk that was opened so, and says what a crash at any moment meanwhile
-/// leaves, and since each act that was answered.
+/// Attends up to this many links of a door, with a desk that was opened so, and says what a crash at any moment
+/// meanwhile leaves, and since each act that was answered.
 pub(crate) fn attend_watched<
     W: Opening + Send,
     D: Disk + Send,

@@ -26,7 +26,8 @@ later_none (newest ∷ older) t after past =
 
 -- ---- the first of what comes later
 
--- what follows from being first: the number is over `after`, it is there, it is of the tracklet, and the others are those that are later still
+-- what follows from being first: the number is over `after`, it is there, it is of the tracklet, and the others are
+-- those that are later still
 pub record ComesFirst (observations : List Observation) (t after k : ℕ) : Type 0 where
   pub later : after < k
   pub within : k ≤ length observations

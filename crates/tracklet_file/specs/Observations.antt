@@ -49,8 +49,8 @@ has_live observations station time ra dec = list_any (is_live_at station time ra
 
 -- ---- the places of lines
 
--- a live observation has the place of what a line says, by what is told of places; a line that says no observation has
--- no place
+-- a live observation has the place of what a line says, by what is said about places; a line that says no observation
+-- has no place
 abbrev pub is_live_reading : (Short → ℤ → ℕ → ℤ → Bool) → Result Sighting RuleCode → Bool
 is_live_reading has_live (Ok s) = has_live s.station s.time s.ra s.dec
 is_live_reading has_live (Err rule) = false

@@ -36,7 +36,7 @@ impl Places {
         }
     }
 
-    // The same where all that is filed is in the index: in blocks, since there is a place for the marks of so many.
+    // The same where all that is filed is in the index: in blocks, since there is a place for the marks of this many.
     fn have_live_marked(&self, filed: &[Observation], lines: &[Line], live: &mut Vec<bool>)
         requires filed { IsIndexed filed.now self.now }
         requires none_waits { length self.now.marks ≡ length filed.now }

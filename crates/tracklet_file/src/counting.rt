@@ -20,8 +20,8 @@ pub(crate) fn without_one(count: u64, counts: bool) -> u64
     if counts { count - 1 } else { count }
 }
 
-/// The count of isolated observations after a tracklet with so many live ones gets another home. The count of isolated
-/// tracklets likewise, where the tracklet counts as one.
+/// The count of isolated observations after a tracklet with this many live ones gets another home. The count of
+/// isolated tracklets likewise, where the tracklet counts as one.
 pub(crate) fn isolated_after(
     isolated: u64,
     live: u64,

@@ -98,8 +98,8 @@ impl TrackletFile {
         })
     }
 
-    /// Takes the memory for so many more observations, and so many more tracklets. What is in the file stays, and no
-    /// room that there was is given up.
+    /// Takes the memory for this many more observations, and this many more tracklets. What is in the file stays, and
+    /// no room that there was is given up.
     ///
     /// # Errors
     ///

@@ -22,7 +22,7 @@ pub struct HomeEntry {
     pub track: u64,
 }
 
-/// For how many more entries the index needs room: for so many more tracklets, and for each one that is isolated now
+/// For how many more entries the index needs room: for this many more tracklets, and for each one that is isolated now
 /// and may get a home without memory.
 ///
 /// # Errors

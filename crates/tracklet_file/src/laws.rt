@@ -49,7 +49,7 @@ pub fn tracklets_as_added()
     ensures count { (changes : List Change) → length (tracklets_after changes) ≡ length (brought_tracklets changes) }
 {}
 
-/// Over every list of calls, so many observations are retracted as there were retractions.
+/// Over every list of calls, this many observations are retracted as there were retractions.
 pub fn retractions_are_counted()
     ensures { (changes : List Change) → AreCalls changes →
         retracted_in (observations_after changes) ≡ count_by is_retraction changes }

@@ -19,8 +19,9 @@ use place_keys::{PlaceKey, key_at, mixed, place_key};
 use std::alloc::Global;
 use std::marker::Model;
 
-/// So many observations may wait that don't ascend in time. They are put into the index one right after another, and so
-/// many lines are asked for one right after another: what each needs of the memory then comes while others are at work.
+/// This many observations may wait that don't ascend in time. They are put into the index one right after another, and
+/// so many lines are asked for one right after another: what each needs of the memory then comes while others are at
+/// work.
 pub(crate) const BLOCK: usize = 256;
 
 /// Which places the live observations of a file have.
@@ -32,7 +33,7 @@ pub(crate) const BLOCK: usize = 256;
 pub(crate) struct Places {
     // An entry for each of the first observations, which has a mark where the observation is live. The others wait.
     index: MarkIndex,
-    // For so many more observations there is room in the index, or for more, beside those that wait.
+    // For this many more observations there is room in the index, or for more, beside those that wait.
     room: u64,
     // No observation is later than this, in nanoseconds since 1970.
     latest: i64,
@@ -71,7 +72,7 @@ impl Places {
         })
     }
 
-    /// Takes the memory for so many more observations than are filed, and for those that aren't in the index yet.
+    /// Takes the memory for this many more observations than are filed, and for those that aren't in the index yet.
     ///
     /// # Errors
     ///

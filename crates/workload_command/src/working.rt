@@ -9,8 +9,8 @@ use desk_io::{Sink, write_all};
 use office_workload::summary;
 use std::alloc::Global;
 
-/// Writes the summary of the workload that this seed starts, of so many objects, at most 20,000. The workload is taken
-/// by an office in memory; nothing but the sink is called. It takes memory.
+/// Writes the summary of the workload that this seed starts, of this many objects, at most 20,000. The workload is
+/// taken by an office in memory; nothing but the sink is called. It takes memory.
 ///
 /// Ends with `Done`, `WriteFault` or `NoMemory`.
 pub fn workload<K: Sink>(alloc: Global, seed: u64, count: u32, sink: &mut K) -> Status

@@ -5,7 +5,7 @@ use Rattle.ascii_text.proofs.DigitTexts.{power_within, power_positive}
 use Rattle.ascii_text.specs.declared.digits.Radix.TheVariants.{Ten}
 use Rattle.ascii_text.proofs.units.place_units.Goals as goal
 
--- so many units of a place as it counts are those of the point
+-- this many units of a place as it counts are those of the point
 whole : (place most last : ℕ) → place ≤ most → (last * 10 ^ (most - place)) * 10 ^ place ≡ last * 10 ^ most
 whole place most last few =
     let all : (most - place) + place ≡ most = omega arith in

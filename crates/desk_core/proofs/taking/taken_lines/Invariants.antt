@@ -4,7 +4,8 @@ use Rattle.act_model.specs.Taken.{taken_with, taken_lines}
 use Rattle.desk_core.specs.Office.{AreTracked}
 use Rattle.desk_core.proofs.taking.taken_lines.Given as goal
 
--- the lines so far and what becomes of those that are left are all; whatever is tracked after these is tracked with them
+-- the lines so far and what becomes of those that are left are all; whatever is tracked after these is tracked with
+-- them
 abbrev pub invariant-loop-place : goal.invariant-loop-place
 invariant-loop-place g l =
     let office = g.V.Known.office l.known in

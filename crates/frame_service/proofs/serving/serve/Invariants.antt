@@ -5,8 +5,8 @@ use Rattle.frame_service.specs.Steps.{Progress}
 use Rattle.frame_service.proofs.Served.{FrameLaws}
 use Rattle.frame_service.proofs.serving.serve.Given as goal
 
--- the laws of frames hold, serving has come so far, no fault of the source or the sink was counted, and what was open is
--- open
+-- the laws of frames hold, serving has come so far, no fault of the source or the sink was counted, and what was open
+-- is open
 abbrev pub invariant-frames : goal.invariant-frames
 invariant-frames g l = record {
   laws : FrameLaws;

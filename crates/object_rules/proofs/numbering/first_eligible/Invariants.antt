@@ -2,7 +2,7 @@ use Rattle.std.proofs.Common.{◌≡◌, ◌≤◌, ◌++◌, length, drop}
 use Rattle.object_rules.specs.Numbering.{eligible_among}
 use Rattle.object_rules.proofs.numbering.first_eligible.Given as goal
 
--- those that were found, which are at most so many, and those among the designations that are left are all
+-- those that were found, which are at most this many, and those among the designations that are left are all
 abbrev pub invariant-loop-place : goal.invariant-loop-place
 invariant-loop-place g l =
     record {
