@@ -1,7 +1,6 @@
 -- What becomes of a request, by what it says of itself before its body is read.
-use Rattle.std.proofs.Common.{◌≡◌, ℕ, ◌+◌, ◌<◌, ℤ, Bool, true, false, cond, List, length, Option, Some, None, Result, Ok, Err, refl, sym, ap, subst, ◌∙◌, inl, inr}
-use Rattle.std.specs.Prelude.{bytes_eq, IfErr, reverse}
-use Rattle.std.specs.Option.{option_map}
+use Rattle.std.proofs.Common.{◌≡◌, ℕ, ℤ, Bool, true, false, cond, List, Option, Some, None, Result, Ok, Err, refl, sym, ap, subst, ◌∙◌, inl, inr}
+use Rattle.std.specs.Prelude.{IfErr}
 use Rattle.act_bodies.specs.declared.key.Key.{Key}
 use Rattle.act_model.specs.declared.deed.Deed.{Deed}
 use Rattle.act_model.specs.declared.entry.Entry.{Entry}
@@ -27,7 +26,7 @@ use Rattle.act_model.specs.Replies.{entry_answer}
 use Rattle.act_model.specs.Requests.{is_act}
 use Rattle.act_model.specs.Roster.{members, caller_of}
 use Rattle.act_model.specs.Rows.{first_row, unless, ◌>>=◌, IsDue}
-use Rattle.act_model.specs.Step.{Outcome, Refuses, Keeps, Tells, Adds, outcome, unless_unheard, heard_step, act_step, query_step, query_in, answer_of_query, tells, unless_kept, unless_refused, new_entry, kept_reply, is_resend}
+use Rattle.act_model.specs.Step.{Outcome, Refuses, Keeps, Adds, outcome, unless_unheard, heard_step, act_step, query_step, query_in, answer_of_query, tells, unless_kept, unless_refused, new_entry, kept_reply, is_resend}
 use Rattle.desk_core.specs.declared.hearing.Claim.{Claim}
 use Rattle.desk_core.specs.Claims.{claim_of, announcement, heard_by, query_heard, kept_for, act_by, told_by}
 use Rattle.desk_core.specs.Preparing.{IsRefused}

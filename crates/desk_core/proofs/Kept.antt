@@ -1,17 +1,14 @@
 -- The answers that are kept are those of the entries' own time.
-use Rattle.std.proofs.Common.{◌≡◌, ℕ, ◌+◌, ◌<◌, Bool, true, cond, List, [], ◌∷◌, ◌++◌, length, get_or, take, drop, Some, suc, refl, ap, sym, subst, ◌∙◌, append_assoc}
+use Rattle.std.proofs.Common.{◌≡◌, ℕ, ◌+◌, ◌<◌, List, [], ◌∷◌, ◌++◌, length, get_or, take, drop, Some, suc, refl, ap, sym, subst, ◌∙◌, append_assoc}
 use Rattle.std.specs.Prelude.{slice_get, reverse}
 use Rattle.std.proofs.lemmas.List.{reverse-append, take-append-drop}
 use Rattle.std.proofs.Math.Seq.{drop-cons}
 use Rattle.std.proofs.Math.Numerals.{add-one}
 use Rattle.std.proofs.lemmas.Option.{get_or_from_slice_get, slice_get_read, slice_get_within}
 use Rattle.act_model.specs.declared.entry.Entry.{Entry}
-use Rattle.act_model.specs.declared.request.Verb.{Verb}
-use Rattle.act_model.specs.declared.reply.Reply.TheVariants.{Done, Refused}
-use Rattle.act_model.specs.declared.reply.Refusal.TheVariants.{OtherRequest}
-use Rattle.act_model.specs.History.{Kept, next_receipt}
+use Rattle.act_model.specs.declared.reply.Reply.TheVariants.{Done}
+use Rattle.act_model.specs.History.{Kept}
 use Rattle.act_model.specs.Replies.{entry_answer}
-use Rattle.act_model.specs.Step.{is_resend, kept_reply}
 use Rattle.desk_core.specs.declared.filed.Filed.{Filed}
 use Rattle.desk_core.specs.Filed.{entries_of, history_of, done_reply, AreAnswered, IsDone, IsFiledAt}
 

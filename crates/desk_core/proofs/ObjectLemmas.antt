@@ -1,8 +1,7 @@
 -- What a deed on objects fits, and what it asks of what is kept.
-use Rattle.std.proofs.Common.{◌≡◌, ℕ, ℤ, ◌<◌, Bool, true, false, cond, List, [], ◌∷◌, ◌++◌, map, take, Option, Some, None, Result, Ok, Err, refl, sym, ap, ◌∙◌}
+use Rattle.std.proofs.Common.{◌≡◌, ℕ, ℤ, Bool, true, false, cond, List, [], ◌∷◌, ◌++◌, map, take, Option, Some, None, Result, Ok, Err, refl, sym, ap, ◌∙◌}
 use Rattle.std.specs.Prelude.{IfOk, IfSome, is_some, flat_map}
 use Rattle.numbering_core.specs.Numbers.{next_number}
-use Rattle.tracklet_file.specs.Contents.{Contents}
 use Rattle.act_model.specs.declared.act.Act.{Act}
 use Rattle.act_model.specs.declared.act.Act.TheVariants as act
 use Rattle.act_model.specs.declared.deed.Deed.{Deed}
@@ -20,8 +19,7 @@ use Rattle.act_model.specs.Numbers.{numbers_of, numbered_from}
 use Rattle.act_model.specs.Rows.{first_row, unless, IsDue}
 use Rattle.object_rules.specs.Noting.{is_of_objects}
 use Rattle.desk_core.specs.Doing.{IsActAtOnce}
-use Rattle.desk_core.specs.Objects.{ObjectsValue, StandFor}
-use Rattle.desk_core.specs.Office.{Fits, held_in}
+use Rattle.desk_core.specs.Office.{Fits}
 
 -- a deed on objects fits where it fits the objects
 objects_fit : (past : List Deed) (deed : Deed) → is_of_objects deed ≡ true → FitsObjects past deed → Fits past deed

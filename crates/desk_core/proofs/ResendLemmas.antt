@@ -1,9 +1,8 @@
 -- A request that is sent again: the body of the entry that it became was read.
-use Rattle.std.proofs.Common.{◌≡◌, ℕ, ◌+◌, ◌<◌, ◌++◌, ℤ, Bool, true, false, cond, List, [], ◌∷◌, length, take, drop, Option, Some, None, Result, Ok, Err, refl, sym, ap, subst, ◌∙◌, append_assoc}
-use Rattle.std.specs.Prelude.{bytes_eq, ◌==◌, ◌&&◌, reverse, slice_get}
+use Rattle.std.proofs.Common.{◌≡◌, ℕ, ◌+◌, ◌<◌, ◌++◌, ℤ, Bool, true, false, cond, List, [], ◌∷◌, length, take, drop, Option, Some, None, Result, Ok, refl, sym, ap, subst, ◌∙◌, append_assoc}
+use Rattle.std.specs.Prelude.{bytes_eq, ◌&&◌, reverse}
 use Rattle.std.specs.Option.{option_map}
 use Rattle.std.proofs.lemmas.Bool.{eqb-true}
-use Rattle.std.proofs.lemmas.Option.{get_or_from_slice_get}
 use Rattle.std.proofs.lemmas.Slice.Eq.{bytes_eq-Decides}
 use Rattle.act_model.specs.declared.entry.Entry.{Entry}
 use Rattle.act_model.specs.declared.heard.Asked.{Asked}
@@ -14,7 +13,7 @@ use Rattle.act_model.specs.declared.reply.Refusal.TheVariants.{OtherRequest}
 use Rattle.act_model.specs.declared.request.Verb.{Verb}
 use Rattle.act_model.specs.declared.request.Verb.TheVariants.{Enrol, Station, Code, Submit80, SubmitPsv, Designate, Attribute, Release, Identify, Separate, Verdict, Number, Retract, Opening}
 use Rattle.act_model.specs.declared.roster.Caller.{Caller}
-use Rattle.act_model.specs.Hearing.{asked_of, caller_in}
+use Rattle.act_model.specs.Hearing.{asked_of}
 use Rattle.act_model.specs.History.{Kept, numbered_entry, next_receipt}
 use Rattle.act_model.specs.Replies.{entry_answer}
 use Rattle.act_model.specs.Requests.{is_act, verb_code, same_verb}
@@ -25,7 +24,7 @@ use Rattle.desk_core.specs.declared.hearing.Claim.{Claim}
 use Rattle.desk_core.specs.Claims.{heard_by, kept_for, act_by}
 use Rattle.desk_core.specs.Filed.{history_of, IsFiledAt, WasRead, WereRead}
 use Rattle.desk_core.specs.Replaying.{act_with}
-use Rattle.desk_core.proofs.BookLemmas.{IsPlaced, placed}
+use Rattle.desk_core.proofs.BookLemmas.{placed}
 use Rattle.desk_core.proofs.ClaimLemmas.{hears, act_kept}
 use Rattle.desk_core.proofs.Kept.{split_at}
 use Rattle.std.proofs.lemmas.List.{reverse-append}

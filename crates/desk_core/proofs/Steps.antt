@@ -1,27 +1,22 @@
 -- What becomes of a request, question by question.
-use Rattle.std.proofs.Common.{◌≡◌, ℕ, ℤ, Bool, true, false, cond, List, length, ◌<◌, Option, Some, Result, Ok, Err, refl, sym, ap, subst, ◌∙◌, inl, inr, arith}
+use Rattle.std.proofs.Common.{◌≡◌, ℕ, ℤ, List, length, ◌<◌, Option, Result, Ok, Err, refl, sym, ap, subst, ◌∙◌, inl, inr, arith}
 use Rattle.std.specs.Prelude.{IfErr}
 use Rattle.act_bodies.specs.declared.key.Key.{Key}
 use Rattle.act_model.specs.declared.deed.Deed.{Deed}
 use Rattle.act_model.specs.declared.deed.Deed.TheVariants.{Enrolled, Stationed, Coded, Submitted, Designated, Attributed, Released, Identified, Separated, Judged, Numbered, Opened, Retracted, Nothing}
 use Rattle.act_model.specs.declared.entry.Entry.{Entry}
-use Rattle.act_model.specs.declared.heard.Heard.{Heard}
 use Rattle.act_model.specs.declared.reply.Refusal.{Refusal}
 use Rattle.act_model.specs.declared.reply.Refusal.TheVariants.{NoMemory}
 use Rattle.act_model.specs.declared.reply.Reply.TheVariants.{Done, Refused}
-use Rattle.read_ahead.specs.declared.body.Body.{Body}
 use Rattle.read_ahead.specs.declared.body.Body.TheVariants.{NoRoom}
 use Rattle.act_model.specs.declared.request.Request.{Request}
 use Rattle.act_model.specs.declared.roster.TheConstants.{CALLERS}
 use Rattle.act_model.specs.Rows.{◌>>=◌, IsDue}
-use Rattle.act_model.specs.Requests.{is_act}
 use Rattle.act_model.specs.Roster.{members, with_enrolled}
-use Rattle.act_model.specs.Deeds.{deeds}
-use Rattle.act_model.specs.History.{Kept, numbered_entry, next_moment}
-use Rattle.act_model.specs.Hearing.{bytes_in, hear}
-use Rattle.act_model.specs.Refusals.{work_within}
+use Rattle.act_model.specs.History.{Kept}
+use Rattle.act_model.specs.Hearing.{bytes_in}
 use Rattle.act_model.specs.Turns.{Answers}
-use Rattle.act_model.specs.Step.{Outcome, Refuses, Tells, outcome, unless_unheard, heard_step, act_step, query_step, query_in, answer_of_query, tells, unless_kept, unless_refused, new_entry, step, reply_and_history}
+use Rattle.act_model.specs.Step.{Outcome, Refuses, Tells, outcome, tells, step, reply_and_history}
 use Rattle.desk_core.specs.Office.{Room, Fits}
 use Rattle.desk_core.proofs.ClaimLemmas.{outcome_bytes}
 use Rattle.desk_core.specs.Preparing.{IsRefused, Prepares, IsPrepared, IsTold}

@@ -1,5 +1,5 @@
 -- How opening ends: on the second disk where it is in force, else on the first, which is carried over.
-use Rattle.std.proofs.Common.{◌≡◌, ◌≢◌, ◌⊎◌, ℕ, ◌≤◌, List, Option, Some, None, refl, sym, ap, subst, ◌∙◌, inl, inr, ⊎_elim, le_refl, le_trans, arith}
+use Rattle.std.proofs.Common.{◌≡◌, ◌≢◌, ◌⊎◌, ℕ, ◌≤◌, List, Option, Some, None, refl, sym, subst, ◌∙◌, inl, inr, ⊎_elim, le_refl, le_trans, arith}
 use Rattle.std.specs.Prelude.{IfSome, IsSome}
 use Rattle.call_log.specs.Counts.{Rises}
 use Rattle.disk_model.specs.Crashes.{During}
@@ -18,7 +18,7 @@ use Rattle.act_model.specs.Legal.{IsLegal}
 use Rattle.mpc_desk.specs.Desks.{DeskState, IsAtRest}
 use Rattle.mpc_desk.specs.Disks.{DiskWords}
 use Rattle.mpc_desk.specs.Files.{Stands, StandsFirst}
-use Rattle.mpc_desk.specs.Pairs.{FilePair, StandBoth, DiskPair, pair, AreRead, AreLeft, DuringBoth, IsFirstUncalled, NeitherFell, EitherRises, PairState, disks_of}
+use Rattle.mpc_desk.specs.Pairs.{FilePair, StandBoth, DiskPair, pair, AreRead, AreLeft, DuringBoth, IsFirstUncalled, NeitherFell}
 use Rattle.mpc_desk.specs.PairLaws.{both_weaker}
 use Rattle.mpc_desk.specs.Opening.{StandAlike, SpellAlike, IsCarriedOver, IsDamagedFirst, IsDamagedSecond, IsDamagedOn, IsOpened, IsUnopened}
 use Rattle.mpc_desk.proofs.Opened.{if_some, at_file}

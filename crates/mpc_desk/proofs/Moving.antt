@@ -1,5 +1,5 @@
 -- How an office is carried over.
-use Rattle.std.proofs.Common.{◌≡◌, ◌≢◌, ◌⊎◌, ℕ, ◌<◌, ◌≤◌, List, Option, Some, None, Result, Err, refl, sym, ap, subst, ◌∙◌, inl, inr, le_refl, arith}
+use Rattle.std.proofs.Common.{◌≡◌, ◌≢◌, ℕ, ◌<◌, ◌≤◌, List, None, Result, Err, refl, sym, subst, inl, inr, le_refl}
 use Rattle.std.specs.Prelude.{◌^◌, IfSome, IsSome}
 use Rattle.call_log.specs.Counts.{Rises}
 use Rattle.disk_model.specs.Crashes.{During}
@@ -13,10 +13,10 @@ use Rattle.obs_journal.specs.Opening.{SpellsAlike}
 use Rattle.act_bodies.specs.declared.key.Key.{Key}
 use Rattle.act_model.specs.Legal.{IsLegal}
 use Rattle.desk_core.specs.Office.{Office}
-use Rattle.mpc_desk.specs.Desks.{DeskState, state_of}
+use Rattle.mpc_desk.specs.Desks.{state_of}
 use Rattle.mpc_desk.specs.Disks.{DiskWords}
 use Rattle.mpc_desk.specs.Files.{parcels_in, AreActs, StandsFirst}
-use Rattle.mpc_desk.specs.Pairs.{pair, EitherRises}
+use Rattle.mpc_desk.specs.Pairs.{pair}
 use Rattle.mpc_desk.specs.Opening.{IsDamagedFirst, IsMoved, IsNotMoved}
 use Rattle.mpc_desk.proofs.Opened.{opened_desk, rests_opened, if_some}
 

@@ -1,19 +1,19 @@
 -- Two files, and what a crash inside opening may leave of them.
-use Rattle.std.proofs.Common.{◌≡◌, ◌⊎◌, ℕ, ◌≤◌, List, ◌∷◌, Option, Some, None, refl, sym, ap, subst, ◌∙◌, inl, inr, ⊎_elim, arith}
+use Rattle.std.proofs.Common.{◌≡◌, ◌⊎◌, ℕ, ◌≤◌, List, ◌∷◌, Option, Some, None, refl, subst, inl, inr, ⊎_elim}
 use Rattle.std.specs.Prelude.{IfSome, IsSome, IsSomeAnd}
 use Rattle.disk_model.specs.Crashes.{During}
 use Rattle.disk_model.specs.Moments.{images_during}
 use Rattle.obs_journal.specs.Parcels.{RawParcel}
 use Rattle.obs_journal.specs.Files.{Spells}
 use Rattle.obs_journal.specs.Chains.{IsInForce, IsChain}
-use Rattle.obs_journal.specs.Moves.{IsIdle, IsCarried, IsCarriedInto}
+use Rattle.obs_journal.specs.Moves.{IsIdle, IsCarriedInto}
 use Rattle.obs_journal.specs.Opening.{SpellsAlike}
 use Rattle.act_model.specs.declared.entry.Entry.{Entry}
 use Rattle.act_model.specs.declared.keeper.OfficeState.{OfficeState}
 use Rattle.mpc_desk.specs.Desks.{RestsAt}
 use Rattle.mpc_desk.specs.Disks.{DiskWords}
 use Rattle.mpc_desk.specs.Files.{parcels_in, AreActs, Stands, StandsFirst}
-use Rattle.mpc_desk.specs.Pairs.{FilePair, StandBoth, SpellBoth, AreReadAlike, RestBoth, DiskPair, AreRead, AreLeft, AreSince, AreLikeLeft, DuringBoth}
+use Rattle.mpc_desk.specs.Pairs.{FilePair, StandBoth, SpellBoth, AreReadAlike, RestBoth, DiskPair, AreLikeLeft, DuringBoth}
 use Rattle.mpc_desk.specs.PairLaws.{force_or_idle, read_alike_self}
 use Rattle.mpc_desk.specs.Opening.{SpellAlike, IsCarriedOver}
 use Rattle.mpc_desk.proofs.OneHistory.{one_first, one_second}

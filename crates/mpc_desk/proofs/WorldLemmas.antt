@@ -19,7 +19,7 @@ use Rattle.act_model.specs.Turns.{Turn, at_rest, Mends, IsTurn}
 use Rattle.act_model.specs.Worlds.{WorldState, running_world, new_office, Event, Received, Lost, ComesToRest, LeavesInside, Happens, World, AreStillAcknowledged}
 use Rattle.act_model.specs.Worlds as worlds
 use Rattle.mpc_desk.specs.Files.{Stands}
-use Rattle.mpc_desk.specs.Desks.{DeskState, DeskAct, RestsAt, IsAtRest, MayLeave, FailsOn, ActsOn, turn_in}
+use Rattle.mpc_desk.specs.Desks.{DeskAct, RestsAt, IsAtRest, MayLeave, FailsOn, ActsOn, turn_in}
 use Rattle.mpc_desk.specs.Disks.{DiskWords}
 use Rattle.mpc_desk.specs.Events.{IsAct, IsMending}
 use Rattle.mpc_desk.specs.Opening.{IsOpened, EndsOpening, disks_after}

@@ -1,7 +1,6 @@
 -- Designations that are new to links, given one after the other.
-use Rattle.std.proofs.Common.{◌≡◌, ℕ, List, [], ◌∷◌, None, ◌∙◌}
+use Rattle.std.proofs.Common.{◌≡◌, ℕ, List, ◌∷◌, None, ◌∙◌}
 use Rattle.packed_names.specs.declared.half_month.HalfMonth.{HalfMonth}
-use Rattle.packed_names.specs.declared.name.Designation.{Designation}
 use Rattle.packed_names.specs.declared.name.Designation.TheVariants.{Provisional}
 use Rattle.identify_core.specs.declared.link.Link.{Link}
 use Rattle.identify_core.specs.Acts.{LinkAct}

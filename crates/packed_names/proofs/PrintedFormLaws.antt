@@ -10,7 +10,7 @@ use Rattle.ascii_text.specs.declared.digits.Radix.TheVariants.{Ten}
 use Rattle.ascii_text.specs.Digits.{digits_text}
 use Rattle.ascii_text.specs.Reading.{bind_some, ◌>>=◌, behind, digit_run, number_at, digits_at}
 use Rattle.packed_names.specs.declared.survey.Survey.{Survey}
-use Rattle.packed_names.specs.declared.survey.Survey.TheVariants.{PalomarLeiden, T1, T2, T3}
+use Rattle.packed_names.specs.declared.survey.Survey.TheVariants.{PalomarLeiden}
 use Rattle.packed_names.specs.Ends.{whole}
 use Rattle.packed_names.specs.Printed.{cycle_text, suffix, survey_text, half_text, provisional_text, FitsPrintedHalf, FitsPrinted}
 use Rattle.packed_names.specs.PrintedReading.{number_in, cycle_in, suffix_of, suffix_in, survey_in, half_at, half_in, provisional_in}

@@ -1,4 +1,4 @@
-use Rattle.std.proofs.Common.{◌≡◌, Result, List, Ok, Err, refl, ◌∙◌, ap, sym, subst}
+use Rattle.std.proofs.Common.{◌≡◌, Ok, refl, ◌∙◌, ap, sym, subst}
 use Rattle.act_model.specs.declared.query.Query.{Query}
 use Rattle.act_model.specs.declared.query.Query.TheVariants as query
 use Rattle.act_model.specs.Catalogue.{catalogue}

@@ -1,4 +1,4 @@
-use Rattle.std.proofs.Common.{None, Some, inl, sym, ◌∙◌}
+use Rattle.std.proofs.Common.{None, Some, inl}
 use Rattle.desk_core.proofs.ClaimLemmas.{heard_asked, heard_who}
 use Rattle.desk_core.proofs.hearing.hear.Goals as goal
 

@@ -1,4 +1,4 @@
-use Rattle.std.proofs.Common.{◌≡◌, List, ℕ, [], ◌∷◌, ◌++◌, drop, take, ◌+◌, sym, ap, subst, ◌∙◌}
+use Rattle.std.proofs.Common.{◌≡◌, List, ℕ, drop, take, ◌+◌, sym, subst, ◌∙◌}
 use Rattle.act_bodies.specs.declared.key.Key.{Key}
 use Rattle.obs_journal.specs.declared.opening.Placed.{Placed}
 use Rattle.obs_journal.specs.Opening.{parcels_of}

@@ -1,5 +1,5 @@
-use Rattle.std.proofs.Common.{◌≡◌, ◌<◌, ◌+◌, List, ℕ, sym, ap, subst, ◌∙◌, inl, inr, refl, arith}
-use Rattle.std.specs.Prelude.{◌^◌, Err}
+use Rattle.std.proofs.Common.{◌≡◌, List, ap, subst, ◌∙◌, inl, inr, refl, arith}
+use Rattle.std.specs.Prelude.{Err}
 use Rattle.obs_journal.specs.declared.opening.Placed.{Placed}
 use Rattle.obs_journal.specs.declared.fault.OpenFault.{OpenFault}
 use Rattle.obs_journal.specs.declared.fault.OpenFault.TheVariants.{Damaged}

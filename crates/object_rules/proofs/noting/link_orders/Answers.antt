@@ -1,4 +1,4 @@
-use Rattle.std.proofs.Common.{◌≡◌, ◌+◌, List, ◌∷◌, length, drop, get_or, ap, sym, subst, ◌∙◌, arith}
+use Rattle.std.proofs.Common.{◌+◌, List, ◌∷◌, length, drop, get_or, ap, sym, subst, ◌∙◌, arith}
 use Rattle.std.proofs.lemmas.List.{drop_more}
 use Rattle.packed_names.specs.declared.provisional.Provisional.{Provisional as ProvisionalName}
 use Rattle.packed_names.specs.declared.name.Designation.TheVariants.{Provisional}

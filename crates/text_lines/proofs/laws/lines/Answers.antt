@@ -1,5 +1,4 @@
-use Rattle.std.proofs.Common.{◌++◌, refl, ◌∙◌}
-use Rattle.std.specs.Str.Lines.{lines}
+use Rattle.std.proofs.Common.{refl, ◌∙◌}
 use Rattle.std.proofs.lemmas.List.{append-nil, nil_from_length}
 use Rattle.text_lines.specs.Pieces.{complete_lines, unfinished}
 use Rattle.text_lines.proofs.LineCuts.{lines_whole, complete_none, unfinished_whole, each_cut, any_cut, one_piece, complete_by, unfinished_by, lines_by, lines_end, few_by, unfinished_none}

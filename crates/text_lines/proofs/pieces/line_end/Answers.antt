@@ -1,4 +1,4 @@
-use Rattle.std.proofs.Common.{◌∷◌, []}
+use Rattle.std.proofs.Common.{◌∷◌}
 use Rattle.std.proofs.Math.Seq.{take-append-add}
 use Rattle.text_lines.proofs.LineCuts.{complete_stays, unfinished_stays, unfinished-feed}
 use Rattle.text_lines.proofs.pieces.line_end.Goals as goal

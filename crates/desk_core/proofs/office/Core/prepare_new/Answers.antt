@@ -1,6 +1,6 @@
-use Rattle.std.proofs.Common.{None, Some, inr, sym, ap, ◌∙◌}
+use Rattle.std.proofs.Common.{Some, sym, ap, ◌∙◌}
 use Rattle.act_model.specs.Hearing.{asked_of}
-use Rattle.desk_core.proofs.ClaimLemmas.{if_refused, if_taken}
+use Rattle.desk_core.proofs.ClaimLemmas.{if_refused}
 use Rattle.desk_core.proofs.Working.{within_refused, within_row}
 use Rattle.desk_core.proofs.office.Core.prepare_new.Goals as goal
 

@@ -3,7 +3,7 @@ use Rattle.std.specs.Prelude.{is_some}
 use Rattle.std.proofs.lemmas.Int.{to_z-of_z}
 use Rattle.obs_time.specs.Instants.{IsInstantNs}
 use Rattle.act_model.specs.declared.entry.Entry.{Entry}
-use Rattle.desk_core.proofs.ReplayLemmas.{comes_back, stays_out, never_follows, may_come, same_fault}
+use Rattle.desk_core.proofs.ReplayLemmas.{comes_back, stays_out, never_follows, same_fault}
 use Rattle.desk_core.proofs.office.Core.replay.Goals as goal
 
 pub returns-then-not-may_follow-clause-not_legal : goal.returns-then-not-may_follow-clause-not_legal

@@ -2,7 +2,7 @@ use Rattle.std.proofs.Common.{◌≡◌, ℕ, true, false, ap, sym, ◌∙◌}
 use Rattle.act_model.specs.declared.reply.Refusal.TheVariants.{OtherRequest}
 use Rattle.act_model.specs.declared.reply.Reply.TheVariants.{Refused}
 use Rattle.act_model.specs.Step.{Keeps, is_resend}
-use Rattle.desk_core.proofs.ClaimLemmas.{act_unheard, act_other}
+use Rattle.desk_core.proofs.ClaimLemmas.{act_other}
 use Rattle.desk_core.proofs.ResendLemmas.{StandsAt, stands_at, act_again}
 use Rattle.desk_core.proofs.office.Core.reply_again.Goals as goal
 

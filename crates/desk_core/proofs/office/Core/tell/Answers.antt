@@ -1,8 +1,5 @@
-use Rattle.std.proofs.Common.{◌≡◌, Result, List, ℕ, Err, inl, sym, subst}
-use Rattle.std.specs.Prelude.{IfErr}
-use Rattle.act_model.specs.declared.reply.Refusal.{Refusal}
-use Rattle.act_model.specs.Rows.{IsDue}
-use Rattle.desk_core.proofs.ClaimLemmas.{told_heard, told_unheard, if_refused}
+use Rattle.std.proofs.Common.{inl}
+use Rattle.desk_core.proofs.ClaimLemmas.{told_unheard, if_refused}
 use Rattle.desk_core.proofs.office.Core.tell.Goals as goal
 
 pub returns-in-Err-clause-due : goal.returns-in-Err-clause-due

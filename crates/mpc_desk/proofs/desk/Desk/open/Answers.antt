@@ -1,4 +1,4 @@
-use Rattle.std.proofs.Common.{◌≡◌, ℕ, List, Bool, Ok, refl, ap, subst, ◌∙◌, le_refl}
+use Rattle.std.proofs.Common.{Bool, Ok, refl, ap, subst, ◌∙◌, le_refl}
 use Rattle.std.specs.Prelude.{IfSome}
 use Rattle.disk_model.specs.Moments.{during_nothing}
 use Rattle.obs_journal.specs.declared.fault.OpenFault.TheVariants.{DiskFault, NoMemory}
