@@ -50,8 +50,8 @@ module _ {D : Type 0} (on : DiskWords D) (course : Course D) (Uncalled : Type 0)
   fault_rises (inl idle) = unopened_rises idle.1
   fault_rises (inr (turns, all, runs)) =
       let r = runs.register in
-      let some = r.closes.rose in
-      inr (rises_by (on.faults course.register.old) (on.faults course.register.new) (r.opening + rises_of turns + r.mending) (omega (arith, some)) r.counts)
+      let some = r.run.closes.rose in
+      inr (rises_by (on.faults course.register.old) (on.faults course.register.new) (r.opening + rises_of turns + r.run.mending) (omega (arith, some)) r.counts)
 
   pub disk_rises : (status : Status) → Ends on course Uncalled status → status ≡ DiskFault → ADiskRises
   disk_rises status ends is = fault_rises (subst (λ (s : Status). Ends on course Uncalled s) is ends)

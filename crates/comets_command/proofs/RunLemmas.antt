@@ -141,17 +141,19 @@ module _ (laws : RegisterLaws) {D : Type 0} (on : DiskWords D) (only_now : (disk
 
     pub register_on : RegisterOn on terms disk now turns Closes added
     register_on = record {
-      opened = opened;
-      opens = opens;
-      left = left;
-      conduct = conducted.conduct;
-      grows = grows terms (laws.grow terms.founder (Some terms.limit) terms.desk) start turns left.state conducted.conduct;
-      kept = on_disk.kept;
-      last = last;
-      mending = mending;
-      closes = closes;
-      closed = closed;
+      run = record {
+        opened = opened;
+        opens = opens;
+        left = left;
+        conduct = conducted.conduct;
+        grows = grows terms (laws.grow terms.founder (Some terms.limit) terms.desk) start turns left.state conducted.conduct;
+        last = last;
+        mending = mending;
+        closes = closes;
+        closed = closed;
+      };
       disk_is = disk_is;
+      kept = on_disk.kept;
       opening = in_opening;
       rose_opening = rise_between (on.faults disk) (on.faults opened.disk) opens.counts;
       counts = on_disk.counts;

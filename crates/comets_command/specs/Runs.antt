@@ -53,34 +53,40 @@ pub record IsLeft (terms : Terms) (first last : List Entry) (added : ℕ) : Type
   pub once : EachNumberOnce last
   pub names : UnbrokenNames terms.desk last
 
--- The register of a run, from its disk at the start to its disk at the end. It was opened there, at the entries that
--- the file held, none where it wasn't in force. The turns are a conduct from there, each of whose settled lists is an
--- end of every later one. What each turn left is in each image of the disk from the moment at which its reply was given
--- to the end. What is in doubt when serving has stopped is closed, and the disk is then at rest. The count of faults
--- rose by what it rose in opening, in the turns and in the last mending. What a crash at some moment of the run leaves
--- is what it might have left at the start, or what the conduct allows. Where the count didn't rise and no turn ran out
--- of memory, the conduct is the step, one after another.
-pub record RegisterOn {D : Type 0} (on : DiskWords D) (terms : Terms) (disk now : D) (turns : List CometTurn)
-    (Closes : OfficeState → ℕ → OfficeState → Type 0) (added : ℕ) : Type 0 where
+-- The register of a run. It was opened on its disk, at the entries that the file held, none where it wasn't in force.
+-- The turns are a conduct from there, each of whose settled lists is an end of every later one. What is in doubt when
+-- serving has stopped is closed, and the disk is then at rest.
+pub record RegisterRun {D : Type 0} (on : DiskWords D) (terms : Terms) (disk : D) (turns : List CometTurn)
+    (Closes : OfficeState → ℕ → OfficeState → Type 0) : Type 0 where
   pub opened : CometDeskState D
   pub opens : IsOpened on terms.founder terms.limit terms.desk disk opened
   pub left : CometDeskState D
   pub conduct : ConductIn terms (at_rest opened.state.settled) turns left.state
   pub grows : Grows terms (at_rest opened.state.settled) turns left.state conduct
-  pub kept : KeepsEach on now terms (at_rest opened.state.settled) turns left.state conduct opened.disk left.disk
   pub last : CometDeskState D
   pub mending : ℕ
   pub closes : Closes left.state mending last.state
   pub closed : IsClosed on mending left last
-  pub disk_is : now ≡ last.disk
+
+-- The register of a run, from its disk at the start to its disk at the end. What each turn left is in each image of the
+-- disk from the moment at which its reply was given to the end. The count of faults rose by what it rose in opening, in
+-- the turns and in the last mending. What a crash at some moment of the run leaves is what it might have left at the
+-- start, or what the conduct allows. Where the count didn't rise and no turn ran out of memory, the conduct is the
+-- step, one after another.
+pub record RegisterOn {D : Type 0} (on : DiskWords D) (terms : Terms) (disk now : D) (turns : List CometTurn)
+    (Closes : OfficeState → ℕ → OfficeState → Type 0) (added : ℕ) : Type 0 where
+  pub run : RegisterRun on terms disk turns Closes
+  pub disk_is : now ≡ run.last.disk
+  pub kept : KeepsEach on now terms (at_rest run.opened.state.settled) turns run.left.state run.conduct run.opened.disk
+      run.left.disk
   pub opening : ℕ
-  pub rose_opening : DiskRose on opening disk opened.disk
-  pub counts : DiskRose on (opening + rises_of turns + mending) disk now
+  pub rose_opening : DiskRose on opening disk run.opened.disk
+  pub counts : DiskRose on (opening + rises_of turns + run.mending) disk now
   pub images : During on.moment on.since disk now
-      (LeavesAt terms (at_rest opened.state.settled) turns left.state conduct)
-  pub is_left : IsLeft terms opened.state.settled last.state.settled added
+      (LeavesAt terms (at_rest run.opened.state.settled) turns run.left.state run.conduct)
+  pub is_left : IsLeft terms run.opened.state.settled run.last.state.settled added
   pub stepped : ¬ Rises (on.faults disk) (on.faults now) → HadMemory turns
-      → IsStepped terms.founder (Some terms.limit) terms.desk opened.state.settled turns last.state.settled
+      → IsStepped terms.founder (Some terms.limit) terms.desk run.opened.state.settled turns run.last.state.settled
 
 -- The office was opened to be read, and is kept with its history; the register was opened beside it, these turns were
 -- taken there, and what was in doubt was closed so.

@@ -39,8 +39,8 @@ module _ {D : Type 0} (on : DiskWords D) (course : Course D) (Uncalled : Type 0)
   fault_rises : Ends on course Uncalled DiskFault → EitherRises on course.disks course.disks_after
   fault_rises (inl (idle, (rise, some, shut))) = risen_rises rise some shut.counts
   fault_rises (inr (turns, all, runs)) =
-      let some = runs.closes.rose in
-      risen_rises (runs.opening + rises_of turns + runs.mending) (omega (arith, some)) runs.counts
+      let some = runs.office.closes.rose in
+      risen_rises (runs.opening + rises_of turns + runs.office.mending) (omega (arith, some)) runs.counts
 
   pub disk_rises : (status : Status) → Ends on course Uncalled status → status ≡ DiskFault → EitherRises on course.disks course.disks_after
   disk_rises status ends is = fault_rises (subst (λ (s : Status). Ends on course Uncalled s) is ends)

@@ -154,17 +154,19 @@ module _ (laws : OfficeLaws) {D : Type 0} (on : DiskWords D) (only_now : (disk :
 
     pub runs_on : RunsOn on founder disks now turns Closes added
     runs_on = record {
-      opened = office;
-      opens = opens;
-      left = served;
-      conduct = conducted.conduct;
-      grows = grows founder (Some journal_bytes) (laws.grow founder (Some journal_bytes)) (at_rest opened.state.settled) turns served.state conducted.conduct;
-      kept = on_disks.kept;
-      last = last;
-      mending = mending;
-      closes = closes;
-      closed = closed;
+      office = record {
+        opened = office;
+        opens = opens;
+        left = served;
+        conduct = conducted.conduct;
+        grows = grows founder (Some journal_bytes) (laws.grow founder (Some journal_bytes)) (at_rest opened.state.settled) turns served.state conducted.conduct;
+        last = last;
+        mending = mending;
+        closes = closes;
+        closed = closed;
+      };
       disks_are = disks_are;
+      kept = on_disks.kept;
       opening = in_first + in_second;
       rose_opening = opening_counts;
       counts = on_disks.counts;

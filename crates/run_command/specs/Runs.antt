@@ -20,35 +20,41 @@ use Rattle.run_command.specs.Conducted.{LeavesBoth, Grows, KeepsEach}
 
 -- ---- the office
 
--- The office of a run, from the disks at its start to the disks at its end. It was opened on the disks, which stood for
--- a legal history, and the first one is then as opening left it. The turns are a conduct from there, each of whose
--- settled histories is an end of every later one. What each turn left is in each image of the second disk from the
--- moment at which its reply was given to the end. What is in doubt when serving has stopped is closed, and the second
--- disk is then at rest. The counts of faults rose together by what they rose in opening, in the turns and in the last
--- mending. What a crash at some moment of the run leaves is read like what it might have left at its start, or is what
--- the conduct allows. Where no count rose and no turn ran out of memory, the conduct is the step, one after another.
-pub record RunsOn {D : Type 0} (on : DiskWords D) (founder : Key) (disks now : DiskPair D) (turns : List Turn)
-    (Closes : OfficeState → ℕ → OfficeState → Type 0) (added : ℕ) : Type 0 where
+-- The office of a run. It was opened on the disks, which stood for a legal history. The turns are a conduct from there,
+-- each of whose settled histories is an end of every later one. What is in doubt when serving has stopped is closed,
+-- and the second disk is then at rest.
+pub record OfficeRun {D : Type 0} (on : DiskWords D) (founder : Key) (disks : DiskPair D) (turns : List Turn)
+    (Closes : OfficeState → ℕ → OfficeState → Type 0) : Type 0 where
   pub opened : PairState D
   pub opens : Opens on founder disks opened
   pub left : DeskState D
   pub conduct : Conduct founder (Some journal_bytes) (at_rest opened.chained.state.settled) turns left.state
   pub grows : Grows founder (Some journal_bytes) (at_rest opened.chained.state.settled) turns left.state conduct
-  pub kept : KeepsEach on now.second founder (Some journal_bytes) (at_rest opened.chained.state.settled) turns
-      left.state conduct opened.chained.disk left.disk
   pub last : DeskState D
   pub mending : ℕ
   pub closes : Closes left.state mending last.state
   pub closed : IsClosed on mending left last
-  pub disks_are : now ≡ pair opened.first last.disk
+
+-- The office of a run, from the disks at its start to the disks at its end, of which the first one is as opening left
+-- it. What each turn left is in each image of the second disk from the moment at which its reply was given to the end.
+-- The counts of faults rose together by what they rose in opening, in the turns and in the last mending. What a crash
+-- at some moment of the run leaves is read like what it might have left at its start, or is what the conduct allows.
+-- Where no count rose and no turn ran out of memory, the conduct is the step, one after another.
+pub record RunsOn {D : Type 0} (on : DiskWords D) (founder : Key) (disks now : DiskPair D) (turns : List Turn)
+    (Closes : OfficeState → ℕ → OfficeState → Type 0) (added : ℕ) : Type 0 where
+  pub office : OfficeRun on founder disks turns Closes
+  pub disks_are : now ≡ pair office.opened.first office.last.disk
+  pub kept : KeepsEach on now.second founder (Some journal_bytes) (at_rest office.opened.chained.state.settled) turns
+      office.left.state office.conduct office.opened.chained.disk office.left.disk
   pub opening : ℕ
-  pub rose_opening : HaveRisen on opening disks (disks_of opened)
-  pub counts : HaveRisen on (opening + rises_of turns + mending) disks now
+  pub rose_opening : HaveRisen on opening disks (disks_of office.opened)
+  pub counts : HaveRisen on (opening + rises_of turns + office.mending) disks now
   pub images : DuringBoth on disks now
-      (LeavesBoth founder (Some journal_bytes) (at_rest opened.chained.state.settled) turns left.state conduct)
-  pub is_left : IsLeft opened.chained.state.settled last.state.settled added
+      (LeavesBoth founder (Some journal_bytes) (at_rest office.opened.chained.state.settled) turns office.left.state
+      office.conduct)
+  pub is_left : IsLeft office.opened.chained.state.settled office.last.state.settled added
   pub stepped : ¬ EitherRises on disks now → HadMemory turns
-      → IsStepped founder (Some journal_bytes) opened.chained.state.settled turns last.state.settled
+      → IsStepped founder (Some journal_bytes) office.opened.chained.state.settled turns office.last.state.settled
 
 -- the office wasn't opened: nothing was served, and no byte came and none was written
 pub record ServesNothing (run : Run) (Uncalled : Type 0) : Type 0 where

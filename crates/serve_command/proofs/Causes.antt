@@ -88,15 +88,15 @@ module _ {D I O : Type 0} (on : DiskWords D) (links : LinkWords I O) (start : Ru
     (Uncalled Unasked Unwritten : Type 0) (ran : Ends on links start end Uncalled Unasked Unwritten) where
   -- the lines that are written where nothing failed
   abbrev lines_of : Runs on links start end Unasked Unwritten → List ℕ
-  lines_of r = summary (length end.ends) (length r.last.state.settled)
+  lines_of r = summary (length end.ends) (length r.service.last.state.settled)
 
   pub door_caused : end.status ≡ DoorFault → Rises start.door.faults end.door.faults
   door_caused is = by ran
     where
-      of_run : (r : Runs on links start end Unasked Unwritten) → Writes (first_fault r.stop r.mended) Unwritten start.taken end.taken (lines_of r) end.status → Rises start.door.faults end.door.faults
+      of_run : (r : Runs on links start end Unasked Unwritten) → Writes (first_fault r.service.stop r.service.mended) Unwritten start.taken end.taken (lines_of r) end.status → Rises start.door.faults end.door.faults
       of_run r (inl (good, lines)) = absurd (subst (WritesLines start.taken end.taken (lines_of r)) is lines)
       of_run r (inr (bad, same, unwritten)) =
-          door_failed on r.left r.last start.most (map link_of r.serves.attendances) start.door end.door r.stop r.mended r.serves.stops r.mends (sym same ∙ is)
+          door_failed on r.service.left r.service.last start.most (map link_of r.service.serves.attendances) start.door end.door r.service.stop r.service.mended r.service.serves.stops r.service.mends (sym same ∙ is)
 
       by : Ends on links start end Uncalled Unasked Unwritten → Rises start.door.faults end.door.faults
       by (inl (uncalled, unopened)) = absurd (subst (λ (s : Status). EndsUnopened on start.founder start.disks end.disks end.added s) is unopened)
@@ -105,11 +105,11 @@ module _ {D I O : Type 0} (on : DiskWords D) (links : LinkWords I O) (start : Ru
   pub door_faultless : (Uncalled → end.door.faults ≡ start.door.faults) → (end.status ≡ DoorFault → ⊥) → end.door.faults ≡ start.door.faults
   door_faultless untouched never = by ran
     where
-      of_run : (r : Runs on links start end Unasked Unwritten) → Writes (first_fault r.stop r.mended) Unwritten start.taken end.taken (lines_of r) end.status → end.door.faults ≡ start.door.faults
+      of_run : (r : Runs on links start end Unasked Unwritten) → Writes (first_fault r.service.stop r.service.mended) Unwritten start.taken end.taken (lines_of r) end.status → end.door.faults ≡ start.door.faults
       of_run r (inl (good, lines)) =
-          door_held on r.left r.last start.most (map link_of r.serves.attendances) start.door end.door r.stop r.mended r.serves.stops (λ is. let no : Done ≡ DoorFault = sym good ∙ is in absurd cc)
+          door_held on r.service.left r.service.last start.most (map link_of r.service.serves.attendances) start.door end.door r.service.stop r.service.mended r.service.serves.stops (λ is. let no : Done ≡ DoorFault = sym good ∙ is in absurd cc)
       of_run r (inr (bad, same, unwritten)) =
-          door_held on r.left r.last start.most (map link_of r.serves.attendances) start.door end.door r.stop r.mended r.serves.stops (λ is. never (same ∙ is))
+          door_held on r.service.left r.service.last start.most (map link_of r.service.serves.attendances) start.door end.door r.service.stop r.service.mended r.service.serves.stops (λ is. never (same ∙ is))
 
       by : Ends on links start end Uncalled Unasked Unwritten → end.door.faults ≡ start.door.faults
       by (inl (uncalled, unopened)) = untouched uncalled
@@ -118,13 +118,13 @@ module _ {D I O : Type 0} (on : DiskWords D) (links : LinkWords I O) (start : Ru
   pub disk_caused : end.status ≡ DiskFault → EitherRises on start.disks end.disks
   disk_caused is = by ran
     where
-      of_run : (r : Runs on links start end Unasked Unwritten) → Writes (first_fault r.stop r.mended) Unwritten start.taken end.taken (lines_of r) end.status → EitherRises on start.disks end.disks
+      of_run : (r : Runs on links start end Unasked Unwritten) → Writes (first_fault r.service.stop r.service.mended) Unwritten start.taken end.taken (lines_of r) end.status → EitherRises on start.disks end.disks
       of_run r (inl (good, lines)) = absurd (subst (WritesLines start.taken end.taken (lines_of r)) is lines)
       of_run r (inr (bad, same, unwritten)) =
-          let m = disk_failed on r.left r.last start.most (map link_of r.serves.attendances) start.door end.door r.stop r.mended r.mends (sym same ∙ is) in
+          let m = disk_failed on r.service.left r.service.last start.most (map link_of r.service.serves.attendances) start.door end.door r.service.stop r.service.mended r.service.mends (sym same ∙ is) in
           inr
-          (subst (λ (d : DiskPair D). Rises (on.faults start.disks.second) (on.faults d.second)) (sym r.disks_are)
-          (rises_last (on.faults start.disks.second) (on.faults r.opened.chained.disk) (on.faults r.left.disk) (on.faults r.last.disk) _ m.0 r.opens.counts.second r.serves.grows.counts m.1.rose m.2.counts))
+          (subst (λ (d : DiskPair D). Rises (on.faults start.disks.second) (on.faults d.second)) (sym r.office.disks_are)
+          (rises_last (on.faults start.disks.second) (on.faults r.service.opened.chained.disk) (on.faults r.service.left.disk) (on.faults r.service.last.disk) _ m.0 r.service.opens.counts.second r.service.serves.grows.counts m.1.rose m.2.counts))
 
       by : Ends on links start end Uncalled Unasked Unwritten → EitherRises on start.disks end.disks
       by (inl (uncalled, unopened)) =
@@ -136,10 +136,10 @@ module _ {D I O : Type 0} (on : DiskWords D) (links : LinkWords I O) (start : Ru
   own_run : Runs on links start end Unasked Unwritten → IsOwn end.status
   own_run r = by r.writes
     where
-      by : Writes (first_fault r.stop r.mended) Unwritten start.taken end.taken (lines_of r) end.status → IsOwn end.status
+      by : Writes (first_fault r.service.stop r.service.mended) Unwritten start.taken end.taken (lines_of r) end.status → IsOwn end.status
       by (inl (good, lines)) =
           ⊎_elim (λ done. inl (subst IsFromMending (sym done) tt)) (λ failed. inr failed) (lines_end start.taken end.taken (lines_of r) end.status lines)
-      by (inr (bad, same, unwritten)) = inl (subst IsFromMending (sym same) (first_so on r.left r.last r.stop r.mended r.mends))
+      by (inr (bad, same, unwritten)) = inl (subst IsFromMending (sym same) (first_so on r.service.left r.service.last r.service.stop r.service.mended r.service.mends))
 
   -- a status that is of no end
   none_such : (s : Status) → (EndsUnopened on start.founder start.disks end.disks end.added s → ⊥) → (IsFromMending s → ⊥) → (s ≡ WriteFault → ⊥) → end.status ≡ s → ⊥

@@ -8,6 +8,7 @@ use Rattle.act_model.specs.Clocks.{ClockState}
 use Rattle.act_model.specs.Conducts.{EitherWay, Extends}
 use Rattle.act_model.specs.Legal.{IsLegal}
 use Rattle.intake_lock.specs.Items.{RisesBy, rises}
+use Rattle.intake_lock.specs.declared.view.Item.{Item}
 use Rattle.mpc_desk.specs.Desks.{DeskState, IsAtRest, count_of}
 use Rattle.mpc_desk.specs.Pairs.{DiskPair, pair, DuringBoth, HaveRisen, EitherRises, PairState, disks_of}
 use Rattle.command_ends.specs.declared.status.Status.{Status}
@@ -80,7 +81,7 @@ pub record RunEnd (D I O : Type 0) : Type 0 where
   pub added : ℕ
   pub status : Status
 
--- the counts of faults rose by at least so much together, each by itself
+-- the counts of faults rose by at least this much together, each by itself
 pub record HaveRisenBy {D : Type 0} (on : DiskWords D) (rise : ℕ) (old new : DiskPair D) : Type 0 where
   pub first : ℕ
   pub second : ℕ
@@ -88,20 +89,10 @@ pub record HaveRisenBy {D : Type 0} (on : DiskWords D) (rise : ℕ) (old new : D
   pub rises_first : RisesBy first (count_of (on.faults old.first)) (count_of (on.faults new.first))
   pub rises_second : RisesBy second (count_of (on.faults old.second)) (count_of (on.faults new.second))
 
--- The desk was opened, the links of the door were attended, an act in doubt was mended once, and the two lines were
--- written where nothing had failed. `Unasked` says that clock and door are as they were, which they are where memory
--- for the links was refused; `Unwritten` that the sink is.
---
--- What a crash at some moment of the call leaves is read like what it might have left at its start, or stands for a
--- legal history to which the office came, or for one entry more, which the step adds there for an act that a link asked
--- at that place. At the end each image of the second disk stands for the settled history, or for that with the act in
--- doubt; the first disk is as opening left it. That history is legal, extends the one at the opening, and has all that
--- every legal history has. The entry of each act that was done, also of one that was sent again, is in each image since
--- the moment at which it was answered, its stamp's. The counts of faults rose together by at least what they rose in
--- opening, in the calls for the links and in the last mending; where none rose no call is answered that the disk
--- failed.
-pub record Runs {D I O : Type 0} (on : DiskWords D) (links : LinkWords I O) (start : RunStart D I O)
-    (end : RunEnd D I O) (Unasked Unwritten : Type 0) : Type 0 where
+-- The desk was opened, the links of the door were attended, and an act in doubt was mended once. `Unasked` says that
+-- clock and door are as they were, which they are where memory for the links was refused.
+pub record ServesLinks {D I O : Type 0} (on : DiskWords D) (links : LinkWords I O) (start : RunStart D I O)
+    (end : RunEnd D I O) (Unasked : Type 0) : Type 0 where
   pub opened : PairState D
   pub opens : Opens on start.founder start.disks opened
   pub left : DeskState D
@@ -124,25 +115,47 @@ pub record Runs {D I O : Type 0} (on : DiskWords D) (links : LinkWords I O) (sta
   pub last : DeskState D
   pub mended : Status
   pub mends : MendsLast on left mended last
-  pub writes : Writes (first_fault stop mended) Unwritten start.taken end.taken
-      (summary (length end.ends) (length last.state.settled)) end.status
+
+-- What such a call, in which links asked these calls, leaves of the office that was opened so and closed so. What a
+-- crash at some moment of it leaves is read like what it might have left at its start, or stands for a legal history to
+-- which the office came, or for one entry more, which the step adds there for an act that a link asked at that place.
+-- At the end each image of the second disk stands for the settled history, or for that with the act in doubt; the first
+-- disk is as opening left it. That history is legal, extends the one at the opening, and has all that every legal
+-- history has. The entry of each act that was done, also of one that was sent again, is in each image since the moment
+-- at which it was answered, its stamp's.
+pub record LeavesOffice {D I O : Type 0} (on : DiskWords D) (start : RunStart D I O) (end : RunEnd D I O)
+    (calls : List Item) (opened : PairState D) (last : DeskState D) : Type 0 where
   pub disks_are : end.disks ≡ pair opened.first last.disk
   pub images : DuringBoth on start.disks end.disks
-      (LeavesInService on start.disks start.founder (Some opened.chained.limit)
-      (AskedBy (calls_in serves.attendances)) opened.chained.state.settled last.state.settled)
-  pub kept : AllByRecursion (KeepsDone on.moment on.since (AskedBy (calls_in serves.attendances)) opened.chained last)
-      (calls_in serves.attendances)
+      (LeavesInService on start.disks start.founder (Some opened.chained.limit) (AskedBy calls)
+      opened.chained.state.settled last.state.settled)
+  pub kept : AllByRecursion (KeepsDone on.moment on.since (AskedBy calls) opened.chained last) calls
   pub at_rest : IsAtRest on.leaves last
   pub legal : EitherWay (IsLegal start.founder) last.state
   pub grows : Extends opened.chained.state.settled last.state.settled
   pub is_left : IsLeft opened.chained.state.settled last.state.settled end.added
+
+-- The counts of faults rose together by at least what they rose in opening, in these calls for the links and in the
+-- last mending; where none rose no call is answered that the disk failed.
+pub record CountsFaults {D : Type 0} (on : DiskWords D) (old new : DiskPair D) (calls : List Item)
+    (opened : PairState D) (left last : DeskState D) : Type 0 where
   pub opening : ℕ
-  pub rose_opening : HaveRisen on opening start.disks (disks_of opened)
+  pub rose_opening : HaveRisen on opening old (disks_of opened)
   pub mending : ℕ
   pub rose_mending : DiskRose on mending left.disk last.disk
-  pub counts : HaveRisenBy on (opening + rises (calls_in serves.attendances) + mending) start.disks end.disks
-  pub quiet : ¬ EitherRises on start.disks end.disks
-      → AllByRecursion IsNoDiskFault (calls_in serves.attendances)
+  pub counts : HaveRisenBy on (opening + rises calls + mending) old new
+  pub quiet : ¬ EitherRises on old new → AllByRecursion IsNoDiskFault calls
+
+-- The links of the door were attended, the office is left so, and the two lines were written where nothing had failed.
+-- `Unwritten` says that the sink is as it was.
+pub record Runs {D I O : Type 0} (on : DiskWords D) (links : LinkWords I O) (start : RunStart D I O)
+    (end : RunEnd D I O) (Unasked Unwritten : Type 0) : Type 0 where
+  pub service : ServesLinks on links start end Unasked
+  pub office : LeavesOffice on start end (calls_in service.serves.attendances) service.opened service.last
+  pub faults : CountsFaults on start.disks end.disks (calls_in service.serves.attendances) service.opened service.left
+      service.last
+  pub writes : Writes (first_fault service.stop service.mended) Unwritten start.taken end.taken
+      (summary (length end.ends) (length service.last.state.settled)) end.status
 
 -- What stands at the end of the call. Either the office couldn't be opened, and `Uncalled` says that the sink, the
 -- clock and the door were not called and that there are no links; or it was opened, and the links were attended.

@@ -85,44 +85,50 @@ returns-clause-ends g c =
     answered c.attend_watched-desk.ensures.serves.2 in
     inr (
     record {
-      opened = office;
-      opens = opens;
-      left = left;
-      stop = c.attend_watched-desk.result.stop;
-      answered = c.attend_watched-desk.ensures.serves.0;
-      serves = serves;
-      unasked = λ is. let same = c.attend_watched-desk.ensures.unasked is in (same.1, same.0);
-      last = last;
-      mended = c.mend_last-mended.result;
-      mends = c.mend_last-mended.ensures;
-      writes = writes_as _ _ _ _ _ _ _ _ _ _ c.first_fault.ensures c.count_of.ensures c.entries-entries.ensures c.write_lines-status.ensures.writes;
-      disks_are = disks_are;
-      images = service_images on c.args.founder (AskedBy all) start end office left last opens.founder_is opens.images
-          (during_more opened.founder (Some opened.limit) (WasAsked answered) (AskedBy all) asks on.moment on.since opened.disk left.disk
-          opened.state.settled left.state.settled c.attend_watched-desk.ensures.serves.3)
-          closed.closed.no_image (mending_extends left.state last.state closed.rise closed.does) disks_are;
-      kept = kept_calls g.D.Disk.moment g.D.Disk.since (AskedBy all) opened left last c.beginnings.ensures.one
-          c.acknowledged_acts_are_kept.ensures
-          (record { stands = c.added_calls.ensures.stands; stamp = c.added_calls.ensures.stamp })
-          closed.closed.no_image (mending_extends left.state last.state closed.rise closed.does) answered
-          were all serves.grows.true_of serves.grows.stamped;
-      at_rest = closed.closed.at_rest;
-      legal = legal;
-      grows = grows;
-      is_left = record {
-        entries = omega (arith, c.entries-before.ensures, c.entries-entries.ensures);
-        once = c.legal_numbers_once.ensures c.args.founder last.state.settled legal.0;
-        places = c.one_place.ensures last.state.settled;
-        rows = c.unbroken_rows.ensures last.state.settled;
-        numbers = c.unbroken_numbers.ensures last.state.settled;
-        lines = c.lines_are_added.ensures opened.state.settled last.state.settled grows;
+      service = record {
+        opened = office;
+        opens = opens;
+        left = left;
+        stop = c.attend_watched-desk.result.stop;
+        answered = answered;
+        serves = serves;
+        unasked = λ is. let same = c.attend_watched-desk.ensures.unasked is in (same.1, same.0);
+        last = last;
+        mended = c.mend_last-mended.result;
+        mends = c.mend_last-mended.ensures;
       };
-      opening = in_first + in_second;
-      rose_opening = rose;
-      mending = closed.rise;
-      rose_mending = closed.closed.counts;
-      counts = counts;
-      quiet = λ never. quiet_calls (calls_in serves.attendances)
-          (no_call_rose (faults c.args.second) (faults last.disk) in_second calls closed.rise (λ rises. never (inr (subst (λ d. Rises (faults c.args.second) (faults d.second)) (sym disks_are) rises))) second_counts) serves.causes;
+      office = record {
+        disks_are = disks_are;
+        images = service_images on c.args.founder (AskedBy all) start end office left last opens.founder_is opens.images
+            (during_more opened.founder (Some opened.limit) (WasAsked answered) (AskedBy all) asks on.moment on.since opened.disk left.disk
+            opened.state.settled left.state.settled c.attend_watched-desk.ensures.serves.3)
+            closed.closed.no_image (mending_extends left.state last.state closed.rise closed.does) disks_are;
+        kept = kept_calls g.D.Disk.moment g.D.Disk.since (AskedBy all) opened left last c.beginnings.ensures.one
+            c.acknowledged_acts_are_kept.ensures
+            (record { stands = c.added_calls.ensures.stands; stamp = c.added_calls.ensures.stamp })
+            closed.closed.no_image (mending_extends left.state last.state closed.rise closed.does) answered
+            were all serves.grows.true_of serves.grows.stamped;
+        at_rest = closed.closed.at_rest;
+        legal = legal;
+        grows = grows;
+        is_left = record {
+          entries = omega (arith, c.entries-before.ensures, c.entries-entries.ensures);
+          once = c.legal_numbers_once.ensures c.args.founder last.state.settled legal.0;
+          places = c.one_place.ensures last.state.settled;
+          rows = c.unbroken_rows.ensures last.state.settled;
+          numbers = c.unbroken_numbers.ensures last.state.settled;
+          lines = c.lines_are_added.ensures opened.state.settled last.state.settled grows;
+        };
+      };
+      faults = record {
+        opening = in_first + in_second;
+        rose_opening = rose;
+        mending = closed.rise;
+        rose_mending = closed.closed.counts;
+        counts = counts;
+        quiet = λ never. quiet_calls all
+            (no_call_rose (faults c.args.second) (faults last.disk) in_second calls closed.rise (λ rises. never (inr (subst (λ d. Rises (faults c.args.second) (faults d.second)) (sym disks_are) rises))) second_counts) serves.causes;
+      };
+      writes = writes_as _ _ _ _ _ _ _ _ _ _ c.first_fault.ensures c.count_of.ensures c.entries-entries.ensures c.write_lines-status.ensures.writes;
     }
     )
