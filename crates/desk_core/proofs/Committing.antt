@@ -76,20 +76,23 @@ module _ (items : List Filed) (f : Filed) (ready : Ready) (at : IsReadyAt (histo
 pub used : (deed : Deed) (room room' callers callers' : ℕ) → UsesOne room room' → UsesOne callers callers' → (obs obs' tr tr' : ℕ) (o o' : ObjectsValue) → UsesObjects deed o o' → obs ≤ obs' + added_by deed → tr ≤ tr' + added_by deed
     → obs' ≤ obs → tr' ≤ tr + homed_by deed
     → UsesRoom deed (record { entries = room; callers = callers; observations = obs; tracklets = tr; rows = o.row_room; links = o.link_room; register = o.register_room }) (record { entries = room'; callers = callers'; observations = obs'; tracklets = tr'; rows = o'.row_room; links = o'.link_room; register = o'.register_room })
-used deed room room' callers callers' one caller obs obs' tr tr' o o' objects observations tracklets no_observations no_tracklets =
-    record {
-      entries = one.0;
-      callers = caller.0;
-      observations = observations;
-      tracklets = tracklets;
-      rows = objects.rows.0;
-      links = objects.links;
-      register = objects.register;
-      no_more_entries = one.1;
-      no_more_callers = caller.1;
-      no_more_observations = no_observations;
-      no_more_tracklets = no_tracklets;
-      no_more_rows = objects.rows.1;
-      no_more_links = objects.no_more_links;
-      no_more_register = objects.no_more_register;
-    }
+used deed room room' callers callers' one caller obs obs' tr tr' o o' objects observations tracklets no_observations no_tracklets = (
+  record {
+    entries = one.0;
+    callers = caller.0;
+    observations = observations;
+    tracklets = tracklets;
+    rows = objects.rows.0;
+    links = objects.links;
+    register = objects.register;
+  },
+  record {
+    entries = one.1;
+    callers = caller.1;
+    observations = no_observations;
+    tracklets = no_tracklets;
+    rows = objects.rows.1;
+    links = objects.no_more_links;
+    register = objects.no_more_register;
+  },
+)

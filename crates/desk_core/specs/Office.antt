@@ -113,9 +113,8 @@ pub record IsRoomFor (deed : Deed) (room : Room) : Type 0 where
   pub links : linked_by deed ≤ room.links
   pub register : registered_by deed ≤ room.register
 
--- what such an entry used of the room: no more than it may need. No memory was taken: there is more room than before
--- only where a deed gave some back, an index entry of a tracklet or one of the register
-pub record UsesRoom (deed : Deed) (old new : Room) : Type 0 where
+-- such an entry used no more of the room than it may need
+pub record UsesAtMost (deed : Deed) (old new : Room) : Type 0 where
   pub entries : old.entries ≤ new.entries + 1
   pub callers : old.callers ≤ new.callers + 1
   pub observations : old.observations ≤ new.observations + added_by deed
@@ -123,10 +122,18 @@ pub record UsesRoom (deed : Deed) (old new : Room) : Type 0 where
   pub rows : old.rows ≤ new.rows + 1
   pub links : old.links ≤ new.links + linked_by deed
   pub register : old.register ≤ new.register + registered_by deed
-  pub no_more_entries : new.entries ≤ old.entries
-  pub no_more_callers : new.callers ≤ old.callers
-  pub no_more_observations : new.observations ≤ old.observations
-  pub no_more_tracklets : new.tracklets ≤ old.tracklets + homed_by deed
-  pub no_more_rows : new.rows ≤ old.rows
-  pub no_more_links : new.links ≤ old.links
-  pub no_more_register : new.register ≤ old.register + returned_by deed
+
+-- No memory was taken: there is more room than before only where a deed gave some back, an index entry of a tracklet or
+-- one of the register.
+pub record GivesBackAtMost (deed : Deed) (old new : Room) : Type 0 where
+  pub entries : new.entries ≤ old.entries
+  pub callers : new.callers ≤ old.callers
+  pub observations : new.observations ≤ old.observations
+  pub tracklets : new.tracklets ≤ old.tracklets + homed_by deed
+  pub rows : new.rows ≤ old.rows
+  pub links : new.links ≤ old.links
+  pub register : new.register ≤ old.register + returned_by deed
+
+-- what such an entry used of the room, and what it gave back
+abbrev pub UsesRoom : Deed → Room → Room → Type 0
+UsesRoom deed old new = UsesAtMost deed old new × GivesBackAtMost deed old new
