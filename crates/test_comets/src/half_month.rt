@@ -6,7 +6,7 @@ use std::alloc::Global;
 use testkit_comets::comets_in_turn;
 use testkit_sessions::Part::{Digits, Number, Text};
 use testkit_sessions::{
-    Drive, FOUNDER, NoMemory, OBSERVER, Row, Script, Wrong, put, put_number, put_parts, text_of,
+    Drive, FOUNDER, NoMemory, OBSERVER, Script, Wrong, put, put_number, put_parts, text_of,
 };
 
 /// How many comets a half-month may have, how many objects 2024 E has, and how many tracklets there are, of which the
@@ -151,53 +151,40 @@ fn add_register(alloc: Global, script: &mut Script) -> Result<(), NoMemory> {
 
 /// The number that was refused is used for the next half-month. In the full one an object that has a name is told that,
 /// and one that isn't there that it isn't; what is sent again is answered again; and the last name is translated.
-const BESIDE: &[Row] = &[
-    (FOUNDER, 100, "comet", FA, "200 ", FA_GIVEN),
-    (FOUNDER, 101, "comet", EY3_AS_P, "409 ", EY3_HAS_ONE),
-    (FOUNDER, 101, "comet", EA4, "404 ", EA4_UNKNOWN),
-    (FOUNDER, 99, "comet", EY3, "200 ", EY3_GIVEN),
-    (FOUNDER, 0, "translate", E99_LINE, "200 ", EY3_LINE),
-];
+const BESIDE: &str = r#"
+> +founder-1 100 comet {"kind":"C","object":"2024 FA"}
+< 200 receipt 100
+comet C/2024 F1 CK24F010
+> +founder-1 101 comet {"kind":"P","object":"2024 EY3"}
+< 409 refused 20 AlreadyComet C/2024 E99
+> +founder-1 101 comet {"kind":"P","object":"2024 EA4"}
+< 404 refused 5 UnknownThing designation 2024 EA4
+> +founder-1 99 comet {"kind":"C","object":"2024 EY3"}
+< 200 receipt 99
+comet C/2024 E99 CK24E990
+> +founder-1 0 translate
+    CK24E990  C2024 03 15.12345 06 12 34.56 +23 45 01.2          19.5 V      703
+< 200
+     K24E03Y  C2024 03 15.12345 06 12 34.56 +23 45 01.2          19.5 V      703
+"#;
 
-const FA: &str = "{\"kind\":\"C\",\"object\":\"2024 FA\"}";
-
-const FA_GIVEN: &str = "receipt 100\ncomet C/2024 F1 CK24F010\n";
-
-const EY3_AS_P: &str = "{\"kind\":\"P\",\"object\":\"2024 EY3\"}";
-
-const EY3_HAS_ONE: &str = "refused 20 AlreadyComet C/2024 E99\n";
-
-const EA4: &str = "{\"kind\":\"P\",\"object\":\"2024 EA4\"}";
-
-const EA4_UNKNOWN: &str = "refused 5 UnknownThing designation 2024 EA4\n";
-
-const EY3: &str = "{\"kind\":\"C\",\"object\":\"2024 EY3\"}";
-
-const EY3_GIVEN: &str = "receipt 99\ncomet C/2024 E99 CK24E990\n";
-
-const E99_LINE: &str =
-    "    CK24E990  C2024 03 15.12345 06 12 34.56 +23 45 01.2          19.5 V      703\n";
-
-const EY3_LINE: &str =
-    "     K24E03Y  C2024 03 15.12345 06 12 34.56 +23 45 01.2          19.5 V      703\n";
-
-fn first_day(alloc: Global) -> Result<Script, NoMemory> {
+fn first_day(alloc: Global) -> Result<Script, Wrong> {
     let mut script = Script::new(alloc);
     for order in 1..=LIMIT {
         add_comet(alloc, &mut script, order)?;
     }
     add_full(alloc, &mut script, 100)?;
-    script.add_rows(BESIDE)?;
+    script.add_transcript(BESIDE)?;
     add_full(alloc, &mut script, 101)?;
     add_register(alloc, &mut script)?;
     Ok(script)
 }
 
-fn second_day(alloc: Global) -> Result<Script, NoMemory> {
+fn second_day(alloc: Global) -> Result<Script, Wrong> {
     let mut script = Script::new(alloc);
     add_register(alloc, &mut script)?;
     add_full(alloc, &mut script, 101)?;
-    script.add_rows(BESIDE)?;
+    script.add_transcript(BESIDE)?;
     Ok(script)
 }
 

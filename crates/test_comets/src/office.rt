@@ -3,7 +3,7 @@
 
 use std::alloc::Global;
 use testkit_sessions::Part::{Digits, Number, Text};
-use testkit_sessions::{Call, FOUNDER, NoMemory, OBSERVER, Row, Script, put, put_parts};
+use testkit_sessions::{Call, FOUNDER, NoMemory, OBSERVER, Script, Wrong, put, put_parts};
 
 /// Six tracklets of the first half of March 2024, of two observations each.
 const BATCH: &str = concat!(
@@ -26,39 +26,27 @@ const BATCH: &str = concat!(
 );
 
 /// Three objects of that half-month, and one that is carried over from elsewhere.
-const OFFICE: &[Row] = &[
-    (
-        FOUNDER,
-        6,
-        "designate",
-        "{\"tracklets\":[1,2]}",
-        "200 ",
-        "receipt 7\nobject 2024 EA K24E00A\n",
-    ),
-    (
-        FOUNDER,
-        7,
-        "designate",
-        "{\"tracklets\":[3,4]}",
-        "200 ",
-        "receipt 8\nobject 2024 EB K24E00B\n",
-    ),
-    (
-        FOUNDER,
-        8,
-        "designate",
-        "{\"tracklets\":[5,6]}",
-        "200 ",
-        "receipt 9\nobject 2024 EC K24E00C\n",
-    ),
-    (
-        FOUNDER,
-        9,
-        "opening",
-        "{\"carried\":[1],\"given\":1,\"half\":\"1998 S\"}",
-        "200 ",
-        "receipt 10\nobject 1998 SA J98S00A\n",
-    ),
+const OFFICE: &[&str] = &[
+    r#"
+> +founder-1 6 designate {"tracklets":[1,2]}
+< 200 receipt 7
+object 2024 EA K24E00A
+"#,
+    r#"
+> +founder-1 7 designate {"tracklets":[3,4]}
+< 200 receipt 8
+object 2024 EB K24E00B
+"#,
+    r#"
+> +founder-1 8 designate {"tracklets":[5,6]}
+< 200 receipt 9
+object 2024 EC K24E00C
+"#,
+    r#"
+> +founder-1 9 opening {"carried":[1],"given":1,"half":"1998 S"}
+< 200 receipt 10
+object 1998 SA J98S00A
+"#,
 ];
 
 /// How many objects the office may have.
@@ -105,10 +93,10 @@ pub(super) fn add_batch(
 }
 
 /// The session of an office with so many of the objects 2024 EA, 2024 EB, 2024 EC and 1998 SA.
-pub(super) fn office_with(alloc: Global, objects: usize) -> Result<Script, NoMemory> {
+pub(super) fn office_with(alloc: Global, objects: usize) -> Result<Script, Wrong> {
     let mut script = Script::begun(alloc)?;
     add_batch(alloc, &mut script, BATCH, 6, 12)?;
-    script.add_rows(OFFICE.get(..objects).unwrap_or(OFFICE))?;
+    script.add_transcripts(OFFICE.get(..objects).unwrap_or(OFFICE))?;
     Ok(script)
 }
 
@@ -126,34 +114,12 @@ pub(super) const EC: &str = "{\"kind\":\"C\",\"object\":\"2024 EC\"}";
 
 pub(super) const EA_AS_P: &str = "{\"kind\":\"P\",\"object\":\"2024 EA\"}";
 
-pub(super) const EC_AS_P: &str = "{\"kind\":\"P\",\"object\":\"2024 EC\"}";
-
 /// Acts on an object that the office doesn't have, and on the one that was carried over.
 pub(super) const EZ: &str = "{\"kind\":\"C\",\"object\":\"2024 EZ\"}";
 
 pub(super) const SA: &str = "{\"kind\":\"C\",\"object\":\"1998 SA\"}";
 
-/// The answers to the first and the second act, where they are on the first and the second object.
-pub(super) const EA_GIVEN: &str = "receipt 1\ncomet C/2024 E1 CK24E010\n";
-
-pub(super) const EB_GIVEN: &str = "receipt 2\ncomet P/2024 E2 PK24E020\n";
-
-/// Why an act is refused.
-pub(super) const EA_HAS_ONE: &str = "refused 20 AlreadyComet C/2024 E1\n";
-
-pub(super) const EZ_UNKNOWN: &str = "refused 5 UnknownThing designation 2024 EZ\n";
-
-pub(super) const SA_CARRIED: &str = "refused 19 NoDiscovery 1998 SA\n";
-
-pub(super) const OTHER_REQUEST: &str = "refused 3 OtherRequest receipt 1\n";
-
-pub(super) const UNKNOWN_KEY: &str = "refused 2 UnknownKey\n";
-
 pub(super) const UNREAD_BODY: &str = "refused 1 Unread body\n";
-
-pub(super) const UNREAD_NUMBER: &str = "refused 1 Unread number\n";
-
-pub(super) const UNREAD_VERB: &str = "refused 1 Unread verb\n";
 
 /// The objects of the acts with the numbers 1, 2 and 3, each with its act and the kind of comet that it is.
 const NAMED: [(&str, &str, &str); 3] = [

@@ -1,40 +1,45 @@
 //! Keys, bodies and sizes at which a register refuses a request, and those that it just takes.
 
-use crate::office::{
-    EA, EA_GIVEN, EA_HAS_ONE, EB, EB_GIVEN, EC, EZ, OBJECTS, OTHER_REQUEST, SA, SA_CARRIED,
-    UNKNOWN_KEY, UNREAD_BODY, UNREAD_NUMBER, UNREAD_VERB, comets_of, office_with,
-};
+use crate::office::{OBJECTS, UNREAD_BODY, comets_of, office_with};
 use std::alloc::Global;
 use testkit_comets::comets_in_turn;
-use testkit_sessions::{Drive, FOUNDER, NoMemory, Row, Script, Wrong, put};
+use testkit_sessions::{Drive, FOUNDER, NoMemory, Script, Wrong, put};
 
 const OFFICER: &str = "officer-1";
 
 /// Another officer, beside the founding one.
-const ENROLS: &[Row] = &[(
-    FOUNDER,
-    10,
-    "enrol",
-    "{\"key\":\"officer-1\",\"name\":\"Bea\",\"role\":\"officer\"}",
-    "200 ",
-    "receipt 11\ncaller 2\n",
-)];
+const ENROLS: &str = r#"
+> +founder-1 10 enrol {"key":"officer-1","name":"Bea","role":"officer"}
+< 200 receipt 11
+caller 2
+"#;
 
 /// The key of an officer is none of the register's, and neither is a key that begins or ends as the founding officer's.
 /// What can't be read is told first.
-const KEYS: &[Row] = &[
-    (OFFICER, 0, "register", "", "401 ", UNKNOWN_KEY),
-    (OFFICER, 0, "translate", "", "401 ", UNKNOWN_KEY),
-    (OFFICER, 1, "comet", EA, "401 ", UNKNOWN_KEY),
-    (OFFICER, 0, "comet", EA, "400 ", UNREAD_NUMBER),
-    (OFFICER, 1, "comet", "{}", "400 ", UNREAD_BODY),
-    (OFFICER, 1, "tally", "", "400 ", UNREAD_VERB),
-    ("founder-1", 0, "register", "", "401 ", UNKNOWN_KEY),
-    ("+founder-", 0, "register", "", "401 ", UNKNOWN_KEY),
-    ("+founder-12", 0, "register", "", "401 ", UNKNOWN_KEY),
-    ("+", 0, "register", "", "401 ", UNKNOWN_KEY),
-    (FOUNDER, 0, "register", "", "200 ", ""),
-];
+const KEYS: &str = r#"
+> officer-1 0 register
+< 401 refused 2 UnknownKey
+> officer-1 0 translate
+< 401 refused 2 UnknownKey
+> officer-1 1 comet {"kind":"C","object":"2024 EA"}
+< 401 refused 2 UnknownKey
+> officer-1 0 comet {"kind":"C","object":"2024 EA"}
+< 400 refused 1 Unread number
+> officer-1 1 comet {}
+< 400 refused 1 Unread body
+> officer-1 1 tally
+< 400 refused 1 Unread verb
+> founder-1 0 register
+< 401 refused 2 UnknownKey
+> +founder- 0 register
+< 401 refused 2 UnknownKey
+> +founder-12 0 register
+< 401 refused 2 UnknownKey
+> + 0 register
+< 401 refused 2 UnknownKey
+> +founder-1 0 register
+< 200
+"#;
 
 /// Bodies that say no comet.
 const UNREAD: &[&str] = &[
@@ -67,37 +72,35 @@ fn add_unread(script: &mut Script) -> Result<(), NoMemory> {
 }
 
 /// The members may stand in any order, with blanks between them; but what is sent again is the same to the byte. That
-/// the number was used is told before anything of the object.
-const BODIES: &[Row] = &[
-    (FOUNDER, 1, "comet", EA, "200 ", EA_GIVEN),
-    (FOUNDER, 1, "comet", EA_TURNED, "409 ", OTHER_REQUEST),
-    (FOUNDER, 1, "comet", EZ, "409 ", OTHER_REQUEST),
-    (FOUNDER, 1, "comet", SA, "409 ", OTHER_REQUEST),
-    (FOUNDER, 1, "comet", "{}", "400 ", UNREAD_BODY),
-    (FOUNDER, 2, "comet", EA_TURNED, "409 ", EA_HAS_ONE),
-    (FOUNDER, 2, "comet", SA_AS_P, "409 ", SA_CARRIED),
-    (FOUNDER, 2, "comet", SURVEYED, "404 ", SURVEYED_UNKNOWN),
-    (FOUNDER, 2, "comet", EB_SPACED, "200 ", EB_GIVEN),
-    (FOUNDER, 2, "comet", EB, "409 ", OTHER_THAN_2),
-    (FOUNDER, LAST_NUMBER, "comet", EC, "200 ", EC_GIVEN),
-];
-
-const EA_TURNED: &str = "{\"object\":\"2024 EA\",\"kind\":\"C\"}";
-
-const SA_AS_P: &str = "{\"kind\":\"P\",\"object\":\"1998 SA\"}";
-
-const SURVEYED: &str = "{\"kind\":\"P\",\"object\":\"2040 P-L\"}";
-
-const SURVEYED_UNKNOWN: &str = "refused 5 UnknownThing designation 2040 P-L\n";
-
-const EB_SPACED: &str = " {\"kind\": \"P\", \"object\": \"2024 EB\"}\n";
-
-const OTHER_THAN_2: &str = "refused 3 OtherRequest receipt 2\n";
-
-/// The greatest number that a request may have.
-const LAST_NUMBER: u64 = 999_999_999_999_999_999;
-
-const EC_GIVEN: &str = "receipt 3\ncomet C/2024 E3 CK24E030\n";
+/// the number was used is told before anything of the object. The last number is the greatest that a request may have.
+const BODIES: &str = r#"
+> +founder-1 1 comet {"kind":"C","object":"2024 EA"}
+< 200 receipt 1
+comet C/2024 E1 CK24E010
+> +founder-1 1 comet {"object":"2024 EA","kind":"C"}
+< 409 refused 3 OtherRequest receipt 1
+> +founder-1 1 comet {"kind":"C","object":"2024 EZ"}
+< 409 refused 3 OtherRequest receipt 1
+> +founder-1 1 comet {"kind":"C","object":"1998 SA"}
+< 409 refused 3 OtherRequest receipt 1
+> +founder-1 1 comet {}
+< 400 refused 1 Unread body
+> +founder-1 2 comet {"object":"2024 EA","kind":"C"}
+< 409 refused 20 AlreadyComet C/2024 E1
+> +founder-1 2 comet {"kind":"P","object":"1998 SA"}
+< 409 refused 19 NoDiscovery 1998 SA
+> +founder-1 2 comet {"kind":"P","object":"2040 P-L"}
+< 404 refused 5 UnknownThing designation 2040 P-L
+> +founder-1 2 comet
+ {"kind": "P", "object": "2024 EB"}
+< 200 receipt 2
+comet P/2024 E2 PK24E020
+> +founder-1 2 comet {"kind":"P","object":"2024 EB"}
+< 409 refused 3 OtherRequest receipt 2
+> +founder-1 999999999999999999 comet {"kind":"C","object":"2024 EC"}
+< 200 receipt 3
+comet C/2024 E3 CK24E030
+"#;
 
 /// Bodies of so many line feeds, which are too large: who sends them, under which number and verb, and how large they
 /// are. It is told before all else.
@@ -120,9 +123,11 @@ fn add_large(alloc: Global, script: &mut Script) -> Result<(), NoMemory> {
     Ok(())
 }
 
-const NAMED: &[Row] = &[(FOUNDER, 1, "comet", EB, "200 ", EB_FIRST)];
-
-const EB_FIRST: &str = "receipt 1\ncomet P/2024 E1 PK24E010\n";
+const NAMED: &str = r#"
+> +founder-1 1 comet {"kind":"P","object":"2024 EB"}
+< 200 receipt 1
+comet P/2024 E1 PK24E010
+"#;
 
 /// A line feed and a line of 80 bytes under a comet's name, and the same translated.
 const LAST: &str =
@@ -146,16 +151,16 @@ fn add_largest(alloc: Global, script: &mut Script) -> Result<(), NoMemory> {
 /// A session of the register that adds so many entries, beside an office with another officer.
 fn is_answered(alloc: Global, asked: &Script, added: u64) -> Result<(), Wrong> {
     let mut office = office_with(alloc, OBJECTS)?;
-    office.add_rows(ENROLS)?;
+    office.add_transcript(ENROLS)?;
     let calls = [office.call(11), comets_of(1, asked, added)];
     comets_in_turn(alloc, &Drive::EMPTY, &calls)
 }
 
 fn refused(alloc: Global) -> Result<(), Wrong> {
     let mut asked = Script::new(alloc);
-    asked.add_rows(KEYS)?;
+    asked.add_transcript(KEYS)?;
     add_unread(&mut asked)?;
-    asked.add_rows(BODIES)?;
+    asked.add_transcript(BODIES)?;
     is_answered(alloc, &asked, 3)
 }
 
@@ -167,7 +172,7 @@ fn keys_and_bodies_that_are_refused(rt: HostRuntime) {
 /// A comet is named, and then the large bodies come.
 fn large(alloc: Global) -> Result<(), Wrong> {
     let mut asked = Script::new(alloc);
-    asked.add_rows(NAMED)?;
+    asked.add_transcript(NAMED)?;
     add_large(alloc, &mut asked)?;
     add_largest(alloc, &mut asked)?;
     is_answered(alloc, &asked, 1)

@@ -1,15 +1,10 @@
 //! A register of comets beside an office, in whole sessions: what the founding officer is answered, lines that are
 //! translated, what is refused, and an object that is identified with another.
 
-use crate::office::{
-    EA, EA_AS_P, EA_GIVEN, EA_HAS_ONE, EB, EB_GIVEN, EC, EC_AS_P, EZ, EZ_UNKNOWN, OTHER_REQUEST,
-    SA, SA_CARRIED, UNKNOWN_KEY, UNREAD_BODY, UNREAD_NUMBER, UNREAD_VERB, add_batch, comets_of,
-};
+use crate::office::{UNREAD_BODY, add_batch, comets_of};
 use std::alloc::Global;
 use testkit_comets::comets_in_turn;
-use testkit_sessions::{
-    Call, Drive, ENROLMENT, FOUNDER, MODE, NoMemory, OBSERVER, Row, STATION, Script, Wrong,
-};
+use testkit_sessions::{Call, Drive, FOUNDER, NoMemory, Script, Wrong};
 
 /// Four tracklets of 2024 E and two of 1998 S, of two observations each, of which each second one is 13 hours after the
 /// one before.
@@ -37,76 +32,72 @@ const BATCH: &str = concat!(
 );
 
 /// What the office takes before its batch: it takes 1998 SA over, and counts the designations that 2010 Q gave.
-const BEGUN: &[Row] = &[
-    (FOUNDER, 1, "station", STATION, "200 ", "receipt 1\n"),
-    (FOUNDER, 2, "code", MODE, "200 ", "receipt 2\n"),
-    (FOUNDER, 3, "code", CATALOGUE, "200 ", "receipt 3\n"),
-    (FOUNDER, 4, "enrol", ENROLMENT, "200 ", ENROLLED),
-    (FOUNDER, 5, "opening", OPENED_S, "200 ", OPENED_S_TEXT),
-    (FOUNDER, 6, "opening", OPENED_Q, "200 ", "receipt 6\n"),
-    (FOUNDER, 7, "code", BAND, "200 ", "receipt 7\n"),
-];
-
-const CATALOGUE: &str = "{\"kind\":\"catalogue\",\"letter\":\"W\",\"word\":\"Gaia3\"}";
-
-const ENROLLED: &str = "receipt 4\ncaller 1\n";
-
-const OPENED_S: &str = "{\"carried\":[1],\"given\":1,\"half\":\"1998 S\"}";
-
-const OPENED_S_TEXT: &str = "receipt 5\nobject 1998 SA J98S00A\n";
-
-const OPENED_Q: &str = "{\"carried\":[],\"given\":15500,\"half\":\"2010 Q\"}";
-
-const BAND: &str = "{\"kind\":\"band\",\"letter\":\"V\",\"word\":\"V\"}";
+const BEGUN: &str = r#"
+> +founder-1 1 station {"code":"703","from":"1998-01-01","name":"Catalina","to":"2199-12-31"}
+< 200 receipt 1
+> +founder-1 2 code {"kind":"mode","letter":"C","word":"CCD"}
+< 200 receipt 2
+> +founder-1 3 code {"kind":"catalogue","letter":"W","word":"Gaia3"}
+< 200 receipt 3
+> +founder-1 4 enrol {"key":"observer-1","name":"Ann","role":"observer"}
+< 200 receipt 4
+caller 1
+> +founder-1 5 opening {"carried":[1],"given":1,"half":"1998 S"}
+< 200 receipt 5
+object 1998 SA J98S00A
+> +founder-1 6 opening {"carried":[],"given":15500,"half":"2010 Q"}
+< 200 receipt 6
+> +founder-1 7 code {"kind":"band","letter":"V","word":"V"}
+< 200 receipt 7
+"#;
 
 /// After the batch it gives 2024 EA, EB and EC, and the first designation that has an underscore.
-const GIVEN: &[Row] = &[
-    (FOUNDER, 8, "designate", TRACKS_1, "200 ", GIVEN_EA),
-    (FOUNDER, 9, "designate", TRACKS_3, "200 ", GIVEN_EB),
-    (FOUNDER, 10, "designate", TRACKS_5, "200 ", GIVEN_EC),
-    (FOUNDER, 11, "designate", TRACKS_7, "200 ", GIVEN_QA),
-];
-
-const TRACKS_1: &str = "{\"tracklets\":[1,2]}";
-
-const TRACKS_3: &str = "{\"tracklets\":[3,4]}";
-
-const TRACKS_5: &str = "{\"tracklets\":[5,6]}";
-
-const TRACKS_7: &str = "{\"tracklets\":[7,8]}";
-
-const GIVEN_EA: &str = "receipt 9\nobject 2024 EA K24E00A\n";
-
-const GIVEN_EB: &str = "receipt 10\nobject 2024 EB K24E00B\n";
-
-const GIVEN_EC: &str = "receipt 11\nobject 2024 EC K24E00C\n";
-
-const GIVEN_QA: &str = "receipt 12\nobject 2010 QA620 _AQ0000\n";
+const GIVEN: &str = r#"
+> +founder-1 8 designate {"tracklets":[1,2]}
+< 200 receipt 9
+object 2024 EA K24E00A
+> +founder-1 9 designate {"tracklets":[3,4]}
+< 200 receipt 10
+object 2024 EB K24E00B
+> +founder-1 10 designate {"tracklets":[5,6]}
+< 200 receipt 11
+object 2024 EC K24E00C
+> +founder-1 11 designate {"tracklets":[7,8]}
+< 200 receipt 12
+object 2010 QA620 _AQ0000
+"#;
 
 /// Comets are named, and all are told.
-const COMETS: &[Row] = &[
-    (FOUNDER, 0, "register", "", "200 ", ""),
-    (FOUNDER, 0, "translate", "", "200 ", ""),
-    (FOUNDER, 1, "comet", EA, "200 ", EA_GIVEN),
-    (FOUNDER, 1, "comet", EA, "200 ", EA_GIVEN),
-    (FOUNDER, 2, "comet", EB, "200 ", EB_GIVEN),
-    (FOUNDER, 3, "comet", EA, "409 ", EA_HAS_ONE),
-    (FOUNDER, 1, "comet", EA_AS_P, "409 ", OTHER_REQUEST),
-    (FOUNDER, 3, "comet", EZ, "404 ", EZ_UNKNOWN),
-    (FOUNDER, 3, "comet", SA, "409 ", SA_CARRIED),
-    (FOUNDER, 3, "comet", QA, "200 ", QA_GIVEN),
-    (FOUNDER, 0, "register", "", "200 ", THREE_TOLD),
-];
-
-const QA: &str = "{\"kind\":\"C\",\"object\":\"2010 QA620\"}";
-
-const QA_GIVEN: &str = "receipt 3\ncomet C/2010 Q1 CK10Q010\n";
-
-const THREE_TOLD: &str = concat!(
-    "comet C/2024 E1 CK24E010 object 2024 EA principal 2024 EA\n",
-    "comet P/2024 E2 PK24E020 object 2024 EB principal 2024 EB\n",
-    "comet C/2010 Q1 CK10Q010 object 2010 QA620 principal 2010 QA620\n",
-);
+const COMETS: &str = r#"
+> +founder-1 0 register
+< 200
+> +founder-1 0 translate
+< 200
+> +founder-1 1 comet {"kind":"C","object":"2024 EA"}
+< 200 receipt 1
+comet C/2024 E1 CK24E010
+> +founder-1 1 comet {"kind":"C","object":"2024 EA"}
+< 200 receipt 1
+comet C/2024 E1 CK24E010
+> +founder-1 2 comet {"kind":"P","object":"2024 EB"}
+< 200 receipt 2
+comet P/2024 E2 PK24E020
+> +founder-1 3 comet {"kind":"C","object":"2024 EA"}
+< 409 refused 20 AlreadyComet C/2024 E1
+> +founder-1 1 comet {"kind":"P","object":"2024 EA"}
+< 409 refused 3 OtherRequest receipt 1
+> +founder-1 3 comet {"kind":"C","object":"2024 EZ"}
+< 404 refused 5 UnknownThing designation 2024 EZ
+> +founder-1 3 comet {"kind":"C","object":"1998 SA"}
+< 409 refused 19 NoDiscovery 1998 SA
+> +founder-1 3 comet {"kind":"C","object":"2010 QA620"}
+< 200 receipt 3
+comet C/2010 Q1 CK10Q010
+> +founder-1 0 register
+< 200 comet C/2024 E1 CK24E010 object 2024 EA principal 2024 EA
+comet P/2024 E2 PK24E020 object 2024 EB principal 2024 EB
+comet C/2010 Q1 CK10Q010 object 2010 QA620 principal 2010 QA620
+"#;
 
 /// Lines under the names of comets, and after each the same translated.
 const TRANSLATED: &[&str] = &[
@@ -179,45 +170,53 @@ fn add_lines(script: &mut Script) -> Result<(), NoMemory> {
 }
 
 /// What is refused.
-const REFUSED: &[Row] = &[
-    (OBSERVER, 0, "register", "", "401 ", UNKNOWN_KEY),
-    (OBSERVER, 0, "translate", "", "401 ", UNKNOWN_KEY),
-    (OBSERVER, 9, "comet", EC, "401 ", UNKNOWN_KEY),
-    (FOUNDER, 0, "register", " ", "400 ", UNREAD_BODY),
-    (OBSERVER, 0, "register", " ", "400 ", UNREAD_BODY),
-    (FOUNDER, 1, "register", "", "400 ", UNREAD_NUMBER),
-    (FOUNDER, 1, "translate", "", "400 ", UNREAD_NUMBER),
-    (FOUNDER, 0, "comet", EC, "400 ", UNREAD_NUMBER),
-    (FOUNDER, 0, "tally", "", "400 ", UNREAD_VERB),
-];
+const REFUSED: &str = r#"
+> observer-1 0 register
+< 401 refused 2 UnknownKey
+> observer-1 0 translate
+< 401 refused 2 UnknownKey
+> observer-1 9 comet {"kind":"C","object":"2024 EC"}
+< 401 refused 2 UnknownKey
+> +founder-1 0 register $BLANK
+< 400 refused 1 Unread body
+> observer-1 0 register $BLANK
+< 400 refused 1 Unread body
+> +founder-1 1 register
+< 400 refused 1 Unread number
+> +founder-1 1 translate
+< 400 refused 1 Unread number
+> +founder-1 0 comet {"kind":"C","object":"2024 EC"}
+< 400 refused 1 Unread number
+> +founder-1 0 tally
+< 400 refused 1 Unread verb
+"#;
 
 /// One object becomes a name of another.
-const IDENTIFY: &[Row] = &[(FOUNDER, 20, "identify", EB_EA, "200 ", "receipt 13\n")];
-
-const EB_EA: &str = "{\"principal\":\"2024 EB\",\"secondary\":\"2024 EA\"}";
+const IDENTIFY: &str = r#"
+> +founder-1 20 identify {"principal":"2024 EB","secondary":"2024 EA"}
+< 200 receipt 13
+"#;
 
 /// A secondary keeps its own comet, and `register` tells its principal now.
-const IDENTIFIED: &[Row] = &[
-    (FOUNDER, 0, "register", "", "200 ", IDENTIFIED_TOLD),
-    (FOUNDER, 0, "translate", E1_LINE, "200 ", EA_LINE),
-    (FOUNDER, 4, "comet", EA_AS_P, "409 ", EA_HAS_ONE),
-    (FOUNDER, 1, "comet", EA, "200 ", EA_GIVEN),
-    (FOUNDER, 4, "comet", EC_AS_P, "200 ", EC_GIVEN),
-];
-
-const IDENTIFIED_TOLD: &str = concat!(
-    "comet C/2024 E1 CK24E010 object 2024 EA principal 2024 EB\n",
-    "comet P/2024 E2 PK24E020 object 2024 EB principal 2024 EB\n",
-    "comet C/2010 Q1 CK10Q010 object 2010 QA620 principal 2010 QA620\n",
-);
-
-const E1_LINE: &str =
-    "    CK24E010  C2024 03 15.12345 06 12 34.56 +23 45 01.2          19.5 V      703";
+const IDENTIFIED: &str = r#"
+> +founder-1 0 register
+< 200 comet C/2024 E1 CK24E010 object 2024 EA principal 2024 EB
+comet P/2024 E2 PK24E020 object 2024 EB principal 2024 EB
+comet C/2010 Q1 CK10Q010 object 2010 QA620 principal 2010 QA620
+> +founder-1 0 translate     CK24E010  C2024 03 15.12345 06 12 34.56 +23 45 01.2          19.5 V      703
+< 200 $EA_LINE
+> +founder-1 4 comet {"kind":"P","object":"2024 EA"}
+< 409 refused 20 AlreadyComet C/2024 E1
+> +founder-1 1 comet {"kind":"C","object":"2024 EA"}
+< 200 receipt 1
+comet C/2024 E1 CK24E010
+> +founder-1 4 comet {"kind":"P","object":"2024 EC"}
+< 200 receipt 4
+comet P/2024 E3 PK24E030
+"#;
 
 const EA_LINE: &str =
     "     K24E00A  C2024 03 15.12345 06 12 34.56 +23 45 01.2          19.5 V      703";
-
-const EC_GIVEN: &str = "receipt 4\ncomet P/2024 E3 PK24E030\n";
 
 /// Bodies of so many line feeds, 10,000 of which are the most that there may be.
 fn add_line_feeds(alloc: Global, script: &mut Script) -> Result<(), NoMemory> {
@@ -240,22 +239,23 @@ struct Days {
     second: Script,
 }
 
-fn days_of(alloc: Global) -> Result<Days, NoMemory> {
+fn days_of(alloc: Global) -> Result<Days, Wrong> {
     let mut days = Days {
         office: Script::new(alloc),
         first: Script::new(alloc),
         identify: Script::new(alloc),
         second: Script::new(alloc),
     };
-    days.office.add_rows(BEGUN)?;
+    days.office.add_transcript(BEGUN)?;
     add_batch(alloc, &mut days.office, BATCH, 8, 16)?;
-    days.office.add_rows(GIVEN)?;
-    days.first.add_rows(COMETS)?;
+    days.office.add_transcript(GIVEN)?;
+    days.first.add_transcript(COMETS)?;
     add_lines(&mut days.first)?;
-    days.first.add_rows(REFUSED)?;
+    days.first.add_named(REFUSED, &[("BLANK", " ")])?;
     add_line_feeds(alloc, &mut days.first)?;
-    days.identify.add_rows(IDENTIFY)?;
-    days.second.add_rows(IDENTIFIED)?;
+    days.identify.add_transcript(IDENTIFY)?;
+    let named = [("EA_LINE", EA_LINE)];
+    days.second.add_named(IDENTIFIED, &named)?;
     Ok(days)
 }
 

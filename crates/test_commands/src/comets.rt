@@ -5,92 +5,59 @@ use std::alloc::Global;
 use std::sync::Wait;
 use std::thread::Threads;
 use testkit_program::{call_beside_register, call_in_turn};
-use testkit_sessions::{
-    Call, FOUNDER, MIDNIGHT, MIDNIGHT_TEXT, NoMemory, OBSERVER, Row, Script, Wrong,
-};
+use testkit_sessions::{Call, Script, Wrong};
 
 /// Two tracklets, which become an object.
-const OBJECT: &[Row] = &[
-    (OBSERVER, 1, "submitpsv", MIDNIGHT, "200 ", MIDNIGHT_TEXT),
-    (
-        FOUNDER,
-        6,
-        "designate",
-        "{\"tracklets\":[1,2]}",
-        "200 ",
-        "receipt 7\nobject 2024 EA K24E00A\n",
-    ),
-];
+const OBJECT: &str = r#"
+> observer-1 1 submitpsv $MIDNIGHT
+< 200 $MIDNIGHT_TEXT
+> +founder-1 6 designate {"tracklets":[1,2]}
+< 200 receipt 7
+object 2024 EA K24E00A
+"#;
 
-const COMET: &str = "{\"kind\":\"C\",\"object\":\"2024 EA\"}";
-
-const NAMED: &str = "receipt 1\ncomet C/2024 E1 CK24E010\n";
-
-/// A line of an observer under the comet's name, one under a name that no comet has, and what becomes of them.
-const LINES: &str = concat!(
-    "    CK24E010  C2024 03 16.12345 10 00 34.56 -05 30 01.2          19.5 V      703\n",
-    "    CK24E030  C2024 03 16.12345 10 00 34.56 -05 30 01.2          19.5 V      703\n",
-);
-
-const TRANSLATED: &str = concat!(
-    "     K24E00A  C2024 03 16.12345 10 00 34.56 -05 30 01.2          19.5 V      703\n",
-    "    CK24E030  C2024 03 16.12345 10 00 34.56 -05 30 01.2          19.5 V      703\n",
-);
-
-/// The object gets a comet's name, once and for all, and observers' lines are turned into lines of the office.
-const FIRST_DAY: &[Row] = &[
-    (FOUNDER, 0, "register", "", "200 ", ""),
-    (FOUNDER, 1, "comet", COMET, "200 ", NAMED),
-    (FOUNDER, 1, "comet", COMET, "200 ", NAMED),
-    (FOUNDER, 0, "translate", LINES, "200 ", TRANSLATED),
-    (
-        FOUNDER,
-        2,
-        "comet",
-        "{\"kind\":\"C\",\"object\":\"2024 EZ\"}",
-        "404 ",
-        "refused 5 UnknownThing designation 2024 EZ\n",
-    ),
-];
+/// The object gets a comet's name, once and for all, and observers' lines are turned into lines of the office: one under
+/// that name, and one under a name that no comet has.
+const FIRST_DAY: &str = r#"
+> +founder-1 0 register
+< 200
+> +founder-1 1 comet {"kind":"C","object":"2024 EA"}
+< 200 receipt 1
+comet C/2024 E1 CK24E010
+> +founder-1 1 comet {"kind":"C","object":"2024 EA"}
+< 200 receipt 1
+comet C/2024 E1 CK24E010
+> +founder-1 0 translate
+    CK24E010  C2024 03 16.12345 10 00 34.56 -05 30 01.2          19.5 V      703
+    CK24E030  C2024 03 16.12345 10 00 34.56 -05 30 01.2          19.5 V      703
+< 200
+     K24E00A  C2024 03 16.12345 10 00 34.56 -05 30 01.2          19.5 V      703
+    CK24E030  C2024 03 16.12345 10 00 34.56 -05 30 01.2          19.5 V      703
+> +founder-1 2 comet {"kind":"C","object":"2024 EZ"}
+< 404 refused 5 UnknownThing designation 2024 EZ
+"#;
 
 /// What was named is there at the next start.
-const SECOND_DAY: &[Row] = &[
-    (
-        FOUNDER,
-        0,
-        "register",
-        "",
-        "200 ",
-        "comet C/2024 E1 CK24E010 object 2024 EA principal 2024 EA\n",
-    ),
-    (
-        FOUNDER,
-        2,
-        "comet",
-        "{\"kind\":\"P\",\"object\":\"2024 EA\"}",
-        "409 ",
-        "refused 20 AlreadyComet C/2024 E1\n",
-    ),
-    (
-        OBSERVER,
-        0,
-        "register",
-        "",
-        "401 ",
-        "refused 2 UnknownKey\n",
-    ),
-    (FOUNDER, 0, "tally", "", "400 ", "refused 1 Unread verb\n"),
-];
+const SECOND_DAY: &str = r#"
+> +founder-1 0 register
+< 200 comet C/2024 E1 CK24E010 object 2024 EA principal 2024 EA
+> +founder-1 2 comet {"kind":"P","object":"2024 EA"}
+< 409 refused 20 AlreadyComet C/2024 E1
+> observer-1 0 register
+< 401 refused 2 UnknownKey
+> +founder-1 0 tally
+< 400 refused 1 Unread verb
+"#;
 
 /// What the office is asked, and answers.
-const TALLY: &[Row] = &[(
-    FOUNDER,
-    0,
-    "tally",
-    "",
-    "200 ",
-    "entries 7\nisolated 0\nobjects 4\nretracted 0\naccepted 4\n",
-)];
+const TALLY: &str = r#"
+> +founder-1 0 tally
+< 200 entries 7
+isolated 0
+objects 4
+retracted 0
+accepted 4
+"#;
 
 const COMETS: &[&str] = &["comets", "--key", "+founder-1"];
 
@@ -138,17 +105,17 @@ fn cut<'a>(mark: usize, words: &'a [&'a str]) -> Call<'a> {
     }
 }
 
-/// A session of these requests.
-fn asked(alloc: Global, rows: &[Row]) -> Result<Script, NoMemory> {
+/// The session of this transcript.
+fn asked(alloc: Global, transcript: &str) -> Result<Script, Wrong> {
     let mut script = Script::new(alloc);
-    script.add_rows(rows)?;
+    script.add_transcript(transcript)?;
     Ok(script)
 }
 
 /// The session by which the office has an object: its history grows by seven entries.
-fn session(alloc: Global) -> Result<Script, NoMemory> {
+fn session(alloc: Global) -> Result<Script, Wrong> {
     let mut script = Script::begun(alloc)?;
-    script.add_rows(OBJECT)?;
+    script.add_transcript(OBJECT)?;
     Ok(script)
 }
 

@@ -4,70 +4,44 @@ use std::alloc::Global;
 use std::sync::Wait;
 use std::thread::Threads;
 use testkit_program::call_in_turn;
-use testkit_sessions::{
-    Call, FOUNDER, MIDNIGHT, MIDNIGHT_TEXT, NoMemory, OBSERVER, Row, Script, Wrong,
-};
+use testkit_sessions::{Call, Script, Wrong};
 
 /// Two tracklets, which become an object. Its first observation falls a thousandth of a second before midnight.
-const OBJECT: &[Row] = &[
-    (OBSERVER, 1, "submitpsv", MIDNIGHT, "200 ", MIDNIGHT_TEXT),
-    (
-        FOUNDER,
-        6,
-        "designate",
-        "{\"tracklets\":[1,2]}",
-        "200 ",
-        "receipt 7\nobject 2024 EA K24E00A\n",
-    ),
-];
+const OBJECT: &str = r#"
+> observer-1 1 submitpsv $MIDNIGHT
+< 200 $MIDNIGHT_TEXT
+> +founder-1 6 designate {"tracklets":[1,2]}
+< 200 receipt 7
+object 2024 EA K24E00A
+"#;
 
-/// A station of which there are observations before 1970.
-const EARLY: &str =
-    "{\"code\":\"G96\",\"from\":\"1925-01-01\",\"name\":\"Mt. Lemmon\",\"to\":\"2199-12-31\"}";
-
-/// A tracklet about the first moment of 1970.
-const LINES: &str = concat!(
-    "# version=2017\n",
-    "# observatory\n",
-    "! mpcCode G96\n",
-    "trkSub|mode|stn|obsTime|ra|dec|astCat\n",
-    "T1|CCD|G96|1969-12-31T23:59:59.999999999Z|12.0|-1.0|Gaia3\n",
-    "T1|CCD|G96|1970-01-01T00:00:00Z|12.01|-1.0|Gaia3\n",
-);
-
-const ANSWER: &str = concat!(
-    "receipt 11\n",
-    "accepted 2 refused 0\n",
-    "line 5 obs 5 track 3\n",
-    "line 6 obs 6 track 3\n",
-);
-
-/// The object is numbered, and the tracklet stays isolated.
-const NUMBERED: &[Row] = &[
-    (
-        FOUNDER,
-        7,
-        "verdict",
-        "{\"object\":\"2024 EA\",\"oppositions\":4,\"u\":2}",
-        "200 ",
-        "receipt 8\n",
-    ),
-    (
-        FOUNDER,
-        8,
-        "number",
-        "{\"first\":620000,\"most\":1}",
-        "200 ",
-        "receipt 9\nnumber 620000 2024 EA\n",
-    ),
-    (FOUNDER, 9, "station", EARLY, "200 ", "receipt 10\n"),
-    (OBSERVER, 2, "submitpsv", LINES, "200 ", ANSWER),
-];
+/// The object is numbered, and a tracklet about the first moment of 1970 stays isolated; of its station there are
+/// observations before.
+const NUMBERED: &str = r#"
+> +founder-1 7 verdict {"object":"2024 EA","oppositions":4,"u":2}
+< 200 receipt 8
+> +founder-1 8 number {"first":620000,"most":1}
+< 200 receipt 9
+number 620000 2024 EA
+> +founder-1 9 station {"code":"G96","from":"1925-01-01","name":"Mt. Lemmon","to":"2199-12-31"}
+< 200 receipt 10
+> observer-1 2 submitpsv
+# version=2017
+# observatory
+! mpcCode G96
+trkSub|mode|stn|obsTime|ra|dec|astCat
+T1|CCD|G96|1969-12-31T23:59:59.999999999Z|12.0|-1.0|Gaia3
+T1|CCD|G96|1970-01-01T00:00:00Z|12.01|-1.0|Gaia3
+< 200 receipt 11
+accepted 2 refused 0
+line 5 obs 5 track 3
+line 6 obs 6 track 3
+"#;
 
 /// The session of the object, by which the history grows by seven entries.
-fn session(alloc: Global) -> Result<Script, NoMemory> {
+fn session(alloc: Global) -> Result<Script, Wrong> {
     let mut script = Script::begun(alloc)?;
-    script.add_rows(OBJECT)?;
+    script.add_transcript(OBJECT)?;
     Ok(script)
 }
 
@@ -160,7 +134,7 @@ fn looks<R: Threads + Wait + Sync>(rt: &R, alloc: Global) -> Result<(), Wrong> {
 /// An object with a number, observations of none, and days before 1970.
 fn looks_at_others<R: Threads + Wait + Sync>(rt: &R, alloc: Global) -> Result<(), Wrong> {
     let mut script = session(alloc)?;
-    script.add_rows(NUMBERED)?;
+    script.add_transcript(NUMBERED)?;
     let calls: [Call; 4] = [
         script.call(11),
         done(1, &["mirror"], "mirror 11 objects 1 sights 6\n"),

@@ -5,7 +5,7 @@
 use std::alloc::Global;
 use testkit_sessions::Part::{Digits, Number, Text};
 use testkit_sessions::{
-    FOUNDER, NoMemory, OBSERVER, Part, Row, Script, Wrong, call_days, put, put_parts, text_of,
+    FOUNDER, NoMemory, OBSERVER, Part, Script, Wrong, call_days, put, put_parts, text_of,
 };
 
 /// How many designations the half-month has, and how many tracklets there are.
@@ -313,55 +313,38 @@ fn add_objects(alloc: Global, script: &mut Script) -> Result<(), NoMemory> {
 }
 
 /// What is told at the end.
-const TOLD: &[Row] = &[
-    (
-        FOUNDER,
-        0,
-        "tally",
-        "",
-        "200 ",
-        "entries 16813\nisolated 2\nobjects 31000\nretracted 0\naccepted 31002\n",
-    ),
-    (FOUNDER, 0, "isolated", "", "200 ", "track 15501 live 2\n"),
-    (
-        FOUNDER,
-        0,
-        "object",
-        "1998 SZ619",
-        "200 ",
-        concat!(
-            "principal 1998 SZ619\n",
-            "number none\n",
-            "name 1998 SZ619\n",
-            "obs 30999 track 15500\n",
-            "obs 31000 track 15500\n",
-        ),
-    ),
-    (
-        FOUNDER,
-        0,
-        "name",
-        "01000",
-        "200 ",
-        "printed 1000\npacked 01000\nprincipal 1998 SZ39\n",
-    ),
-    (
-        FOUNDER,
-        0,
-        "receipt",
-        "15505",
-        "200 ",
-        "receipt 15509\nobject 1998 SZ619 J98Sz9Z\n",
-    ),
-];
+const TOLD: &str = r#"
+> +founder-1 0 tally
+< 200 entries 16813
+isolated 2
+objects 31000
+retracted 0
+accepted 31002
+> +founder-1 0 isolated
+< 200 track 15501 live 2
+> +founder-1 0 object 1998 SZ619
+< 200 principal 1998 SZ619
+number none
+name 1998 SZ619
+obs 30999 track 15500
+obs 31000 track 15500
+> +founder-1 0 name 01000
+< 200 printed 1000
+packed 01000
+principal 1998 SZ39
+> +founder-1 0 receipt 15505
+< 200 receipt 15509
+object 1998 SZ619 J98Sz9Z
+"#;
 
-fn add_queries(alloc: Global, script: &mut Script) -> Result<(), NoMemory> {
-    script.add_rows(TOLD)?;
-    add_objects(alloc, script)
+fn add_queries(alloc: Global, script: &mut Script) -> Result<(), Wrong> {
+    script.add_transcript(TOLD)?;
+    add_objects(alloc, script)?;
+    Ok(())
 }
 
 /// All requests of the day.
-fn day(alloc: Global) -> Result<Script, NoMemory> {
+fn day(alloc: Global) -> Result<Script, Wrong> {
     let mut script = Script::begun(alloc)?;
     for batch in 0..BATCHES {
         add_batch(alloc, &mut script, batch)?;
@@ -381,7 +364,7 @@ fn day(alloc: Global) -> Result<Script, NoMemory> {
 }
 
 /// The office is opened again, asked the same, and sent what it answered and refused once more.
-fn later(alloc: Global) -> Result<Script, NoMemory> {
+fn later(alloc: Global) -> Result<Script, Wrong> {
     let mut script = Script::new(alloc);
     add_queries(alloc, &mut script)?;
     add_one_more(&mut script)?;

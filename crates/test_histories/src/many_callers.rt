@@ -3,7 +3,7 @@
 
 use std::alloc::Global;
 use testkit_sessions::Part::{Digits, Number, Text};
-use testkit_sessions::{FOUNDER, NoMemory, Row, Script, Wrong, call_days, put_parts, text_of};
+use testkit_sessions::{FOUNDER, NoMemory, Script, Wrong, call_days, put_parts, text_of};
 
 /// How many observers there are, one of whom has been enrolled before.
 const CALLERS: u64 = 1_001;
@@ -108,40 +108,20 @@ fn add_retraction(alloc: Global, script: &mut Script, caller: u64) -> Result<(),
 }
 
 /// An observer may take back its own observations alone, whoever's number it is.
-const LAST: &[Row] = &[
-    (
-        "observer-1001",
-        3,
-        "retract",
-        "{\"observation\":1999}",
-        "403 ",
-        "refused 4 Role\n",
-    ),
-    (
-        "observer-1001",
-        0,
-        "receipt",
-        "3",
-        "404 ",
-        "refused 5 UnknownThing receipt 3\n",
-    ),
-    (
-        "observer-1002",
-        0,
-        "tally",
-        "",
-        "401 ",
-        "refused 2 UnknownKey\n",
-    ),
-    (
-        "observer-1000",
-        0,
-        "tally",
-        "",
-        "200 ",
-        "entries 3007\nisolated 1001\nobjects 0\nretracted 1001\naccepted 2002\n",
-    ),
-];
+const LAST: &str = r#"
+> observer-1001 3 retract {"observation":1999}
+< 403 refused 4 Role
+> observer-1001 0 receipt 3
+< 404 refused 5 UnknownThing receipt 3
+> observer-1002 0 tally
+< 401 refused 2 UnknownKey
+> observer-1000 0 tally
+< 200 entries 3007
+isolated 1001
+objects 0
+retracted 1001
+accepted 2002
+"#;
 
 /// All of them; then the office is opened again, and each sends its act once more.
 fn callers(alloc: Global) -> Result<(), Wrong> {
@@ -158,8 +138,8 @@ fn callers(alloc: Global) -> Result<(), Wrong> {
         add_retraction(alloc, &mut day, caller)?;
         add_retraction(alloc, &mut later, caller)?;
     }
-    day.add_rows(LAST)?;
-    later.add_rows(LAST)?;
+    day.add_transcript(LAST)?;
+    later.add_transcript(LAST)?;
     call_days(alloc, 4_194_304, &day, 3_007, None, &later, b"")
 }
 
@@ -201,69 +181,49 @@ fn add_letter(alloc: Global, script: &mut Script, row: usize) -> Result<(), NoMe
 }
 
 /// Lines of the first and the last station and letter, and of none.
-const OF_ROWS: &str = concat!(
-    "     S1        2024 03 15.12345 06 12 34.56 +23 45 01.2          19.5 A      S00\n",
-    "     S1        2024 03 15.13345 06 12 34.56 +23 45 01.2          19.5 9      S00\n",
-    "     S1        2024 03 15.12345 06 12 34.56 +23 45 01.2          19.5 A      S99\n",
-    "     S1        2024 03 15.13345 06 12 34.56 +23 45 01.2          19.5 9      S99\n",
-    "     S1        2024 03 15.14345 06 12 34.56 +23 45 01.2          19.5 -      S99\n",
-    "     S1        2024 03 15.14345 06 12 34.56 +23 45 01.2          19.5 9      T00\n",
-);
+const OF_ROWS: &str = r#"
+> +founder-1 163 submit80
+     S1        2024 03 15.12345 06 12 34.56 +23 45 01.2          19.5 A      S00
+     S1        2024 03 15.13345 06 12 34.56 +23 45 01.2          19.5 9      S00
+     S1        2024 03 15.12345 06 12 34.56 +23 45 01.2          19.5 A      S99
+     S1        2024 03 15.13345 06 12 34.56 +23 45 01.2          19.5 9      S99
+     S1        2024 03 15.14345 06 12 34.56 +23 45 01.2          19.5 -      S99
+     S1        2024 03 15.14345 06 12 34.56 +23 45 01.2          19.5 9      T00
+< 200 receipt 163
+accepted 4 refused 2
+line 1 obs 1 track 1
+line 2 obs 2 track 1
+line 3 obs 3 track 2
+line 4 obs 4 track 2
+line 5 refused T4
+line 6 refused T1
+"#;
 
-const OF_ROWS_TEXT: &str = concat!(
-    "receipt 163\n",
-    "accepted 4 refused 2\n",
-    "line 1 obs 1 track 1\n",
-    "line 2 obs 2 track 1\n",
-    "line 3 obs 3 track 2\n",
-    "line 4 obs 4 track 2\n",
-    "line 5 refused T4\n",
-    "line 6 refused T1\n",
-);
-
-/// Two rows more of the first station, each of the days before.
-const EARLIER: &[Row] = &[
-    (
-        FOUNDER,
-        189,
-        "station",
-        "{\"code\":\"S00\",\"name\":\"x\",\"from\":\"1990-01-01\",\"to\":\"1997-12-31\"}",
-        "200 ",
-        "receipt 189\n",
-    ),
-    (
-        FOUNDER,
-        190,
-        "station",
-        "{\"code\":\"S00\",\"name\":\"x\",\"from\":\"1980-01-01\",\"to\":\"1989-12-31\"}",
-        "200 ",
-        "receipt 190\n",
-    ),
-    (FOUNDER, 191, "submit80", OF_DAYS, "200 ", OF_DAYS_TEXT),
-];
-
-/// Lines of the days of each of its rows, and of a day before them all.
-const OF_DAYS: &str = concat!(
-    "     S2        1998 01 01.00000 06 12 34.56 +23 45 01.2          19.5 A      S00\n",
-    "     S2        1998 01 01.10000 06 12 34.56 +23 45 01.2          19.5 A      S00\n",
-    "     S3        1997 12 31.80000 06 12 34.56 +23 45 01.2          19.5 A      S00\n",
-    "     S3        1997 12 31.90000 06 12 34.56 +23 45 01.2          19.5 A      S00\n",
-    "     S4        1989 12 31.80000 06 12 34.56 +23 45 01.2          19.5 A      S00\n",
-    "     S4        1989 12 31.90000 06 12 34.56 +23 45 01.2          19.5 A      S00\n",
-    "     S5        1979 12 31.90000 06 12 34.56 +23 45 01.2          19.5 A      S00\n",
-);
-
-const OF_DAYS_TEXT: &str = concat!(
-    "receipt 191\n",
-    "accepted 6 refused 1\n",
-    "line 1 obs 5 track 3\n",
-    "line 2 obs 6 track 3\n",
-    "line 3 obs 7 track 4\n",
-    "line 4 obs 8 track 4\n",
-    "line 5 obs 9 track 5\n",
-    "line 6 obs 10 track 5\n",
-    "line 7 refused T2\n",
-);
+/// Two rows more of the first station, each of the days before; then lines of the days of each of its rows, and of a day
+/// before them all.
+const EARLIER: &str = r#"
+> +founder-1 189 station {"code":"S00","name":"x","from":"1990-01-01","to":"1997-12-31"}
+< 200 receipt 189
+> +founder-1 190 station {"code":"S00","name":"x","from":"1980-01-01","to":"1989-12-31"}
+< 200 receipt 190
+> +founder-1 191 submit80
+     S2        1998 01 01.00000 06 12 34.56 +23 45 01.2          19.5 A      S00
+     S2        1998 01 01.10000 06 12 34.56 +23 45 01.2          19.5 A      S00
+     S3        1997 12 31.80000 06 12 34.56 +23 45 01.2          19.5 A      S00
+     S3        1997 12 31.90000 06 12 34.56 +23 45 01.2          19.5 A      S00
+     S4        1989 12 31.80000 06 12 34.56 +23 45 01.2          19.5 A      S00
+     S4        1989 12 31.90000 06 12 34.56 +23 45 01.2          19.5 A      S00
+     S5        1979 12 31.90000 06 12 34.56 +23 45 01.2          19.5 A      S00
+< 200 receipt 191
+accepted 6 refused 1
+line 1 obs 5 track 3
+line 2 obs 6 track 3
+line 3 obs 7 track 4
+line 4 obs 8 track 4
+line 5 obs 9 track 5
+line 6 obs 10 track 5
+line 7 refused T2
+"#;
 
 /// Keys have 8 to 32 characters.
 const KEY: &str = "abcdefghijklmnopqrstuvwxyz-01234";
@@ -286,13 +246,12 @@ fn add_key(alloc: Global, script: &mut Script, length: usize) -> Result<(), NoMe
 }
 
 /// The lines of those rows; then a caller with a key of each length, and the rows of earlier days.
-fn add_more(alloc: Global, script: &mut Script) -> Result<(), NoMemory> {
-    let batch = (FOUNDER, 163, "submit80", OF_ROWS, "200 ", OF_ROWS_TEXT);
-    script.add_rows(&[batch])?;
+fn add_more(alloc: Global, script: &mut Script) -> Result<(), Wrong> {
+    script.add_transcript(OF_ROWS)?;
     for length in 8..=32usize {
         add_key(alloc, script, length)?;
     }
-    script.add_rows(EARLIER)
+    script.add_transcript(EARLIER)
 }
 
 fn rows(alloc: Global) -> Result<(), Wrong> {

@@ -3,7 +3,7 @@
 //! office that begins, and with one that is moved from the first disk; and doubt after doubt.
 
 use std::alloc::Global;
-use testkit_sessions::{Call, Drive, Drives, FOUNDER, NoMemory, Row, Script, Wrong, call_in_turn};
+use testkit_sessions::{Call, Drive, Drives, FOUNDER, NoMemory, Script, Wrong, call_in_turn};
 
 const ANN: &str = "{\"key\":\"observer-1\",\"name\":\"Ann\",\"role\":\"observer\"}";
 
@@ -440,26 +440,41 @@ fn all_calls_of_a_move_fail_from_each_on(rt: HostRuntime) {
     each_act_from_on(rt.alloc(), &MOVED, FROM_ON_MOVED).expect(&rt, "as wanted");
 }
 
-const ONE_ENTRY: &str = "entries 1\nisolated 0\nobjects 0\nretracted 0\naccepted 0\n";
-
-const ALL_THREE: &str = "entries 3\nisolated 0\nobjects 0\nretracted 0\naccepted 0\n";
-
 /// The first act's last sync fails, then the one by which the second act would settle that, and then, where the third
 /// act settled it, that one's last sync: the calls 13, 14 and 20.
-const DOUBTS: &[Row] = &[
-    (FOUNDER, 1, "enrol", ANN, "503 ", DOUBT),
-    (FOUNDER, 2, "enrol", BOB, "503 ", UNTOUCHED),
-    (FOUNDER, 3, "enrol", EVE, "503 ", DOUBT),
-    (FOUNDER, 0, "tally", "", "200 ", ONE_ENTRY),
-    (FOUNDER, 3, "enrol", EVE, "200 ", "receipt 2\ncaller 2\n"),
-    (FOUNDER, 2, "enrol", BOB, "200 ", "receipt 3\ncaller 3\n"),
-    (FOUNDER, 1, "enrol", ANN, "200 ", "receipt 1\ncaller 1\n"),
-    (FOUNDER, 0, "tally", "", "200 ", ALL_THREE),
-];
+const DOUBTS: &str = r#"
+> +founder-1 1 enrol {"key":"observer-1","name":"Ann","role":"observer"}
+< 503 refused 16 DiskFault doubt
+> +founder-1 2 enrol {"key":"observer-2","name":"Bob","role":"observer"}
+< 503 refused 16 DiskFault untouched
+> +founder-1 3 enrol {"key":"observer-3","name":"Eve","role":"observer"}
+< 503 refused 16 DiskFault doubt
+> +founder-1 0 tally
+< 200 entries 1
+isolated 0
+objects 0
+retracted 0
+accepted 0
+> +founder-1 3 enrol {"key":"observer-3","name":"Eve","role":"observer"}
+< 200 receipt 2
+caller 2
+> +founder-1 2 enrol {"key":"observer-2","name":"Bob","role":"observer"}
+< 200 receipt 3
+caller 3
+> +founder-1 1 enrol {"key":"observer-1","name":"Ann","role":"observer"}
+< 200 receipt 1
+caller 1
+> +founder-1 0 tally
+< 200 entries 3
+isolated 0
+objects 0
+retracted 0
+accepted 0
+"#;
 
 fn doubts(alloc: Global) -> Result<(), Wrong> {
     let mut script = Script::new(alloc);
-    script.add_rows(DOUBTS)?;
+    script.add_transcript(DOUBTS)?;
     let drives = drives_of(&BEGUN, 2, &[13, 14, 20]);
     call_in_turn(alloc, &drives, &[script.call(3)])
 }
@@ -471,22 +486,45 @@ fn doubt_after_doubt(rt: HostRuntime) {
 
 /// After the first act the second one's gate isn't written, and is settled as dropped; then so is the third one's; then
 /// the second one's last sync fails, and is settled as added. They are the calls 16, 21 and 27.
-const DROPPED_AND_ADDED: &[Row] = &[
-    (FOUNDER, 1, "enrol", ANN, "200 ", "receipt 1\ncaller 1\n"),
-    (FOUNDER, 2, "enrol", BOB, "503 ", DOUBT),
-    (FOUNDER, 3, "enrol", EVE, "503 ", DOUBT),
-    (FOUNDER, 2, "enrol", BOB, "503 ", DOUBT),
-    (FOUNDER, 3, "enrol", EVE, "200 ", "receipt 3\ncaller 3\n"),
-    (FOUNDER, 0, "tally", "", "200 ", ALL_THREE),
-];
+const DROPPED_AND_ADDED: &str = r#"
+> +founder-1 1 enrol {"key":"observer-1","name":"Ann","role":"observer"}
+< 200 receipt 1
+caller 1
+> +founder-1 2 enrol {"key":"observer-2","name":"Bob","role":"observer"}
+< 503 refused 16 DiskFault doubt
+> +founder-1 3 enrol {"key":"observer-3","name":"Eve","role":"observer"}
+< 503 refused 16 DiskFault doubt
+> +founder-1 2 enrol {"key":"observer-2","name":"Bob","role":"observer"}
+< 503 refused 16 DiskFault doubt
+> +founder-1 3 enrol {"key":"observer-3","name":"Eve","role":"observer"}
+< 200 receipt 3
+caller 3
+> +founder-1 0 tally
+< 200 entries 3
+isolated 0
+objects 0
+retracted 0
+accepted 0
+"#;
 
 /// What is told then of each act, by a run that opens the journal.
-const EACH_ACT: &[Row] = &[
-    (FOUNDER, 0, "receipt", "1", "200 ", "receipt 1\ncaller 1\n"),
-    (FOUNDER, 0, "receipt", "2", "200 ", "receipt 2\ncaller 2\n"),
-    (FOUNDER, 0, "receipt", "3", "200 ", "receipt 3\ncaller 3\n"),
-    (FOUNDER, 0, "tally", "", "200 ", ALL_THREE),
-];
+const EACH_ACT: &str = r#"
+> +founder-1 0 receipt 1
+< 200 receipt 1
+caller 1
+> +founder-1 0 receipt 2
+< 200 receipt 2
+caller 2
+> +founder-1 0 receipt 3
+< 200 receipt 3
+caller 3
+> +founder-1 0 tally
+< 200 entries 3
+isolated 0
+objects 0
+retracted 0
+accepted 0
+"#;
 
 /// The second file then. The readings of the acts that left nothing aren't in it: the second act was read three seconds
 /// after the first one, the third act four.
@@ -506,8 +544,8 @@ const CHAIN: [u8; 329] =
 
 fn chain_after_doubts(alloc: Global) -> Result<(), Wrong> {
     let (mut day, mut later) = (Script::new(alloc), Script::new(alloc));
-    day.add_rows(DROPPED_AND_ADDED)?;
-    later.add_rows(EACH_ACT)?;
+    day.add_transcript(DROPPED_AND_ADDED)?;
+    later.add_transcript(EACH_ACT)?;
     let read = Call {
         mark: 1,
         ..later.call(0)

@@ -1,16 +1,18 @@
 //! The catalogue: after sessions that show each of its rules, as the answer to a query and as what `export` writes.
 
 use std::alloc::Global;
-use testkit_sessions::{
-    FOUNDER, MIDNIGHT, MIDNIGHT_TEXT, NIGHT, NIGHT_TEXT, OBSERVER, Row, STATION, Wrong,
-    catalogue_alone, catalogue_of,
-};
+use testkit_sessions::{Script, Wrong, catalogue_after, catalogue_of};
 
 /// A declination of zero with a minus, and one of a tenth of an arcsecond below it.
-const ZERO_80: &str = concat!(
-    "     MINUS0   C2024 03 15.12345 06 12 34.56 -00 00 00.00         19.5 V      703\n",
-    "     MINUS0   C2024 03 15.13345 06 12 35.10 -00 00 00.10         19.4 V      703\n",
-);
+const ZERO_80: &str = r#"
+> observer-1 1 submit80
+     MINUS0   C2024 03 15.12345 06 12 34.56 -00 00 00.00         19.5 V      703
+     MINUS0   C2024 03 15.13345 06 12 35.10 -00 00 00.10         19.4 V      703
+< 200 receipt 6
+accepted 2 refused 0
+line 1 obs 1 track 1
+line 2 obs 2 track 1
+"#;
 
 /// The minus stands.
 const ZERO_80_CATALOGUE: &str = concat!(
@@ -27,14 +29,19 @@ const ZERO_80_CATALOGUE: &str = concat!(
 );
 
 /// A declination of nine units below zero, and one of zero with a minus.
-const ZERO_PSV: &str = concat!(
-    "# version=2017\n",
-    "# observatory\n",
-    "! mpcCode 703\n",
-    "trkSub|mode|stn|obsTime|ra|dec|astCat\n",
-    "ZERO|CCD|703|2024-03-15T12:00:00Z|150.0|-0.000000000001|Gaia3\n",
-    "ZERO|CCD|703|2024-03-15T12:30:00Z|150.0|-0.0|Gaia3\n",
-);
+const ZERO_PSV: &str = r#"
+> observer-1 1 submitpsv
+# version=2017
+# observatory
+! mpcCode 703
+trkSub|mode|stn|obsTime|ra|dec|astCat
+ZERO|CCD|703|2024-03-15T12:00:00Z|150.0|-0.000000000001|Gaia3
+ZERO|CCD|703|2024-03-15T12:30:00Z|150.0|-0.0|Gaia3
+< 200 receipt 6
+accepted 2 refused 0
+line 5 obs 1 track 1
+line 6 obs 2 track 1
+"#;
 
 /// What is below zero has a minus, and what is zero came in PSV and has a plus.
 const ZERO_PSV_CATALOGUE: &str = concat!(
@@ -51,14 +58,19 @@ const ZERO_PSV_CATALOGUE: &str = concat!(
 );
 
 /// The last moments of a year.
-const LAST: &str = concat!(
-    "# version=2017\n",
-    "# observatory\n",
-    "! mpcCode 703\n",
-    "trkSub|mode|stn|obsTime|ra|dec|astCat\n",
-    "LAST|CCD|703|2024-12-31T23:29:59.9999999Z|150.0|-5.5|Gaia3\n",
-    "LAST|CCD|703|2024-12-31T23:59:59.9999999Z|150.0|-5.5|Gaia3\n",
-);
+const LAST: &str = r#"
+> observer-1 1 submitpsv
+# version=2017
+# observatory
+! mpcCode 703
+trkSub|mode|stn|obsTime|ra|dec|astCat
+LAST|CCD|703|2024-12-31T23:29:59.9999999Z|150.0|-5.5|Gaia3
+LAST|CCD|703|2024-12-31T23:59:59.9999999Z|150.0|-5.5|Gaia3
+< 200 receipt 6
+accepted 2 refused 0
+line 5 obs 1 track 1
+line 6 obs 2 track 1
+"#;
 
 /// The second one is carried into the next year.
 const LAST_CATALOGUE: &str = concat!(
@@ -75,14 +87,19 @@ const LAST_CATALOGUE: &str = concat!(
 );
 
 /// A right ascension that is carried past 24 hours, in a tracklet of eight characters.
-const CARRY: &str = concat!(
-    "# version=2017\n",
-    "# observatory\n",
-    "! mpcCode 703\n",
-    "trkSub|mode|stn|obsTime|ra|dec|astCat\n",
-    "ABCDEFGH|CCD|703|2024-03-15T12:00:00Z|359.999999999999|-5.5|Gaia3\n",
-    "ABCDEFGH|CCD|703|2024-03-15T12:30:00Z|0|-5.5|Gaia3\n",
-);
+const CARRY: &str = r#"
+> observer-1 1 submitpsv
+# version=2017
+# observatory
+! mpcCode 703
+trkSub|mode|stn|obsTime|ra|dec|astCat
+ABCDEFGH|CCD|703|2024-03-15T12:00:00Z|359.999999999999|-5.5|Gaia3
+ABCDEFGH|CCD|703|2024-03-15T12:30:00Z|0|-5.5|Gaia3
+< 200 receipt 6
+accepted 2 refused 0
+line 5 obs 1 track 1
+line 6 obs 2 track 1
+"#;
 
 /// It is written as 0, and the head has all of the name and the columns seven characters.
 const CARRY_CATALOGUE: &str = concat!(
@@ -157,12 +174,6 @@ const RELEASED_CATALOGUE: &str = concat!(
     "     AAA2     C2024 03 16.50000010 00 48.000-05 30 00.00               W     703\n",
     "     AAA2     C2024 03 16.52083310 00 50.400-05 30 00.00               W     703\n",
     "end\n",
-);
-
-/// Two lines under a number.
-const NUMBERED: &str = concat!(
-    "~0000         C2024 04 10.50000 10 20 00.00 -05 30 00.0                      703\n",
-    "~0000         C2024 04 10.52000 10 20 01.00 -05 30 00.0                      703\n",
 );
 
 /// They stand in the object that has the number.
@@ -253,260 +264,141 @@ const MADE_CATALOGUE: &str = concat!(
     "end\n",
 );
 
-/// The lines of object 1: two tracklets of two observations.
-const MADE_1: &str = concat!(
-    "     W00001a   2024 01 01.0000  00 00 07.050+67 38 37.11                     703\n",
-    "     W00001a   2024 01 01.0050  00 00 07.050+67 38 37.11                     703\n",
-    "     W00001b   2024 01 01.5000  00 00 07.050+67 38 37.11                     703\n",
-    "     W00001b   2024 01 01.5050  00 00 07.050+67 38 37.11                     703\n",
-);
-
-/// The lines of object 2: two tracklets of two observations.
-const MADE_2: &str = concat!(
-    "     W00002a   2024 01 01.0004  00 00 11.921+76 15 51.06                     703\n",
-    "     W00002a   2024 01 01.0054  00 00 11.921+76 15 51.06                     703\n",
-    "     W00002b   2024 01 01.5004  00 00 11.921+76 15 51.06                     703\n",
-    "     W00002b   2024 01 01.5054  00 00 11.921+76 15 51.06                     703\n",
-);
-
-/// The lines of object 3: two tracklets of two observations.
-const MADE_3: &str = concat!(
-    "     W00003a   2024 01 01.0008  00 00 16.332+34 44 50.33                     703\n",
-    "     W00003a   2024 01 01.0058  00 00 16.332+34 44 50.33                     703\n",
-    "     W00003b   2024 01 01.5008  00 00 16.332+34 44 50.33                     703\n",
-    "     W00003b   2024 01 01.5058  00 00 16.332+34 44 50.33                     703\n",
-);
-
-/// The answer to a batch of which both lines are taken, after so many header lines.
-const TWO_80: &str =
-    "receipt 6\naccepted 2 refused 0\nline 1 obs 1 track 1\nline 2 obs 2 track 1\n";
-
-const TWO_PSV: &str =
-    "receipt 6\naccepted 2 refused 0\nline 5 obs 1 track 1\nline 6 obs 2 track 1\n";
-
 /// Batches alone: each is the first of its office.
-const BATCHES: &[(&str, &str, &str, &str)] = &[
-    ("submit80", ZERO_80, TWO_80, ZERO_80_CATALOGUE),
-    ("submitpsv", ZERO_PSV, TWO_PSV, ZERO_PSV_CATALOGUE),
-    ("submitpsv", LAST, TWO_PSV, LAST_CATALOGUE),
-    ("submitpsv", CARRY, TWO_PSV, CARRY_CATALOGUE),
+const BATCHES: &[(&str, &str)] = &[
+    (ZERO_80, ZERO_80_CATALOGUE),
+    (ZERO_PSV, ZERO_PSV_CATALOGUE),
+    (LAST, LAST_CATALOGUE),
+    (CARRY, CARRY_CATALOGUE),
 ];
 
 /// An object of two tracklets.
-const OBJECT: &[Row] = &[
-    (OBSERVER, 1, "submitpsv", MIDNIGHT, "200 ", MIDNIGHT_TEXT),
-    (
-        FOUNDER,
-        6,
-        "designate",
-        "{\"tracklets\":[1,2]}",
-        "200 ",
-        "receipt 7\nobject 2024 EA K24E00A\n",
-    ),
+const OBJECT: &str = r#"
+> observer-1 1 submitpsv $MIDNIGHT
+< 200 $MIDNIGHT_TEXT
+> +founder-1 6 designate {"tracklets":[1,2]}
+< 200 receipt 7
+object 2024 EA K24E00A
+"#;
+
+/// What comes then, how many entries the office has after it, and what the catalogue is.
+const LATER: &[(&str, u64, &str)] = &[
+    ("", 7, OBJECT_CATALOGUE),
+    (LOST, 8, LOST_CATALOGUE),
+    (EMPTY, 11, EMPTY_CATALOGUE),
+    (RELEASED, 9, RELEASED_CATALOGUE),
+    (NUMBERING, 10, NUMBERED_CATALOGUE),
+    (MOVED, 11, MOVED_CATALOGUE),
 ];
 
-/// What comes then, and what the catalogue is after it.
-const LATER: &[(&[Row], &str)] = &[
-    (&[], OBJECT_CATALOGUE),
-    (LOST, LOST_CATALOGUE),
-    (EMPTY, EMPTY_CATALOGUE),
-    (RELEASED, RELEASED_CATALOGUE),
-    (NUMBERING, NUMBERED_CATALOGUE),
-    (MOVED, MOVED_CATALOGUE),
-];
+const LOST: &str = r#"
+> observer-1 2 retract {"observation":1}
+< 200 receipt 8
+"#;
 
-const LOST: &[Row] = &[(
-    OBSERVER,
-    2,
-    "retract",
-    "{\"observation\":1}",
-    "200 ",
-    "receipt 8\n",
-)];
+const EMPTY: &str = r#"
+> observer-1 2 retract {"observation":4}
+< 200 receipt 8
+> observer-1 3 retract {"observation":3}
+< 200 receipt 9
+> observer-1 4 retract {"observation":2}
+< 200 receipt 10
+> observer-1 5 retract {"observation":1}
+< 200 receipt 11
+"#;
 
-const EMPTY: &[Row] = &[
-    (
-        OBSERVER,
-        2,
-        "retract",
-        "{\"observation\":4}",
-        "200 ",
-        "receipt 8\n",
-    ),
-    (
-        OBSERVER,
-        3,
-        "retract",
-        "{\"observation\":3}",
-        "200 ",
-        "receipt 9\n",
-    ),
-    (
-        OBSERVER,
-        4,
-        "retract",
-        "{\"observation\":2}",
-        "200 ",
-        "receipt 10\n",
-    ),
-    (
-        OBSERVER,
-        5,
-        "retract",
-        "{\"observation\":1}",
-        "200 ",
-        "receipt 11\n",
-    ),
-];
+const RELEASED: &str = r#"
+> +founder-1 7 release {"tracklet":1}
+< 200 receipt 8
+> +founder-1 8 release {"tracklet":2}
+< 200 receipt 9
+"#;
 
-const RELEASED: &[Row] = &[
-    (
-        FOUNDER,
-        7,
-        "release",
-        "{\"tracklet\":1}",
-        "200 ",
-        "receipt 8\n",
-    ),
-    (
-        FOUNDER,
-        8,
-        "release",
-        "{\"tracklet\":2}",
-        "200 ",
-        "receipt 9\n",
-    ),
-];
+const NUMBERING: &str = r#"
+> +founder-1 7 verdict {"object":"2024 EA","oppositions":4,"u":2}
+< 200 receipt 8
+> +founder-1 8 number {"first":620000,"most":1}
+< 200 receipt 9
+number 620000 2024 EA
+> observer-1 2 submit80
+~0000         C2024 04 10.50000 10 20 00.00 -05 30 00.0                      703
+~0000         C2024 04 10.52000 10 20 01.00 -05 30 00.0                      703
+< 200 receipt 10
+accepted 2 refused 0
+line 1 obs 5 track 3
+line 2 obs 6 track 3
+"#;
 
-const NUMBERING: &[Row] = &[
-    (
-        FOUNDER,
-        7,
-        "verdict",
-        "{\"object\":\"2024 EA\",\"oppositions\":4,\"u\":2}",
-        "200 ",
-        "receipt 8\n",
-    ),
-    (
-        FOUNDER,
-        8,
-        "number",
-        "{\"first\":620000,\"most\":1}",
-        "200 ",
-        "receipt 9\nnumber 620000 2024 EA\n",
-    ),
-    (
-        OBSERVER,
-        2,
-        "submit80",
-        NUMBERED,
-        "200 ",
-        "receipt 10\naccepted 2 refused 0\nline 1 obs 5 track 3\nline 2 obs 6 track 3\n",
-    ),
-];
-
-const FREED: &[Row] = &[(
-    FOUNDER,
-    9,
-    "release",
-    "{\"tracklet\":3}",
-    "200 ",
-    "receipt 11\n",
-)];
-
-const FIRST_MADE: &str = concat!(
-    "receipt 2\n",
-    "accepted 4 refused 0\n",
-    "line 1 obs 1 track 1\n",
-    "line 2 obs 2 track 1\n",
-    "line 3 obs 3 track 2\n",
-    "line 4 obs 4 track 2\n",
-);
-
-const SECOND_MADE: &str = concat!(
-    "receipt 4\n",
-    "accepted 4 refused 0\n",
-    "line 1 obs 5 track 3\n",
-    "line 2 obs 6 track 3\n",
-    "line 3 obs 7 track 4\n",
-    "line 4 obs 8 track 4\n",
-);
-
-const THIRD_MADE: &str = concat!(
-    "receipt 6\n",
-    "accepted 4 refused 0\n",
-    "line 1 obs 9 track 5\n",
-    "line 2 obs 10 track 5\n",
-    "line 3 obs 11 track 6\n",
-    "line 4 obs 12 track 6\n",
-);
+const FREED: &str = r#"
+> +founder-1 9 release {"tracklet":3}
+< 200 receipt 11
+"#;
 
 /// A second object, to which the first one's tracklet goes.
-const MOVED: &[Row] = &[
-    (OBSERVER, 2, "submitpsv", NIGHT, "200 ", NIGHT_TEXT),
-    (
-        FOUNDER,
-        7,
-        "designate",
-        "{\"tracklets\":[3,5]}",
-        "200 ",
-        "receipt 9\nobject 2024 FA K24F00A\n",
-    ),
-    (
-        FOUNDER,
-        8,
-        "release",
-        "{\"tracklet\":1}",
-        "200 ",
-        "receipt 10\n",
-    ),
-    (
-        FOUNDER,
-        9,
-        "attribute",
-        "{\"tracklet\":1,\"to\":\"2024 FA\"}",
-        "200 ",
-        "receipt 11\n",
-    ),
-];
+const MOVED: &str = r#"
+> observer-1 2 submitpsv $NIGHT
+< 200 $NIGHT_TEXT
+> +founder-1 7 designate {"tracklets":[3,5]}
+< 200 receipt 9
+object 2024 FA K24F00A
+> +founder-1 8 release {"tracklet":1}
+< 200 receipt 10
+> +founder-1 9 attribute {"tracklet":1,"to":"2024 FA"}
+< 200 receipt 11
+"#;
 
 /// A station, and three objects of made-up lines.
-const MADE: &[Row] = &[
-    (FOUNDER, 1, "station", STATION, "200 ", "receipt 1\n"),
-    (FOUNDER, 2, "submit80", MADE_1, "200 ", FIRST_MADE),
-    (
-        FOUNDER,
-        3,
-        "designate",
-        "{\"tracklets\":[1,2]}",
-        "200 ",
-        "receipt 3\nobject 2024 AA K24A00A\n",
-    ),
-    (FOUNDER, 4, "submit80", MADE_2, "200 ", SECOND_MADE),
-    (
-        FOUNDER,
-        5,
-        "designate",
-        "{\"tracklets\":[3,4]}",
-        "200 ",
-        "receipt 5\nobject 2024 AB K24A00B\n",
-    ),
-    (FOUNDER, 6, "submit80", MADE_3, "200 ", THIRD_MADE),
-    (
-        FOUNDER,
-        7,
-        "designate",
-        "{\"tracklets\":[5,6]}",
-        "200 ",
-        "receipt 7\nobject 2024 AC K24A00C\n",
-    ),
-];
+const MADE: &str = r#"
+> +founder-1 1 station {"code":"703","from":"1998-01-01","name":"Catalina","to":"2199-12-31"}
+< 200 receipt 1
+> +founder-1 2 submit80
+     W00001a   2024 01 01.0000  00 00 07.050+67 38 37.11                     703
+     W00001a   2024 01 01.0050  00 00 07.050+67 38 37.11                     703
+     W00001b   2024 01 01.5000  00 00 07.050+67 38 37.11                     703
+     W00001b   2024 01 01.5050  00 00 07.050+67 38 37.11                     703
+< 200 receipt 2
+accepted 4 refused 0
+line 1 obs 1 track 1
+line 2 obs 2 track 1
+line 3 obs 3 track 2
+line 4 obs 4 track 2
+> +founder-1 3 designate {"tracklets":[1,2]}
+< 200 receipt 3
+object 2024 AA K24A00A
+> +founder-1 4 submit80
+     W00002a   2024 01 01.0004  00 00 11.921+76 15 51.06                     703
+     W00002a   2024 01 01.0054  00 00 11.921+76 15 51.06                     703
+     W00002b   2024 01 01.5004  00 00 11.921+76 15 51.06                     703
+     W00002b   2024 01 01.5054  00 00 11.921+76 15 51.06                     703
+< 200 receipt 4
+accepted 4 refused 0
+line 1 obs 5 track 3
+line 2 obs 6 track 3
+line 3 obs 7 track 4
+line 4 obs 8 track 4
+> +founder-1 5 designate {"tracklets":[3,4]}
+< 200 receipt 5
+object 2024 AB K24A00B
+> +founder-1 6 submit80
+     W00003a   2024 01 01.0008  00 00 16.332+34 44 50.33                     703
+     W00003a   2024 01 01.0058  00 00 16.332+34 44 50.33                     703
+     W00003b   2024 01 01.5008  00 00 16.332+34 44 50.33                     703
+     W00003b   2024 01 01.5058  00 00 16.332+34 44 50.33                     703
+< 200 receipt 6
+accepted 4 refused 0
+line 1 obs 9 track 5
+line 2 obs 10 track 5
+line 3 obs 11 track 6
+line 4 obs 12 track 6
+> +founder-1 7 designate {"tracklets":[5,6]}
+< 200 receipt 7
+object 2024 AC K24A00C
+"#;
 
 /// Each batch by its place in the table.
 fn after_batches(alloc: Global) -> Result<(), Wrong> {
-    for (place, &(verb, body, text, after)) in BATCHES.iter().enumerate() {
-        let row = (OBSERVER, 1, verb, body, "200 ", text);
-        catalogue_of(alloc, &[&[row]], 6, after, place)?;
+    for (place, &(batch, after)) in BATCHES.iter().enumerate() {
+        catalogue_of(alloc, &[batch], 6, after, place)?;
     }
     Ok(())
 }
@@ -518,8 +410,7 @@ fn catalogues_of_batches(rt: HostRuntime) {
 
 /// What comes after the object, by its place in the table.
 fn after_an_object(alloc: Global) -> Result<(), Wrong> {
-    for (place, &(later, after)) in LATER.iter().enumerate() {
-        let added = (later.len() as u64).saturating_add(7);
+    for (place, &(later, added, after)) in LATER.iter().enumerate() {
         catalogue_of(alloc, &[OBJECT, later], added, after, place)?;
     }
     Ok(())
@@ -532,26 +423,30 @@ fn catalogues_of_an_object(rt: HostRuntime) {
 
 #[test]
 fn catalogue_of_a_numbered_tracklet(rt: HostRuntime) {
-    let tables = [OBJECT, NUMBERING, FREED];
-    catalogue_of(rt.alloc(), &tables, 11, FREED_CATALOGUE, 0).expect(&rt, "as wanted");
+    let transcripts = [OBJECT, NUMBERING, FREED];
+    catalogue_of(rt.alloc(), &transcripts, 11, FREED_CATALOGUE, 0).expect(&rt, "as wanted");
 }
 
-// Without the founder's five requests.
+/// Without the founder's five requests.
+fn three_objects(alloc: Global) -> Result<(), Wrong> {
+    let mut script = Script::new(alloc);
+    script.add_transcript(MADE)?;
+    catalogue_after(alloc, &mut script, 7, MADE_CATALOGUE, 0)
+}
+
 #[test]
 fn catalogue_of_three_objects(rt: HostRuntime) {
     assert_eq!(rt; MADE_CATALOGUE.len(), 1_170);
-    catalogue_alone(rt.alloc(), MADE, 7, MADE_CATALOGUE).expect(&rt, "as wanted");
+    three_objects(rt.alloc()).expect(&rt, "as wanted");
 }
 
 /// A half-month is taken over, with two designations.
-const OPENED: &[Row] = &[(
-    FOUNDER,
-    6,
-    "opening",
-    "{\"half\":\"2024 E\",\"given\":3,\"carried\":[1,3]}",
-    "200 ",
-    "receipt 6\nobject 2024 EA K24E00A\nobject 2024 EC K24E00C\n",
-)];
+const OPENED: &str = r#"
+> +founder-1 6 opening {"half":"2024 E","given":3,"carried":[1,3]}
+< 200 receipt 6
+object 2024 EA K24E00A
+object 2024 EC K24E00C
+"#;
 
 /// Both stand there without an observation.
 const OPENED_CATALOGUE: &str = concat!(
@@ -567,15 +462,15 @@ const OPENED_CATALOGUE: &str = concat!(
 );
 
 /// Lines under one of them, the first with a star.
-const STARRED: &str = concat!(
-    "     K24E00C* C2024 03 01.50000 06 12 34.56 +23 45 01.2          19.5 V      703\n",
-    "     K24E00C  C2024 03 01.51000 06 12 34.56 +23 45 01.2          19.5 V      703\n",
-);
-
-const STARRED_TEXT: &str =
-    "receipt 7\naccepted 2 refused 0\nline 1 obs 1 track 1\nline 2 obs 2 track 1\n";
-
-const FILED: &[Row] = &[(OBSERVER, 1, "submit80", STARRED, "200 ", STARRED_TEXT)];
+const FILED: &str = r#"
+> observer-1 1 submit80
+     K24E00C* C2024 03 01.50000 06 12 34.56 +23 45 01.2          19.5 V      703
+     K24E00C  C2024 03 01.51000 06 12 34.56 +23 45 01.2          19.5 V      703
+< 200 receipt 7
+accepted 2 refused 0
+line 1 obs 1 track 1
+line 2 obs 2 track 1
+"#;
 
 /// The star isn't read, and the first of the lines is no discovery.
 const FILED_CATALOGUE: &str = concat!(
@@ -593,39 +488,19 @@ const FILED_CATALOGUE: &str = concat!(
 );
 
 /// The tracklets of one batch come to them, one to each.
-const SHARED: &[Row] = &[
-    (
-        OBSERVER,
-        1,
-        "submitpsv",
-        MIDNIGHT,
-        "200 ",
-        concat!(
-            "receipt 7\n",
-            "accepted 4 refused 0\n",
-            "line 5 obs 1 track 1\n",
-            "line 6 obs 2 track 1\n",
-            "line 7 obs 3 track 2\n",
-            "line 8 obs 4 track 2\n",
-        ),
-    ),
-    (
-        FOUNDER,
-        7,
-        "attribute",
-        "{\"tracklet\":1,\"to\":\"2024 EC\"}",
-        "200 ",
-        "receipt 8\n",
-    ),
-    (
-        FOUNDER,
-        8,
-        "attribute",
-        "{\"tracklet\":2,\"to\":\"2024 EA\"}",
-        "200 ",
-        "receipt 9\n",
-    ),
-];
+const SHARED: &str = r#"
+> observer-1 1 submitpsv $MIDNIGHT
+< 200 receipt 7
+accepted 4 refused 0
+line 5 obs 1 track 1
+line 6 obs 2 track 1
+line 7 obs 3 track 2
+line 8 obs 4 track 2
+> +founder-1 7 attribute {"tracklet":1,"to":"2024 EC"}
+< 200 receipt 8
+> +founder-1 8 attribute {"tracklet":2,"to":"2024 EA"}
+< 200 receipt 9
+"#;
 
 const SHARED_CATALOGUE: &str = concat!(
     "catalogue 1\n",
@@ -643,37 +518,28 @@ const SHARED_CATALOGUE: &str = concat!(
     "end\n",
 );
 
-/// The same tracklets after the lines under 2024 EC.
-const SECOND_TEXT: &str = concat!(
-    "receipt 8\n",
-    "accepted 4 refused 0\n",
-    "line 5 obs 3 track 2\n",
-    "line 6 obs 4 track 2\n",
-    "line 7 obs 5 track 3\n",
-    "line 8 obs 6 track 3\n",
-);
-
 /// The office gives a designation of its own, and what was carried becomes a name of its object.
-const UNDER_OWN: &[Row] = &[
-    (OBSERVER, 1, "submit80", STARRED, "200 ", STARRED_TEXT),
-    (OBSERVER, 2, "submitpsv", MIDNIGHT, "200 ", SECOND_TEXT),
-    (
-        FOUNDER,
-        7,
-        "designate",
-        "{\"tracklets\":[2,3]}",
-        "200 ",
-        "receipt 9\nobject 2024 ED K24E00D\n",
-    ),
-    (
-        FOUNDER,
-        8,
-        "identify",
-        "{\"principal\":\"2024 ED\",\"secondary\":\"2024 EC\"}",
-        "200 ",
-        "receipt 10\n",
-    ),
-];
+const UNDER_OWN: &str = r#"
+> observer-1 1 submit80
+     K24E00C* C2024 03 01.50000 06 12 34.56 +23 45 01.2          19.5 V      703
+     K24E00C  C2024 03 01.51000 06 12 34.56 +23 45 01.2          19.5 V      703
+< 200 receipt 7
+accepted 2 refused 0
+line 1 obs 1 track 1
+line 2 obs 2 track 1
+> observer-1 2 submitpsv $MIDNIGHT
+< 200 receipt 8
+accepted 4 refused 0
+line 5 obs 3 track 2
+line 6 obs 4 track 2
+line 7 obs 5 track 3
+line 8 obs 6 track 3
+> +founder-1 7 designate {"tracklets":[2,3]}
+< 200 receipt 9
+object 2024 ED K24E00D
+> +founder-1 8 identify {"principal":"2024 ED","secondary":"2024 EC"}
+< 200 receipt 10
+"#;
 
 /// The discovery of 2024 ED has its star, after earlier lines.
 const UNDER_OWN_CATALOGUE: &str = concat!(
@@ -696,26 +562,27 @@ const UNDER_OWN_CATALOGUE: &str = concat!(
 );
 
 /// It becomes a name of what was carried.
-const UNDER_CARRIED: &[Row] = &[
-    (OBSERVER, 1, "submit80", STARRED, "200 ", STARRED_TEXT),
-    (OBSERVER, 2, "submitpsv", MIDNIGHT, "200 ", SECOND_TEXT),
-    (
-        FOUNDER,
-        7,
-        "designate",
-        "{\"tracklets\":[2,3]}",
-        "200 ",
-        "receipt 9\nobject 2024 ED K24E00D\n",
-    ),
-    (
-        FOUNDER,
-        8,
-        "identify",
-        "{\"principal\":\"2024 EC\",\"secondary\":\"2024 ED\"}",
-        "200 ",
-        "receipt 10\n",
-    ),
-];
+const UNDER_CARRIED: &str = r#"
+> observer-1 1 submit80
+     K24E00C* C2024 03 01.50000 06 12 34.56 +23 45 01.2          19.5 V      703
+     K24E00C  C2024 03 01.51000 06 12 34.56 +23 45 01.2          19.5 V      703
+< 200 receipt 7
+accepted 2 refused 0
+line 1 obs 1 track 1
+line 2 obs 2 track 1
+> observer-1 2 submitpsv $MIDNIGHT
+< 200 receipt 8
+accepted 4 refused 0
+line 5 obs 3 track 2
+line 6 obs 4 track 2
+line 7 obs 5 track 3
+line 8 obs 6 track 3
+> +founder-1 7 designate {"tracklets":[2,3]}
+< 200 receipt 9
+object 2024 ED K24E00D
+> +founder-1 8 identify {"principal":"2024 EC","secondary":"2024 ED"}
+< 200 receipt 10
+"#;
 
 /// No line has a star.
 const UNDER_CARRIED_CATALOGUE: &str = concat!(
@@ -737,19 +604,18 @@ const UNDER_CARRIED_CATALOGUE: &str = concat!(
     "end\n",
 );
 
-/// What comes after the opening, and what the catalogue is then.
-const AFTER_OPENING: &[(&[Row], &str)] = &[
-    (&[], OPENED_CATALOGUE),
-    (FILED, FILED_CATALOGUE),
-    (SHARED, SHARED_CATALOGUE),
-    (UNDER_OWN, UNDER_OWN_CATALOGUE),
-    (UNDER_CARRIED, UNDER_CARRIED_CATALOGUE),
+/// What comes after the opening, how many entries the office has then, and what the catalogue is.
+const AFTER_OPENING: &[(&str, u64, &str)] = &[
+    ("", 6, OPENED_CATALOGUE),
+    (FILED, 7, FILED_CATALOGUE),
+    (SHARED, 9, SHARED_CATALOGUE),
+    (UNDER_OWN, 10, UNDER_OWN_CATALOGUE),
+    (UNDER_CARRIED, 10, UNDER_CARRIED_CATALOGUE),
 ];
 
 /// Each by its place in the table.
 fn after_an_opening(alloc: Global) -> Result<(), Wrong> {
-    for (place, &(later, after)) in AFTER_OPENING.iter().enumerate() {
-        let added = (later.len() as u64).saturating_add(6);
+    for (place, &(later, added, after)) in AFTER_OPENING.iter().enumerate() {
         catalogue_of(alloc, &[OPENED, later], added, after, place)?;
     }
     Ok(())

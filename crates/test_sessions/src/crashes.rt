@@ -3,8 +3,7 @@
 
 use std::alloc::Global;
 use testkit_sessions::{
-    BATCH, CHAINED, Call, Drive, Drives, ENROLLED, ENROLS, FOUNDER, OBSERVER, Row, Script, Wrong,
-    call_in_turn,
+    CHAINED, Call, Drive, Drives, ENROLLED, ENROLS, Script, Wrong, call_in_turn,
 };
 
 fn written(alloc: Global) -> Result<(), Wrong> {
@@ -91,81 +90,61 @@ fn crash_after_each_call(rt: HostRuntime) {
     crashes(rt.alloc()).expect(&rt, "as wanted");
 }
 
-const DOUBT_TEXT: &str = "refused 16 DiskFault doubt\n";
-
-const BOB: &str = "{\"key\":\"observer-2\",\"name\":\"Bob\",\"role\":\"observer\"}";
-
 /// The observer's act comes before the officer's, which settles it: it was kept.
-const ADDED: &[Row] = &[
-    (OBSERVER, 1, "submit80", BATCH, "503 ", DOUBT_TEXT),
-    (
-        OBSERVER,
-        0,
-        "tally",
-        "",
-        "200 ",
-        "entries 5\nisolated 0\nobjects 0\nretracted 0\naccepted 0\n",
-    ),
-    (FOUNDER, 6, "enrol", BOB, "200 ", "receipt 7\ncaller 2\n"),
-    (
-        OBSERVER,
-        0,
-        "tally",
-        "",
-        "200 ",
-        "entries 7\nisolated 4\nobjects 0\nretracted 0\naccepted 4\n",
-    ),
-    (
-        OBSERVER,
-        1,
-        "submit80",
-        BATCH,
-        "200 ",
-        concat!(
-            "receipt 6\n",
-            "accepted 4 refused 0\n",
-            "line 7 obs 1 track 1\n",
-            "line 8 obs 2 track 1\n",
-            "line 9 obs 3 track 1\n",
-            "line 10 obs 4 track 1\n",
-        ),
-    ),
-];
+const ADDED: &str = r#"
+> observer-1 1 submit80 $BATCH
+< 503 refused 16 DiskFault doubt
+> observer-1 0 tally
+< 200 entries 5
+isolated 0
+objects 0
+retracted 0
+accepted 0
+> +founder-1 6 enrol {"key":"observer-2","name":"Bob","role":"observer"}
+< 200 receipt 7
+caller 2
+> observer-1 0 tally
+< 200 entries 7
+isolated 4
+objects 0
+retracted 0
+accepted 4
+> observer-1 1 submit80 $BATCH
+< 200 receipt 6
+accepted 4 refused 0
+line 7 obs 1 track 1
+line 8 obs 2 track 1
+line 9 obs 3 track 1
+line 10 obs 4 track 1
+"#;
 
 /// It wasn't kept, so that it comes after the officer's.
-const DROPPED: &[Row] = &[
-    (OBSERVER, 1, "submit80", BATCH, "503 ", DOUBT_TEXT),
-    (FOUNDER, 6, "enrol", BOB, "200 ", "receipt 6\ncaller 2\n"),
-    (
-        OBSERVER,
-        0,
-        "tally",
-        "",
-        "200 ",
-        "entries 6\nisolated 0\nobjects 0\nretracted 0\naccepted 0\n",
-    ),
-    (
-        OBSERVER,
-        1,
-        "submit80",
-        BATCH,
-        "200 ",
-        concat!(
-            "receipt 7\n",
-            "accepted 4 refused 0\n",
-            "line 7 obs 1 track 1\n",
-            "line 8 obs 2 track 1\n",
-            "line 9 obs 3 track 1\n",
-            "line 10 obs 4 track 1\n",
-        ),
-    ),
-];
+const DROPPED: &str = r#"
+> observer-1 1 submit80 $BATCH
+< 503 refused 16 DiskFault doubt
+> +founder-1 6 enrol {"key":"observer-2","name":"Bob","role":"observer"}
+< 200 receipt 6
+caller 2
+> observer-1 0 tally
+< 200 entries 6
+isolated 0
+objects 0
+retracted 0
+accepted 0
+> observer-1 1 submit80 $BATCH
+< 200 receipt 7
+accepted 4 refused 0
+line 7 obs 1 track 1
+line 8 obs 2 track 1
+line 9 obs 3 track 1
+line 10 obs 4 track 1
+"#;
 
 /// Opening and the founder's five requests take 29 calls of the second disk. The observer's act takes four, of which
 /// this one fails.
-fn settled(alloc: Global, fails: u64, rows: &[Row], mark: usize) -> Result<(), Wrong> {
+fn settled(alloc: Global, fails: u64, transcript: &str, mark: usize) -> Result<(), Wrong> {
     let mut script = Script::begun(alloc)?;
-    script.add_rows(rows)?;
+    script.add_transcript(transcript)?;
     let fails = [fails];
     let drives = Drives::with_second(Drive {
         fails: &fails,

@@ -24,3 +24,5 @@ mod objects;
 mod opened_journals;
 #[cfg(test)]
 mod runs;
+#[cfg(test)]
+mod transcripts;

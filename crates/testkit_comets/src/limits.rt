@@ -14,17 +14,17 @@ use item_list::Bytes;
 use obs_time::Instant;
 use std::alloc::Global;
 use testkit_sessions::{
-    Call, Drive, Drives, FOUNDER, Found, NoMemory, Row, Wrong, are_left, disks_of, put, put_number,
+    Asked, Call, Drive, Drives, FOUNDER, Found, Named, NoMemory, Wrong, are_left, asked_in,
+    disks_of, put_number,
 };
 
-/// The request of a row.
-fn request_of(alloc: Global, row: &Row) -> Result<CometRequest, NoMemory> {
-    let &(who, number, verb, body, _, _) = row;
-    let body = Bytes::from_slice(alloc, body.as_bytes())?;
+/// What is asked.
+fn request_of(alloc: Global, asked: &Asked<'_>) -> Result<CometRequest, NoMemory> {
+    let body = Bytes::from_slice(alloc, asked.body.as_bytes())?;
     Ok(CometRequest {
-        key: Key::new(who.as_bytes()),
-        number: Some(number),
-        verb: read_comet_verb(verb.as_bytes()),
+        key: Key::new(asked.who.as_bytes()),
+        number: Some(asked.number),
+        verb: read_comet_verb(asked.verb.as_bytes()),
         body: Body::Whole(body),
     })
 }
@@ -47,57 +47,56 @@ fn reply_of<D: Disk, V: Shelf>(
     }
 }
 
-/// Whether a reply is that of a row.
-fn is_wanted(alloc: Global, reply: CometReply, row: &Row) -> Result<bool, NoMemory> {
+/// Whether a reply is the one that is wanted.
+fn is_wanted(alloc: Global, reply: CometReply, asked: &Asked<'_>) -> Result<bool, NoMemory> {
     let mut status = Vec::new(alloc);
     put_number(alloc, &mut status, u64::from(comet_status(&reply)))?;
-    put(&mut status, " ")?;
     let text = comet_reply_text(reply);
-    Ok(status.as_slice() == row.4.as_bytes() && text.as_slice() == row.5.as_bytes())
+    Ok(status.as_slice() == asked.status.as_bytes() && text.as_slice() == asked.text.as_bytes())
 }
 
-/// Whether the request of a row is answered as the row says.
+/// Whether a request is answered as is wanted.
 fn is_answered<D: Disk, V: Shelf>(
     alloc: Global,
     register: &mut CometDesk<D>,
     shelf: &V,
     clock: &mut TickClock,
-    row: &Row,
+    asked: &Asked<'_>,
 ) -> Result<bool, NoMemory>
     requires { IsBeside (deeds (V.history shelf.now)) register.old }
     ensures { IsBeside (deeds (V.history shelf.now)) register.new }
 {
-    let request = request_of(alloc, row)?;
+    let request = request_of(alloc, asked)?;
     let reply = reply_of(register, shelf, clock, &request);
-    is_wanted(alloc, reply, row)
+    is_wanted(alloc, reply, asked)
 }
 
-/// The first row that isn't so answered, counted from 0; None where there is none.
-fn wrong_row<D: Disk, V: Shelf>(
+/// The first request that isn't so answered, counted from 0; None where there is none.
+fn first_wrong<D: Disk, V: Shelf>(
     alloc: Global,
     register: &mut CometDesk<D>,
     shelf: &V,
     clock: &mut TickClock,
-    rows: &[Row],
+    asked: &[Asked<'_>],
 ) -> Result<Option<usize>, NoMemory>
     requires { IsBeside (deeds (V.history shelf.now)) register.old }
 {
-    for (place, row) in rows.iter().enumerate() {
-        if !is_answered(alloc, register, shelf, clock, row)? {
+    for (place, next) in asked.iter().enumerate() {
+        if !is_answered(alloc, register, shelf, clock, next)? {
             return Ok(Some(place));
         }
     }
     Ok(None)
 }
 
-/// The register's disk after these rows were asked, and the first of them that was answered otherwise.
-fn asked<D: Disk, V: Shelf>(
+/// The register's disk after this was asked, and the first request that was answered otherwise.
+fn answered<D: Disk, V: Shelf>(
     alloc: Global,
     limit: u64,
     shelf: &V,
     disk: D,
     clock: &mut TickClock,
-    rows: &[Row],
+    asked: &[Asked<'_>],
 ) -> Result<(D, Option<usize>), Wrong> {
     let founder = Key::new(FOUNDER.as_bytes());
     let Ok(mut register) = CometDesk::open(alloc, founder, limit, shelf, disk) else {
@@ -105,23 +104,23 @@ fn asked<D: Disk, V: Shelf>(
         return Err(Wrong { mark: 0, found });
     };
     // The register is closed first, so that it is let go nowhere here.
-    let wrong = wrong_row(alloc, &mut register, shelf, clock, rows);
+    let wrong = first_wrong(alloc, &mut register, shelf, clock, asked);
     let disk = register.close();
     Ok((disk, wrong?))
 }
 
 /// The same beside the office on these two disks, which is read alone.
-fn asked_beside<D: Disk>(
+fn answered_beside<D: Disk>(
     alloc: Global,
     limit: u64,
     disks: Disks<D>,
     clock: &mut TickClock,
-    rows: &[Row],
+    asked: &[Asked<'_>],
 ) -> Result<(D, Option<usize>), Wrong> {
     let Disks { office, register } = disks;
     match open_to_read(alloc, office.0, office.1) {
         Ok(office) => {
-            let told = asked(alloc, limit, office.core(), register, clock, rows);
+            let told = answered(alloc, limit, office.core(), register, clock, asked);
             end_reading(office, Status::Done);
             told
         }
@@ -144,19 +143,22 @@ fn clock_of(call: &Call) -> Result<TickClock, Wrong> {
 }
 
 /// Makes a run on two empty disks for the office, opens the founding officer's register on this disk beside it, where
-/// its file may have so many bytes, and asks it these rows.
+/// its file may have so many bytes, and asks it what this transcript asks, where these texts have names.
 ///
 /// # Errors
 ///
-/// What is wrong with the run; with the first row that is answered otherwise, whose place is the mark; or with the
-/// register's file, which is told as file 3 where the register can't be opened, and as file 2 where another is left.
-pub fn comets_within(
+/// What is wrong with the transcript; with the run; with the first request that is answered otherwise, whose place is the
+/// mark; or with the register's file, which is told as file 3 where the register can't be opened, and as file 2 where
+/// another is left.
+pub fn comets_within<'a>(
     alloc: Global,
     office: &Call,
     limit: u64,
     register: &Drive,
-    rows: &[Row],
+    transcript: &'a str,
+    named: &'a [Named<'a>],
 ) -> Result<(), Wrong> {
+    let asked = asked_in(alloc, transcript, named)?;
     let drives = Drives::with_second(*register);
     let (other, comets) = disks_of(alloc, &drives)?;
     let before = Disks {
@@ -165,10 +167,10 @@ pub fn comets_within(
     };
     let disks = call_on(alloc, office, before)?;
     let mut clock = clock_of(office)?;
-    let (register, wrong) = asked_beside(alloc, limit, disks, &mut clock, rows)?;
+    let (register, wrong) = answered_beside(alloc, limit, disks, &mut clock, &asked)?;
     if let Some(mark) = wrong {
         let found = Found::BytesFrom(0);
         return Err(Wrong { mark, found });
     }
-    are_left(alloc, &drives, (other, register), rows.len())
+    are_left(alloc, &drives, (other, register), asked.len())
 }

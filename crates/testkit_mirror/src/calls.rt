@@ -11,7 +11,7 @@ use mirror_store::Mirror;
 use run_command::run;
 use std::alloc::Global;
 use testkit_sessions::{
-    Call, Devices, Drive, Drives, Row, Script, Wrong, are_left, disks_of, has_ended,
+    Call, Devices, Drive, Drives, Script, Wrong, are_left, disks_of, has_ended,
 };
 
 /// How many bytes the second disk has room for under a session that is large.
@@ -126,7 +126,7 @@ pub fn mirrored_by<M: Mirror>(
     is_held(alloc, mirror, wanted, mark)
 }
 
-/// The same with a session of the founder's five requests and of these tables.
+/// The same with a session of the founder's five requests and of these transcripts.
 ///
 /// # Errors
 ///
@@ -134,15 +134,13 @@ pub fn mirrored_by<M: Mirror>(
 pub fn mirrored_after<M: Mirror>(
     alloc: Global,
     mirror: &mut M,
-    tables: &[&[Row]],
+    transcripts: &[&str],
     added: u64,
     line: &str,
     wanted: &Holds,
     mark: usize,
 ) -> Result<(), Wrong> {
     let mut script = Script::begun(alloc)?;
-    for rows in tables {
-        script.add_rows(rows)?;
-    }
+    script.add_transcripts(transcripts)?;
     mirrored_by(alloc, mirror, &script, added, line, wanted, mark)
 }

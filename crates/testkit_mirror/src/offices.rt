@@ -5,93 +5,64 @@ use crate::calls::mirrored_after;
 use crate::held::{Holds, NOTHING};
 use mirror_store::Mirror;
 use std::alloc::Global;
-use testkit_sessions::{FOUNDER, MIDNIGHT, MIDNIGHT_TEXT, NIGHT, NIGHT_TEXT, OBSERVER, Row, Wrong};
+use testkit_sessions::Wrong;
 
 /// Two tracklets of one batch.
-pub const SUBMITTED: &[Row] = &[(OBSERVER, 1, "submitpsv", MIDNIGHT, "200 ", MIDNIGHT_TEXT)];
+pub const SUBMITTED: &str = r#"
+> observer-1 1 submitpsv $MIDNIGHT
+< 200 $MIDNIGHT_TEXT
+"#;
 
 /// They become an object.
-pub const OBJECT: &[Row] = &[(
-    FOUNDER,
-    6,
-    "designate",
-    "{\"tracklets\":[1,2]}",
-    "200 ",
-    "receipt 7\nobject 2024 EA K24E00A\n",
-)];
+pub const OBJECT: &str = r#"
+> +founder-1 6 designate {"tracklets":[1,2]}
+< 200 receipt 7
+object 2024 EA K24E00A
+"#;
 
 /// Its discovery observation is retracted.
-const RETRACTED: &[Row] = &[(
-    OBSERVER,
-    2,
-    "retract",
-    "{\"observation\":1}",
-    "200 ",
-    "receipt 8\n",
-)];
+const RETRACTED: &str = r#"
+> observer-1 2 retract {"observation":1}
+< 200 receipt 8
+"#;
 
 /// It is numbered.
-const NUMBERED: &[Row] = &[
-    (
-        FOUNDER,
-        7,
-        "verdict",
-        "{\"object\":\"2024 EA\",\"oppositions\":4,\"u\":2}",
-        "200 ",
-        "receipt 8\n",
-    ),
-    (
-        FOUNDER,
-        8,
-        "number",
-        "{\"first\":620000,\"most\":1}",
-        "200 ",
-        "receipt 9\nnumber 620000 2024 EA\n",
-    ),
-];
+const NUMBERED: &str = r#"
+> +founder-1 7 verdict {"object":"2024 EA","oppositions":4,"u":2}
+< 200 receipt 8
+> +founder-1 8 number {"first":620000,"most":1}
+< 200 receipt 9
+number 620000 2024 EA
+"#;
 
 /// A second object, and a tracklet that is left isolated.
-const SECOND: &[Row] = &[
-    (OBSERVER, 2, "submitpsv", NIGHT, "200 ", NIGHT_TEXT),
-    (
-        FOUNDER,
-        7,
-        "designate",
-        "{\"tracklets\":[3,5]}",
-        "200 ",
-        "receipt 9\nobject 2024 FA K24F00A\n",
-    ),
-];
+const SECOND: &str = r#"
+> observer-1 2 submitpsv $NIGHT
+< 200 $NIGHT_TEXT
+> +founder-1 7 designate {"tracklets":[3,5]}
+< 200 receipt 9
+object 2024 FA K24F00A
+"#;
 
 /// The second object is the first one.
-const JOINED: &[Row] = &[(
-    FOUNDER,
-    8,
-    "identify",
-    "{\"principal\":\"2024 EA\",\"secondary\":\"2024 FA\"}",
-    "200 ",
-    "receipt 10\n",
-)];
+const JOINED: &str = r#"
+> +founder-1 8 identify {"principal":"2024 EA","secondary":"2024 FA"}
+< 200 receipt 10
+"#;
 
 /// It isn't.
-const PARTED: &[Row] = &[(
-    FOUNDER,
-    9,
-    "separate",
-    "{\"secondary\":\"2024 FA\"}",
-    "200 ",
-    "receipt 11\n",
-)];
+const PARTED: &str = r#"
+> +founder-1 9 separate {"secondary":"2024 FA"}
+< 200 receipt 11
+"#;
 
 /// A half-month is taken over, with two designations.
-const CARRIED: &[Row] = &[(
-    FOUNDER,
-    6,
-    "opening",
-    "{\"half\":\"2024 E\",\"given\":3,\"carried\":[1,3]}",
-    "200 ",
-    "receipt 6\nobject 2024 EA K24E00A\nobject 2024 EC K24E00C\n",
-)];
+const CARRIED: &str = r#"
+> +founder-1 6 opening {"half":"2024 E","given":3,"carried":[1,3]}
+< 200 receipt 6
+object 2024 EA K24E00A
+object 2024 EC K24E00C
+"#;
 
 /// The line of the office with that batch, and the isolated observations that it has.
 pub const ISOLATED_LINE: &str = "mirror 6 objects 0 sights 4\n";
@@ -157,9 +128,9 @@ const EA_ALONE: &str = concat!(
     "10|2024 EA|1710936000000000000|108000000000000|9000000000000|703\n",
 );
 
-/// The tables of a session, by how many entries it makes an office, the line that is then written, and what the mirror
+/// The transcripts of a session, by how many entries it makes an office, the line that is then written, and what the mirror
 /// then holds.
-type Office = (&'static [&'static [Row]], u64, &'static str, Holds<'static>);
+type Office = (&'static [&'static str], u64, &'static str, Holds<'static>);
 
 const OFFICES: &[Office] = &[
     (&[], 5, "mirror 5 objects 0 sights 0\n", NOTHING),
@@ -228,8 +199,8 @@ const OFFICES: &[Office] = &[
 ///
 /// What is wrong with the first one that isn't as wanted.
 pub fn each_office<M: Mirror>(alloc: Global, mirror: &mut M) -> Result<(), Wrong> {
-    for (mark, &(tables, added, line, holds)) in OFFICES.iter().enumerate() {
-        mirrored_after(alloc, mirror, tables, added, line, &holds, mark)?;
+    for (mark, &(transcripts, added, line, holds)) in OFFICES.iter().enumerate() {
+        mirrored_after(alloc, mirror, transcripts, added, line, &holds, mark)?;
     }
     Ok(())
 }

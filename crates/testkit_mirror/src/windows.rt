@@ -4,41 +4,33 @@ use crate::calls::mirrored_after;
 use crate::held::{Holds, told_between};
 use mirror_store::Mirror;
 use std::alloc::Global;
-use testkit_sessions::{FOUNDER, OBSERVER, Row, Wrong};
+use testkit_sessions::Wrong;
 
-/// A station of which there are observations before 1970.
-const EARLY: &str =
-    "{\"code\":\"G96\",\"from\":\"1925-01-01\",\"name\":\"Mt. Lemmon\",\"to\":\"2199-12-31\"}";
-
-/// Three tracklets: two at the same two moments of 1950, and one about the first moment of 1970.
-const LINES: &str = concat!(
-    "# version=2017\n",
-    "# observatory\n",
-    "! mpcCode G96\n",
-    "trkSub|mode|stn|obsTime|ra|dec|astCat\n",
-    "T1|CCD|G96|1950-01-01T00:00:00Z|10.0|-1.0|Gaia3\n",
-    "T1|CCD|G96|1950-01-01T00:10:00Z|10.1|-1.0|Gaia3\n",
-    "T2|CCD|G96|1950-01-01T00:00:00Z|11.0|-1.0|Gaia3\n",
-    "T2|CCD|G96|1950-01-01T00:10:00Z|11.1|-1.0|Gaia3\n",
-    "T3|CCD|G96|1969-12-31T23:59:59.999999999Z|12.0|-1.0|Gaia3\n",
-    "T3|CCD|G96|1970-01-01T00:00:00Z|12.01|-1.0|Gaia3\n",
-);
-
-const ANSWER: &str = concat!(
-    "receipt 7\n",
-    "accepted 6 refused 0\n",
-    "line 5 obs 1 track 1\n",
-    "line 6 obs 2 track 1\n",
-    "line 7 obs 3 track 2\n",
-    "line 8 obs 4 track 2\n",
-    "line 9 obs 5 track 3\n",
-    "line 10 obs 6 track 3\n",
-);
-
-const SUBMITTED: &[Row] = &[
-    (FOUNDER, 6, "station", EARLY, "200 ", "receipt 6\n"),
-    (OBSERVER, 1, "submitpsv", LINES, "200 ", ANSWER),
-];
+/// Three tracklets of a station of which there are observations before 1970: two at the same two moments of 1950, and one
+/// about the first moment of 1970.
+const SUBMITTED: &str = r#"
+> +founder-1 6 station {"code":"G96","from":"1925-01-01","name":"Mt. Lemmon","to":"2199-12-31"}
+< 200 receipt 6
+> observer-1 1 submitpsv
+# version=2017
+# observatory
+! mpcCode G96
+trkSub|mode|stn|obsTime|ra|dec|astCat
+T1|CCD|G96|1950-01-01T00:00:00Z|10.0|-1.0|Gaia3
+T1|CCD|G96|1950-01-01T00:10:00Z|10.1|-1.0|Gaia3
+T2|CCD|G96|1950-01-01T00:00:00Z|11.0|-1.0|Gaia3
+T2|CCD|G96|1950-01-01T00:10:00Z|11.1|-1.0|Gaia3
+T3|CCD|G96|1969-12-31T23:59:59.999999999Z|12.0|-1.0|Gaia3
+T3|CCD|G96|1970-01-01T00:00:00Z|12.01|-1.0|Gaia3
+< 200 receipt 7
+accepted 6 refused 0
+line 5 obs 1 track 1
+line 6 obs 2 track 1
+line 7 obs 3 track 2
+line 8 obs 4 track 2
+line 9 obs 5 track 3
+line 10 obs 6 track 3
+"#;
 
 const FIRST: &str = "1||-631152000000000000|90000000000000|-9000000000000|G96\n\
     3||-631152000000000000|99000000000000|-9000000000000|G96\n";

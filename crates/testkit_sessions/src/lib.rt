@@ -13,10 +13,11 @@ mod journals;
 mod pieces;
 mod places;
 mod refusals;
-mod rows;
 mod scripts;
+mod sessions;
 mod setup;
 mod tracklets;
+mod transcripts;
 mod whole_session;
 mod wrong;
 
@@ -28,11 +29,9 @@ pub use exchange::{Exchange, Frames};
 pub use item_list::NoMemory;
 pub use journals::{CHAINED, ENROLLED, ENROLS, PLAIN};
 pub use pieces::{Part, put, put_lines, put_number, put_parts, put_reply, put_taken, text_of};
-pub use rows::{FOUNDER, OBSERVER, Row, catalogue_alone, catalogue_of, session};
 pub use scripts::{Script, call_days};
+pub use sessions::{FOUNDER, OBSERVER, catalogue_after, catalogue_of, session};
 pub use setup::{BATCH, ENROLMENT, FIRST, FIRST_ANSWER, MODE, SETUP, STATION, begun};
-pub use tracklets::{
-    EA_EB, EA_EC, FIVE, FIVE_TEXT, MIDNIGHT, MIDNIGHT_TEXT, NIGHT, NIGHT_TEXT, TWO,
-};
+pub use transcripts::{Asked, Fault, Named, asked_in};
 pub use whole_session::{FRAMES, session_tables};
 pub use wrong::{Found, Wrong};

@@ -2,8 +2,8 @@
 
 use crate::calls::{Call, Drive, Drives, call_in_turn};
 use crate::pieces::{put, put_number, put_reply};
-use crate::rows::Row;
 use crate::setup::begun;
+use crate::transcripts::{Asked, Named, asked_in};
 use crate::wrong::Wrong;
 use item_list::NoMemory;
 use std::alloc::Global;
@@ -40,6 +40,25 @@ impl Script {
         })
     }
 
+    /// A request, by whom it is sent, its number, its verb and its body.
+    fn add_request(
+        &mut self,
+        who: &str,
+        number: u64,
+        verb: &str,
+        body: &[u8],
+    ) -> Result<(), NoMemory> {
+        put(&mut self.bytes, who)?;
+        put(&mut self.bytes, " ")?;
+        put_number(self.alloc, &mut self.bytes, number)?;
+        put(&mut self.bytes, " ")?;
+        put(&mut self.bytes, verb)?;
+        put(&mut self.bytes, " ")?;
+        put_number(self.alloc, &mut self.bytes, body.len() as u64)?;
+        put(&mut self.bytes, "\n")?;
+        self.bytes.extend_from_slice(body)
+    }
+
     /// A request, by whom it is sent, its number, its verb and its body; then the status and the text of its reply.
     ///
     /// # Errors
@@ -54,26 +73,50 @@ impl Script {
         status: &str,
         text: &[u8],
     ) -> Result<(), NoMemory> {
-        put(&mut self.bytes, who)?;
-        put(&mut self.bytes, " ")?;
-        put_number(self.alloc, &mut self.bytes, number)?;
-        put(&mut self.bytes, " ")?;
-        put(&mut self.bytes, verb)?;
-        put(&mut self.bytes, " ")?;
-        put_number(self.alloc, &mut self.bytes, body.len() as u64)?;
-        put(&mut self.bytes, "\n")?;
-        self.bytes.extend_from_slice(body)?;
+        self.add_request(who, number, verb, body)?;
         put_reply(self.alloc, &mut self.taken, status, text)
     }
 
-    /// Such requests after others.
+    /// A request of a transcript, and its reply.
+    fn add_asked(&mut self, asked: &Asked<'_>) -> Result<(), NoMemory> {
+        self.add_request(asked.who, asked.number, asked.verb, asked.body.as_bytes())?;
+        put(&mut self.taken, asked.status)?;
+        put_reply(self.alloc, &mut self.taken, " ", asked.text.as_bytes())
+    }
+
+    /// The requests of a transcript, with the replies to them, where these texts have names.
     ///
     /// # Errors
     ///
-    /// Memory was refused.
-    pub fn add_rows(&mut self, rows: &[Row]) -> Result<(), NoMemory> {
-        for (who, number, verb, body, status, text) in rows {
-            self.add(who, *number, verb, body.as_bytes(), status, text.as_bytes())?;
+    /// Memory was refused, or the transcript can't be read.
+    pub fn add_named<'a>(
+        &mut self,
+        transcript: &'a str,
+        named: &'a [Named<'a>],
+    ) -> Result<(), Wrong> {
+        for asked in &asked_in(self.alloc, transcript, named)? {
+            self.add_asked(asked)?;
+        }
+        Ok(())
+    }
+
+    /// Those of a transcript that says no other names than those that stand.
+    ///
+    /// # Errors
+    ///
+    /// Memory was refused, or it can't be read.
+    pub fn add_transcript(&mut self, transcript: &str) -> Result<(), Wrong> {
+        self.add_named(transcript, &[])
+    }
+
+    /// Those of such transcripts, one after another.
+    ///
+    /// # Errors
+    ///
+    /// Memory was refused, or one of them can't be read.
+    pub fn add_transcripts(&mut self, transcripts: &[&str]) -> Result<(), Wrong> {
+        for transcript in transcripts {
+            self.add_transcript(transcript)?;
         }
         Ok(())
     }

@@ -95,8 +95,16 @@ pub const TWO: &str = concat!(
     "A7|CCD|703|2024-03-04T13:10:00Z|16.1|1.0|Gaia3\n",
 );
 
-/// The identification of 2024 EB with 2024 EA.
-pub const EA_EB: &str = "{\"principal\":\"2024 EA\",\"secondary\":\"2024 EB\"}";
-
-/// The identification of 2024 EC with 2024 EA.
-pub const EA_EC: &str = "{\"principal\":\"2024 EA\",\"secondary\":\"2024 EC\"}";
+/// Three tracklets of two observations each, which are 13 hours apart.
+pub const THREE: &str = concat!(
+    "# version=2017\n",
+    "# observatory\n",
+    "! mpcCode 703\n",
+    "trkSub|mode|stn|obsTime|ra|dec|astCat\n",
+    "A8|CCD|703|2024-03-06T00:00:00Z|18.0|1.0|Gaia3\n",
+    "A8|CCD|703|2024-03-06T13:00:00Z|18.1|1.0|Gaia3\n",
+    "A9|CCD|703|2024-03-07T00:00:00Z|19.0|1.0|Gaia3\n",
+    "A9|CCD|703|2024-03-07T13:00:00Z|19.1|1.0|Gaia3\n",
+    "B1|CCD|703|2024-03-08T00:00:00Z|20.0|1.0|Gaia3\n",
+    "B1|CCD|703|2024-03-08T13:00:00Z|20.1|1.0|Gaia3\n",
+);

@@ -1,5 +1,6 @@
 //! What is wrong with a call.
 
+use crate::transcripts::Fault;
 use item_list::NoMemory;
 
 /// The first thing in which a call was not as wanted, and the mark of the call.
@@ -16,6 +17,8 @@ pub enum Found {
     NoMemory,
     /// Nothing, for the clock can't begin at that moment.
     NoClock,
+    /// A transcript that can't be read for this, in this request, counted from 1.
+    Transcript(Fault, usize),
     /// It ended with this status.
     Status(String),
     /// It ended with a status of this number.
