@@ -86,7 +86,7 @@ fn add_designation(alloc: Global, script: &mut Script, track: u64) -> Result<(),
 }
 
 /// The office: six entries, and one for each object.
-fn office(alloc: Global) -> Result<Script, NoMemory> {
+fn office(alloc: Global) -> Result<Script, Wrong> {
     let mut script = Script::begun(alloc)?;
     add_batch(alloc, &mut script)?;
     for track in 1..=TRACKS {

@@ -16,8 +16,8 @@ const OBJECT: &str = r#"
 object 2024 EA K24E00A
 "#;
 
-/// The object gets a comet's name, once and for all, and observers' lines are turned into lines of the office: one under
-/// that name, and one under a name that no comet has.
+/// The object gets a comet's name, once and for all, and observers' lines are turned into lines of the office: one
+/// under that name, and one under a name that no comet has.
 const FIRST_DAY: &str = r#"
 > +founder-1 0 register
 < 200

@@ -148,10 +148,10 @@ number 620001 2024 ED
 number 620002 2024 EF
 "#;
 
-/// Observations retracted in each place, lines under the office's names, and what is refused then. The lines of ADES are
-/// under a number, under a designation that is no principal, under both names of one object, under those of two, and
-/// under a designation that wasn't given; those in columns are the line of a retracted observation, and one more of its
-/// tracklet.
+/// Observations retracted in each place, lines under the office's names, and what is refused then. The lines of ADES
+/// are under a number, under a designation that is no principal, under both names of one object, under those of two,
+/// and under a designation that wasn't given; those in columns are the line of a retracted observation, and one more of
+/// its tracklet.
 const AFTER: &str = r#"
 > observer-1 4 retract {"observation":5}
 < 200 receipt 46

@@ -199,8 +199,8 @@ line 5 refused T4
 line 6 refused T1
 "#;
 
-/// Two rows more of the first station, each of the days before; then lines of the days of each of its rows, and of a day
-/// before them all.
+/// Two rows more of the first station, each of the days before; then lines of the days of each of its rows, and of a
+/// day before them all.
 const EARLIER: &str = r#"
 > +founder-1 189 station {"code":"S00","name":"x","from":"1990-01-01","to":"1997-12-31"}
 < 200 receipt 189

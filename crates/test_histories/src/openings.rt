@@ -183,8 +183,8 @@ fn taken_over_but_for_the_last(rt: HostRuntime) {
     up_to_the_last(rt.alloc()).expect(&rt, "as wanted");
 }
 
-/// All designations of 1998 S but one are taken over, with the last of them. There are two tracklets of it, of which one
-/// is too many.
+/// All designations of 1998 S but one are taken over, with the last of them. There are two tracklets of it, of which
+/// one is too many.
 const AUTUMN_OPENED: &str = r#"
 > observer-1 1 submit80
      W00001a   1998 09 16.00000106 12 34.56 +23 45 01.2                      703

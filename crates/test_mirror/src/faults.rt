@@ -3,7 +3,7 @@
 use mirror_store::MemMirror;
 use std::alloc::Global;
 use testkit_mirror::{Holds, NOTHING, Turn, mirror_in_turn, mirror_of};
-use testkit_sessions::{CHAINED, Call, Drive, Drives, FOUNDER, PLAIN, Script, Wrong};
+use testkit_sessions::{CHAINED, Call, Drive, Drives, PLAIN, Script, Wrong};
 
 /// The line of an office without an entry, and of one with an observer.
 const NONE: &str = "mirror 0 objects 0 sights 0\n";
@@ -11,9 +11,11 @@ const NONE: &str = "mirror 0 objects 0 sights 0\n";
 const ONE: &str = "mirror 1 objects 0 sights 0\n";
 
 /// A half-month is taken over, with a designation.
-const OPENING: &[u8] = b"{\"half\":\"2024 E\",\"given\":1,\"carried\":[1]}";
-
-const OPENED: &[u8] = b"receipt 1\nobject 2024 EA K24E00A\n";
+const OPENING: &str = r#"
+> +founder-1 1 opening {"half":"2024 E","given":1,"carried":[1]}
+< 200 receipt 1
+object 2024 EA K24E00A
+"#;
 
 /// The line of that office, and what a mirror then holds.
 const CARRIED: &str = "mirror 1 objects 1 sights 0\n";
@@ -35,7 +37,7 @@ fn ends<'a>(mark: usize, status: &'a str, number: u8) -> Call<'a> {
 /// The first refresh fails, and the mirror holds nothing; then the third, and it holds what it held.
 fn failing_mirror(alloc: Global) -> Result<(), Wrong> {
     let mut script = Script::new(alloc);
-    script.add(FOUNDER, 1, "opening", OPENING, "200 ", OPENED)?;
+    script.add_transcript(OPENING)?;
     let run = script.call(1);
     let turns: [Turn; 5] = [
         (ends(0, "MirrorFault", 10), NOTHING),
@@ -52,7 +54,7 @@ fn failing_mirror(alloc: Global) -> Result<(), Wrong> {
 /// A mirror that holds an object, over an office on two empty disks.
 fn holding(alloc: Global, mirror: &mut MemMirror) -> Result<(), Wrong> {
     let mut script = Script::new(alloc);
-    script.add(FOUNDER, 1, "opening", OPENING, "200 ", OPENED)?;
+    script.add_transcript(OPENING)?;
     let turns: [Turn; 2] = [(script.call(1), NOTHING), (mirror_of(1, CARRIED), EA)];
     mirror_in_turn(alloc, &Drives::EMPTY, mirror, &turns)
 }

@@ -2,7 +2,7 @@
 
 use std::alloc::Global;
 use testkit_sessions::{
-    BATCHES, Call, Drive, Drives, Exchange, FIRST, FIRST_ANSWER, Frames, SETUP, Wrong, call_in_turn,
+    BATCHES, Call, Drive, Drives, FIRST, FIRST_ANSWER, Frames, SETUP, Wrong, call_in_turn,
 };
 
 // Two empty disks get their first gates: the first file is that byte, the second has the byte 1 before it.
@@ -25,37 +25,31 @@ fn empty_disks(rt: HostRuntime) {
     first_gates(rt.alloc()).expect(&rt, "as wanted");
 }
 
-const TALLY: &[Exchange] = &[Exchange {
-    head: "observer-1 0 tally 0\n",
-    body: "",
-    answer: "200 54\nentries 6\nisolated 4\nobjects 0\nretracted 0\naccepted 4\n",
-    entries: 6,
-}];
+const TALLY: &str = r#"
+> observer-1 0 tally
+< 200 entries 6
+isolated 4
+objects 0
+retracted 0
+accepted 4
+"#;
 
 // A day of the office: it is set up, a batch comes and is sent again, and the observer asks for the tally.
 const FRAMES: usize = 8;
 
-fn day_tables() -> [&'static [Exchange]; 3] {
-    [SETUP, BATCHES, TALLY]
+fn day(alloc: Global) -> Result<Frames, Wrong> {
+    Frames::of(alloc, &[SETUP, BATCHES, TALLY])
 }
 
 // The batch is answered in one run, and in the next one over the same disks it is a resend.
 fn answered_twice(alloc: Global) -> Result<(), Wrong> {
-    let tables = day_tables();
-    let day = Frames { tables: &tables };
-    let morning = day.bytes(alloc, 0, 6)?;
-    let replies = day.answers(alloc, 0, 6)?;
-    let evening = day.bytes(alloc, 6, FRAMES)?;
-    let resent = day.answers(alloc, 6, FRAMES)?;
+    let day = day(alloc)?;
+    let first = Call::run(day.bytes(0, 6), 6, day.answers(0, 6));
     let second = Call {
         mark: 1,
-        ..Call::run(&evening, 0, &resent)
+        ..Call::run(day.bytes(6, FRAMES), 0, day.answers(6, FRAMES))
     };
-    call_in_turn(
-        alloc,
-        &Drives::EMPTY,
-        &[Call::run(&morning, 6, &replies), second],
-    )
+    call_in_turn(alloc, &Drives::EMPTY, &[first, second])
 }
 
 #[test]
@@ -66,8 +60,7 @@ fn second_run(rt: HostRuntime) {
 // The sink fails at the head of the reply after so many, whose act is in the journal: a reply is written in two pieces.
 // Then a crash takes all that isn't safe, and the whole day is sent again: the replies are those of one session.
 fn stopped_after(alloc: Global, day: &Frames, count: usize) -> Result<(), Wrong> {
-    let bytes = day.bytes(alloc, 0, FRAMES)?;
-    let before = day.answers(alloc, 0, count)?;
+    let bytes = day.bytes(0, FRAMES);
     let kept = day.entries(count.saturating_add(1));
     let stopped = Call {
         mark: count,
@@ -75,19 +68,18 @@ fn stopped_after(alloc: Global, day: &Frames, count: usize) -> Result<(), Wrong>
         status: "WriteFault",
         number: 7,
         pick: Some(0),
-        ..Call::run(&bytes, kept, &before)
+        ..Call::run(bytes, kept, day.answers(0, count))
     };
-    let replies = day.answers(alloc, 0, FRAMES)?;
+    let later = day.entries(FRAMES).saturating_sub(kept);
     let again = Call {
         mark: count,
-        ..Call::run(&bytes, day.entries(FRAMES).saturating_sub(kept), &replies)
+        ..Call::run(bytes, later, day.answers(0, FRAMES))
     };
     call_in_turn(alloc, &Drives::EMPTY, &[stopped, again])
 }
 
 fn stopped_everywhere(alloc: Global) -> Result<(), Wrong> {
-    let tables = day_tables();
-    let day = Frames { tables: &tables };
+    let day = day(alloc)?;
     for count in 0..FRAMES {
         stopped_after(alloc, &day, count)?;
     }

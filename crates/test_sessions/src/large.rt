@@ -2,7 +2,8 @@
 
 use std::alloc::Global;
 use testkit_sessions::{
-    BATCH, Call, FIRST, NoMemory, Wrong, begun, call_alone, put, put_lines, put_reply, put_taken,
+    BATCH, Call, FIRST, FOUNDER, NoMemory, Script, Wrong, call_alone, put, put_lines, put_reply,
+    put_taken,
 };
 
 /// Without rows no station is known.
@@ -114,21 +115,16 @@ fn tracklet(alloc: Global) -> Result<Vec<u8>, NoMemory> {
 /// The founder's sixth request is a batch of 1,200 lines of 81 bytes, each a little later than the one before; then the
 /// founder asks for their tracklet.
 fn accepted(alloc: Global) -> Result<(), Wrong> {
-    let (mut bytes, mut taken) = begun(alloc)?;
-    put(&mut bytes, "+founder-1 6 submit80 97200\n")?;
-    put_lines(alloc, &mut bytes, 1_200, 10_000, BEFORE, BEHIND)?;
+    let mut script = Script::begun(alloc)?;
+    let mut body = Vec::new(alloc);
+    put_lines(alloc, &mut body, 1_200, 10_000, BEFORE, BEHIND)?;
     let mut text = Vec::new(alloc);
     put(&mut text, "receipt 6\naccepted 1200 refused 0\n")?;
     put_taken(alloc, &mut text, 1_200)?;
-    put_reply(alloc, &mut taken, "200 ", &text)?;
-    put(&mut bytes, "+founder-1 0 tracklet 1\n1")?;
+    script.add(FOUNDER, 6, "submit80", &body, "200 ", &text)?;
     let told = tracklet(alloc)?;
-    put_reply(alloc, &mut taken, "200 ", &told)?;
-    let call = Call {
-        greatest: 65_536,
-        ..Call::run(&bytes, 6, &taken)
-    };
-    call_alone(alloc, &call)
+    script.add(FOUNDER, 0, "tracklet", b"1", "200 ", &told)?;
+    call_alone(alloc, &script.call(6))
 }
 
 #[test]

@@ -94,8 +94,8 @@ number 620001 2024 EA
 < 409 refused 10 BothNumbered
 "#;
 
-/// Lines under the office's names, one of them under a number and the designation of another object; tracklets that come
-/// out of their objects, and a resend.
+/// Lines under the office's names, one of them under a number and the designation of another object; tracklets that
+/// come out of their objects, and a resend.
 const RELEASES: &str = r#"
 > observer-1 4 submitpsv
 # version=2017

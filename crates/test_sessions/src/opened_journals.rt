@@ -3,52 +3,51 @@
 
 use std::alloc::Global;
 use testkit_sessions::{
-    Call, Drive, Drives, ENROLMENT, FOUNDER, MODE, NoMemory, STATION, Script, Wrong, call_in_turn,
+    Asked, Call, Drive, Drives, NoMemory, Script, Wrong, asked_in, call_in_turn,
 };
-
-/// An act of the founder: its verb, the verb's code, the body, and the text of the answer, of status 200.
-type Kept = (&'static str, u8, &'static str, &'static str);
 
 /// 2024-04-01T00:00:00Z, and how long a clock takes from one reading to the next.
 const APRIL: i64 = 1_711_929_600_000_000_000;
 
 const SECOND: i64 = 1_000_000_000;
 
+/// The verbs of acts, in the order of their codes, of which the first is 1.
+const VERBS: &str =
+    "enrol station code submit80 submitpsv designate attribute release identify separate verdict number \
+    retract opening";
+
+fn code_of(verb: &str) -> u8 {
+    let mut code = 0u8;
+    for next in VERBS.split(' ') {
+        code = code.saturating_add(1);
+        if next == verb {
+            return code;
+        }
+    }
+    0
+}
+
 /// An entry of the founder, who is caller 0, as it stands in the journal after an open gate: the length of what follows
 /// it, the caller, the number, the moment, the code of the verb, and the body.
-fn put_entry(
-    file: &mut Vec<u8>,
-    number: u64,
-    moment: i64,
-    code: u8,
-    body: &str,
-) -> Result<(), NoMemory> {
-    let length = (body.len().min(1_048_576) as u32).saturating_add(21);
+fn put_entry(file: &mut Vec<u8>, act: &Asked<'_>, moment: i64) -> Result<(), NoMemory> {
+    let length = (act.body.len().min(1_048_576) as u32).saturating_add(21);
     file.extend_from_slice(&[1])?;
     file.extend_from_slice(&length.to_be_bytes())?;
     file.extend_from_slice(&[0, 0, 0, 0])?;
-    file.extend_from_slice(&number.to_be_bytes())?;
+    file.extend_from_slice(&act.number.to_be_bytes())?;
     file.extend_from_slice(&moment.to_be_bytes())?;
-    file.extend_from_slice(&[code])?;
-    file.extend_from_slice(body.as_bytes())
+    file.extend_from_slice(&[code_of(act.verb)])?;
+    file.extend_from_slice(act.body.as_bytes())
 }
 
 /// A file of these acts: the bytes before its first gate; each entry, and after it the next 32 of these digests, where
-/// there are any; and a closed gate. The first act has the number 1; each number is one more than the one before, and
-/// each moment a second later.
-fn journal_of(
-    alloc: Global,
-    acts: &[Kept],
-    head: &[u8],
-    digests: &[u8],
-) -> Result<Vec<u8>, NoMemory> {
+/// there are any; and a closed gate. Each moment is a second later than the one before.
+fn journal_of(alloc: Global, acts: &str, head: &[u8], digests: &[u8]) -> Result<Vec<u8>, Wrong> {
     let mut file = Vec::from_slice(alloc, head)?;
     let mut left = digests;
-    let mut number = 0u64;
     let mut moment = APRIL;
-    for &(_, code, body, _) in acts {
-        number = number.saturating_add(1);
-        put_entry(&mut file, number, moment, code, body)?;
+    for act in &asked_in(alloc, acts, &[])? {
+        put_entry(&mut file, act, moment)?;
         let (digest, rest) = left.split_at(left.len().min(32));
         file.extend_from_slice(digest)?;
         left = rest;
@@ -59,47 +58,27 @@ fn journal_of(
 }
 
 /// The first file of these acts.
-fn first_file(alloc: Global, acts: &[Kept]) -> Result<Vec<u8>, NoMemory> {
+fn first_file(alloc: Global, acts: &str) -> Result<Vec<u8>, Wrong> {
     journal_of(alloc, acts, b"", b"")
 }
 
 /// Their second file. Each digest is the SHA-256 digest of the one before it, first of 32 bytes of 0, and of its entry
 /// from the length to the body.
-fn second_file(alloc: Global, acts: &[Kept], digests: &[u8]) -> Result<Vec<u8>, NoMemory> {
+fn second_file(alloc: Global, acts: &str, digests: &[u8]) -> Result<Vec<u8>, Wrong> {
     journal_of(alloc, acts, b"\x01", digests)
 }
 
-/// The session of these acts, under the numbers from 1 on.
-fn session_of(alloc: Global, acts: &[Kept]) -> Result<Script, NoMemory> {
-    let mut script = Script::new(alloc);
-    for (place, &(verb, _, body, text)) in acts.iter().enumerate() {
-        let number = (place as u64).saturating_add(1);
-        script.add(
-            FOUNDER,
-            number,
-            verb,
-            body.as_bytes(),
-            "200 ",
-            text.as_bytes(),
-        )?;
-    }
-    Ok(script)
-}
-
-/// Whether the acts leave their journal, and are answered as before where it is read again, and where the first file of
-/// them is moved.
-fn kept_and_read(alloc: Global, acts: &[Kept], digests: &[u8]) -> Result<(), Wrong> {
+/// Whether these acts, of which there are so many, leave their journal, and are answered as before where it is read
+/// again, and where the first file of them is moved.
+fn kept_and_read(alloc: Global, acts: &str, count: u64, digests: &[u8]) -> Result<(), Wrong> {
     let (plain, chained) = (first_file(alloc, acts)?, second_file(alloc, acts, digests)?);
-    let session = session_of(alloc, acts)?;
+    let mut session = Script::new(alloc);
+    session.add_transcript(acts)?;
     let written = Drive {
         left: Some(&chained),
         ..Drive::EMPTY
     };
-    call_in_turn(
-        alloc,
-        &Drives::with_second(written),
-        &[session.call(acts.len() as u64)],
-    )?;
+    call_in_turn(alloc, &Drives::with_second(written), &[session.call(count)])?;
     let again = Call {
         mark: 10,
         ..session.call(0)
@@ -113,92 +92,57 @@ fn kept_and_read(alloc: Global, acts: &[Kept], digests: &[u8]) -> Result<(), Wro
     call_in_turn(alloc, &moved, &[after_move])
 }
 
-/// Two tracklets of two lines each, which are 12 hours apart.
-const AUTUMN: &str = concat!(
-    "     W00001a   1998 09 16.00000106 12 34.56 +23 45 01.2                      703\n",
-    "     W00001a   1998 09 16.50000106 12 34.56 +23 45 01.2                      703\n",
-    "     W00002a   1998 09 16.00000206 12 34.56 +23 45 01.2                      703\n",
-    "     W00002a   1998 09 16.50000206 12 34.56 +23 45 01.2                      703\n",
-);
-
-const AUTUMN_TEXT: &str = concat!(
-    "receipt 4\n",
-    "accepted 4 refused 0\n",
-    "line 1 obs 1 track 1\n",
-    "line 2 obs 2 track 1\n",
-    "line 3 obs 3 track 2\n",
-    "line 4 obs 4 track 2\n",
-);
-
-const FIELDS: &str = concat!(
-    "# version=2017\n",
-    "provID|mode|stn|obsTime|ra|dec|astCat\n",
-    "1998 SA|CCD|703|1998-09-17T00:00:00Z|150.0|-5.5|Gaia3\n",
-);
-
-/// Every verb but the opening.
-const WITHOUT: &[Kept] = &[
-    ("station", 2, STATION, "receipt 1\n"),
-    ("code", 3, MODE, "receipt 2\n"),
-    (
-        "code",
-        3,
-        "{\"kind\":\"catalogue\",\"letter\":\"W\",\"word\":\"Gaia3\"}",
-        "receipt 3\n",
-    ),
-    ("submit80", 4, AUTUMN, AUTUMN_TEXT),
-    (
-        "designate",
-        6,
-        "{\"tracklets\":[1]}",
-        "receipt 5\nobject 1998 SA J98S00A\n",
-    ),
-    (
-        "designate",
-        6,
-        "{\"tracklets\":[2]}",
-        "receipt 6\nobject 1998 SB J98S00B\n",
-    ),
-    (
-        "submitpsv",
-        5,
-        FIELDS,
-        "receipt 7\naccepted 1 refused 0\nline 3 obs 5 track 3\n",
-    ),
-    ("release", 8, "{\"tracklet\":3}", "receipt 8\n"),
-    (
-        "attribute",
-        7,
-        "{\"tracklet\":3,\"to\":\"1998 SB\"}",
-        "receipt 9\n",
-    ),
-    (
-        "identify",
-        9,
-        "{\"principal\":\"1998 SA\",\"secondary\":\"1998 SB\"}",
-        "receipt 10\n",
-    ),
-    (
-        "separate",
-        10,
-        "{\"secondary\":\"1998 SB\"}",
-        "receipt 11\n",
-    ),
-    (
-        "verdict",
-        11,
-        "{\"object\":\"1998 SB\",\"u\":2,\"oppositions\":4}",
-        "receipt 12\n",
-    ),
-    (
-        "number",
-        12,
-        "{\"first\":7,\"most\":1}",
-        "receipt 13\nnumber 7 1998 SB\n",
-    ),
-    ("retract", 13, "{\"observation\":5}", "receipt 14\n"),
-    ("enrol", 1, ENROLMENT, "receipt 15\ncaller 1\n"),
-];
+/// Every verb but the opening. The two tracklets of two lines each are 12 hours apart.
+const WITHOUT: &str = r#"
+> +founder-1 1 station {"code":"703","from":"1998-01-01","name":"Catalina","to":"2199-12-31"}
+< 200 receipt 1
+> +founder-1 2 code {"kind":"mode","letter":"C","word":"CCD"}
+< 200 receipt 2
+> +founder-1 3 code {"kind":"catalogue","letter":"W","word":"Gaia3"}
+< 200 receipt 3
+> +founder-1 4 submit80
+     W00001a   1998 09 16.00000106 12 34.56 +23 45 01.2                      703
+     W00001a   1998 09 16.50000106 12 34.56 +23 45 01.2                      703
+     W00002a   1998 09 16.00000206 12 34.56 +23 45 01.2                      703
+     W00002a   1998 09 16.50000206 12 34.56 +23 45 01.2                      703
+< 200 receipt 4
+accepted 4 refused 0
+line 1 obs 1 track 1
+line 2 obs 2 track 1
+line 3 obs 3 track 2
+line 4 obs 4 track 2
+> +founder-1 5 designate {"tracklets":[1]}
+< 200 receipt 5
+object 1998 SA J98S00A
+> +founder-1 6 designate {"tracklets":[2]}
+< 200 receipt 6
+object 1998 SB J98S00B
+> +founder-1 7 submitpsv
+# version=2017
+provID|mode|stn|obsTime|ra|dec|astCat
+1998 SA|CCD|703|1998-09-17T00:00:00Z|150.0|-5.5|Gaia3
+< 200 receipt 7
+accepted 1 refused 0
+line 3 obs 5 track 3
+> +founder-1 8 release {"tracklet":3}
+< 200 receipt 8
+> +founder-1 9 attribute {"tracklet":3,"to":"1998 SB"}
+< 200 receipt 9
+> +founder-1 10 identify {"principal":"1998 SA","secondary":"1998 SB"}
+< 200 receipt 10
+> +founder-1 11 separate {"secondary":"1998 SB"}
+< 200 receipt 11
+> +founder-1 12 verdict {"object":"1998 SB","u":2,"oppositions":4}
+< 200 receipt 12
+> +founder-1 13 number {"first":7,"most":1}
+< 200 receipt 13
+number 7 1998 SB
+> +founder-1 14 retract {"observation":5}
+< 200 receipt 14
+> +founder-1 15 enrol {"key":"observer-1","name":"Ann","role":"observer"}
+< 200 receipt 15
+caller 1
+"#;
 
 const WITHOUT_DIGESTS: &[u8] = b"\x1a\x3e\xe1\x17\x84\x8d\xa8\x0e\x64\x2e\xfc\x1e\x2c\xfa\x55\x85\
     \x5f\x99\x51\xb7\xad\x4a\xe1\x46\xe9\xb8\x06\x94\x42\x25\x79\xc7\
@@ -233,37 +177,32 @@ const WITHOUT_DIGESTS: &[u8] = b"\x1a\x3e\xe1\x17\x84\x8d\xa8\x0e\x64\x2e\xfc\x1
 
 #[test]
 fn journal_without_an_opening(rt: HostRuntime) {
-    kept_and_read(rt.alloc(), WITHOUT, WITHOUT_DIGESTS).expect(&rt, "as wanted");
+    kept_and_read(rt.alloc(), WITHOUT, 15, WITHOUT_DIGESTS).expect(&rt, "as wanted");
 }
 
-const OF_E: &str = "{\"half\":\"2024 E\",\"given\":3,\"carried\":[1,3]}";
-
 /// An office whose second act is an opening.
-const OPENED: &[Kept] = &[
-    ("station", 2, STATION, "receipt 1\n"),
-    (
-        "opening",
-        14,
-        OF_E,
-        "receipt 2\nobject 2024 EA K24E00A\nobject 2024 EC K24E00C\n",
-    ),
-    ("submit80", 4, AUTUMN, AUTUMN_3_TEXT),
-    (
-        "designate",
-        6,
-        "{\"tracklets\":[1,2]}",
-        "receipt 4\nobject 1998 SA J98S00A\n",
-    ),
-];
-
-const AUTUMN_3_TEXT: &str = concat!(
-    "receipt 3\n",
-    "accepted 4 refused 0\n",
-    "line 1 obs 1 track 1\n",
-    "line 2 obs 2 track 1\n",
-    "line 3 obs 3 track 2\n",
-    "line 4 obs 4 track 2\n",
-);
+const OPENED: &str = r#"
+> +founder-1 1 station {"code":"703","from":"1998-01-01","name":"Catalina","to":"2199-12-31"}
+< 200 receipt 1
+> +founder-1 2 opening {"half":"2024 E","given":3,"carried":[1,3]}
+< 200 receipt 2
+object 2024 EA K24E00A
+object 2024 EC K24E00C
+> +founder-1 3 submit80
+     W00001a   1998 09 16.00000106 12 34.56 +23 45 01.2                      703
+     W00001a   1998 09 16.50000106 12 34.56 +23 45 01.2                      703
+     W00002a   1998 09 16.00000206 12 34.56 +23 45 01.2                      703
+     W00002a   1998 09 16.50000206 12 34.56 +23 45 01.2                      703
+< 200 receipt 3
+accepted 4 refused 0
+line 1 obs 1 track 1
+line 2 obs 2 track 1
+line 3 obs 3 track 2
+line 4 obs 4 track 2
+> +founder-1 4 designate {"tracklets":[1,2]}
+< 200 receipt 4
+object 1998 SA J98S00A
+"#;
 
 const OPENED_DIGESTS: &[u8] = b"\x1a\x3e\xe1\x17\x84\x8d\xa8\x0e\x64\x2e\xfc\x1e\x2c\xfa\x55\x85\
     \x5f\x99\x51\xb7\xad\x4a\xe1\x46\xe9\xb8\x06\x94\x42\x25\x79\xc7\
@@ -276,7 +215,7 @@ const OPENED_DIGESTS: &[u8] = b"\x1a\x3e\xe1\x17\x84\x8d\xa8\x0e\x64\x2e\xfc\x1e
 
 #[test]
 fn journal_with_an_opening(rt: HostRuntime) {
-    kept_and_read(rt.alloc(), OPENED, OPENED_DIGESTS).expect(&rt, "as wanted");
+    kept_and_read(rt.alloc(), OPENED, 4, OPENED_DIGESTS).expect(&rt, "as wanted");
 }
 
 /// Bytes of that journal's first file, what is put in their places, and the digest of the opening then. The station's
@@ -359,7 +298,7 @@ fn damaged<'a>(
 }
 
 /// The first file with another byte.
-fn changed_first(alloc: Global, at: usize, byte: u8) -> Result<Vec<u8>, NoMemory> {
+fn changed_first(alloc: Global, at: usize, byte: u8) -> Result<Vec<u8>, Wrong> {
     let mut file = first_file(alloc, OPENED)?;
     if let Some(place) = file.get_mut(at) {
         *place = byte;
@@ -367,16 +306,16 @@ fn changed_first(alloc: Global, at: usize, byte: u8) -> Result<Vec<u8>, NoMemory
     Ok(file)
 }
 
-/// The acts up to the opening.
-const UP_TO_OPENING: &[Kept] = &[("station", 2, STATION, ""), ("opening", 14, OF_E, "")];
+/// The acts up to the opening, of which no answer is asked here or below.
+const UP_TO_OPENING: &str = r#"
+> +founder-1 1 station {"code":"703","from":"1998-01-01","name":"Catalina","to":"2199-12-31"}
+< 200
+> +founder-1 2 opening {"half":"2024 E","given":3,"carried":[1,3]}
+< 200
+"#;
 
 /// The second file of these, with another byte of the opening and its digest then, so that the chain is right.
-fn changed_second(
-    alloc: Global,
-    at: usize,
-    byte: u8,
-    digest: &[u8; 32],
-) -> Result<Vec<u8>, NoMemory> {
+fn changed_second(alloc: Global, at: usize, byte: u8, digest: &[u8; 32]) -> Result<Vec<u8>, Wrong> {
     let of_station = OPENED_DIGESTS.get(..32).unwrap_or(&[]);
     let mut digests = Vec::from_slice(alloc, of_station)?;
     digests.extend_from_slice(digest)?;
@@ -406,16 +345,14 @@ fn changed_openings(rt: HostRuntime) {
 
 /// A half-month is taken over a second time, in the parcel that begins at the byte 96 + 26 + 43 of the first file, and
 /// at 129 + 58 + 43 of the second.
-const TWICE: &[Kept] = &[
-    ("station", 2, STATION, ""),
-    ("opening", 14, OF_E, ""),
-    (
-        "opening",
-        14,
-        "{\"half\":\"2024 E\",\"given\":4,\"carried\":[]}",
-        "",
-    ),
-];
+const TWICE: &str = r#"
+> +founder-1 1 station {"code":"703","from":"1998-01-01","name":"Catalina","to":"2199-12-31"}
+< 200
+> +founder-1 2 opening {"half":"2024 E","given":3,"carried":[1,3]}
+< 200
+> +founder-1 3 opening {"half":"2024 E","given":4,"carried":[]}
+< 200
+"#;
 
 const TWICE_DIGESTS: &[u8] = b"\x1a\x3e\xe1\x17\x84\x8d\xa8\x0e\x64\x2e\xfc\x1e\x2c\xfa\x55\x85\
     \x5f\x99\x51\xb7\xad\x4a\xe1\x46\xe9\xb8\x06\x94\x42\x25\x79\xc7\
@@ -426,17 +363,20 @@ const TWICE_DIGESTS: &[u8] = b"\x1a\x3e\xe1\x17\x84\x8d\xa8\x0e\x64\x2e\xfc\x1e\
 
 /// A half-month is taken over in which there is a designation: the four lines take 26 bytes and 324 in the first file,
 /// and the act on the tracklet 26 and 17; in the second one each takes 32 more.
-const LATE: &[Kept] = &[
-    ("station", 2, STATION, ""),
-    ("submit80", 4, AUTUMN, ""),
-    ("designate", 6, "{\"tracklets\":[1]}", ""),
-    (
-        "opening",
-        14,
-        "{\"half\":\"1998 S\",\"given\":1,\"carried\":[]}",
-        "",
-    ),
-];
+const LATE: &str = r#"
+> +founder-1 1 station {"code":"703","from":"1998-01-01","name":"Catalina","to":"2199-12-31"}
+< 200
+> +founder-1 2 submit80
+     W00001a   1998 09 16.00000106 12 34.56 +23 45 01.2                      703
+     W00001a   1998 09 16.50000106 12 34.56 +23 45 01.2                      703
+     W00002a   1998 09 16.00000206 12 34.56 +23 45 01.2                      703
+     W00002a   1998 09 16.50000206 12 34.56 +23 45 01.2                      703
+< 200
+> +founder-1 3 designate {"tracklets":[1]}
+< 200
+> +founder-1 4 opening {"half":"1998 S","given":1,"carried":[]}
+< 200
+"#;
 
 const LATE_DIGESTS: &[u8] = b"\x1a\x3e\xe1\x17\x84\x8d\xa8\x0e\x64\x2e\xfc\x1e\x2c\xfa\x55\x85\
     \x5f\x99\x51\xb7\xad\x4a\xe1\x46\xe9\xb8\x06\x94\x42\x25\x79\xc7\

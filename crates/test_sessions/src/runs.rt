@@ -2,7 +2,7 @@
 
 use std::alloc::Global;
 use testkit_sessions::{
-    Call, FIRST, FIRST_ANSWER, FRAMES, Frames, Wrong, call_alone, session_tables,
+    Call, FIRST, FIRST_ANSWER, FRAMES, Frames, Wrong, call_alone, whole_session,
 };
 
 /// The founder's first request, and after it a length with a leading zero.
@@ -49,16 +49,14 @@ fn ends_of_a_run(rt: HostRuntime) {
 
 /// The session, of which a read gives at most so many bytes.
 fn in_pieces(alloc: Global) -> Result<(), Wrong> {
-    let tables = session_tables();
-    let session = Frames { tables: &tables };
-    let bytes = session.bytes(alloc, 0, FRAMES)?;
-    let taken = session.answers(alloc, 0, FRAMES)?;
+    let session = Frames::of(alloc, &whole_session())?;
+    let (bytes, taken) = (session.bytes(0, FRAMES), session.answers(0, FRAMES));
     let added = session.entries(FRAMES);
     for greatest in [1usize, 2, 3, 7, 64, 4096] {
         let call = Call {
             mark: greatest,
             greatest,
-            ..Call::run(&bytes, added, &taken)
+            ..Call::run(bytes, added, taken)
         };
         call_alone(alloc, &call)?;
     }
@@ -78,24 +76,23 @@ fn stopped_at_read(
     reads: usize,
 ) -> Result<(), Wrong> {
     let whole = session.whole_in(reads.saturating_mul(7).min(bytes.len()));
-    let taken = session.answers(alloc, 0, whole)?;
+    let taken = session.answers(0, whole);
     let call = Call {
         mark: reads,
         greatest: 7,
         read: (reads as u64).saturating_add(1),
         status: "ReadFault",
         number: 6,
-        ..Call::run(bytes, session.entries(whole), &taken)
+        ..Call::run(bytes, session.entries(whole), taken)
     };
     call_alone(alloc, &call)
 }
 
 fn stopped_at_reads(alloc: Global) -> Result<(), Wrong> {
-    let tables = session_tables();
-    let session = Frames { tables: &tables };
-    let bytes = session.bytes(alloc, 0, FRAMES)?;
+    let session = Frames::of(alloc, &whole_session())?;
+    let bytes = session.bytes(0, FRAMES);
     for reads in 0..=bytes.len().div_ceil(7) {
-        stopped_at_read(alloc, &session, &bytes, reads)?;
+        stopped_at_read(alloc, &session, bytes, reads)?;
     }
     Ok(())
 }
@@ -115,25 +112,24 @@ fn stopped_at_write(
 ) -> Result<(), Wrong> {
     let frame = before / 2;
     let after = frame.saturating_add(1);
-    let whole = session.answers(alloc, 0, frame)?;
-    let more = session.answers(alloc, 0, after)?;
+    let whole = session.answers(0, frame);
+    let more = session.answers(0, after);
     let call = Call {
         mark: before,
         write: (before as u64).saturating_add(1),
         status: "WriteFault",
         number: 7,
         least: Some(whole.len()),
-        ..Call::run(bytes, session.entries(after), &more)
+        ..Call::run(bytes, session.entries(after), more)
     };
     call_alone(alloc, &call)
 }
 
 fn stopped_at_writes(alloc: Global) -> Result<(), Wrong> {
-    let tables = session_tables();
-    let session = Frames { tables: &tables };
-    let bytes = session.bytes(alloc, 0, FRAMES)?;
+    let session = Frames::of(alloc, &whole_session())?;
+    let bytes = session.bytes(0, FRAMES);
     for before in 0..2 * FRAMES {
-        stopped_at_write(alloc, &session, &bytes, before)?;
+        stopped_at_write(alloc, &session, bytes, before)?;
     }
     Ok(())
 }

@@ -168,6 +168,12 @@ fn names_of_two_texts(rt: HostRuntime) {
 #[test]
 fn a_session_that_cannot_be_read(rt: HostRuntime) {
     let told = session(rt.alloc(), &["\n> a 1 b\n"], 5);
-    let unread = matches!(&told, Err(Wrong { found: Found::Transcript(..), .. }));
+    let unread = matches!(
+        &told,
+        Err(Wrong {
+            found: Found::Transcript(..),
+            ..
+        })
+    );
     assert!(rt; unread);
 }

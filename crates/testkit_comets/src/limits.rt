@@ -147,9 +147,9 @@ fn clock_of(call: &Call) -> Result<TickClock, Wrong> {
 ///
 /// # Errors
 ///
-/// What is wrong with the transcript; with the run; with the first request that is answered otherwise, whose place is the
-/// mark; or with the register's file, which is told as file 3 where the register can't be opened, and as file 2 where
-/// another is left.
+/// What is wrong with the transcript; with the run; with the first request that is answered otherwise, whose place is
+/// the mark; or with the register's file, which is told as file 3 where the register can't be opened, and as file 2
+/// where another is left.
 pub fn comets_within<'a>(
     alloc: Global,
     office: &Call,

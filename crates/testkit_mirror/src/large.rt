@@ -123,7 +123,7 @@ fn designate(alloc: Global, script: &mut Script, place: u64) -> Result<(), NoMem
 }
 
 /// The whole session.
-fn session(alloc: Global) -> Result<Script, NoMemory> {
+fn session(alloc: Global) -> Result<Script, Wrong> {
     let mut script = Script::begun(alloc)?;
     let (first, second) = (batch(alloc, 15)?, batch(alloc, 16)?);
     let answer = taken(alloc, 6, (0, 0))?;

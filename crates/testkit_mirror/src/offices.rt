@@ -128,8 +128,8 @@ const EA_ALONE: &str = concat!(
     "10|2024 EA|1710936000000000000|108000000000000|9000000000000|703\n",
 );
 
-/// The transcripts of a session, by how many entries it makes an office, the line that is then written, and what the mirror
-/// then holds.
+/// The transcripts of a session, by how many entries it makes an office, the line that is then written, and what the
+/// mirror then holds.
 type Office = (&'static [&'static str], u64, &'static str, Holds<'static>);
 
 const OFFICES: &[Office] = &[

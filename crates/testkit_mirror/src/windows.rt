@@ -6,8 +6,8 @@ use mirror_store::Mirror;
 use std::alloc::Global;
 use testkit_sessions::Wrong;
 
-/// Three tracklets of a station of which there are observations before 1970: two at the same two moments of 1950, and one
-/// about the first moment of 1970.
+/// Three tracklets of a station of which there are observations before 1970: two at the same two moments of 1950, and
+/// one about the first moment of 1970.
 const SUBMITTED: &str = r#"
 > +founder-1 6 station {"code":"G96","from":"1925-01-01","name":"Mt. Lemmon","to":"2199-12-31"}
 < 200 receipt 6

@@ -5,33 +5,28 @@
 //! since what the calls promise would then stand in the proof of every test.
 #![tactic(auto)]
 
-mod ades;
-mod batches;
 mod calls;
-mod exchange;
+mod frames;
 mod journals;
 mod pieces;
-mod places;
-mod refusals;
 mod scripts;
+mod session_texts;
 mod sessions;
 mod setup;
 mod tracklets;
 mod transcripts;
-mod whole_session;
 mod wrong;
 
-pub use batches::BATCHES;
 pub use calls::{
     Call, Devices, Drive, Drives, are_left, call_alone, call_in_turn, disks_of, has_ended, words_of,
 };
-pub use exchange::{Exchange, Frames};
+pub use frames::Frames;
 pub use item_list::NoMemory;
 pub use journals::{CHAINED, ENROLLED, ENROLS, PLAIN};
 pub use pieces::{Part, put, put_lines, put_number, put_parts, put_reply, put_taken, text_of};
 pub use scripts::{Script, call_days};
+pub use session_texts::{BATCHES, FRAMES, whole_session};
 pub use sessions::{FOUNDER, OBSERVER, catalogue_after, catalogue_of, session};
-pub use setup::{BATCH, ENROLMENT, FIRST, FIRST_ANSWER, MODE, SETUP, STATION, begun};
+pub use setup::{BATCH, FIRST, FIRST_ANSWER, SETUP};
 pub use transcripts::{Asked, Fault, Named, asked_in};
-pub use whole_session::{FRAMES, session_tables};
 pub use wrong::{Found, Wrong};

@@ -2,7 +2,7 @@
 
 use crate::calls::{Call, Drive, Drives, call_in_turn};
 use crate::pieces::{put, put_number, put_reply};
-use crate::setup::begun;
+use crate::setup::SETUP;
 use crate::transcripts::{Asked, Named, asked_in};
 use crate::wrong::Wrong;
 use item_list::NoMemory;
@@ -31,13 +31,10 @@ impl Script {
     /// # Errors
     ///
     /// Memory was refused.
-    pub fn begun(alloc: Global) -> Result<Script, NoMemory> {
-        let (bytes, taken) = begun(alloc)?;
-        Ok(Script {
-            alloc,
-            bytes,
-            taken,
-        })
+    pub fn begun(alloc: Global) -> Result<Script, Wrong> {
+        let mut script = Script::new(alloc);
+        script.add_transcript(SETUP)?;
+        Ok(script)
     }
 
     /// A request, by whom it is sent, its number, its verb and its body.
@@ -78,7 +75,7 @@ impl Script {
     }
 
     /// A request of a transcript, and its reply.
-    fn add_asked(&mut self, asked: &Asked<'_>) -> Result<(), NoMemory> {
+    pub(crate) fn add_asked(&mut self, asked: &Asked<'_>) -> Result<(), NoMemory> {
         self.add_request(asked.who, asked.number, asked.verb, asked.body.as_bytes())?;
         put(&mut self.taken, asked.status)?;
         put_reply(self.alloc, &mut self.taken, " ", asked.text.as_bytes())

@@ -18,6 +18,7 @@
 //! are given with the transcript. No other line begins with `>`, `<` or `$`: what one of them begins with, is built, or
 //! isn't as it is written is given by a name.
 
+use crate::session_texts::{LONG_NAME, TOO_LONG_NAME};
 use crate::setup::BATCH;
 use crate::tracklets::{FIVE, FIVE_TEXT, MIDNIGHT, MIDNIGHT_TEXT, NIGHT, NIGHT_TEXT, THREE, TWO};
 use crate::wrong::{Found, Wrong};
@@ -63,16 +64,18 @@ pub enum Fault {
 }
 
 /// The texts whose names any transcript may say.
-fn standing() -> [Named<'static>; 9] {
+fn standing() -> [Named<'static>; 11] {
     [
         ("BATCH", BATCH),
         ("FIVE", FIVE),
         ("FIVE_TEXT", FIVE_TEXT),
+        ("LONG_NAME", LONG_NAME),
         ("MIDNIGHT", MIDNIGHT),
         ("MIDNIGHT_TEXT", MIDNIGHT_TEXT),
         ("NIGHT", NIGHT),
         ("NIGHT_TEXT", NIGHT_TEXT),
         ("THREE", THREE),
+        ("TOO_LONG_NAME", TOO_LONG_NAME),
         ("TWO", TWO),
     ]
 }

@@ -1,6 +1,6 @@
 use Rattle.act_model.specs.Deeds.{deeds}
 use Rattle.comet_desk.specs.Desks.{IsBeside}
-use Rattle.testkit_comets.proofs.limits.wrong_row.Given as goal
+use Rattle.testkit_comets.proofs.limits.first_wrong.Given as goal
 
 -- the register is one beside the office
 abbrev pub invariant-loop-place : goal.invariant-loop-place
