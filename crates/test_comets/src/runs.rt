@@ -54,7 +54,7 @@ struct Days {
     last: Script,
 }
 
-fn days_of(alloc: Global, case: &Case) -> Result<Days, NoMemory> {
+fn days_of(alloc: Global, case: &Case) -> Result<Days, Wrong> {
     let &(_, answers, _, _, kept, again, all) = case;
     let mut days = Days {
         office: office_with(alloc, 3)?,

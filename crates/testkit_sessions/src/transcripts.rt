@@ -10,19 +10,23 @@
 //! < 409 refused 8 OneNight 1440
 //! ```
 //!
-//! A transcript begins with a line end, so that each of its lines begins a line of the code, or has no request. A line
-//! `> WHO NUMBER VERB` begins a request. Its body is what stands behind the verb after one blank, without a line end;
-//! where nothing stands there, it is the lines up to the reply, each with its line end. A line `< STATUS` begins the
-//! reply. Its text is what stands behind the status after one blank, and the lines up to the next request, each with
-//! its line end. A body or a text `$NAME` is the text of that name, of those that stand in `standing` and those that
-//! are given with the transcript. No other line begins with `>`, `<` or `$`: what one of them begins with, is built, or
-//! isn't as it is written is given by a name.
+//! A transcript begins with a line end, so that each of its lines begins a line of the code; or it is empty.
+//!
+//! A line `> WHO NUMBER VERB` begins a request. Its body is what stands behind the verb after one blank, without a line
+//! end; where nothing stands there, it is the lines up to the reply, each with its line end.
+//!
+//! A line `< STATUS` begins the reply. Its text is what stands behind the status after one blank, and the lines up to the
+//! next request, each with its line end.
+//!
+//! A body or a text `$NAME` is the text of that name: one of those that stand here, or of those that are given with the
+//! transcript. No other line begins with `>`, `<` or `$`, so that what begins so, or has no line end, is given by a name.
 
 use crate::session_texts::{LONG_NAME, TOO_LONG_NAME};
 use crate::setup::BATCH;
 use crate::tracklets::{FIVE, FIVE_TEXT, MIDNIGHT, MIDNIGHT_TEXT, NIGHT, NIGHT_TEXT, THREE, TWO};
 use crate::wrong::{Found, Wrong};
-use std::alloc::{AllocError, Global};
+use item_list::NoMemory;
+use std::alloc::Global;
 
 /// A request, by whom it is sent, its number, its verb and its body; and the status and the text of its reply.
 #[derive(Clone, Copy, Drop)]
@@ -39,7 +43,7 @@ pub struct Asked<'a> {
 pub type Named<'a> = (&'a str, &'a str);
 
 /// Why a transcript can't be read.
-#[derive(Clone, Copy, PartialEq, Debug, Drop)]
+#[derive(Debug, Drop)]
 pub enum Fault {
     /// It begins with something else than a line end and a request.
     Begin,
@@ -113,7 +117,7 @@ fn found_in<'a>(named: &[Named<'a>], name: &str) -> Option<&'a str> {
 }
 
 /// The text of this name.
-fn text_of<'a>(named: &[Named<'a>], name: &str) -> Result<&'a str, Fault> {
+fn text_named<'a>(named: &[Named<'a>], name: &str) -> Result<&'a str, Fault> {
     match found_in(named, name) {
         Some(text) => Ok(text),
         None => found_in(&standing(), name).ok_or(Fault::NoText),
@@ -154,7 +158,7 @@ fn body_of<'a>(
         return Err(Fault::TwoBodies);
     }
     match body.strip_prefix('$') {
-        Some(name) => text_of(named, name),
+        Some(name) => text_named(named, name),
         None => Ok(body),
     }
 }
@@ -171,13 +175,11 @@ fn reply_of<'a>(lines: &'a str, named: &[Named<'a>]) -> Result<(&'a str, &'a str
     }
     // What stands behind the status is parted from it by one blank, or by a line end.
     let text = lines.get(4..).unwrap_or("");
-    match text.strip_prefix('$') {
-        Some(name) => Ok((
-            status,
-            text_of(named, name.strip_suffix('\n').unwrap_or(name))?,
-        )),
-        None => Ok((status, unmarked(text)?)),
-    }
+    let Some(name) = text.strip_prefix('$') else {
+        return Ok((status, unmarked(text)?));
+    };
+    let name = name.strip_suffix('\n').unwrap_or(name);
+    Ok((status, text_named(named, name)?))
 }
 
 /// The request in these lines, and its reply.
@@ -210,7 +212,7 @@ fn read<'a>(lines: &'a str, named: &[Named<'a>]) -> Result<Asked<'a>, Fault> {
     })
 }
 
-/// That this request, counted from 1, can't be read for this; 0 is what stands before the first.
+/// That a transcript can't be read for this fault of this request, counted from 1, or of none, which is told as 0.
 fn unread(fault: Fault, place: usize) -> Wrong {
     Wrong {
         mark: 0,
@@ -218,7 +220,7 @@ fn unread(fault: Fault, place: usize) -> Wrong {
     }
 }
 
-fn add<'a>(asked: &mut Vec<Asked<'a>>, next: Asked<'a>) -> Result<(), AllocError> {
+fn add<'a>(asked: &mut Vec<Asked<'a>>, next: Asked<'a>) -> Result<(), NoMemory> {
     asked.push(next)?;
     Ok(())
 }
@@ -227,7 +229,7 @@ fn add<'a>(asked: &mut Vec<Asked<'a>>, next: Asked<'a>) -> Result<(), AllocError
 ///
 /// # Errors
 ///
-/// Memory was refused, or a line of it isn't as it may be.
+/// Memory was refused, or it has a fault.
 pub fn asked_in<'a>(
     alloc: Global,
     transcript: &'a str,
@@ -237,9 +239,9 @@ pub fn asked_in<'a>(
     if transcript.is_empty() {
         return Ok(asked);
     }
-    let rest = transcript
-        .strip_prefix("\n> ")
-        .ok_or(unread(Fault::Begin, 0))?;
+    let Some(rest) = transcript.strip_prefix("\n> ") else {
+        return Err(unread(Fault::Begin, 0));
+    };
     if !rest.ends_with('\n') {
         return Err(unread(Fault::End, 0));
     }
