@@ -347,7 +347,7 @@ object 2024 FA K24F00A
 < 200 receipt 11
 "#;
 
-/// A station, and three objects of made-up lines.
+/// A station, and three objects of made-up lines: two tracklets of two observations each.
 const MADE: &str = r#"
 > +founder-1 1 station {"code":"703","from":"1998-01-01","name":"Catalina","to":"2199-12-31"}
 < 200 receipt 1
