@@ -1,15 +1,13 @@
 //! The mirror over the file `mirror.db`. All of it is one test, since each trial has that file for its own.
 
 use mirror_sqlite::FileMirror;
-use sqlite::{Connection, File, FileStore};
-use std::alloc::Global;
+use sqlite::Connection;
 use std::fs;
 use std::test::Fail;
 use testkit_mirror::{
     EA_DAY, EA_LINE, EA_OBJECT, OBJECT, SUBMITTED, each_look, each_office, is_refused, look_faults,
     look_to, looked, mirrored_after, ordinary, wrong_window,
 };
-use testkit_sessions::{Found, Wrong};
 
 const FILE: &str = "mirror.db";
 
@@ -90,87 +88,30 @@ fn clear(rt: HostRuntime) {
     let _ = fs::remove_file(&rt, LOG);
 }
 
-/// Runs these statements.
-fn run_each(conn: &mut Connection<FileStore<File>>, texts: &[&str]) -> Result<(), Fail> {
-    for text in texts {
-        conn.execute_batch(text)?;
-    }
-    Ok(())
-}
-
 /// Makes the file by these statements.
 fn make(rt: HostRuntime, texts: &[&str]) -> Result<(), Fail> {
     clear(rt);
     let mut conn = Connection::open(&rt, FILE)?;
-    run_each(&mut conn, texts)?;
+    for text in texts {
+        conn.execute_batch(text)?;
+    }
     conn.close()?;
     Ok(())
 }
 
-/// The number that this query gives of the database.
-fn number_of(conn: &mut Connection<FileStore<File>>, query: &str) -> Result<i64, Fail> {
-    let number = conn.query_row(query, &[])?.get::<i64>(0)?;
-    Ok(number)
-}
-
-/// The number that this query gives of the file.
+/// The number that this query gives.
 fn number_in(rt: HostRuntime, query: &str) -> Result<i64, Fail> {
     let mut conn = Connection::open(&rt, FILE)?;
-    number_of(&mut conn, query)
-}
-
-/// What is asked of a mirror over the file.
-#[derive(Clone, Copy)]
-enum Step<'a> {
-    /// The sessions of every mirror.
-    Sessions,
-    /// It takes an office with one object.
-    Object,
-    /// It refuses both commands.
-    Refused,
-    /// `look` gives these lines.
-    Looked(&'a str),
-    /// `look` meets a row that is out of range.
-    Faults,
-}
-
-/// The sessions of every mirror.
-fn sessions(alloc: Global, mirror: &mut FileMirror) -> Result<(), Wrong> {
-    each_look(alloc, mirror)?;
-    each_office(alloc, mirror)?;
-    if let Some(mark) = wrong_window(alloc, mirror)? {
-        let found = Found::Untold;
-        return Err(Wrong { mark, found });
-    }
-    ordinary(alloc, mirror)
-}
-
-/// Asks a mirror. A wrong answer is told with the mark.
-fn ask(alloc: Global, mirror: &mut FileMirror, step: Step, mark: usize) -> Result<(), Wrong> {
-    match step {
-        Step::Sessions => sessions(alloc, mirror),
-        Step::Object => {
-            let tables = &[SUBMITTED, OBJECT];
-            mirrored_after(alloc, mirror, tables, 7, EA_LINE, &EA_OBJECT, mark)
-        }
-        Step::Refused => is_refused(alloc, mirror, mark),
-        Step::Looked(day) => looked(alloc, mirror, FROM, TO, &look_to(mark, day)),
-        Step::Faults => looked(alloc, mirror, FROM, TO, &look_faults(mark)),
-    }
-}
-
-/// Makes a mirror, asks it, and closes it.
-fn trial(rt: HostRuntime, step: Step, mark: usize) -> Result<(), Wrong> {
-    let mut mirror = FileMirror::new(rt);
-    let told = ask(rt.alloc(), &mut mirror, step, mark);
-    mirror.close();
-    told
+    let number = conn.query_row(query, &[])?.get::<i64>(0)?;
+    Ok(number)
 }
 
 /// A mirror over the file refuses both commands, and what lies there keeps its bytes.
 fn is_left(rt: HostRuntime, mark: usize) -> Result<(), Fail> {
     let before = fs::read(&rt, FILE)?;
-    trial(rt, Step::Refused, mark)?;
+    let mut mirror = FileMirror::new(rt);
+    is_refused(rt.alloc(), &mut mirror, mark)?;
+    mirror.close();
     let after = fs::read(&rt, FILE)?;
     if before.as_slice() == after.as_slice() {
         Ok(())
@@ -179,31 +120,54 @@ fn is_left(rt: HostRuntime, mark: usize) -> Result<(), Fail> {
     }
 }
 
+/// The sessions of every mirror.
+fn sessions(rt: HostRuntime) -> Result<(), Fail> {
+    clear(rt);
+    let mut mirror = FileMirror::new(rt);
+    each_look(rt.alloc(), &mut mirror)?;
+    each_office(rt.alloc(), &mut mirror)?;
+    if wrong_window(rt.alloc(), &mut mirror)?.is_some() {
+        return Err(Fail::new("another window"));
+    }
+    ordinary(rt.alloc(), &mut mirror)?;
+    mirror.close();
+    Ok(())
+}
+
 /// The rows are in the file alone, once it is closed, and in it and its log before.
 fn found_again(rt: HostRuntime) -> Result<(), Fail> {
     clear(rt);
     let mut mirror = FileMirror::new(rt);
-    let put = ask(rt.alloc(), &mut mirror, Step::Object, 0);
+    mirrored_after(
+        rt.alloc(),
+        &mut mirror,
+        &[SUBMITTED, OBJECT],
+        7,
+        EA_LINE,
+        &EA_OBJECT,
+        0,
+    )?;
     drop(mirror);
-    put?;
-    trial(rt, Step::Looked(EA_DAY), 1)?;
+    let mut mirror = FileMirror::new(rt);
+    looked(rt.alloc(), &mut mirror, FROM, TO, &look_to(1, EA_DAY))?;
+    mirror.close();
     fs::remove_file(&rt, LOG)?;
-    trial(rt, Step::Looked(EA_DAY), 2)?;
+    let mut mirror = FileMirror::new(rt);
+    looked(rt.alloc(), &mut mirror, FROM, TO, &look_to(2, EA_DAY))?;
+    mirror.close();
     Ok(())
 }
 
 /// A file that another mirror has open is refused, and is found once that one has closed it.
-fn open_elsewhere(rt: HostRuntime) -> Result<(), Wrong> {
+fn open_elsewhere(rt: HostRuntime) -> Result<(), Fail> {
     let mut first = FileMirror::new(rt);
     let mut second = FileMirror::new(rt);
-    let opened = ask(rt.alloc(), &mut first, Step::Looked(EA_DAY), 0);
-    let refused = ask(rt.alloc(), &mut second, Step::Refused, 1);
+    looked(rt.alloc(), &mut first, FROM, TO, &look_to(0, EA_DAY))?;
+    is_refused(rt.alloc(), &mut second, 1)?;
     first.close();
-    let found = ask(rt.alloc(), &mut second, Step::Looked(EA_DAY), 2);
+    looked(rt.alloc(), &mut second, FROM, TO, &look_to(2, EA_DAY))?;
     second.close();
-    opened?;
-    refused?;
-    found
+    Ok(())
 }
 
 /// The file is cut to its first half, without its log.
@@ -220,13 +184,10 @@ fn folder(rt: HostRuntime) -> Result<(), Fail> {
     clear(rt);
     fs::create_dir(&rt, FILE)?;
     let mut mirror = FileMirror::new(rt);
-    let refused = ask(rt.alloc(), &mut mirror, Step::Refused, 0);
-    let removed = fs::remove_dir(&rt, FILE);
-    let made = ask(rt.alloc(), &mut mirror, Step::Looked(""), 1);
+    is_refused(rt.alloc(), &mut mirror, 0)?;
+    fs::remove_dir(&rt, FILE)?;
+    looked(rt.alloc(), &mut mirror, FROM, TO, &look_to(1, ""))?;
     mirror.close();
-    refused?;
-    removed?;
-    made?;
     Ok(())
 }
 
@@ -242,7 +203,9 @@ fn no_database(rt: HostRuntime) -> Result<(), Fail> {
 fn other_shapes(rt: HostRuntime) -> Result<(), Fail> {
     for (mark, &(tables, query, number)) in SHAPES.iter().enumerate() {
         make(rt, &[tables])?;
-        trial(rt, Step::Refused, mark)?;
+        let mut mirror = FileMirror::new(rt);
+        is_refused(rt.alloc(), &mut mirror, mark)?;
+        mirror.close();
         if number_in(rt, query)? != number {
             return Err(Fail::new("another row"));
         }
@@ -254,7 +217,9 @@ fn other_shapes(rt: HostRuntime) -> Result<(), Fail> {
 fn out_of_range(rt: HostRuntime) -> Result<(), Fail> {
     for (mark, row) in OUT_OF_RANGE.iter().enumerate() {
         make(rt, &[TABLES, row])?;
-        trial(rt, Step::Faults, mark)?;
+        let mut mirror = FileMirror::new(rt);
+        looked(rt.alloc(), &mut mirror, FROM, TO, &look_faults(mark))?;
+        mirror.close();
         let rows = number_in(
             rt,
             "SELECT (SELECT count(*) FROM object) + (SELECT count(*) FROM sight)",
@@ -268,8 +233,7 @@ fn out_of_range(rt: HostRuntime) -> Result<(), Fail> {
 
 #[test]
 fn over_the_file(rt: HostRuntime) -> Result<(), Fail> {
-    clear(rt);
-    trial(rt, Step::Sessions, 0)?;
+    sessions(rt)?;
     found_again(rt)?;
     open_elsewhere(rt)?;
     cut_short(rt)?;

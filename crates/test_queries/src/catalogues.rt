@@ -518,8 +518,8 @@ const SHARED_CATALOGUE: &str = concat!(
     "end\n",
 );
 
-/// The office gives a designation of its own, and what was carried becomes a name of its object.
-const UNDER_OWN: &str = r#"
+/// What was carried has two observations, and the office gives a designation of its own.
+const BESIDE: &str = r#"
 > observer-1 1 submit80
      K24E00C* C2024 03 01.50000 06 12 34.56 +23 45 01.2          19.5 V      703
      K24E00C  C2024 03 01.51000 06 12 34.56 +23 45 01.2          19.5 V      703
@@ -537,6 +537,10 @@ line 8 obs 6 track 3
 > +founder-1 7 designate {"tracklets":[2,3]}
 < 200 receipt 9
 object 2024 ED K24E00D
+"#;
+
+/// What was carried becomes a name of the office's own object.
+const UNDER_OWN: &str = r#"
 > +founder-1 8 identify {"principal":"2024 ED","secondary":"2024 EC"}
 < 200 receipt 10
 "#;
@@ -561,25 +565,8 @@ const UNDER_OWN_CATALOGUE: &str = concat!(
     "end\n",
 );
 
-/// It becomes a name of what was carried.
+/// Its own object becomes a name of what was carried.
 const UNDER_CARRIED: &str = r#"
-> observer-1 1 submit80
-     K24E00C* C2024 03 01.50000 06 12 34.56 +23 45 01.2          19.5 V      703
-     K24E00C  C2024 03 01.51000 06 12 34.56 +23 45 01.2          19.5 V      703
-< 200 receipt 7
-accepted 2 refused 0
-line 1 obs 1 track 1
-line 2 obs 2 track 1
-> observer-1 2 submitpsv $MIDNIGHT
-< 200 receipt 8
-accepted 4 refused 0
-line 5 obs 3 track 2
-line 6 obs 4 track 2
-line 7 obs 5 track 3
-line 8 obs 6 track 3
-> +founder-1 7 designate {"tracklets":[2,3]}
-< 200 receipt 9
-object 2024 ED K24E00D
 > +founder-1 8 identify {"principal":"2024 EC","secondary":"2024 ED"}
 < 200 receipt 10
 "#;
@@ -604,19 +591,23 @@ const UNDER_CARRIED_CATALOGUE: &str = concat!(
     "end\n",
 );
 
-/// What comes after the opening, how many entries the office has then, and what the catalogue is.
-const AFTER_OPENING: &[(&str, u64, &str)] = &[
-    ("", 6, OPENED_CATALOGUE),
-    (FILED, 7, FILED_CATALOGUE),
-    (SHARED, 9, SHARED_CATALOGUE),
-    (UNDER_OWN, 10, UNDER_OWN_CATALOGUE),
-    (UNDER_CARRIED, 10, UNDER_CARRIED_CATALOGUE),
+/// An opening and what comes after it, how many entries the office has then, and what the catalogue is.
+const AFTER_OPENING: &[(&[&str], u64, &str)] = &[
+    (&[OPENED], 6, OPENED_CATALOGUE),
+    (&[OPENED, FILED], 7, FILED_CATALOGUE),
+    (&[OPENED, SHARED], 9, SHARED_CATALOGUE),
+    (&[OPENED, BESIDE, UNDER_OWN], 10, UNDER_OWN_CATALOGUE),
+    (
+        &[OPENED, BESIDE, UNDER_CARRIED],
+        10,
+        UNDER_CARRIED_CATALOGUE,
+    ),
 ];
 
 /// Each by its place in the table.
 fn after_an_opening(alloc: Global) -> Result<(), Wrong> {
-    for (place, &(later, added, after)) in AFTER_OPENING.iter().enumerate() {
-        catalogue_of(alloc, &[OPENED, later], added, after, place)?;
+    for (place, &(requests, added, after)) in AFTER_OPENING.iter().enumerate() {
+        catalogue_of(alloc, requests, added, after, place)?;
     }
     Ok(())
 }

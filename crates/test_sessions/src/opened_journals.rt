@@ -306,12 +306,13 @@ fn changed_first(alloc: Global, at: usize, byte: u8) -> Result<Vec<u8>, Wrong> {
     Ok(file)
 }
 
-/// The acts up to the opening, of which no answer is asked here or below.
+/// The acts up to the opening. Here and below they are written into a file and no desk is asked for them, so that they
+/// have a status which no reply has.
 const UP_TO_OPENING: &str = r#"
 > +founder-1 1 station {"code":"703","from":"1998-01-01","name":"Catalina","to":"2199-12-31"}
-< 200
+< 000
 > +founder-1 2 opening {"half":"2024 E","given":3,"carried":[1,3]}
-< 200
+< 000
 "#;
 
 /// The second file of these, with another byte of the opening and its digest then, so that the chain is right.
@@ -347,11 +348,11 @@ fn changed_openings(rt: HostRuntime) {
 /// at 129 + 58 + 43 of the second.
 const TWICE: &str = r#"
 > +founder-1 1 station {"code":"703","from":"1998-01-01","name":"Catalina","to":"2199-12-31"}
-< 200
+< 000
 > +founder-1 2 opening {"half":"2024 E","given":3,"carried":[1,3]}
-< 200
+< 000
 > +founder-1 3 opening {"half":"2024 E","given":4,"carried":[]}
-< 200
+< 000
 "#;
 
 const TWICE_DIGESTS: &[u8] = b"\x1a\x3e\xe1\x17\x84\x8d\xa8\x0e\x64\x2e\xfc\x1e\x2c\xfa\x55\x85\
@@ -365,17 +366,17 @@ const TWICE_DIGESTS: &[u8] = b"\x1a\x3e\xe1\x17\x84\x8d\xa8\x0e\x64\x2e\xfc\x1e\
 /// and the act on the tracklet 26 and 17; in the second one each takes 32 more.
 const LATE: &str = r#"
 > +founder-1 1 station {"code":"703","from":"1998-01-01","name":"Catalina","to":"2199-12-31"}
-< 200
+< 000
 > +founder-1 2 submit80
      W00001a   1998 09 16.00000106 12 34.56 +23 45 01.2                      703
      W00001a   1998 09 16.50000106 12 34.56 +23 45 01.2                      703
      W00002a   1998 09 16.00000206 12 34.56 +23 45 01.2                      703
      W00002a   1998 09 16.50000206 12 34.56 +23 45 01.2                      703
-< 200
+< 000
 > +founder-1 3 designate {"tracklets":[1]}
-< 200
+< 000
 > +founder-1 4 opening {"half":"1998 S","given":1,"carried":[]}
-< 200
+< 000
 "#;
 
 const LATE_DIGESTS: &[u8] = b"\x1a\x3e\xe1\x17\x84\x8d\xa8\x0e\x64\x2e\xfc\x1e\x2c\xfa\x55\x85\

@@ -15,11 +15,12 @@
 //! A line `> WHO NUMBER VERB` begins a request. Its body is what stands behind the verb after one blank, without a line
 //! end; where nothing stands there, it is the lines up to the reply, each with its line end.
 //!
-//! A line `< STATUS` begins the reply. Its text is what stands behind the status after one blank, and the lines up to the
-//! next request, each with its line end.
+//! A line `< STATUS` begins the reply. Its text is what stands behind the status after one blank, and the lines up to
+//! the next request, each with its line end.
 //!
 //! A body or a text `$NAME` is the text of that name: one of those that stand here, or of those that are given with the
-//! transcript. No other line begins with `>`, `<` or `$`, so that what begins so, or has no line end, is given by a name.
+//! transcript. No other line begins with `>`, `<` or `$`, so that what begins so, or has no line end, is given by a
+//! name.
 
 use crate::session_texts::{LONG_NAME, TOO_LONG_NAME};
 use crate::setup::BATCH;
