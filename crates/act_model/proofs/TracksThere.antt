@@ -1,6 +1,6 @@
 -- The tracklet of each observation is there.
 use Rattle.std.proofs.Common.{◌≡◌, ℕ, ℤ, ◌+◌, ◌≤◌, List, [], ◌∷◌, length, Bool, true, false, cond, Option, Some, None, Result, Ok, Err, refl, sym, ap, suc, ◌∙◌, subst, arith, max, eqb-true}
-use Rattle.std.specs.Prelude.{◌==◌}
+use Rattle.std.specs.Prelude.{◌==◌, nat_le}
 use Rattle.std.proofs.lemmas.Bool.Decides.{nat_tests}
 use Rattle.obs_record.specs.declared.line.Line.{Line}
 use Rattle.obs_record.specs.declared.rule.RuleCode.{RuleCode}
@@ -106,9 +106,17 @@ batch_stands receipt [] held now are stands = subst (λ (n : ℕ). AreThere n he
 batch_stands receipt (taken ∷ lines) held now are stands =
     batch_stands receipt lines (with_found receipt taken.found held) (tracks_with now taken.found) are.1 (found_stands receipt taken.found held now are.0 stands)
 
+-- the tracklet of a group is there, or it is the next one
+track_there : (before now group : ℕ) → IsThere (now + 1) (track_of_group before now group)
+track_there before now group = by (nat_le (before + group + 1) now) refl
+  where
+    by : (is_begun : Bool) → nat_le (before + group + 1) now ≡ is_begun → IsThere (now + 1) (cond is_begun (before + group + 1) (now + 1))
+    by true is = (omega arith, grind (arith, nat_tests))
+    by false is = (omega arith, omega arith)
+
 found_there : (known : KnownOffice) (before now group : ℕ) (read : Result Sighting RuleCode) (fault : Option RuleCode) → IsFoundThere now (found_in known (track_of_group before now group) read fault)
 found_there known before now group read (Some rule) = tt
-found_there known before now group (Ok s) None = (omega arith, omega arith)
+found_there known before now group (Ok s) None = track_there before now group
 found_there known before now group (Err rule) None = tt
 
 lines_there : (known : KnownOffice) (before now : ℕ) (lines : List Line) (rulings : List Ruling) → AreTakenThere now (taken_lines known before now lines rulings)

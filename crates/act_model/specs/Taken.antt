@@ -1,7 +1,7 @@
 -- The observation lines of a batch, as the office takes them in by the rulings on them: each is an observation of a
 -- tracklet, or broke a rule. All else about the batch is read from this list.
-use Rattle.std.specs.Prelude.{ℕ, ◌+◌, ◌-◌, min, max, Bool, List, [], ◌∷◌, length, count_by, filter_map, Option, Some}
-use Rattle.std.specs.Prelude.{None, Result, Ok, Err, is_ok}
+use Rattle.std.specs.Prelude.{ℕ, ◌+◌, ◌-◌, max, Bool, nat_le, List, [], ◌∷◌, length, count_by, filter_map, Option, Some}
+use Rattle.std.specs.Prelude.{None, Result, Ok, Err, is_ok, if◌then◌else◌}
 use Rattle.packed_names.specs.declared.name.Designation.{Designation}
 use Rattle.packed_names.specs.declared.name.Name.TheVariants as names
 use Rattle.obs_record.specs.declared.line.Line.{Line}
@@ -27,9 +27,9 @@ first_home known (tracks.Designation designation) = known.stands_for (names.Desi
 first_home known (tracks.Sub sub) = None
 
 -- The tracklet of a group, where there were `before` tracklets before the batch and there are `now` by this line.
--- Groups count from 0 in the order in which they begin: a group has its tracklet, or it begins the next one.
+-- Groups count from 0 in the order in which they begin: one that has begun has its tracklet, and another begins the next.
 abbrev pub track_of_group : (before now group : ℕ) → ℕ
-track_of_group before now group = min (before + group + 1) (now + 1)
+track_of_group before now group = if nat_le (before + group + 1) now then before + group + 1 else now + 1
 
 abbrev pub placed_in : KnownOffice → ℕ → Sighting → Placed
 placed_in known track s = record { sighting = s; track = track; home = first_home known (name_of s) }

@@ -58,7 +58,8 @@ fn taken_line<V: Known>(
     ensures taken { taken_by line.now result ≡ taken_line (V.office known.now) before now line.now ruling.now }
     ensures tracked { IsTracked now (placed_by line.now.read result) }
 {
-    let track = (before + u64::from(ruling.group) + 1).min(now + 1);
+    let begun = before + u64::from(ruling.group) + 1;
+    let track = if begun <= now { begun } else { now + 1 };
     found_in(known, track, &line.read, ruling.fault)
 }
 
