@@ -22,7 +22,7 @@ use Rattle.ades_psv.specs.Optional.{Says, is_empty}
 use Rattle.ades_psv.specs.Magnitudes.{IsMagnitude, magnitude_in, value_of, places_of}
 use Rattle.ades_psv.specs.Names.{IsNumberText, IsDesignationText, IsTemporary, number_in, designation_in, temporary_in}
 use Rattle.ades_psv.specs.Rules.{Keeps, IsTextByte, IsTime, IsRa, IsDec, HasFields, line_rules, IsSightingOf, IsReading}
-use Rattle.ades_psv.specs.Reading.{is_text_byte, names_in, time_in, ra_in, dec_in, stated_in, lacks_field, lacks_name, lacks_band, required, position_from, position_in, observed, reading_of}
+use Rattle.ades_psv.specs.Reading.{is_text_byte, names_in, time_in, ra_in, dec_in, stated_in, lacks_field, lacks_name, lacks_band, or_missing, position_from, position_in, sighting_of_fields, reading_of}
 use Rattle.ades_psv.specs.LawsBelow.{Laws}
 use Rattle.ades_psv.proofs.Judging.{all_pass, empty_from, filled_from, filled_is, IsTold, field_told, field_then, some, says_one, reads_one}
 use Rattle.ades_psv.proofs.FieldLaws.{number_field, designation_field, temporary_field, magnitude_field, time_field, ra_field, dec_field}
@@ -104,7 +104,7 @@ nothing_lacks fields has =
 
 -- the observation of parts that were read is that of the line's fields
 observed_is : (fields : Fields) (names : Names) (mag : Option (ℕ × ℕ)) (at : Position) (sub : Option Short) → AreNames fields names
-    → Says IsMagnitude fields.mag mag → IsPosition fields at → Says IsTemporary fields.sub sub → IsSightingOf fields (observed fields names at mag sub)
+    → Says IsMagnitude fields.mag mag → IsPosition fields at → Says IsTemporary fields.sub sub → IsSightingOf fields (sighting_of_fields fields names at mag sub)
 observed_is fields names mag at sub is_names is_mag is_at is_sub = record {
   perm = is_names.perm;
   prov = is_names.prov;
@@ -149,7 +149,7 @@ module _ (laws : Laws) where
 
   position_by : (fields : Fields) (time : Option ℤ) (ra : Option ℕ) (dec : Option ℤ) → lacks_field fields || (lacks_name fields || lacks_band fields) ≡ false
       → Says IsTime fields.time time → Says IsRa fields.ra ra → Says IsDec fields.dec dec
-      → Judges (Keeps fields) (S11 ∷ []) (IsPosition fields) (required time >>= λ t. required ra >>= λ r. required dec >>= λ d. Ok (record { time = t; ra = r; dec = d }))
+      → Judges (Keeps fields) (S11 ∷ []) (IsPosition fields) (or_missing time >>= λ t. or_missing ra >>= λ r. or_missing dec >>= λ d. Ok (record { time = t; ra = r; dec = d }))
   position_by fields None ra dec nothing t r d = inl (λ has. has.time t, refl)
   position_by fields (Some time) None dec nothing t r d = inl (λ has. has.ra r, refl)
   position_by fields (Some time) (Some ra) None nothing t r d = inl (λ has. has.dec d, refl)

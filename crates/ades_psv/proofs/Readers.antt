@@ -18,12 +18,12 @@ use Rattle.ades_psv.specs.Fields.{Fields, fields_of}
 use Rattle.ades_psv.specs.Rules.{IsReading}
 use Rattle.ades_psv.specs.Reading.{reading_of}
 use Rattle.ades_psv.specs.Walking.{IsAnswer}
-use Rattle.ades_psv.specs.Feeding.{Fed, start, unfed, reached, read_lines, read_on, fed, fed_all, HasRoom, fault_in, complete_fault, ended_at, read_end, finished, Feeds}
+use Rattle.ades_psv.specs.Feeding.{Fed, start, unfed, progress_at, read_lines, read_on, feed_piece, feed_pieces, HasRoom, fault_in, complete_fault, ended_at, read_end, lines_at_end, Feeds}
 use Rattle.ades_psv.proofs.Walks.{bind_bind, read_none, read_join, rest_is, read_twice}
 
 -- ---- the end
 
-whole_by : (ls : List (List ℕ)) (r : Said) → ((r >>= ended (length ls)) >>= all_read) ≡ ((r >>= reached start ls []) >>= ended_at)
+whole_by : (ls : List (List ℕ)) (r : Said) → ((r >>= ended (length ls)) >>= all_read) ≡ ((r >>= progress_at start ls []) >>= ended_at)
 whole_by ls (Ok (Opening, found)) = refl
 whole_by ls (Ok (Header, found)) = (let all : 0 + length ls ≡ length ls = omega arith in rw all refl)
 whole_by ls (Ok (Listing columns, found)) = refl
@@ -34,7 +34,7 @@ unfolding psv_lines_of data_lines_of read_lines
 whole_text text = whole_by (lines text) (said_from Opening (enumerate_from 1 (lines text)))
 
 -- a reader that was fed a text says in the end what the text says
-pub finished_text : (laws : LineLaws) (text : List ℕ) → finished (fed unfed text) ≡ psv_lines_of text
+pub finished_text : (laws : LineLaws) (text : List ℕ) → lines_at_end (feed_piece unfed text) ≡ psv_lines_of text
 unfolding read_on read_end
 finished_text laws text =
     let complete = complete_lines text in
@@ -45,47 +45,47 @@ finished_text laws text =
 -- ---- room
 
 room_by : (text : List ℕ) (more : ℕ) (r : Said) → length (complete_lines text) + length (unfinished text) + more < 4294967295
-    → HasRoom (r >>= reached start (complete_lines text) (unfinished text)) more
+    → HasRoom (r >>= progress_at start (complete_lines text) (unfinished text)) more
 room_by text more (Ok end) room = omega arith
 room_by text more (Err fault) room = tt
 
-pub text_room : (laws : LineLaws) (text : List ℕ) (more : ℕ) → length text + more < 4294967295 → HasRoom (fed unfed text) more
+pub text_room : (laws : LineLaws) (text : List ℕ) (more : ℕ) → length text + more < 4294967295 → HasRoom (feed_piece unfed text) more
 unfolding read_on read_lines
 text_room laws text more room =
     room_by text more (said_from Opening (enumerate_from 1 (complete_lines text))) (let few = laws.few text in omega arith)
 
 -- ---- any pieces
 
-fed_text : (laws : LineLaws) (text piece : List ℕ) → fed (fed unfed text) piece ≡ fed unfed (text ++ piece)
+fed_text : (laws : LineLaws) (text piece : List ℕ) → feed_piece (feed_piece unfed text) piece ≡ feed_piece unfed (text ++ piece)
 fed_text laws text piece = sym (read_twice laws start text piece)
 
-pub fed_nothing : (laws : LineLaws) → fed unfed [] ≡ unfed
+pub fed_nothing : (laws : LineLaws) → feed_piece unfed [] ≡ unfed
 unfolding read_on
 fed_nothing laws =
     let none : complete_lines [] ≡ [] = laws.none_complete [] (All-nil (λ b. eqb b 10 ≡ false)) in
     let left : unfinished [] ≡ [] = laws.all_unfinished [] (All-nil (λ b. eqb b 10 ≡ false)) in
     rw (none, left) (read_none start [])
 
-fed_further : (laws : LineLaws) (text : List ℕ) (pieces : List (List ℕ)) → fed_all (fed unfed text) pieces ≡ fed unfed (text ++ joined pieces)
-fed_further laws text [] = ap (fed unfed) (sym (append-nil text))
+fed_further : (laws : LineLaws) (text : List ℕ) (pieces : List (List ℕ)) → feed_pieces (feed_piece unfed text) pieces ≡ feed_piece unfed (text ++ joined pieces)
+fed_further laws text [] = ap (feed_piece unfed) (sym (append-nil text))
 fed_further laws text (piece ∷ pieces) =
-    ap (λ (f : Fed). fed_all f pieces) (fed_text laws text piece) ∙ fed_further laws (text ++ piece) pieces ∙ ap (fed unfed) (append_assoc text piece (joined pieces))
+    ap (λ (f : Fed). feed_pieces f pieces) (fed_text laws text piece) ∙ fed_further laws (text ++ piece) pieces ∙ ap (feed_piece unfed) (append_assoc text piece (joined pieces))
 
-pub one_text : (laws : LineLaws) (pieces : List (List ℕ)) → fed_all unfed pieces ≡ fed unfed (joined pieces)
-one_text laws pieces = ap (λ (f : Fed). fed_all f pieces) (sym (fed_nothing laws)) ∙ fed_further laws [] pieces
+pub one_text : (laws : LineLaws) (pieces : List (List ℕ)) → feed_pieces unfed pieces ≡ feed_piece unfed (joined pieces)
+one_text laws pieces = ap (λ (f : Fed). feed_pieces f pieces) (sym (fed_nothing laws)) ∙ fed_further laws [] pieces
 
 -- ---- faults
 
 -- a fault of complete lines is that of the batch, whatever may follow
-pub fault_stays : (laws : LineLaws) (text more : List ℕ) (fault : HeaderFault × ℕ) → fed unfed text ≡ Err fault → psv_lines_of (text ++ more) ≡ Err fault
+pub fault_stays : (laws : LineLaws) (text more : List ℕ) (fault : HeaderFault × ℕ) → feed_piece unfed text ≡ Err fault → psv_lines_of (text ++ more) ≡ Err fault
 fault_stays laws text more fault fails =
-    sym (finished_text laws (text ++ more)) ∙ ap finished (sym (fed_text laws text more) ∙ ap (λ (f : Fed). fed f more) fails)
+    sym (finished_text laws (text ++ more)) ∙ ap lines_at_end (sym (fed_text laws text more) ∙ ap (λ (f : Fed). feed_piece f more) fails)
 
-fault_by : (complete : List (List ℕ)) (rest : List ℕ) (r : Said) → fault_in r ≡ fault_in (r >>= reached start complete rest)
+fault_by : (complete : List (List ℕ)) (rest : List ℕ) (r : Said) → fault_in r ≡ fault_in (r >>= progress_at start complete rest)
 fault_by complete rest (Ok end) = refl
 fault_by complete rest (Err fault) = refl
 
-fault_of : (text : List ℕ) → complete_fault text ≡ fault_in (fed unfed text)
+fault_of : (text : List ℕ) → complete_fault text ≡ fault_in (feed_piece unfed text)
 unfolding complete_fault read_on read_lines
 fault_of text = fault_by (complete_lines text) (unfinished text) (said_from Opening (enumerate_from 1 (complete_lines text)))
 
@@ -95,12 +95,12 @@ no_fault (Err fault) fine = absurd cc
 
 -- ---- the text that came
 
-fed_on_text : (laws : LineLaws) (text piece : List ℕ) (before after : Fed) → after ≡ fed before piece → before ≡ fed unfed text → after ≡ fed unfed (text ++ piece)
-fed_on_text laws text piece before after new is = new ∙ ap (λ (f : Fed). fed f piece) is ∙ fed_text laws text piece
+fed_on_text : (laws : LineLaws) (text piece : List ℕ) (before after : Fed) → after ≡ feed_piece before piece → before ≡ feed_piece unfed text → after ≡ feed_piece unfed (text ++ piece)
+fed_on_text laws text piece before after new is = new ∙ ap (λ (f : Fed). feed_piece f piece) is ∙ fed_text laws text piece
 
 -- a piece after a text, where all is well
-pub feeds_text : (laws : LineLaws) (text piece : List ℕ) (before after : Fed) (result : Result (Unit {0}) PsvFault) → Feeds before piece after result → before ≡ fed unfed text
-    → OnOk result ((after ≡ fed unfed (text ++ piece)) × (complete_fault (text ++ piece) ≡ None))
+pub feeds_text : (laws : LineLaws) (text piece : List ℕ) (before after : Fed) (result : Result (Unit {0}) PsvFault) → Feeds before piece after result → before ≡ feed_piece unfed text
+    → OnOk result ((after ≡ feed_piece unfed (text ++ piece)) × (complete_fault (text ++ piece) ≡ None))
 feeds_text laws text piece before after (Ok x) feeds is =
     let new = fed_on_text laws text piece before after feeds.0 is in
     (new, fault_of (text ++ piece) ∙ ap fault_in (sym new) ∙ no_fault after feeds.1)
@@ -108,21 +108,21 @@ feeds_text laws text piece before after (Err fault) feeds is = tt
 
 -- and where a fault is told
 pub feeds_fault : (laws : LineLaws) (text piece : List ℕ) (before after : Fed) (result : Result (Unit {0}) PsvFault) (fault : HeaderFault) (line : ℕ) → Feeds before piece after result
-    → before ≡ fed unfed text → result ≡ Err (faults.Header fault line) → (after ≡ fed unfed (text ++ piece)) × (complete_fault (text ++ piece) ≡ Some (fault, line))
+    → before ≡ feed_piece unfed text → result ≡ Err (faults.Header fault line) → (after ≡ feed_piece unfed (text ++ piece)) × (complete_fault (text ++ piece) ≡ Some (fault, line))
 feeds_fault laws text piece before after result fault line feeds is told =
     let fails = rw told at feeds in
     let new = fed_on_text laws text piece before after fails.0 is in
     (new, fault_of (text ++ piece) ∙ ap fault_in (sym new ∙ fails.1))
 
 -- what is said at the end is what the text says
-pub finish_text : (laws : LineLaws) (text : List ℕ) (reader : Fed) (result : Result (List Line) PsvFault) → reader ≡ fed unfed text → IsAnswer (finished reader) result
+pub finish_text : (laws : LineLaws) (text : List ℕ) (reader : Fed) (result : Result (List Line) PsvFault) → reader ≡ feed_piece unfed text → IsAnswer (lines_at_end reader) result
     → IsAnswer (psv_lines_of text) result
 finish_text laws text reader result is said = rw (← finished_text laws text, ← is) said
 
 -- a fault of a batch in one piece
 pub whole_answer : (laws : LineLaws) (body : List ℕ) (before after : Fed) (fault : PsvFault) → before ≡ unfed → Feeds before body after (Err fault) → IsAnswer (psv_lines_of body) (Err fault)
 whole_answer laws body before after (faults.Header fault line) new is =
-    sym (finished_text laws body) ∙ ap finished (ap (λ (f : Fed). fed f body) (sym new) ∙ sym is.0 ∙ is.1)
+    sym (finished_text laws body) ∙ ap lines_at_end (ap (λ (f : Fed). feed_piece f body) (sym new) ∙ sym is.0 ∙ is.1)
 whole_answer laws body before after faults.NoMemory new is = tt
 
 -- ---- readings

@@ -17,7 +17,7 @@ use Rattle.text_lines.specs.Laws.{LineLaws}
 use Rattle.text_lines.specs.Pieces.{complete_lines, unfinished}
 use Rattle.ades_psv.specs.Headers.{step}
 use Rattle.ades_psv.specs.Batch.{DataLine, Said, before, said_on, said_from, read_of}
-use Rattle.ades_psv.specs.Feeding.{Progress, Fed, reached, read_lines, read_on, ended_at, read_end, finished, progress_of}
+use Rattle.ades_psv.specs.Feeding.{Progress, Fed, progress_at, read_lines, read_on, ended_at, read_end, lines_at_end, progress_of}
 use Rattle.ades_psv.specs.Walking.{IsAnswer, line_on, line_read}
 
 -- ---- steps
@@ -34,21 +34,21 @@ fails_on said go faults.NoMemory is = tt
 -- ---- a line, and lines behind it
 
 counted : (p : Progress) (line : List ℕ) (more : List (List ℕ)) (rest : List ℕ) (place : Place) (r : Said)
-    → (r >>= reached p (line ∷ more) rest) ≡ (r >>= reached (record p { place = place; count = p.count + 1 }) more rest)
+    → (r >>= progress_at p (line ∷ more) rest) ≡ (r >>= progress_at (record p { place = place; count = p.count + 1 }) more rest)
 counted p line more rest place (Ok end) =
     let count : p.count + length (line ∷ more) ≡ p.count + 1 + length more = omega arith in
     rw count refl
 counted p line more rest place (Err fault) = refl
 
 listed : (p : Progress) (data_line : DataLine) (line : List ℕ) (more : List (List ℕ)) (rest : List ℕ) (place : Place) (r : Said)
-    → ((r >>= before data_line) >>= reached p (line ∷ more) rest) ≡ (r >>= reached (record p { place = place; count = p.count + 1; found = p.found ++ read_of data_line ∷ [] }) more rest)
+    → ((r >>= before data_line) >>= progress_at p (line ∷ more) rest) ≡ (r >>= progress_at (record p { place = place; count = p.count + 1; found = p.found ++ read_of data_line ∷ [] }) more rest)
 listed p data_line line more rest place (Ok end) =
     let count : p.count + length (line ∷ more) ≡ p.count + 1 + length more = omega arith in
     rw (count, append_assoc p.found (read_of data_line ∷ []) (map read_of end.1)) refl
 listed p data_line line more rest place (Err fault) = refl
 
 first_by : (p : Progress) (line : List ℕ) (more : List (List ℕ)) (rest : List ℕ) (next : Step)
-    → (said_on (p.count + 1) line (λ place. said_from place (enumerate_from (p.count + 1 + 1) more)) next >>= reached p (line ∷ more) rest) ≡ (line_on p line next >>= λ q. read_lines q more rest)
+    → (said_on (p.count + 1) line (λ place. said_from place (enumerate_from (p.count + 1 + 1) more)) next >>= progress_at p (line ∷ more) rest) ≡ (line_on p line next >>= λ q. read_lines q more rest)
 unfolding read_lines
 first_by p line more rest (On next) = counted p line more rest next (said_from next (enumerate_from (p.count + 1 + 1) more))
 first_by p line more rest (Data columns) =
@@ -76,7 +76,7 @@ read_join p (x ∷ xs) ys old rest =
 -- ---- texts
 
 rest_by : {B : Type 0} (p : Progress) (xs : List (List ℕ)) (rest : List ℕ) (r : Said) (F : Progress → List ℕ → Result B (HeaderFault × ℕ))
-    → ((r >>= reached p xs rest) >>= λ q. F q rest) ≡ ((r >>= reached p xs rest) >>= λ q. F q q.rest)
+    → ((r >>= progress_at p xs rest) >>= λ q. F q rest) ≡ ((r >>= progress_at p xs rest) >>= λ q. F q q.rest)
 rest_by p xs rest (Ok end) F = refl
 rest_by p xs rest (Err fault) F = refl
 
@@ -131,7 +131,7 @@ read_then laws before middle rest front behind piece text left parts is first ov
 
 -- the end of a batch
 pub end_of : (reader : Fed) (before : Reached) (rest text : List ℕ) → reader ≡ Ok (progress_of before rest) → text ≡ rest
-    → finished reader ≡ (read_lines (progress_of before []) (lines text) [] >>= ended_at)
+    → lines_at_end reader ≡ (read_lines (progress_of before []) (lines text) [] >>= ended_at)
 unfolding read_end read_lines
 end_of reader before rest text is same = rw (is, same) refl
 

@@ -55,12 +55,12 @@ columns_named names = record {
 }
 
 -- these columns, or the first of H3, H4 and H5 that their names break
-abbrev pub checked : Columns → List (List ℕ) → Result Columns HeaderFault
-checked columns names =
+abbrev pub columns_or_rule : Columns → List (List ℕ) → Result Columns HeaderFault
+columns_or_rule columns names =
     if not (is_some columns.ra && is_some columns.dec) then Err H3
     else (if has_column (codes "pos1") names then Err H4
     else (if has_twice names then Err H5 else Ok columns))
 
 -- the columns of a column header, or the first rule that it breaks
 unfoldable pub columns_of : List ℕ → Result Columns HeaderFault
-columns_of line = checked (columns_named (cells line)) (cells line)
+columns_of line = columns_or_rule (columns_named (cells line)) (cells line)

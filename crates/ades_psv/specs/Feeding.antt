@@ -37,8 +37,8 @@ abbrev pub unfed : Fed
 unfed = Ok start
 
 -- what is reached after these lines, which follow those that were complete so far, and this rest
-abbrev pub reached : Progress → List (List ℕ) → List ℕ → Place × List DataLine → Fed
-reached progress complete rest end = Ok (record {
+abbrev pub progress_at : Progress → List (List ℕ) → List ℕ → Place × List DataLine → Fed
+progress_at progress complete rest end = Ok (record {
   place = end.0;
   count = progress.count + length complete;
   found = progress.found ++ map read_of end.1;
@@ -48,7 +48,7 @@ reached progress complete rest end = Ok (record {
 -- These lines are read, which follow those that were complete so far, and which this rest follows.
 unfoldable pub read_lines : Progress → List (List ℕ) → List ℕ → Fed
 read_lines progress complete rest =
-    said_from progress.place (enumerate_from (progress.count + 1) complete) >>= reached progress complete rest
+    said_from progress.place (enumerate_from (progress.count + 1) complete) >>= progress_at progress complete rest
 
 -- the unfinished line goes on with this text: the lines that are now complete are read
 unfoldable pub read_on : Progress → List ℕ → Fed
@@ -56,13 +56,13 @@ read_on progress text =
     read_lines progress (complete_lines (progress.rest ++ text)) (unfinished (progress.rest ++ text))
 
 -- One more piece was fed. Once there is a fault nothing changes.
-abbrev pub fed : Fed → List ℕ → Fed
-fed before piece = before >>= λ progress. read_on progress piece
+abbrev pub feed_piece : Fed → List ℕ → Fed
+feed_piece before piece = before >>= λ progress. read_on progress piece
 
 -- the pieces were fed, in their order
-abbrev pub fed_all : Fed → List (List ℕ) → Fed
-fed_all before [] = before
-fed_all before (piece ∷ pieces) = fed_all (fed before piece) pieces
+abbrev pub feed_pieces : Fed → List (List ℕ) → Fed
+feed_pieces before [] = before
+feed_pieces before (piece ∷ pieces) = feed_pieces (feed_piece before piece) pieces
 
 -- what is said of a batch that ends here
 abbrev pub ended_at : Progress → Result (List Line) (HeaderFault × ℕ)
@@ -79,8 +79,8 @@ HasRoom (Ok progress) more = progress.count + length progress.rest + more < 4294
 HasRoom (Err fault) more = Unit {0}
 
 -- what a reader says in the end
-abbrev pub finished : Fed → Result (List Line) (HeaderFault × ℕ)
-finished reader = reader >>= read_end
+abbrev pub lines_at_end : Fed → Result (List Line) (HeaderFault × ℕ)
+lines_at_end reader = reader >>= read_end
 
 -- the fault where there is one, with its line
 abbrev pub fault_in : {A : Type 0} → Result A (HeaderFault × ℕ) → Option (HeaderFault × ℕ)
@@ -94,26 +94,26 @@ complete_fault text = fault_in (said_from Opening (enumerate_from 1 (complete_li
 -- what a reader does with a piece: all is well so far, or the first fault is told; or memory was refused, and nothing
 -- was fed
 abbrev pub Feeds : Fed → List ℕ → Fed → Result (Unit {0}) PsvFault → Type 0
-Feeds before piece after (Ok _) = (after ≡ fed before piece) × IsOk after
-Feeds before piece after (Err (faults.Header fault line)) = (after ≡ fed before piece) × (after ≡ Err (fault, line))
+Feeds before piece after (Ok _) = (after ≡ feed_piece before piece) × IsOk after
+Feeds before piece after (Err (faults.Header fault line)) = (after ≡ feed_piece before piece) × (after ≡ Err (fault, line))
 Feeds before piece after (Err faults.NoMemory) = after ≡ before
 
 -- how far a batch was read, by what a reader keeps
 abbrev pub progress_of : Reached → List ℕ → Progress
-progress_of reached rest = record {
-  place = reached.place;
-  count = reached.count;
-  found = reached.found;
+progress_of progress_at rest = record {
+  place = progress_at.place;
+  count = progress_at.count;
+  found = progress_at.found;
   rest = rest;
 }
 
 -- what a reader has come to
 abbrev pub what_is_fed : Reached → List ℕ → Option (HeaderFault × ℕ) → Fed
-what_is_fed reached rest None = Ok (progress_of reached rest)
-what_is_fed reached rest (Some fault) = Err fault
+what_is_fed progress_at rest None = Ok (progress_of progress_at rest)
+what_is_fed progress_at rest (Some fault) = Err fault
 
 -- the unfinished line has no line feed, its number and the next one's have 32 bits, and what was found is in range
-pub record IsUnderWay (reached : Reached) (rest : List ℕ) : Type 0 where
+pub record IsUnderWay (progress_at : Reached) (rest : List ℕ) : Type 0 where
   pub rest_alone : unfinished rest ≡ rest
-  pub room : reached.count + length rest < 4294967295
-  pub range : AreInRange reached.found
+  pub room : progress_at.count + length rest < 4294967295
+  pub range : AreInRange progress_at.found

@@ -19,7 +19,7 @@ use Rattle.ades_psv.specs.Fields.{Fields}
 use Rattle.ades_psv.specs.Optional.{is_empty, unless_empty}
 use Rattle.ades_psv.specs.Magnitudes.{value_of, places_of, magnitude_in}
 use Rattle.ades_psv.specs.Names.{number_in, designation_in, temporary_in}
-use Rattle.ades_psv.specs.Rules.{coded}
+use Rattle.ades_psv.specs.Rules.{code_of_field}
 
 -- a byte that a data line may have
 abbrev pub is_text_byte : ℕ → Bool
@@ -68,16 +68,16 @@ unfoldable pub lacks_band : Fields → Bool
 lacks_band fields = not (is_empty fields.mag) && is_empty fields.band
 
 -- what is stated, or rule S11 where it is missing
-abbrev pub required : {A : Type 0} → Option A → Result A RuleCode
-required (Some x) = Ok x
-required None = Err S11
+abbrev pub or_missing : {A : Type 0} → Option A → Result A RuleCode
+or_missing (Some x) = Ok x
+or_missing None = Err S11
 
 -- when and where, where all of it is stated
 unfoldable pub position_from : Stated → Result Position RuleCode
 position_from stated = do
-  time ← required stated.time
-  ra ← required stated.ra
-  dec ← required stated.dec
+  time ← or_missing stated.time
+  ra ← or_missing stated.ra
+  dec ← or_missing stated.dec
   Ok (record { time = time; ra = ra; dec = dec })
 
 -- rules S10 and S11: when and where, where no field is too many and none is missing
@@ -88,8 +88,8 @@ position_in fields stated =
     else position_from stated)
 
 -- the observation of what was read, and of the fields that any text may stand in
-abbrev pub observed : Fields → Names → Position → Option (ℕ × ℕ) → Option Short → Sighting
-observed fields names at mag sub = record {
+abbrev pub sighting_of_fields : Fields → Names → Position → Option (ℕ × ℕ) → Option Short → Sighting
+sighting_of_fields fields names at mag sub = record {
   perm = names.perm;
   prov = names.prov;
   sub = sub;
@@ -98,7 +98,7 @@ observed fields names at mag sub = record {
   ra = at.ra;
   dec = at.dec;
   mag = value_of mag;
-  band = coded fields.band;
+  band = code_of_field fields.band;
   mode = Word (kept_short fields.mode);
   catalogue = Word (kept_short fields.catalogue);
   note1 = 32;
@@ -113,4 +113,4 @@ reading_of fields = do
   mag ← magnitude_in fields.mag
   at ← position_in fields stated
   sub ← temporary_in fields.sub
-  Ok (observed fields names at mag sub)
+  Ok (sighting_of_fields fields names at mag sub)

@@ -60,8 +60,8 @@ abbrev pub line_rules : List RuleCode
 line_rules = S2 ∷ S3 ∷ S5 ∷ S6 ∷ S7 ∷ S9 ∷ S10 ∷ S11 ∷ S12 ∷ []
 
 -- what a field says whose words the tables of the office have: nothing where it is empty
-abbrev pub coded : List ℕ → Coded
-coded text = if is_empty text then Nothing else Word (kept_short text)
+abbrev pub code_of_field : List ℕ → Coded
+code_of_field text = if is_empty text then Nothing else Word (kept_short text)
 
 -- the observation is that of the fields
 pub record IsSightingOf (fields : Fields) (s : Sighting) : Type 0 where
@@ -75,7 +75,7 @@ pub record IsSightingOf (fields : Fields) (s : Sighting) : Type 0 where
   pub read : Option (ℕ × ℕ)
   pub mag : Says IsMagnitude fields.mag read
   pub value : s.mag ≡ value_of read
-  pub band : s.band ≡ coded fields.band
+  pub band : s.band ≡ code_of_field fields.band
   pub mode : s.mode ≡ Word (kept_short fields.mode)
   pub catalogue : s.catalogue ≡ Word (kept_short fields.catalogue)
   -- there is no note 1

@@ -16,7 +16,7 @@ ghost use Rattle.ades_psv.specs.Rules.{IsReading};
 ghost use Rattle.text_lines.specs.Lines.{numbered_lines};
 ghost use Rattle.ades_psv.specs.Batch.{DataLine, data_lines_of, psv_lines_of};
 ghost use Rattle.ades_psv.specs.Standing.{StandsBelow};
-ghost use Rattle.ades_psv.specs.Feeding.{unfed, fed, fed_all, HasRoom, finished};
+ghost use Rattle.ades_psv.specs.Feeding.{unfed, feed_piece, feed_pieces, HasRoom, lines_at_end};
 
 use text_lines::laws;
 
@@ -37,7 +37,7 @@ pub(crate) fn below()
 /// In whatever pieces a batch comes, it says the same.
 #[tactic(auto, using(crate::proofs::Readers::one_text, crate::proofs::Readers::finished_text))]
 pub fn any_pieces()
-    ensures { (pieces : List (List ℕ)) → finished (fed_all unfed pieces) ≡ psv_lines_of (joined pieces) }
+    ensures { (pieces : List (List ℕ)) → lines_at_end (feed_pieces unfed pieces) ≡ psv_lines_of (joined pieces) }
 {
     laws::lines();
 }
@@ -45,7 +45,7 @@ pub fn any_pieces()
 /// What a reader has come to rests on the text that was fed, and not on its pieces.
 #[tactic(auto, using(crate::proofs::Readers::one_text))]
 pub fn one_text()
-    ensures { (pieces : List (List ℕ)) → fed_all unfed pieces ≡ fed unfed (joined pieces) }
+    ensures { (pieces : List (List ℕ)) → feed_pieces unfed pieces ≡ feed_piece unfed (joined pieces) }
 {
     laws::lines();
 }
@@ -53,7 +53,7 @@ pub fn one_text()
 /// A reader can take this many bytes more where they and those that were fed are together fewer than 4,294,967,295.
 #[tactic(auto, using(crate::proofs::Readers::text_room))]
 pub fn room()
-    ensures { (text : List ℕ) (more : ℕ) → length text + more < 4294967295 → HasRoom (fed unfed text) more }
+    ensures { (text : List ℕ) (more : ℕ) → length text + more < 4294967295 → HasRoom (feed_piece unfed text) more }
 {
     laws::lines();
 }
@@ -61,7 +61,7 @@ pub fn room()
 /// The first fault in the complete lines of the front of a batch is the fault of the batch, whatever may follow.
 #[tactic(auto, using(crate::proofs::Readers::fault_stays))]
 pub fn faults_stay()
-    ensures { (text more : List ℕ) (fault : HeaderFault × ℕ) → fed unfed text ≡ Err fault → psv_lines_of (text ++ more)
+    ensures { (text more : List ℕ) (fault : HeaderFault × ℕ) → feed_piece unfed text ≡ Err fault → psv_lines_of (text ++ more)
         ≡ Err fault }
 {
     laws::lines();

@@ -8,7 +8,7 @@ ghost use Rattle.ades_psv.specs.declared.fault.PsvFault.TheVariants as faults;
 ghost use Rattle.ades_psv.specs.Batch.{psv_lines_of, AreReadFrom, AreInRange};
 ghost use Rattle.ades_psv.specs.Walking.{IsAnswer, Gives};
 ghost use Rattle.ades_psv.specs.Feeding.{progress_of, read_on};
-ghost use Rattle.ades_psv.specs.Feeding.{unfed, fed, complete_fault, HasRoom, Feeds, finished};
+ghost use Rattle.ades_psv.specs.Feeding.{unfed, feed_piece, complete_fault, HasRoom, Feeds, lines_at_end};
 ghost use Rattle.obs_record.specs.declared.rule.HeaderFault.{HeaderFault};
 
 use crate::fault::PsvFault;
@@ -93,7 +93,7 @@ impl PsvReader {
     pub fn new(alloc: Global) -> Result<PsvReader, NoMemory>
         ensures exact { IfOk result (λ reader. reader ≡ unfed) }
         // No text came.
-        ensures text { IfOk result (λ reader. reader ≡ fed unfed []) }
+        ensures text { IfOk result (λ reader. reader ≡ feed_piece unfed []) }
     {
         laws::lines();
         PsvReader::with_room(alloc, 0)
@@ -169,12 +169,12 @@ impl PsvReader {
         ensures exact { Feeds self.old piece.now self.new result }
         ensures room { OnOk result ((more : ℕ) → HasRoom self.old (length piece.now + more) → HasRoom self.new more) }
         // The piece stands after the text that came before, and no complete line breaks a rule of headers.
-        ensures ok { (text : List ℕ) → self.old ≡ fed unfed text
-            → OnOk result ((self.new ≡ fed unfed (text ++ piece.now)) × (complete_fault (text ++ piece.now) ≡ None)) }
+        ensures ok { (text : List ℕ) → self.old ≡ feed_piece unfed text
+            → OnOk result ((self.new ≡ feed_piece unfed (text ++ piece.now)) × (complete_fault (text ++ piece.now) ≡ None)) }
         // Header only where the complete lines of the text have a fault, and it is their first one.
-        ensures header { (text : List ℕ) (fault : HeaderFault) (line : ℕ) → self.old ≡ fed unfed text
+        ensures header { (text : List ℕ) (fault : HeaderFault) (line : ℕ) → self.old ≡ feed_piece unfed text
             → result ≡ Err (faults.Header fault line)
-            → (self.new ≡ fed unfed (text ++ piece.now)) × (complete_fault (text ++ piece.now) ≡ Some (fault, line)) }
+            → (self.new ≡ feed_piece unfed (text ++ piece.now)) × (complete_fault (text ++ piece.now) ≡ Some (fault, line)) }
         // A fault that was told is told again, and no memory is taken for it.
         ensures stays { IfErr self.old (λ fault. (result ≡ Err (faults.Header fault.0 fault.1))
             × (self.new ≡ self.old)) }
@@ -186,7 +186,7 @@ impl PsvReader {
 
     /// What is said at the end, as `finish` says it.
     fn end(self) -> Result<Lines, PsvFault>
-        ensures exact { IsAnswer (finished self) result }
+        ensures exact { IsAnswer (lines_at_end self) result }
         ensures told { IfErr self (λ fault. result ≡ Err (faults.Header fault.0 fault.1)) }
         ensures range { IfOk result AreInRange }
     {
@@ -215,11 +215,11 @@ impl PsvReader {
     /// `Header` with the first fault of the headers and its line, and `NoMemory` where memory was refused.
     #[tactic(auto, using(crate::proofs::Readers::finish_text, crate::proofs::Readers::answer_lines))]
     pub fn finish(self) -> Result<Lines, PsvFault>
-        ensures exact { IsAnswer (finished self) result }
+        ensures exact { IsAnswer (lines_at_end self) result }
         // The answer is what the text that was fed says.
-        ensures text { (text : List ℕ) → self ≡ fed unfed text → IsAnswer (psv_lines_of text) result }
+        ensures text { (text : List ℕ) → self ≡ feed_piece unfed text → IsAnswer (psv_lines_of text) result }
         // Each data line stands there in its place, with the reading of its fields.
-        ensures lines { (text : List ℕ) → self ≡ fed unfed text → IfOk result (λ found. AreReadFrom text found) }
+        ensures lines { (text : List ℕ) → self ≡ feed_piece unfed text → IfOk result (λ found. AreReadFrom text found) }
         ensures told { IfErr self (λ fault. result ≡ Err (faults.Header fault.0 fault.1)) }
         ensures range { IfOk result AreInRange }
     {

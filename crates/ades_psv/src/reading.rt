@@ -6,9 +6,9 @@ ghost use Rattle.obs_record.specs.declared.sighting.Coded.TheVariants.{Word};
 ghost use Rattle.obs_record.specs.Short.{kept_short};
 ghost use Rattle.obs_record.specs.Sighting.{IsSighting};
 ghost use Rattle.ades_psv.specs.Fields.{Fields as Texts, seen};
-ghost use Rattle.ades_psv.specs.Rules.{IsReading, coded};
+ghost use Rattle.ades_psv.specs.Rules.{IsReading, code_of_field};
 ghost use Rattle.ades_psv.specs.Reading.{is_text_byte, names_in, lacks_field, lacks_name, lacks_band, position_in};
-ghost use Rattle.ades_psv.specs.Reading.{observed, reading_of};
+ghost use Rattle.ades_psv.specs.Reading.{sighting_of_fields, reading_of};
 
 use crate::fields::Fields;
 use crate::laws::below;
@@ -87,8 +87,8 @@ fn position_in(fields: &Fields, stated: Stated) -> Result<Position, RuleCode>
 }
 
 /// What a field says whose words the office's tables have.
-fn coded(text: &[u8]) -> Coded
-    ensures { result ≡ coded text.now }
+fn code_of_field(text: &[u8]) -> Coded
+    ensures { result ≡ code_of_field text.now }
 {
     if text.is_empty() {
         Coded::Nothing
@@ -106,14 +106,14 @@ fn word(text: &[u8]) -> Coded
 
 /// The observation of a line whose parts were read.
 #[inline(always)]
-fn observed(
+fn sighting_of_fields(
     fields: &Fields,
     names: Names,
     at: Position,
     magnitude: Option<(u32, u8)>,
     sub: Option<Short>,
 ) -> Sighting
-    ensures { result ≡ observed (seen fields.now) names at magnitude sub }
+    ensures { result ≡ sighting_of_fields (seen fields.now) names at magnitude sub }
 {
     Sighting {
         perm: names.perm,
@@ -124,7 +124,7 @@ fn observed(
         ra: at.ra,
         dec: at.dec,
         mag: magnitude.map(|(value, _)| value),
-        band: coded(fields.band),
+        band: code_of_field(fields.band),
         mode: word(fields.mode),
         catalogue: word(fields.catalogue),
         note1: b' ',
@@ -144,7 +144,7 @@ fn reading(fields: &Fields) -> Result<Sighting, RuleCode>
     let magnitude = magnitude_in(fields.mag)?;
     let at = position_in(fields, stated)?;
     let sub = temporary_in(fields.sub)?;
-    Ok(observed(fields, names, at, magnitude, sub))
+    Ok(sighting_of_fields(fields, names, at, magnitude, sub))
 }
 
 /// What a data line with these fields says: the observation, or the first rule of S2, S3, S5, S6, S7, S9, S10, S11 and

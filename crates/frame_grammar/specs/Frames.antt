@@ -49,18 +49,18 @@ pub record IsFrame (f : Frame) : Type 0 where
 
 -- the bytes of a frame before what follows it: key, blank, number, blank, verb, blank, length of the body, line feed,
 -- body
-abbrev pub framed : Frame → List ℕ → List ℕ
-framed f rest =
+abbrev pub frame_bytes : Frame → List ℕ → List ℕ
+frame_bytes f rest =
     f.key ++ 32 ∷ (decimal f.number ++ 32 ∷ (f.verb ++ 32 ∷ (decimal (length f.body) ++ 10 ∷ (f.body ++ rest))))
 
 -- the bytes of frames, one at once after the other, before what follows them
-abbrev pub streamed : List Frame → List ℕ → List ℕ
-streamed [] rest = rest
-streamed (f ∷ frames) rest = framed f (streamed frames rest)
+abbrev pub stream_bytes : List Frame → List ℕ → List ℕ
+stream_bytes [] rest = rest
+stream_bytes (f ∷ frames) rest = frame_bytes f (stream_bytes frames rest)
 
 -- no frame stands at the front
 abbrev pub NoFrame : List ℕ → Type 0
-NoFrame bytes = (f : Frame) (rest : List ℕ) → IsFrame f → bytes ≡ framed f rest → ⊥
+NoFrame bytes = (f : Frame) (rest : List ℕ) → IsFrame f → bytes ≡ frame_bytes f rest → ⊥
 
 -- no frame stands at the front, whatever bytes may follow
 abbrev pub NeverFrame : List ℕ → Type 0
@@ -68,7 +68,7 @@ NeverFrame bytes = (more : List ℕ) → NoFrame (bytes ++ more)
 
 -- the session of a text: the frames from its front on, up to a rest that begins with no frame
 pub record IsSession (bytes : List ℕ) (frames : List Frame) (rest : List ℕ) : Type 0 where
-  pub whole : bytes ≡ streamed frames rest
+  pub whole : bytes ≡ stream_bytes frames rest
   pub each : AllByRecursion IsFrame frames
   pub ended : NoFrame rest
 
@@ -93,8 +93,8 @@ pub record IsHead (h : HeadParts) : Type 0 where
   pub length : h.length < 10 ^ LENGTH_DIGITS
 
 -- the bytes of a head, its line feed among them, before what follows it
-abbrev pub headed : HeadParts → List ℕ → List ℕ
-headed h rest = h.key ++ 32 ∷ (decimal h.number ++ 32 ∷ (h.verb ++ 32 ∷ (decimal h.length ++ 10 ∷ rest)))
+abbrev pub head_bytes : HeadParts → List ℕ → List ℕ
+head_bytes h rest = h.key ++ 32 ∷ (decimal h.number ++ 32 ∷ (h.verb ++ 32 ∷ (decimal h.length ++ 10 ∷ rest)))
 
 -- the head of a frame: framed f rest is headed (head_of f) (f.body ++ rest)
 abbrev pub head_of : Frame → HeadParts
@@ -106,8 +106,8 @@ frame_of h body = record { key = h.key; number = h.number; verb = h.verb; body =
 
 -- no head stands at the front
 abbrev pub NoHead : List ℕ → Type 0
-NoHead bytes = (h : HeadParts) (rest : List ℕ) → IsHead h → bytes ≡ headed h rest → ⊥
+NoHead bytes = (h : HeadParts) (rest : List ℕ) → IsHead h → bytes ≡ head_bytes h rest → ⊥
 
 -- these bytes are the front of a head: some bytes that may follow complete it
 abbrev pub BeginsHead : List ℕ → Type 0
-BeginsHead bytes = (more : List ℕ) × (h : HeadParts) × IsHead h × (bytes ++ more ≡ headed h [])
+BeginsHead bytes = (more : List ℕ) × (h : HeadParts) × IsHead h × (bytes ++ more ≡ head_bytes h [])

@@ -9,7 +9,7 @@ use Rattle.frame_grammar.specs.declared.parts.Class.TheVariants as class
 use Rattle.frame_grammar.specs.declared.head.Head.{Head}
 use Rattle.frame_grammar.specs.declared.head.Front.{Front}
 use Rattle.frame_grammar.specs.declared.head.Front.TheVariants as front
-use Rattle.frame_grammar.specs.Frames.{IsPrintable, IsDigit, IsVerbByte, IsToken, HeadParts, IsHead, headed}
+use Rattle.frame_grammar.specs.Frames.{IsPrintable, IsDigit, IsVerbByte, IsToken, HeadParts, IsHead, head_bytes}
 
 -- A part is given by its values: those that are good, and the bytes of each before what follows.
 
@@ -85,7 +85,7 @@ parts_of head = record { key = head.key.now; number = head.number; verb = head.v
 -- the bytes begin with this head, which takes this many of them
 pub record IsHeadAt (bytes : List ℕ) (h : HeadParts) (size : ℕ) : Type 0 where
   pub good : IsHead h
-  pub spelled : bytes ≡ headed h (drop size bytes)
+  pub spelled : bytes ≡ head_bytes h (drop size bytes)
   pub within : size ≤ length bytes
 
 -- a fact of the head, where the answer is a whole one

@@ -1,7 +1,7 @@
 //! The head of a request frame, at the front of the bytes that have come so far.
 
 ghost use Rattle.std.specs.Prelude.{◌≡◌, ◌+◌, ◌<◌, ◌≤◌, ◌^◌, ◌↔◌, ℕ, List, length, drop, IfOk};
-ghost use Rattle.frame_grammar.specs.Frames.{HeadParts, IsHead, headed, NoHead, BeginsHead, NeverFrame};
+ghost use Rattle.frame_grammar.specs.Frames.{HeadParts, IsHead, head_bytes, NoHead, BeginsHead, NeverFrame};
 ghost use Rattle.frame_grammar.specs.Reading.{Reads, parts_of, IsHeadAt, IfWhole, IsWholeAnd};
 
 use crate::parts::{Unread, key_at, number_at, verb_at};
@@ -35,7 +35,7 @@ pub enum Front<'a> {
 
 /// The head at the front, and the bytes after it.
 fn head_at(bytes: &[u8]) -> Result<(Head<'_>, &[u8]), Unread>
-    ensures reads { Reads IsHead headed (λ x. (parts_of x.0, x.1.now)) bytes.now result }
+    ensures reads { Reads IsHead head_bytes (λ x. (parts_of x.0, x.1.now)) bytes.now result }
     ensures size { IfOk result (λ x. x.0.size + length x.1.now ≡ length bytes.now) }
 {
     let (key, rest) = key_at(bytes)?;
@@ -63,7 +63,7 @@ pub fn read_head(bytes: &[u8]) -> Front<'_>
     ensures whole { IfWhole result (λ head. IsHeadAt bytes.now (parts_of head) head.size) }
     // A head that stands at the front is answered.
     ensures only { (h : HeadParts) (rest : List ℕ) →
-        IsHead h → bytes.now ≡ headed h rest →
+        IsHead h → bytes.now ≡ head_bytes h rest →
         IsWholeAnd result (λ head. (parts_of head ≡ h) × (drop head.size bytes.now ≡ rest)) }
     // No head stands there yet, and bytes that may follow complete one.
     ensures part { (result ≡ Front.Part) ↔ (NoHead bytes.now × BeginsHead bytes.now) }

@@ -4,8 +4,8 @@
 ghost use Rattle.std.specs.Prelude.{◌≡◌, ◌≢◌, ◌+◌, ◌<◌, ◌≤◌, ℕ, List, [], ◌∷◌, ◌++◌, length, take, drop};
 ghost use Rattle.std.specs.List.{AllByRecursion};
 ghost use Rattle.frame_grammar.specs.Reading.{IsHeadAt};
-ghost use Rattle.frame_grammar.specs.Frames.{Frame, IsFrame, framed, streamed, NoFrame, NeverFrame, IsSession, reached};
-ghost use Rattle.frame_grammar.specs.Frames.{HeadParts, IsHead, headed, head_of, frame_of, NoHead};
+ghost use Rattle.frame_grammar.specs.Frames.{Frame, IsFrame, frame_bytes, stream_bytes, NoFrame, NeverFrame, IsSession, reached};
+ghost use Rattle.frame_grammar.specs.Frames.{HeadParts, IsHead, head_bytes, head_of, frame_of, NoHead};
 
 /// A text is cut once at its first byte of a kind: neither piece before that byte has it.
 pub fn one_cut()
@@ -17,20 +17,20 @@ pub fn one_cut()
 /// A text has one head at its front.
 pub fn one_head()
     ensures { (g h : HeadParts) (x y : List ℕ) → IsHead g → IsHead h →
-        headed g x ≡ headed h y → (g ≡ h) × (x ≡ y) }
+        head_bytes g x ≡ head_bytes h y → (g ≡ h) × (x ≡ y) }
 {}
 
 /// A text has one frame at its front.
 pub fn one_frame()
     ensures { (f g : Frame) (x y : List ℕ) → IsFrame f → IsFrame g →
-        framed f x ≡ framed g y → (f ≡ g) × (x ≡ y) }
+        frame_bytes f x ≡ frame_bytes g y → (f ≡ g) × (x ≡ y) }
 {}
 
 /// A text is one stream of frames, up to a rest that begins with none.
 pub fn one_stream()
     ensures { (fs gs : List Frame) (x y : List ℕ) →
         AllByRecursion IsFrame fs → AllByRecursion IsFrame gs →
-        NoFrame x → NoFrame y → streamed fs x ≡ streamed gs y → (fs ≡ gs) × (x ≡ y) }
+        NoFrame x → NoFrame y → stream_bytes fs x ≡ stream_bytes gs y → (fs ≡ gs) × (x ≡ y) }
 {}
 
 /// A text has one session: its frames and its rest are determined.
@@ -43,9 +43,9 @@ pub fn one_session()
 /// all the bytes.
 pub fn session_behind()
     ensures streams { (fs gs : List Frame) (rest : List ℕ) →
-        streamed (fs ++ gs) rest ≡ streamed fs (streamed gs rest) }
+        stream_bytes (fs ++ gs) rest ≡ stream_bytes fs (stream_bytes gs rest) }
     ensures sessions { (bytes middle : List ℕ) (fs gs : List Frame) (rest : List ℕ) →
-        AllByRecursion IsFrame fs → bytes ≡ streamed fs middle → IsSession middle gs rest
+        AllByRecursion IsFrame fs → bytes ≡ stream_bytes fs middle → IsSession middle gs rest
         → IsSession bytes (fs ++ gs) rest }
 {}
 
@@ -58,11 +58,11 @@ pub fn session_reaches()
 /// Bytes that come later stand after the head, the frame or the frames that stand at the front.
 pub fn goes_on()
     ensures heads { (h : HeadParts) (rest more : List ℕ) →
-        headed h rest ++ more ≡ headed h (rest ++ more) }
+        head_bytes h rest ++ more ≡ head_bytes h (rest ++ more) }
     ensures frames { (f : Frame) (rest more : List ℕ) →
-        framed f rest ++ more ≡ framed f (rest ++ more) }
+        frame_bytes f rest ++ more ≡ frame_bytes f (rest ++ more) }
     ensures streams { (fs : List Frame) (rest more : List ℕ) →
-        streamed fs rest ++ more ≡ streamed fs (rest ++ more) }
+        stream_bytes fs rest ++ more ≡ stream_bytes fs (rest ++ more) }
 {}
 
 /// A head and a body of the length that it says are a frame, and a frame is its head and its body.
@@ -70,14 +70,14 @@ pub fn head_and_body()
     ensures good { (h : HeadParts) (body : List ℕ) →
         IsHead h → length body ≡ h.length → IsFrame (frame_of h body) }
     ensures joined { (h : HeadParts) (body rest : List ℕ) → length body ≡ h.length →
-        headed h (body ++ rest) ≡ framed (frame_of h body) rest }
+        head_bytes h (body ++ rest) ≡ frame_bytes (frame_of h body) rest }
     ensures taken { (bytes : List ℕ) (h : HeadParts) (size : ℕ) →
         IsHeadAt bytes h size → size + h.length ≤ length bytes →
         let frame = frame_of h (take h.length (drop size bytes)) in
-        IsFrame frame × (bytes ≡ framed frame (drop (size + h.length) bytes)) }
+        IsFrame frame × (bytes ≡ frame_bytes frame (drop (size + h.length) bytes)) }
     ensures parted { (f : Frame) → IsFrame f → IsHead (head_of f) }
     ensures cut { (f : Frame) (rest : List ℕ) →
-        framed f rest ≡ headed (head_of f) (f.body ++ rest) }
+        frame_bytes f rest ≡ head_bytes (head_of f) (f.body ++ rest) }
 {}
 
 /// Where no head stands, or a head after which fewer bytes have come than its body has, and where
@@ -85,13 +85,13 @@ pub fn head_and_body()
 pub fn no_frame_yet()
     ensures head { (bytes : List ℕ) → NoHead bytes → NoFrame bytes }
     ensures body { (bytes : List ℕ) (h : HeadParts) (rest : List ℕ) → IsHead h →
-        bytes ≡ headed h rest → length rest < h.length → NoFrame bytes }
+        bytes ≡ head_bytes h rest → length rest < h.length → NoFrame bytes }
     ensures nothing { NoFrame [] }
 {}
 
 /// A head has bytes.
 pub fn heads_have_bytes()
-    ensures { (h : HeadParts) (rest : List ℕ) → 0 < length (headed h rest) }
+    ensures { (h : HeadParts) (rest : List ℕ) → 0 < length (head_bytes h rest) }
 {}
 
 /// Where no frame can come, none stands, none can come after bytes that come later, and a byte has come.

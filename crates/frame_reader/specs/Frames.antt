@@ -3,7 +3,7 @@
 use Rattle.std.specs.Prelude.{◌≡◌, ◌<◌, ◌≤◌, ℕ, List, [], length, drop, Result, Ok, Err}
 use Rattle.std.specs.declared.option.Option.{Option}
 use Rattle.frame_grammar.specs.declared.TheConstants.{HEAD_BYTES}
-use Rattle.frame_grammar.specs.Frames.{Frame, IsFrame, framed, NoFrame, NeverFrame, HeadParts, IsHead, headed}
+use Rattle.frame_grammar.specs.Frames.{Frame, IsFrame, frame_bytes, NoFrame, NeverFrame, HeadParts, IsHead, head_bytes}
 use Rattle.read_ahead.specs.declared.halt.Halt.{Halt}
 use Rattle.read_ahead.specs.Reading.{IsBody, NoneComes, Halts}
 use Rattle.frame_reader.specs.Reading.{IsAwaited}
@@ -19,12 +19,12 @@ use Rattle.frame_reader.specs.declared.head.HeldFront.TheVariants as fronts
 pub record IsFrameRead (front : List ℕ) (read : ReadFrame) (rest : List ℕ) : Type 0 where
   pub frame : Frame
   pub good : IsFrame frame
-  pub stands : front ≡ framed frame rest
+  pub stands : front ≡ frame_bytes frame rest
   pub key : read.key.items ≡ frame.key
   pub number : read.number ≡ frame.number
   pub verb : read.verb.items ≡ frame.verb
   pub body : IsBody read.body frame.body
-  pub size : read.size ≡ length (framed frame [])
+  pub size : read.size ≡ length (frame_bytes frame [])
 
 -- no frame comes: none can stand at the front any more, or the source is at its end inside one
 abbrev pub NoFrameComes : List ℕ → Option (List ℕ) → Type 0
@@ -45,8 +45,8 @@ parts_of head = record { key = head.key.items; number = head.number; verb = head
 -- a head stands at the front of the bytes, before this rest, and was read
 pub record IsHeadRead (front : List ℕ) (head : HeldHead) (rest : List ℕ) : Type 0 where
   pub good : IsHead (parts_of head)
-  pub stands : front ≡ headed (parts_of head) rest
-  pub size : head.size ≡ length (headed (parts_of head) [])
+  pub stands : front ≡ head_bytes (parts_of head) rest
+  pub size : head.size ≡ length (head_bytes (parts_of head) [])
   pub few : head.size ≤ HEAD_BYTES
 
 -- what the front of the bytes that have come is

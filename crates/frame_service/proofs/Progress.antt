@@ -5,7 +5,7 @@ use Rattle.std.proofs.KnownBytes.{Appends-nil, Appends-trans, Appends-kept}
 use Rattle.std.proofs.lemmas.List.{length-append, length-map}
 use Rattle.desk_io.specs.Reads.{Passes, Comes, Comes-nil, Comes-trans, Comes-weaker}
 use Rattle.desk_io.specs.declared.outside.Failed.{Failed}
-use Rattle.frame_grammar.specs.Frames.{Frame, framed, NoFrame, NeverFrame, IsSession, reached}
+use Rattle.frame_grammar.specs.Frames.{Frame, frame_bytes, NoFrame, NeverFrame, IsSession, reached}
 use Rattle.read_ahead.specs.Reading.{Supplies}
 use Rattle.read_ahead.specs.Supplied.{remaining, none_left, none_before, supplies}
 use Rattle.frame_reader.specs.declared.frame.ReadFrame.{ReadFrame}
@@ -32,8 +32,8 @@ place_more : (came piece ahead all rest offset size : ℕ) → offset ≡ offset
     → min (offset + size) (2 ^ 64 - 1) ≡ offset_at (all - rest)
 place_more came piece ahead all rest offset size place within sum front = omega arith
 
-frame_length : (laws : FrameLaws) (frame : Frame) (rest : List ℕ) → length (framed frame rest) ≡ length (framed frame []) + length rest
-frame_length laws frame rest = ap length (sym (laws.frame_goes_on frame [] rest)) ∙ length-append (framed frame []) rest
+frame_length : (laws : FrameLaws) (frame : Frame) (rest : List ℕ) → length (frame_bytes frame rest) ≡ length (frame_bytes frame []) + length rest
+frame_length laws frame rest = ap length (sym (laws.frame_goes_on frame [] rest)) ∙ length-append (frame_bytes frame []) rest
 
 module _ {S : Type 0} (left : S → Option (List ℕ)) (gives : Passes S) {A : Type 0} (answers : Attending A → Exchange → Attending A → Type 0) (start : Standing S A) where
   -- nothing has come

@@ -3,15 +3,15 @@ use Rattle.std.proofs.Common.{◌≡◌, ℕ, List, [], ◌∷◌, ◌++◌, ref
 use Rattle.std.specs.List.{AllByRecursion}
 use Rattle.std.proofs.lemmas.Grind.{flat_map-append}
 use Rattle.std.proofs.lemmas.List.{append-nil, map-append}
-use Rattle.frame_grammar.specs.Frames.{Frame, IsFrame, framed, streamed, NoFrame}
+use Rattle.frame_grammar.specs.Frames.{Frame, IsFrame, frame_bytes, stream_bytes, NoFrame}
 use Rattle.frame_service.specs.Exchanges.{Exchange, frames_of, replies_of, Attending, Attends}
 use Rattle.frame_service.specs.Runs.{AreServed}
 
 pub record FrameLaws : Type 0 where
   -- bytes that come later stand after a frame, and after frames
-  pub frame_goes_on : (f : Frame) (rest more : List ℕ) → framed f rest ++ more ≡ framed f (rest ++ more)
-  pub stream_goes_on : (fs : List Frame) (rest more : List ℕ) → streamed fs rest ++ more ≡ streamed fs (rest ++ more)
-  pub stream_joins : (fs gs : List Frame) (rest : List ℕ) → streamed (fs ++ gs) rest ≡ streamed fs (streamed gs rest)
+  pub frame_goes_on : (f : Frame) (rest more : List ℕ) → frame_bytes f rest ++ more ≡ frame_bytes f (rest ++ more)
+  pub stream_goes_on : (fs : List Frame) (rest more : List ℕ) → stream_bytes fs rest ++ more ≡ stream_bytes fs (rest ++ more)
+  pub stream_joins : (fs gs : List Frame) (rest : List ℕ) → stream_bytes (fs ++ gs) rest ≡ stream_bytes fs (stream_bytes gs rest)
   -- no frame stands where nothing does
   pub nothing : NoFrame []
 
@@ -42,10 +42,10 @@ module _ (laws : FrameLaws) where
       record { stream = ap (λ (b : List ℕ). b ++ piece) s.stream ∙ laws.stream_goes_on (frames_of served) rest piece; whole = s.whole }
 
   -- one frame more is served
-  pub served_more : (bytes rest : List ℕ) (served : List Exchange) (one : Exchange) → AreServed bytes (framed one.frame rest) served → IsFrame one.frame → AreServed bytes rest (served ++ one ∷ [])
+  pub served_more : (bytes rest : List ℕ) (served : List Exchange) (one : Exchange) → AreServed bytes (frame_bytes one.frame rest) served → IsFrame one.frame → AreServed bytes rest (served ++ one ∷ [])
   served_more bytes rest served one s good =
       let same = sym (frames_more served one) in
       record {
-        stream = subst (λ (fs : List Frame). bytes ≡ streamed fs rest) same (s.stream ∙ sym (laws.stream_joins (frames_of served) (one.frame ∷ []) rest));
+        stream = subst (λ (fs : List Frame). bytes ≡ stream_bytes fs rest) same (s.stream ∙ sym (laws.stream_joins (frames_of served) (one.frame ∷ []) rest));
         whole = subst (AllByRecursion IsFrame) same (AllByRecursion-push IsFrame (frames_of served) one.frame s.whole good);
       }

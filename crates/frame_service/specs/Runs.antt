@@ -1,7 +1,7 @@
 -- Which frames of a source were answered, and what was written, by why serving stopped.
 use Rattle.std.specs.Prelude.{◌≡◌, ℕ, ◌-◌, ◌^◌, ◌<◌, ◌≤◌, min, List, [], ◌∷◌, ◌++◌, length, take}
 use Rattle.std.specs.List.{AllByRecursion}
-use Rattle.frame_grammar.specs.Frames.{Frame, IsFrame, streamed, NeverFrame, IsSession, reached}
+use Rattle.frame_grammar.specs.Frames.{Frame, IsFrame, stream_bytes, NeverFrame, IsSession, reached}
 use Rattle.frame_service.specs.declared.serving.Stop.{Stop}
 use Rattle.frame_service.specs.declared.serving.Stop.TheVariants.{Over, NoFrameAt, ReadFailed, WriteFailed}
 use Rattle.frame_service.specs.Exchanges.{Exchange, frames_of, replies_of}
@@ -22,7 +22,7 @@ AwaitsNext answered came =
 
 -- the bytes are the frames that were served, before a rest
 pub record AreServed (bytes rest : List ℕ) (served : List Exchange) : Type 0 where
-  pub stream : bytes ≡ streamed (frames_of served) rest
+  pub stream : bytes ≡ stream_bytes (frames_of served) rest
   pub whole : AllByRecursion IsFrame (frames_of served)
 
 -- the frames of the bytes' session were answered, up to a rest at which no frame stands, and their replies were written

@@ -5,7 +5,7 @@ use Rattle.call_log.specs.Counts.{Rises}
 use Rattle.desk_io.specs.Outside.{AppendsPart}
 use Rattle.desk_io.specs.Reads.{Passes, Comes}
 use Rattle.desk_io.specs.declared.outside.Failed.{Failed}
-use Rattle.frame_grammar.specs.Frames.{Frame, IsFrame, framed, NoFrame}
+use Rattle.frame_grammar.specs.Frames.{Frame, IsFrame, frame_bytes, NoFrame}
 use Rattle.read_ahead.specs.declared.halt.Halt.TheVariants.{End}
 use Rattle.read_ahead.specs.Reading.{Halts}
 use Rattle.frame_reader.specs.Reading.{AwaitsFrame}
@@ -49,8 +49,8 @@ pub record TurnsFrame {S A : Type 0} (answers : Attending A → Exchange → Att
     (front : List ℕ) (size : ℕ) (result : Result ℕ Failed) : Type 0 where
   pub frame : Frame
   pub good : IsFrame frame
-  pub stands : front ≡ framed frame new.ahead
-  pub size_is : size ≡ length (framed frame [])
+  pub stands : front ≡ frame_bytes frame new.ahead
+  pub size_is : size ≡ length (frame_bytes frame [])
   pub answers_it : AnswersFrame answers (answering_of old) (answering_of new) frame result
 
 -- the attendant, its clock and the sink are as they were

@@ -7,7 +7,7 @@ use Rattle.std.specs.Ordering.{is_eq, eq_by_cmp, match_ordering, ordering_revers
 use Rattle.std.proofs.lemmas.Bool.{cases_Bool}
 use Rattle.packed_names.specs.declared.name.Designation.{Designation}
 use Rattle.packed_names.specs.Order.{designation_cmp}
-use Rattle.identify_core.specs.Acts.{LinkAct, is_principal_of, principal_after, principal, placed, given_in_order, members, principals}
+use Rattle.identify_core.specs.Acts.{LinkAct, is_principal_of, principal_after, principal, put_in_order, given_in_order, members, principals}
 use Rattle.identify_core.specs.Acts.LinkAct.{Given, Joined, Parted}
 use Rattle.identify_core.specs.Principals.{IsBefore, IsAscending}
 use Rattle.identify_core.proofs.OrderLemmas.{designation_same, designation_itself, designation_total}
@@ -83,54 +83,54 @@ compared Greater = inr (inr refl)
 after : (d e : Designation) → designation_cmp d e ≡ Greater → designation_cmp e d ≡ Less
 after d e greater = designation_total.antisymm e d ∙ ap ordering_reverse greater
 
-before_placed : (e d : Designation) (ds : List Designation) → designation_cmp e d ≡ Less → IsBefore e ds → IsBefore e (placed d ds)
+before_placed : (e d : Designation) (ds : List Designation) → designation_cmp e d ≡ Less → IsBefore e ds → IsBefore e (put_in_order d ds)
 before_placed e d [] less before = (less, tt)
 before_placed e d (x ∷ ds) less before =
     let o = designation_cmp d x in
     elim (compared o) [
-      | inl c ↦ subst (IsBefore e) (sym (chosen o Less (d ∷ x ∷ ds) (x ∷ ds) (x ∷ placed d ds) c)) (less, before)
+      | inl c ↦ subst (IsBefore e) (sym (chosen o Less (d ∷ x ∷ ds) (x ∷ ds) (x ∷ put_in_order d ds) c)) (less, before)
       | inr rest ↦
           elim rest [
-            | inl c ↦ subst (IsBefore e) (sym (chosen o Equal (d ∷ x ∷ ds) (x ∷ ds) (x ∷ placed d ds) c)) before
-            | inr c ↦ subst (IsBefore e) (sym (chosen o Greater (d ∷ x ∷ ds) (x ∷ ds) (x ∷ placed d ds) c)) (before.0, before_placed e d ds less before.1)
+            | inl c ↦ subst (IsBefore e) (sym (chosen o Equal (d ∷ x ∷ ds) (x ∷ ds) (x ∷ put_in_order d ds) c)) before
+            | inr c ↦ subst (IsBefore e) (sym (chosen o Greater (d ∷ x ∷ ds) (x ∷ ds) (x ∷ put_in_order d ds) c)) (before.0, before_placed e d ds less before.1)
           ]
     ]
 
-pub ascending_placed : (d : Designation) (ds : List Designation) → IsAscending ds → IsAscending (placed d ds)
+pub ascending_placed : (d : Designation) (ds : List Designation) → IsAscending ds → IsAscending (put_in_order d ds)
 ascending_placed d [] up = (tt, tt)
 ascending_placed d (x ∷ ds) up =
     let o = designation_cmp d x in
     elim (compared o) [
-      | inl c ↦ subst IsAscending (sym (chosen o Less (d ∷ x ∷ ds) (x ∷ ds) (x ∷ placed d ds) c)) ((c, before_all d x ds c up.0), up)
+      | inl c ↦ subst IsAscending (sym (chosen o Less (d ∷ x ∷ ds) (x ∷ ds) (x ∷ put_in_order d ds) c)) ((c, before_all d x ds c up.0), up)
       | inr rest ↦
           elim rest [
-            | inl c ↦ subst IsAscending (sym (chosen o Equal (d ∷ x ∷ ds) (x ∷ ds) (x ∷ placed d ds) c)) up
+            | inl c ↦ subst IsAscending (sym (chosen o Equal (d ∷ x ∷ ds) (x ∷ ds) (x ∷ put_in_order d ds) c)) up
             | inr c ↦
-                subst IsAscending (sym (chosen o Greater (d ∷ x ∷ ds) (x ∷ ds) (x ∷ placed d ds) c)) (before_placed x d ds (after d x c) up.0, ascending_placed d ds up.1)
+                subst IsAscending (sym (chosen o Greater (d ∷ x ∷ ds) (x ∷ ds) (x ∷ put_in_order d ds) c)) (before_placed x d ds (after d x c) up.0, ascending_placed d ds up.1)
           ]
     ]
 
-pub contains_placed : (d : Designation) (ds : List Designation) (e : Designation) → (d ≡ e) ⊎ Contains ds e → Contains (placed d ds) e
+pub contains_placed : (d : Designation) (ds : List Designation) (e : Designation) → (d ≡ e) ⊎ Contains ds e → Contains (put_in_order d ds) e
 contains_placed d [] e either = elim either [ inl here ↦ subst (Contains (d ∷ [])) here (first d []) | inr among ↦ absurd (nothing e among) ]
 contains_placed d (x ∷ ds) e either =
     let o = designation_cmp d x in
     let C : List Designation → Type 0 = λ ls. Contains ls e in
     elim (compared o) [
       | inl c ↦
-          subst C (sym (chosen o Less (d ∷ x ∷ ds) (x ∷ ds) (x ∷ placed d ds) c))
+          subst C (sym (chosen o Less (d ∷ x ∷ ds) (x ∷ ds) (x ∷ put_in_order d ds) c))
           (elim either [ inl here ↦ subst (Contains (d ∷ x ∷ ds)) here (first d (x ∷ ds)) | inr among ↦ later d e (x ∷ ds) among ])
       | inr rest ↦
           elim rest [
             | inl c ↦
-                subst C (sym (chosen o Equal (d ∷ x ∷ ds) (x ∷ ds) (x ∷ placed d ds) c))
+                subst C (sym (chosen o Equal (d ∷ x ∷ ds) (x ∷ ds) (x ∷ put_in_order d ds) c))
                 (elim either [ inl here ↦ subst (Contains (x ∷ ds)) (sym (designation_same d x (ap is_eq c)) ∙ here) (first x ds) | inr among ↦ among ])
-            | inr c ↦ subst C (sym (chosen o Greater (d ∷ x ∷ ds) (x ∷ ds) (x ∷ placed d ds) c))
+            | inr c ↦ subst C (sym (chosen o Greater (d ∷ x ∷ ds) (x ∷ ds) (x ∷ put_in_order d ds) c))
                 (elim either [
-                  | inl here ↦ later x e (placed d ds) (contains_placed d ds e (inl here))
+                  | inl here ↦ later x e (put_in_order d ds) (contains_placed d ds e (inl here))
                   | inr among ↦
                       elim (first_or_later x ds e among) [
-                        | inl at ↦ subst (Contains (x ∷ placed d ds)) at (first x (placed d ds))
-                        | inr rest ↦ later x e (placed d ds) (contains_placed d ds e (inr rest))
+                        | inl at ↦ subst (Contains (x ∷ put_in_order d ds)) at (first x (put_in_order d ds))
+                        | inr rest ↦ later x e (put_in_order d ds) (contains_placed d ds e (inr rest))
                       ]
                 ])
           ]
@@ -241,18 +241,18 @@ still_given (Parted s) d None some = absurd (cc)
 still_given (Parted s) d (Some p) some = either_some (eq_by_cmp designation_cmp d s) s (Some p) some
 
 -- what stands in a list with d put in its place is d, or stood there
-from_placed : (d : Designation) (ds : List Designation) (e : Designation) → Contains (placed d ds) e → (d ≡ e) ⊎ Contains ds e
+from_placed : (d : Designation) (ds : List Designation) (e : Designation) → Contains (put_in_order d ds) e → (d ≡ e) ⊎ Contains ds e
 from_placed d [] e among = first_or_later d [] e among
 from_placed d (x ∷ ds) e among =
     let o = designation_cmp d x in
     let C : List Designation → Type 0 = λ ls. Contains ls e in
     elim (compared o) [
-      | inl c ↦ first_or_later d (x ∷ ds) e (subst C (chosen o Less (d ∷ x ∷ ds) (x ∷ ds) (x ∷ placed d ds) c) among)
+      | inl c ↦ first_or_later d (x ∷ ds) e (subst C (chosen o Less (d ∷ x ∷ ds) (x ∷ ds) (x ∷ put_in_order d ds) c) among)
       | inr rest ↦
           elim rest [
-            | inl c ↦ inr (subst C (chosen o Equal (d ∷ x ∷ ds) (x ∷ ds) (x ∷ placed d ds) c) among)
+            | inl c ↦ inr (subst C (chosen o Equal (d ∷ x ∷ ds) (x ∷ ds) (x ∷ put_in_order d ds) c) among)
             | inr c ↦
-                elim (first_or_later x (placed d ds) e (subst C (chosen o Greater (d ∷ x ∷ ds) (x ∷ ds) (x ∷ placed d ds) c) among)) [
+                elim (first_or_later x (put_in_order d ds) e (subst C (chosen o Greater (d ∷ x ∷ ds) (x ∷ ds) (x ∷ put_in_order d ds) c) among)) [
                   | inl here ↦ inr (subst (Contains (x ∷ ds)) here (first x ds))
                   | inr there ↦ elim (from_placed d ds e there) [ inl at ↦ inl at | inr old ↦ inr (later x e ds old) ]
                 ]

@@ -29,14 +29,14 @@ principal [] d = None
 principal (act ∷ past) d = principal_after act d (principal past d)
 
 -- a designation put in its place among others that ascend; it stands once
-abbrev pub placed : Designation → List Designation → List Designation
-placed d [] = d ∷ []
-placed d (e ∷ ds) = match_ordering (designation_cmp d e) (d ∷ e ∷ ds) (e ∷ ds) (e ∷ placed d ds)
+abbrev pub put_in_order : Designation → List Designation → List Designation
+put_in_order d [] = d ∷ []
+put_in_order d (e ∷ ds) = match_ordering (designation_cmp d e) (d ∷ e ∷ ds) (e ∷ ds) (e ∷ put_in_order d ds)
 
 -- the designations that were given, in their order
 abbrev pub given_in_order : List LinkAct → List Designation
 given_in_order [] = []
-given_in_order (Given d ∷ past) = placed d (given_in_order past)
+given_in_order (Given d ∷ past) = put_in_order d (given_in_order past)
 given_in_order (Joined p s ∷ past) = given_in_order past
 given_in_order (Parted s ∷ past) = given_in_order past
 

@@ -13,7 +13,7 @@ use Rattle.act_model.specs.Replies.{refusal_text}
 use Rattle.act_model.specs.Step.{step}
 use Rattle.act_model.specs.Turns.{Answers}
 use Rattle.office_workload.specs.Generating.{number_after, number_at}
-use Rattle.office_workload.specs.Running.{AreTaken, IsRefusedOne, done, is_no_memory}
+use Rattle.office_workload.specs.Running.{AreTaken, IsRefusedOne, reply_result, is_no_memory}
 use Rattle.office_workload.specs.Summaries.{summary, summary_at, told_of}
 use Rattle.office_workload.specs.Workloads.{officer, moment, submission, designation, object_requests, unless_refused, history_after, workload, station_request}
 
@@ -33,26 +33,26 @@ module _ (founder : Key) (past after : List Entry) (q : Request) (is : founder �
   refused_one refusal (inl stepped) = inr (λ rest. ap (λ (s : Reply × List Entry). unless_refused s (λ h. history_after h rest)) (stepped_as (Refused refusal) stepped))
   refused_one refusal (inr both) = inl (let same = both.0 in cc)
 
-  taken_reply : (reply : Reply) → Answers founder None past q moment reply after → OnOk (done reply) (AreTaken past (q ∷ []) after)
+  taken_reply : (reply : Reply) → Answers founder None past q moment reply after → OnOk (reply_result reply) (AreTaken past (q ∷ []) after)
   taken_reply (Done text) answers = taken_one text answers
   taken_reply (Refused refusal) answers = tt
 
-  refused_reply : (reply : Reply) → Answers founder None past q moment reply after → IfErr (done reply) (IsRefusedOne past (q ∷ []))
+  refused_reply : (reply : Reply) → Answers founder None past q moment reply after → IfErr (reply_result reply) (IsRefusedOne past (q ∷ []))
   refused_reply (Done text) answers = tt
   refused_reply (Refused refusal) answers = refused_one refusal answers
 
-  pub taken_by : (reading : ℤ) (reply : Reply) (result : Result (Unit {0}) Refusal) → reading ≡ moment → result ≡ done reply → Answers founder None past q reading reply after → OnOk result (AreTaken past (q ∷ []) after)
+  pub taken_by : (reading : ℤ) (reply : Reply) (result : Result (Unit {0}) Refusal) → reading ≡ moment → result ≡ reply_result reply → Answers founder None past q reading reply after → OnOk result (AreTaken past (q ∷ []) after)
   taken_by reading reply result at ends answers =
       subst (λ (r : Result (Unit {0}) Refusal). OnOk r (AreTaken past (q ∷ []) after)) (sym ends)
       (taken_reply reply (subst (λ (t : ℤ). Answers founder None past q t reply after) at answers))
 
-  pub refused_by : (reading : ℤ) (reply : Reply) (result : Result (Unit {0}) Refusal) → reading ≡ moment → result ≡ done reply → Answers founder None past q reading reply after → IfErr result (IsRefusedOne past (q ∷ []))
+  pub refused_by : (reading : ℤ) (reply : Reply) (result : Result (Unit {0}) Refusal) → reading ≡ moment → result ≡ reply_result reply → Answers founder None past q reading reply after → IfErr result (IsRefusedOne past (q ∷ []))
   refused_by reading reply result at ends answers =
       subst (λ (r : Result (Unit {0}) Refusal). IfErr r (IsRefusedOne past (q ∷ []))) (sym ends)
       (refused_reply reply (subst (λ (t : ℤ). Answers founder None past q t reply after) at answers))
 
 pub if_err : (result : Result (Unit {0}) Refusal) (P Q : Refusal → Type 0) → ((refusal : Refusal) → P refusal → Q refusal) → IfErr result P → IfErr result Q
-if_err (Ok done) P Q leads is = is
+if_err (Ok reply_result) P Q leads is = is
 if_err (Err refusal) P Q leads is = leads refusal is
 
 -- ---- requests after requests

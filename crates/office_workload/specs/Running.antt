@@ -20,9 +20,9 @@ IsRefusedOne past requests refusal =
     (refusal ≡ NoMemory) ⊎ ((rest : List Request) → history_after past (requests ++ rest) ≡ Err refusal)
 
 -- the request was done, or it was refused so
-abbrev pub done : Reply → Result (Unit {0}) Refusal
-done (Done text) = Ok tt
-done (Refused refusal) = Err refusal
+abbrev pub reply_result : Reply → Result (Unit {0}) Refusal
+reply_result (Done text) = Ok tt
+reply_result (Refused refusal) = Err refusal
 
 -- memory was refused
 abbrev pub is_no_memory : Refusal → Bool

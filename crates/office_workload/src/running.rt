@@ -3,7 +3,7 @@
 ghost use Rattle.std.specs.Prelude.{◌≡◌, ◌≤◌, [], ◌∷◌, true, flat_map, OnOk, IfErr};
 ghost use Rattle.std.specs.List.{range_with_len};
 ghost use Rattle.act_model.specs.Requests.{is_act};
-ghost use Rattle.office_workload.specs.Running.{AreTaken, IsRefusedOne, done};
+ghost use Rattle.office_workload.specs.Running.{AreTaken, IsRefusedOne, reply_result};
 ghost use Rattle.office_workload.specs.Workloads.{officer, station_request, submission, designation, object_requests};
 ghost use Rattle.office_workload.specs.Workloads.{workload};
 
@@ -14,8 +14,8 @@ use plain_keeper::PlainKeeper;
 use std::alloc::Global;
 
 /// Whether the request was done, or why not.
-fn done(reply: Reply) -> Result<(), Refusal>
-    ensures { result ≡ done reply }
+fn reply_result(reply: Reply) -> Result<(), Refusal>
+    ensures { result ≡ reply_result reply }
 {
     match reply {
         Reply::Done(_) => Ok(()),
@@ -31,7 +31,7 @@ fn take(keeper: &mut PlainKeeper, request: &Request) -> Result<(), Refusal>
     ensures refused { IfErr result (IsRefusedOne keeper.old.history (request.now ∷ [])) }
     ensures founder { keeper.new.founder ≡ officer }
 {
-    done(keeper.act(request, moment()))
+    reply_result(keeper.act(request, moment()))
 }
 
 /// Takes the request by which the station is entered.

@@ -9,7 +9,7 @@ use Rattle.tracklet_file.specs.declared.tracklet.Tracklet.{Tracklet}
 use Rattle.tracklet_file.specs.Numbering.{next_number, numbered, changed_at}
 use Rattle.tracklet_file.specs.Observations.{is_live, with_retraction, later_of_track}
 use Rattle.tracklet_file.specs.Tracklets.{is_retracted, retracted_in}
-use Rattle.tracklet_file.specs.Changes.{Change, AreCalls, observations_after, tracklets_after, brought, brought_tracklets, is_retraction}
+use Rattle.tracklet_file.specs.Changes.{Change, AreCalls, observations_after, tracklets_after, added_observations, brought_tracklets, is_retraction}
 use Rattle.tracklet_file.specs.Changes.Change.{AddTrack, Add, Retract, SetHome}
 use Rattle.tracklet_file.proofs.NumberingLemmas.{numbered_changed, numbered_others, length-changed_at}
 use Rattle.tracklet_file.proofs.CountLemmas.{retracted_more}
@@ -41,7 +41,7 @@ read_more read newest older others k long rest = ap (λ (n : ℕ). option_map re
 
 -- ---- observations
 
-pub as_many : (changes : List Change) → length (observations_after changes) ≡ length (brought changes)
+pub as_many : (changes : List Change) → length (observations_after changes) ≡ length (added_observations changes)
 as_many [] = refl
 as_many (Add track s entry ∷ past) = ap suc (as_many past)
 as_many (AddTrack name station home ∷ past) = as_many past
@@ -49,9 +49,9 @@ as_many (SetHome t home ∷ past) = as_many past
 as_many (Retract k ∷ past) = length-changed_at (λ (o : Observation). record o { live = false }) (observations_after past) k ∙ as_many past
 
 pub read_as_brought : {B : Type 0} (read : Observation → B) → ((o : Observation) → read (record o { live = false }) ≡ read o) → (changes : List Change) (k : ℕ)
-    → option_map read (numbered (observations_after changes) k) ≡ option_map read (numbered (brought changes) k)
+    → option_map read (numbered (observations_after changes) k) ≡ option_map read (numbered (added_observations changes) k)
 read_as_brought read same [] k = refl
-read_as_brought read same (Add track s entry ∷ past) k = read_more read (record { track = track; sighting = s; entry = entry; live = true }) (observations_after past) (brought past) k (as_many past) (read_as_brought read same past k)
+read_as_brought read same (Add track s entry ∷ past) k = read_more read (record { track = track; sighting = s; entry = entry; live = true }) (observations_after past) (added_observations past) k (as_many past) (read_as_brought read same past k)
 read_as_brought read same (AddTrack name station home ∷ past) k = read_as_brought read same past k
 read_as_brought read same (SetHome t home ∷ past) k = read_as_brought read same past k
 read_as_brought read same (Retract other ∷ past) k = read_unchanged read (λ (o : Observation). record o { live = false }) same (observations_after past) other k ∙ read_as_brought read same past k
@@ -71,11 +71,11 @@ later_retracted (newest ∷ older) k t after = by (k == next_number older) (late
         ap (λ (before : List ℕ). with_newest newest.track t after before (length (with_retraction older k))) rest
         ∙ ap (with_newest newest.track t after (later_of_track older t after)) (length-changed_at (λ (o : Observation). record o { live = false }) older k)
 
-pub later_as_brought : (changes : List Change) (t after : ℕ) → later_of_track (observations_after changes) t after ≡ later_of_track (brought changes) t after
+pub later_as_brought : (changes : List Change) (t after : ℕ) → later_of_track (observations_after changes) t after ≡ later_of_track (added_observations changes) t after
 later_as_brought [] t after = refl
 later_as_brought (Add track s entry ∷ past) t after =
     ap (λ (rest : List ℕ). with_newest track t after rest (length (observations_after past))) (later_as_brought past t after)
-    ∙ ap (with_newest track t after (later_of_track (brought past) t after)) (as_many past)
+    ∙ ap (with_newest track t after (later_of_track (added_observations past) t after)) (as_many past)
 later_as_brought (AddTrack name station home ∷ past) t after = later_as_brought past t after
 later_as_brought (SetHome other home ∷ past) t after = later_as_brought past t after
 later_as_brought (Retract k ∷ past) t after = later_retracted (observations_after past) k t after ∙ later_as_brought past t after

@@ -13,7 +13,7 @@ use Rattle.tracklet_file.specs.declared.chain.Chain.{Chain}
 use Rattle.tracklet_file.specs.Contents.{AreInTracklets}
 use Rattle.tracklet_file.specs.Numbering.{next_number, numbered}
 use Rattle.tracklet_file.specs.Observations.{track_of, later_of_track, first_of, next_of, with_retraction}
-use Rattle.tracklet_file.specs.Chains.{is_live_of, last_of, chain_of, AreChained, extended, linked}
+use Rattle.tracklet_file.specs.Chains.{is_live_of, last_of, chain_of, AreChained, chain_after, links_after}
 use Rattle.tracklet_file.proofs.NumberingLemmas.{numbered_within, length-changed_at}
 use Rattle.tracklet_file.proofs.TrackLemmas.{later_none, first_is}
 use Rattle.tracklet_file.proofs.CountLemmas.{count_changed}
@@ -117,8 +117,8 @@ same_chain a b first last live =
 
 module _ (newest : Observation) (older : List Observation) where
   -- the chain of its own tracklet is longer by one
-  pub chain_own : newest.live ≡ true → chain_of (newest ∷ older) newest.track ≡ extended (chain_of older newest.track) (next_number older)
-  chain_own live = same_chain (chain_of (newest ∷ older) newest.track) (extended (chain_of older newest.track) (next_number older)) first last count
+  pub chain_own : newest.live ≡ true → chain_of (newest ∷ older) newest.track ≡ chain_after (chain_of older newest.track) (next_number older)
+  chain_own live = same_chain (chain_of (newest ∷ older) newest.track) (chain_after (chain_of older newest.track) (next_number older)) first last count
     where
       t : ℕ
       t = newest.track
@@ -213,9 +213,9 @@ module _ (newest : Observation) (older : List Observation) where
 
 pub chained_more : (tracks : ℕ) (newest : Observation) (older : List Observation) (chains : List Chain) (links : List ℕ) (chain : Chain) → AreChained tracks older chains links
     → 0 < newest.track → newest.track ≤ tracks → newest.live ≡ true → chain ≡ get_or chains (newest.track - 1) chain
-    → AreChained tracks (newest ∷ older) (set chains (newest.track - 1) (extended chain (next_number older))) (linked links chain.last (next_number older))
+    → AreChained tracks (newest ∷ older) (set chains (newest.track - 1) (chain_after chain (next_number older))) (links_after links chain.last (next_number older))
 chained_more tracks newest older chains links chain was some there live read = record {
-  as_many_chains = length-set chains (newest.track - 1) (extended chain (next_number older)) ∙ was.as_many_chains;
+  as_many_chains = length-set chains (newest.track - 1) (chain_after chain (next_number older)) ∙ was.as_many_chains;
   as_many_links = by_last_length (chain.last == 0);
   chain_is = chain_is;
   link_is = link_is;
@@ -240,15 +240,15 @@ chained_more tracks newest older chains links chain was some there live read = r
     by_last_length true = longer
     by_last_length false = length-set (links ++ 0 ∷ []) (chain.last - 1) (next_number older) ∙ longer
 
-    chain_is : (place : ℕ) (d : Chain) → place < length (set chains (newest.track - 1) (extended chain (next_number older))) → get_or (set chains (newest.track - 1) (extended chain (next_number older))) place d ≡ chain_of (newest ∷ older) (place + 1)
+    chain_is : (place : ℕ) (d : Chain) → place < length (set chains (newest.track - 1) (chain_after chain (next_number older))) → get_or (set chains (newest.track - 1) (chain_after chain (next_number older))) place d ≡ chain_of (newest ∷ older) (place + 1)
     chain_is place d low = elim (cases_eq place (newest.track - 1)) [
       | inl same ↦
-          ap (λ (n : ℕ). get_or (set chains (newest.track - 1) (extended chain (next_number older))) n d) same
-          ∙ get_or-set_same chains (newest.track - 1) (extended chain (next_number older)) d within
-          ∙ ap (λ (c : Chain). extended c (next_number older)) chain_was ∙ sym (chain_own newest older live) ∙ ap (chain_of (newest ∷ older)) (sym back ∙ sym (ap (λ (n : ℕ). n + 1) same))
+          ap (λ (n : ℕ). get_or (set chains (newest.track - 1) (chain_after chain (next_number older))) n d) same
+          ∙ get_or-set_same chains (newest.track - 1) (chain_after chain (next_number older)) d within
+          ∙ ap (λ (c : Chain). chain_after c (next_number older)) chain_was ∙ sym (chain_own newest older live) ∙ ap (chain_of (newest ∷ older)) (sym back ∙ sym (ap (λ (n : ℕ). n + 1) same))
       | inr other ↦
-          get_or-set_other chains (newest.track - 1) place (extended chain (next_number older)) d other
-          ∙ was.chain_is place d (subst (λ (n : ℕ). place < n) (length-set chains (newest.track - 1) (extended chain (next_number older))) low)
+          get_or-set_other chains (newest.track - 1) place (chain_after chain (next_number older)) d other
+          ∙ was.chain_is place d (subst (λ (n : ℕ). place < n) (length-set chains (newest.track - 1) (chain_after chain (next_number older))) low)
           ∙ sym (chain_other newest older (place + 1) (ne_eqb newest.track (place + 1) (λ same. other (omega arith))))
     ]
 
@@ -264,7 +264,7 @@ chained_more tracks newest older chains links chain was some there live read = r
           get_or_push links 0 0 place here ∙ sym (next_newest newest older) ∙ ap (λ (k : ℕ). unwrap_or (next_of (newest ∷ older) k) 0) (sym number)
     ]
 
-    link_is : (place : ℕ) → place < length (linked links chain.last (next_number older)) → get_or (linked links chain.last (next_number older)) place 0 ≡ unwrap_or (next_of (newest ∷ older) (place + 1)) 0
+    link_is : (place : ℕ) → place < length (links_after links chain.last (next_number older)) → get_or (links_after links chain.last (next_number older)) place 0 ≡ unwrap_or (next_of (newest ∷ older) (place + 1)) 0
     link_is place low = by (chain.last == 0) refl
       where
         inside : place < length links + 1

@@ -14,7 +14,7 @@ use Rattle.tracklet_file.specs.Numbering.{next_number, numbered}
 use Rattle.tracklet_file.specs.Observations.{track_of, later_of_track, first_of, next_of, IsFollowedBy, with_retraction}
 use Rattle.tracklet_file.specs.Tracklets.{IsTracklet, home_of, with_home, is_isolated, is_retracted}
 use Rattle.tracklet_file.specs.Contents.{AreInTracklets}
-use Rattle.tracklet_file.specs.Chains.{is_live_of, chain_of, AreChained, extended, linked}
+use Rattle.tracklet_file.specs.Chains.{is_live_of, chain_of, AreChained, chain_after, links_after}
 use Rattle.tracklet_file.specs.Keeping.{Kept, IsKept}
 use Rattle.tracklet_file.proofs.NumberingLemmas.{numbered_within, numbered_at, length-changed_at}
 use Rattle.tracklet_file.proofs.TrackLemmas.{first_is}
@@ -116,13 +116,13 @@ module _ (tracklets : List Tracklet) (observations : List Observation) (kept : K
 
   pub kept_added : (newest : Observation) (chain : Chain) (observations' : List Observation) (chains' : List Chain) (links' : List ℕ) (isolated' : ℕ)
       → IsTracklet tracklets newest.track → newest.live ≡ true → chain ≡ get_or kept.chains (newest.track - 1) chain
-      → observations' ≡ newest ∷ observations → chains' ≡ set kept.chains (newest.track - 1) (extended chain (next_number observations)) → links' ≡ linked kept.links chain.last (next_number observations)
+      → observations' ≡ newest ∷ observations → chains' ≡ set kept.chains (newest.track - 1) (chain_after chain (next_number observations)) → links' ≡ links_after kept.links chain.last (next_number observations)
       → isolated' ≡ kept.isolated + cond (is_none (home_of tracklets newest.track)) 1 0
       → IsKept tracklets observations' (record { isolated = isolated'; retracted = kept.retracted; chains = chains'; links = links' })
   kept_added newest chain observations' chains' links' isolated' there alive read observations_are chains_are links_are isolated_is =
       subst (λ (os : List Observation). IsKept tracklets os (record { isolated = isolated'; retracted = kept.retracted; chains = chains'; links = links' })) (sym observations_are)
       (subst (λ (cs : List Chain). IsKept tracklets (newest ∷ observations) (record { isolated = isolated'; retracted = kept.retracted; chains = cs; links = links' })) (sym chains_are)
-      (subst (λ (ls : List ℕ). IsKept tracklets (newest ∷ observations) (record { isolated = isolated'; retracted = kept.retracted; chains = set kept.chains (newest.track - 1) (extended chain (next_number observations)); links = ls })) (sym links_are)
+      (subst (λ (ls : List ℕ). IsKept tracklets (newest ∷ observations) (record { isolated = isolated'; retracted = kept.retracted; chains = set kept.chains (newest.track - 1) (chain_after chain (next_number observations)); links = ls })) (sym links_are)
       record {
         counted = record { in_tracklets = (there, was.counted.in_tracklets); isolated_are = isolated_are; retracted_are = retracted_are };
         chained = chained_more (length tracklets) newest observations kept.chains kept.links chain was.chained inside.0 inside.1 alive read;

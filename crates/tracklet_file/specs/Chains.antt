@@ -35,14 +35,14 @@ pub record AreChained (tracks : ℕ) (observations : List Observation) (chains :
       → slice_index links place ≡ unwrap_or (next_of observations (place + 1)) 0
 
 -- what is kept of a tracklet after a live observation with this number is added to it
-abbrev pub extended : Chain → ℕ → Chain
-extended chain number = record {
+abbrev pub chain_after : Chain → ℕ → Chain
+chain_after chain number = record {
   first = if chain.first == 0 then number else chain.first;
   last = number;
   live = chain.live + 1;
 }
 
 -- the links with one more, to whose number the link of the tracklet's last observation leads
-abbrev pub linked : List ℕ → ℕ → ℕ → List ℕ
-linked links last number =
+abbrev pub links_after : List ℕ → ℕ → ℕ → List ℕ
+links_after links last number =
     if last == 0 then links ++ 0 ∷ [] else slice_set (links ++ 0 ∷ []) (last - 1) number

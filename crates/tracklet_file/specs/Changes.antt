@@ -58,12 +58,12 @@ abbrev pub is_gone : List Change → ℕ → Bool
 is_gone changes k = list_any (names_retracted k) changes
 
 -- the observations as the changes brought them, whatever became of them
-abbrev pub brought : List Change → List Observation
-brought [] = []
-brought (Add track s entry ∷ past) = with_observation (brought past) track s entry
-brought (AddTrack name station home ∷ past) = brought past
-brought (Retract k ∷ past) = brought past
-brought (SetHome t home ∷ past) = brought past
+abbrev pub added_observations : List Change → List Observation
+added_observations [] = []
+added_observations (Add track s entry ∷ past) = with_observation (added_observations past) track s entry
+added_observations (AddTrack name station home ∷ past) = added_observations past
+added_observations (Retract k ∷ past) = added_observations past
+added_observations (SetHome t home ∷ past) = added_observations past
 
 -- the tracklets as the changes brought them, with their first homes
 abbrev pub brought_tracklets : List Change → List Tracklet

@@ -1,7 +1,7 @@
 //! What is kept of the observations of each tracklet, so that none is searched for.
 
 ghost use Rattle.std.specs.Prelude.{◌≡◌, ◌+◌, ◌^◌, ◌<◌, ◌≤◌, ◌==◌, None, Some, if◌then◌else◌, vec_len, vec_capacity};
-ghost use Rattle.tracklet_file.specs.Chains.{extended, linked};
+ghost use Rattle.tracklet_file.specs.Chains.{chain_after, links_after};
 
 /// What is kept of a tracklet's observations.
 #[derive(Clone, Copy, Debug, PartialEq, Eq)]
@@ -17,7 +17,7 @@ pub struct Chain {
 /// What is kept of a tracklet after a live observation with this number is added to it.
 pub(crate) fn extend(chain: Chain, number: u64) -> Chain
     requires { chain.live + 1 < 2 ^ 64 }
-    ensures { result ≡ extended chain number }
+    ensures { result ≡ chain_after chain number }
 {
     Chain {
         first: if chain.first == 0 {
@@ -34,7 +34,7 @@ pub(crate) fn extend(chain: Chain, number: u64) -> Chain
 pub(crate) fn link(links: &mut Vec<u64>, last: u64, number: u64)
     requires room { vec_len links.old < vec_capacity links.old }
     requires there { last ≤ vec_len links.old }
-    ensures links { links.new.items ≡ linked links.old.items last number }
+    ensures links { links.new.items ≡ links_after links.old.items last number }
     ensures len { vec_len links.new ≡ vec_len links.old + 1 }
     ensures capacity { vec_capacity links.new ≡ vec_capacity links.old }
 {

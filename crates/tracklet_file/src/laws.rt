@@ -7,7 +7,7 @@ ghost use Rattle.tracklet_file.specs.Observations.{IsObservation, is_live, sight
 ghost use Rattle.tracklet_file.specs.Observations.{later_of_track};
 ghost use Rattle.tracklet_file.specs.Tracklets.{home_of, name_of_track, station_of, isolated_in, homed_in};
 ghost use Rattle.tracklet_file.specs.Tracklets.{retracted_in};
-ghost use Rattle.tracklet_file.specs.Changes.{Change, AreCalls, observations_after, tracklets_after, brought};
+ghost use Rattle.tracklet_file.specs.Changes.{Change, AreCalls, observations_after, tracklets_after, added_observations};
 ghost use Rattle.tracklet_file.specs.Changes.{brought_tracklets, is_retraction, is_gone, last_home};
 
 /// Each observation stands in one place: the isolated, the homed and the retracted ones together are all.
@@ -26,18 +26,18 @@ pub fn live_until_retracted()
 /// Over every list of calls, observation k is the k-th that was added, with its tracklet and its entry.
 pub fn as_added()
     ensures sightings { (changes : List Change) (k : ℕ) →
-        sighting_of (observations_after changes) k ≡ sighting_of (brought changes) k }
+        sighting_of (observations_after changes) k ≡ sighting_of (added_observations changes) k }
     ensures entries { (changes : List Change) (k : ℕ) →
-        entry_of (observations_after changes) k ≡ entry_of (brought changes) k }
+        entry_of (observations_after changes) k ≡ entry_of (added_observations changes) k }
     ensures tracks { (changes : List Change) (k : ℕ) →
-        track_of (observations_after changes) k ≡ track_of (brought changes) k }
-    ensures count { (changes : List Change) → length (observations_after changes) ≡ length (brought changes) }
+        track_of (observations_after changes) k ≡ track_of (added_observations changes) k }
+    ensures count { (changes : List Change) → length (observations_after changes) ≡ length (added_observations changes) }
 {}
 
 /// Over every list of calls, the observations of a tracklet are those that were added as its own, in their order.
 pub fn of_tracklet_as_added()
     ensures { (changes : List Change) (t after : ℕ) →
-        later_of_track (observations_after changes) t after ≡ later_of_track (brought changes) t after }
+        later_of_track (observations_after changes) t after ≡ later_of_track (added_observations changes) t after }
 {}
 
 /// Over every list of calls, tracklet t is the t-th that was added, with its name and its station.

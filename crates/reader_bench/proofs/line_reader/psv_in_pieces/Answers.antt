@@ -6,7 +6,7 @@ use Rattle.ades_psv.specs.declared.fault.PsvFault.{PsvFault}
 use Rattle.ades_psv.specs.declared.fault.PsvFault.TheVariants as faults
 use Rattle.ades_psv.specs.Batch.{psv_lines_of}
 use Rattle.ades_psv.specs.Walking.{IsAnswer}
-use Rattle.ades_psv.specs.Feeding.{Fed, unfed, fed, Feeds, HasRoom, complete_fault}
+use Rattle.ades_psv.specs.Feeding.{Fed, unfed, feed_piece, Feeds, HasRoom, complete_fault}
 use Rattle.reader_bench.proofs.line_reader.psv_in_pieces.Goals as goal
 
 abbrev failed : PsvFault → Result (Unit {0}) PsvFault
@@ -20,11 +20,11 @@ size_is : (piece after rest : List ℕ) → rest ≡ piece ++ after → length r
 size_is piece after rest parts = ap length parts ∙ length-append piece after
 
 -- the fault that is told at a piece is that of the whole batch
-told_at : ((text more : List ℕ) (fault : HeaderFault × ℕ) → fed unfed text ≡ Err fault
+told_at : ((text more : List ℕ) (fault : HeaderFault × ℕ) → feed_piece unfed text ≡ Err fault
     → psv_lines_of (text ++ more) ≡ Err fault)
     → (text piece after : List ℕ) (before new : Fed) (fault : PsvFault)
     → ((told : HeaderFault) (line : ℕ) → failed fault ≡ failed (faults.Header told line)
-    → (new ≡ fed unfed (text ++ piece)) × (complete_fault (text ++ piece) ≡ Some (told, line)))
+    → (new ≡ feed_piece unfed (text ++ piece)) × (complete_fault (text ++ piece) ≡ Some (told, line)))
     → Feeds before piece new (failed fault) → IsAnswer (psv_lines_of ((text ++ piece) ++ after)) (Err fault)
 told_at stays text piece after before new (faults.Header told line) header is =
     stays (text ++ piece) after (told, line) (sym (header told line refl).0 ∙ is.1)

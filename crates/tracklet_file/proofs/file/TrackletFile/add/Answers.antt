@@ -5,7 +5,7 @@ use Rattle.tracklet_file.specs.declared.chain.Chain.{Chain}
 use Rattle.tracklet_file.specs.declared.observation.Observation.{Observation}
 use Rattle.tracklet_file.specs.Numbering.{next_number}
 use Rattle.tracklet_file.specs.Tracklets.{IsTracklet, home_of}
-use Rattle.tracklet_file.specs.Chains.{is_live_of, extended, linked}
+use Rattle.tracklet_file.specs.Chains.{is_live_of, chain_after, links_after}
 use Rattle.tracklet_file.specs.Contents.{Contents}
 use Rattle.tracklet_file.specs.Places.{IsIndexed}
 use Rattle.tracklet_file.proofs.NumberingLemmas.{numbered_within, place_within, reverse_push}
@@ -65,7 +65,7 @@ invariant_of-self c =
       kept =
           kept_added _ _ _ c.self.invariant.kept newest c.index-chain.result.now _ _ _ c.with_one-self-inside.result there refl c.index-chain.ensures
           pushed
-          (ap (set c.self.inside.chains.items (c.args.track - 1)) (c.extend.ensures ∙ ap (extended c.index-chain.result.now) number))
-          (c.link.ensures.links ∙ ap (linked c.self.inside.links.items c.index-chain.result.now.last) number)
+          (ap (set c.self.inside.chains.items (c.args.track - 1)) (c.extend.ensures ∙ ap (chain_after c.index-chain.result.now) number))
+          (c.link.ensures.links ∙ ap (links_after c.self.inside.links.items c.index-chain.result.now.last) number)
           (c.with_one-self-inside.ensures ∙ ap (λ (b : Bool). c.self.inside.isolated + cond b 1 0) isolated);
     }
