@@ -27,7 +27,7 @@ first_home known (tracks.Designation designation) = known.stands_for (names.Desi
 first_home known (tracks.Sub sub) = None
 
 -- The tracklet of a group, where there were `before` tracklets before the batch and there are `now` by this line.
--- Groups count from 0 in the order in which they begin: one that has begun has its tracklet, and another begins the next.
+-- Groups count from 0 in the order in which they begin: one that has begun has its tracklet, another begins the next.
 abbrev pub track_of_group : (before now group : ℕ) → ℕ
 track_of_group before now group = if nat_le (before + group + 1) now then before + group + 1 else now + 1
 

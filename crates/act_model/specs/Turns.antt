@@ -1,7 +1,7 @@
 -- Turns of the office, one request each, and conducts: turns one after another. Where the office stands on a disk, an
 -- act may be left in doubt, and the next act mends it first.
 use Rattle.std.specs.Prelude.{◌≡◌, ◌⊎◌, Bool, true, false, if◌then◌else◌, ℕ, ◌+◌, ◌<◌, ℤ, pos, List, [], ◌∷◌, map}
-use Rattle.std.specs.Prelude.{flat_map, filter_map, Option, Some, None, IfSome, IsSome, sum_by}
+use Rattle.std.specs.Prelude.{filter_map, Option, Some, None, IfSome, IsSome, sum_by}
 use Rattle.frame_grammar.specs.Frames.{Frame}
 use Rattle.frame_grammar.specs.Replies.{reply_frame}
 use Rattle.obs_time.specs.Instants.{IsInstantNs}
@@ -138,6 +138,3 @@ AreReadings told from (reading ∷ readings) =
 -- the reply as it is written to the sink
 abbrev pub written_reply : Reply → List ℕ
 written_reply reply = reply_frame (status_of reply) (text_of reply)
-
-abbrev pub written_replies : List Turn → List ℕ
-written_replies turns = flat_map (λ turn. written_reply turn.reply) turns

@@ -95,7 +95,8 @@ complete_fault text = fault_in (said_from Opening (enumerate_from 1 (complete_li
 -- was fed
 abbrev pub Feeds : Fed → List ℕ → Fed → Result (Unit {0}) PsvFault → Type 0
 Feeds before piece after (Ok _) = (after ≡ feed_piece before piece) × IsOk after
-Feeds before piece after (Err (faults.Header fault line)) = (after ≡ feed_piece before piece) × (after ≡ Err (fault, line))
+Feeds before piece after (Err (faults.Header fault line)) =
+    (after ≡ feed_piece before piece) × (after ≡ Err (fault, line))
 Feeds before piece after (Err faults.NoMemory) = after ≡ before
 
 -- how far a batch was read, by what a reader keeps

@@ -61,8 +61,8 @@ pub fn room()
 /// The first fault in the complete lines of the front of a batch is the fault of the batch, whatever may follow.
 #[tactic(auto, using(crate::proofs::Readers::fault_stays))]
 pub fn faults_stay()
-    ensures { (text more : List ℕ) (fault : HeaderFault × ℕ) → feed_piece unfed text ≡ Err fault → psv_lines_of (text ++ more)
-        ≡ Err fault }
+    ensures { (text more : List ℕ) (fault : HeaderFault × ℕ) → feed_piece unfed text ≡ Err fault
+        → psv_lines_of (text ++ more) ≡ Err fault }
 {
     laws::lines();
 }

@@ -170,11 +170,13 @@ impl PsvReader {
         ensures room { OnOk result ((more : ℕ) → HasRoom self.old (length piece.now + more) → HasRoom self.new more) }
         // The piece stands after the text that came before, and no complete line breaks a rule of headers.
         ensures ok { (text : List ℕ) → self.old ≡ feed_piece unfed text
-            → OnOk result ((self.new ≡ feed_piece unfed (text ++ piece.now)) × (complete_fault (text ++ piece.now) ≡ None)) }
+            → OnOk result ((self.new ≡ feed_piece unfed (text ++ piece.now))
+            × (complete_fault (text ++ piece.now) ≡ None)) }
         // Header only where the complete lines of the text have a fault, and it is their first one.
         ensures header { (text : List ℕ) (fault : HeaderFault) (line : ℕ) → self.old ≡ feed_piece unfed text
             → result ≡ Err (faults.Header fault line)
-            → (self.new ≡ feed_piece unfed (text ++ piece.now)) × (complete_fault (text ++ piece.now) ≡ Some (fault, line)) }
+            → (self.new ≡ feed_piece unfed (text ++ piece.now))
+            × (complete_fault (text ++ piece.now) ≡ Some (fault, line)) }
         // A fault that was told is told again, and no memory is taken for it.
         ensures stays { IfErr self.old (λ fault. (result ≡ Err (faults.Header fault.0 fault.1))
             × (self.new ≡ self.old)) }

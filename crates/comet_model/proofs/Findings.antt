@@ -71,9 +71,6 @@ record IsDiscovered (past : List Deed) (d : Designation) (k : ℕ) : Type 0 wher
   is_name : d ≡ Provisional name
   sighted : IsDiscoveredIn (holdings past).observations k name.half
 
-AreDiscovered : List Deed → Type 0
-AreDiscovered past = (d : Designation) (k : ℕ) → discovery_of d (row_acts_of past) ≡ Some k → IsDiscovered past d k
-
 still_discovered : (deed : Deed) (past : List Deed) (d : Designation) (k : ℕ) → IsDiscovered past d k → IsDiscovered (deed ∷ past) d k
 still_discovered deed past d k is =
     let (s, found, half) = is.sighted in record { name = is.name; is_name = is.is_name; sighted = (s, sighting_stays deed past k s found, half) }

@@ -25,9 +25,6 @@ use Rattle.comet_model.proofs.Findings.{AreSame, found_longer}
 use Rattle.comet_model.proofs.Legal.{FoundStays, legal_added, legal_once, legal_prefix, legal_again, answer_again}
 use Rattle.comet_model.proofs.Steps.{step_is}
 
-same_extends : (past : List Entry) → Extends past past
-same_extends past = ([], refl)
-
 kept_is : (one other : Kept) → Some one ≡ Some other → one ≡ other
 kept_is one other is = cc
 

@@ -1,7 +1,7 @@
 -- Turns of the register, one request each, and conducts: turns one after another. The register stands on a disk of its
 -- own, so that an act may be left in doubt, and the next act mends it first. The office's deeds stay the same in a
 -- conduct.
-use Rattle.std.specs.Prelude.{◌≡◌, ◌⊎◌, Bool, true, false, ℕ, ◌<◌, ℤ, pos, List, [], ◌∷◌, map, flat_map, filter_map}
+use Rattle.std.specs.Prelude.{◌≡◌, ◌⊎◌, Bool, true, false, ℕ, ◌<◌, ℤ, pos, List, [], ◌∷◌, map, filter_map}
 use Rattle.std.specs.Prelude.{Option, Some, None, IsSome, sum_by}
 use Rattle.frame_grammar.specs.Frames.{Frame}
 use Rattle.frame_grammar.specs.Replies.{reply_frame}
@@ -122,6 +122,3 @@ readings_of turns = filter_map (λ turn. turn.reading) turns
 -- the reply as it is written to the sink
 abbrev pub written_reply : CometReply → List ℕ
 written_reply reply = reply_frame (status_of reply) (text_of reply)
-
-abbrev pub written_replies : List CometTurn → List ℕ
-written_replies turns = flat_map (λ turn. written_reply turn.reply) turns

@@ -7,19 +7,16 @@ use Rattle.act_model.specs.declared.entry.Entry.{Entry}
 use Rattle.act_model.specs.declared.heard.Asked.{Asked}
 use Rattle.act_model.specs.declared.heard.Asked.TheVariants as asked
 use Rattle.act_model.specs.declared.heard.Heard.{Heard}
-use Rattle.act_model.specs.declared.query.Query.{Query}
 use Rattle.act_model.specs.declared.reply.Part.TheVariants as part
 use Rattle.act_model.specs.declared.reply.Refusal.{Refusal}
-use Rattle.act_model.specs.declared.reply.Refusal.TheVariants.{Unread, OtherRequest}
+use Rattle.act_model.specs.declared.reply.Refusal.TheVariants.{OtherRequest}
 use Rattle.act_model.specs.declared.reply.Reply.TheVariants.{Done, Refused}
 use Rattle.act_model.specs.declared.request.Request.{Request}
 use Rattle.act_model.specs.declared.request.Verb.{Verb}
 use Rattle.act_model.specs.declared.roster.Caller.{Caller}
 use Rattle.act_model.specs.declared.roster.Member.{Member}
-use Rattle.act_model.specs.Acts.{act_of}
-use Rattle.act_model.specs.Queries.{query_of}
 use Rattle.act_model.specs.Deeds.{deeds}
-use Rattle.act_model.specs.Hearing.{bytes_in, verb_rows, number_in, asked_in, queried_in, asked_of, caller_in, hear}
+use Rattle.act_model.specs.Hearing.{bytes_in, verb_rows, number_in, asked_of, caller_in, hear}
 use Rattle.act_model.specs.History.{Kept, numbered_entry, next_moment, next_receipt}
 use Rattle.act_model.specs.Refusals.{work_within}
 use Rattle.act_model.specs.Replies.{entry_answer}
@@ -28,7 +25,7 @@ use Rattle.act_model.specs.Roster.{members, caller_of}
 use Rattle.act_model.specs.Rows.{first_row, unless, ◌>>=◌, IsDue}
 use Rattle.act_model.specs.Step.{Outcome, Refuses, Keeps, Adds, outcome, unless_unheard, heard_step, act_step, query_step, query_in, answer_of_query, tells, unless_kept, unless_refused, new_entry, kept_reply, is_resend}
 use Rattle.desk_core.specs.declared.hearing.Claim.{Claim}
-use Rattle.desk_core.specs.Claims.{claim_of, announcement, heard_by, query_heard, kept_for, act_by, told_by}
+use Rattle.desk_core.specs.Claims.{claim_of, announcement, heard_by, kept_for, act_by, told_by}
 use Rattle.desk_core.specs.Preparing.{IsRefused}
 
 -- ---- what is heard, by what a request says of itself
@@ -61,21 +58,8 @@ module _ (claim : Claim) (verb : Verb) (bytes : List ℕ) where
   pub heard_who : (asked : Asked) (who : Option Caller) → asked_of verb bytes ≡ Ok asked → claim.caller ≡ who → heard_by claim verb bytes ≡ hears verb claim.number (Ok asked) who
   heard_who asked who what is = ap (λ (what : Result Asked Refusal). hears verb claim.number what claim.caller) what ∙ ap (hears verb claim.number (Ok asked)) is
 
-  -- a query
-  asked_query : (query : Option Query) → is_act verb ≡ false → query_of verb bytes ≡ query → asked_of verb bytes ≡ queried_in query
-  asked_query query act is = ap (λ (b : Bool). cond b (asked_in (act_of verb bytes)) (queried_in (query_of verb bytes))) act ∙ ap queried_in is
-
-  pub query_unread : is_act verb ≡ false → query_of verb bytes ≡ None → heard_by claim verb bytes ≡ Err (Unread part.Body)
-  query_unread act is = ap (λ (what : Result Asked Refusal). hears verb claim.number what claim.caller) (asked_query None act is)
-
-  pub query_who : (query : Query) (who : Option Caller) → is_act verb ≡ false → query_of verb bytes ≡ Some query → claim.caller ≡ who → heard_by claim verb bytes ≡ hears verb claim.number (Ok (asked.Query query)) who
-  query_who query who act is = heard_who (asked.Query query) who (asked_query (Some query) act is)
-
   pub told_unheard : (past : List Entry) (r : Refusal) → heard_by claim verb bytes ≡ Err r → told_by past claim verb bytes ≡ Err r
   told_unheard past r is = ap (λ (x : Result Heard Refusal). x >>= λ heard. query_in heard.asked >>= answer_of_query past heard.caller.number) is
-
-  pub told_heard : (past : List Entry) (asks : Caller × Query) → heard_by claim verb bytes ≡ Ok (query_heard claim verb asks) → told_by past claim verb bytes ≡ answer_of_query past asks.0.number asks.1
-  told_heard past asks is = ap (λ (x : Result Heard Refusal). x >>= λ heard. query_in heard.asked >>= answer_of_query past heard.caller.number) is
 
 module _ (limit : Option ℕ) (past : List Entry) (bytes : List ℕ) (moment : ℤ) (verb : Verb) (number : ℕ) where
   abbrev steps : Result Heard Refusal → Outcome

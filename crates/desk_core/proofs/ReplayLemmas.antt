@@ -144,8 +144,3 @@ module _ (founder : Key) (past : List Entry) (caller number : ℕ) (moment : ℤ
     never_follows never =
         subst (λ (o : Option Entry). IfSome o (λ entry. IsAdded founder past entry → ⊥)) (sym entry_is)
         (here (λ (x : Entry). IsAdded founder past x → ⊥) (λ is. never (follows founder past (at t) act (entry_added founder past (at t) is))))
-
-    pub may_come : IsInstantNs moment → MayFollow founder past (at t) → IsSomeAnd (entry_of caller number moment code body) (λ entry. IsInstantNs entry.moment × MayFollow founder past entry)
-    may_come instant may =
-        subst (λ (o : Option Entry). IsSomeAnd o (λ entry. IsInstantNs entry.moment × MayFollow founder past entry)) (sym entry_is)
-        (here (λ (x : Entry). IsInstantNs x.moment × MayFollow founder past x) (subst IsInstantNs (sym same) instant, may))

@@ -1,5 +1,5 @@
 -- Rows put into an empty table, one after the other.
-use Rattle.std.proofs.Common.{◌≡◌, ℕ, ◌+◌, ◌<◌, suc, zero, List, [], ◌∷◌, ◌++◌, map, length, take, get_or, true, IsTrue, Ok, Err, Result, OnOk, refl, sym, ap, ◌∙◌, arith}
+use Rattle.std.proofs.Common.{◌≡◌, ℕ, ◌+◌, ◌<◌, suc, zero, List, [], ◌∷◌, ◌++◌, map, length, take, get_or, true, Ok, Err, Result, OnOk, refl, sym, ap, ◌∙◌, arith}
 use Rattle.std.specs.List.{AllByRecursion}
 use Rattle.std.proofs.lemmas.List.{take_more}
 use Rattle.sqlite.specs.State.{State, Shows, KeepsCommit}
@@ -45,13 +45,6 @@ pub goes_on : (old mid new : State) → Goes old mid → Shows mid new new.now m
 goes_on old mid new go shows =
     let next = shown_goes mid new shows in record { going = next.going; kept = goes_then old mid new go next.kept }
 
-pub stays : (old : State) → IsTrue old.in_transaction → Goes old old
-stays old going = record { going = going; kept = record { was_open = λ o. o; committed = λ _. refl } }
-
-pub fills_none : (old : State) → FillsObjects [] old old
-fills_none old lists held none =
-    record { schema = held.schema; objects = held.objects ∙ ap (map stored_object) none; sights = held.sights }
-
 pub fills_more : (old mid new : State) (rows : List ObjectRow) (i : ℕ) (d : ObjectRow) → Ascend (map (λ (o : ObjectRow). o.place) rows)
     → i < length rows → FillsObjects (take i rows) old mid → GainsObject (get_or rows i d) mid new
     → FillsObjects (take (i + 1) rows) old new
@@ -60,10 +53,6 @@ fills_more old mid new rows i d up low filled gains lists held none =
     let made = gains (record lists { objects = take i rows }) (filled lists held none) below in
     let more : take (i + 1) rows ≡ take i rows ++ get_or rows i d ∷ [] = take_more rows i d low in
     record { schema = made.schema; objects = made.objects ∙ ap (map stored_object) (sym more); sights = made.sights }
-
-pub sights_none : (old : State) → FillsSights [] old old
-sights_none old lists held none =
-    record { schema = held.schema; objects = held.objects; sights = held.sights ∙ ap (map stored_sight) none }
 
 pub sights_more : (old mid new : State) (rows : List SightRow) (i : ℕ) (d : SightRow) → Ascend (map (λ (s : SightRow). s.id) rows)
     → i < length rows → FillsSights (take i rows) old mid → GainsSight (get_or rows i d) mid new

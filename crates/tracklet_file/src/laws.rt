@@ -31,7 +31,8 @@ pub fn as_added()
         entry_of (observations_after changes) k ≡ entry_of (added_observations changes) k }
     ensures tracks { (changes : List Change) (k : ℕ) →
         track_of (observations_after changes) k ≡ track_of (added_observations changes) k }
-    ensures count { (changes : List Change) → length (observations_after changes) ≡ length (added_observations changes) }
+    ensures count { (changes : List Change) →
+        length (observations_after changes) ≡ length (added_observations changes) }
 {}
 
 /// Over every list of calls, the observations of a tracklet are those that were added as its own, in their order.
