@@ -144,37 +144,3 @@ impl<T: Copy> ItemList<T> {
         })
     }
 }
-
-#[cfg(test)]
-mod tests {
-    use super::*;
-    use std::test::Fail;
-
-    #[test]
-    fn keeps_items_in_order(rt: HostRuntime) -> Result<(), Fail> {
-        let mut list = ItemList::with_capacity(rt.alloc(), 1)?;
-        assert!(rt; list.is_empty());
-        for item in [7u16, 8, 9] {
-            list.push(item)?;
-        }
-        list.extend_from_slice(&[1, 2])?;
-        for (place, wanted) in [(0, Some(7)), (2, Some(9)), (4, Some(2)), (5, None)] {
-            assert_eq!(rt; list.get(place).copied(), wanted, "at {place}");
-        }
-        assert_eq!(rt; list.len(), 5);
-        list.truncate(9);
-        assert_eq!(rt; list.len(), 5);
-        list.truncate(2);
-        assert_eq!(rt; list.as_slice(), [7, 8].as_slice());
-        list.extend_from_slice(&[9, 1, 2])?;
-        let copy = ItemList::from_slice(rt.alloc(), list.as_slice())?;
-        assert_eq!(rt; copy.iter().copied().max(), Some(9));
-        let none: ItemList<u16> = ItemList::new(rt.alloc());
-        assert_eq!(rt; none.as_slice().len(), 0);
-        let mut handed_over = list.into_iter();
-        for wanted in [Some(7), Some(8), Some(9), Some(1), Some(2), None] {
-            assert_eq!(rt; handed_over.next(), wanted);
-        }
-        Ok(())
-    }
-}
