@@ -1,9 +1,11 @@
-//! Tests of what people write in requests and on the command line: the bodies of acts, the tables that they fill, the
-//! words of a command, and the usage that is printed where words name none.
+//! Tests of what people write in requests and on the command line: batches of ADES, the bodies of acts, the tables that
+//! they fill, the words of a command, and the usage that is printed where words name none.
 //!
 //! A crate with tests is proved twice, with and without them, so they stand in a crate above those that they test.
 #![tactic(auto)]
 
+#[cfg(test)]
+mod ades;
 #[cfg(test)]
 mod bodies;
 #[cfg(test)]

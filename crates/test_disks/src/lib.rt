@@ -1,4 +1,4 @@
-//! Tests of disks in memory and on a real file, and of a first file on them.
+//! Tests of disks in memory and on a real file, and of both files of a journal on them.
 //!
 //! A crate with tests is proved twice, with and without them, so they stand in a crate above those that they test.
 #![tactic(auto)]
@@ -7,6 +7,8 @@
 mod calls;
 #[cfg(test)]
 mod cases;
+#[cfg(test)]
+mod chains;
 #[cfg(test)]
 mod disks;
 #[cfg(test)]

@@ -1,15 +1,13 @@
-//! Tests of whole sessions of frames over disks in memory: in pieces, with failing streams and disks, with large
-//! bodies, and with acts on tracklets, objects and numbers.
+//! Tests of whole sessions of frames over disks in memory: in pieces, with failing streams, with large bodies, with acts
+//! on tracklets, objects and numbers, and with what the office tells, the catalogue among it.
 //!
 //! A crate with tests is proved twice, with and without them, so they stand in a crate above those that they test.
 #![tactic(auto)]
 
 #[cfg(test)]
+mod catalogues;
+#[cfg(test)]
 mod counts;
-#[cfg(test)]
-mod crashes;
-#[cfg(test)]
-mod disks;
 #[cfg(test)]
 mod edges;
 #[cfg(test)]
@@ -21,7 +19,7 @@ mod members;
 #[cfg(test)]
 mod objects;
 #[cfg(test)]
-mod opened_journals;
+mod queries;
 #[cfg(test)]
 mod runs;
 #[cfg(test)]

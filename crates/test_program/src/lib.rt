@@ -1,9 +1,13 @@
-//! Tests of connections: attended at the lock, and served by the program's command `serve` over doors in memory, over a
-//! port of this machine, and where connections wait for one another.
+//! Tests of the program's commands: without a door, over sources, sinks, disks, clocks and mirrors in memory; and with
+//! one, over doors in memory and a port of this machine, where connections are attended and wait for one another.
 //!
 //! A crate with tests is proved twice, with and without them, so they stand in a crate above those that they test.
 #![tactic(auto)]
 
+#[cfg(test)]
+mod comets;
+#[cfg(test)]
+mod command_lines;
 #[cfg(test)]
 mod connections;
 #[cfg(test)]
@@ -13,6 +17,8 @@ mod holding;
 #[cfg(test)]
 mod limits;
 #[cfg(test)]
+mod look;
+#[cfg(test)]
 mod sockets;
 #[cfg(test)]
 mod submitting;
@@ -20,3 +26,5 @@ mod submitting;
 mod targets;
 #[cfg(test)]
 mod waiting;
+#[cfg(test)]
+mod workload;

@@ -2,11 +2,11 @@
 //!
 //! What appends is over any disk: the type of a disk in memory makes each proof that it stands in dear.
 
-use crate::appends::{
+use super::appends::{
     ADDED, Appending, DONE, DROPPED, IN_DOUBT, Mending, NOTHING, STAYS, UNTOUCHED, journal_on,
     next_on,
 };
-use crate::files::{disk_with, expect_none_wrong, one, other};
+use super::files::{disk_with, expect_none_wrong, one, other};
 use disk_model::Disk;
 use obs_journal::{Journal, Parcel};
 use std::alloc::Global;

@@ -1,6 +1,6 @@
 use Rattle.std.proofs.Common.{length}
 use Rattle.ades_psv.specs.Feeding.{HasRoom}
-use Rattle.test_ades.proofs.pieces.said_in_pieces.Given as goal
+use Rattle.test_bodies.proofs.ades.pieces.said_in_pieces.Given as goal
 
 abbrev pub invariant-pieces : goal.invariant-pieces
 invariant-pieces l = HasRoom l.reader (length l.rest)

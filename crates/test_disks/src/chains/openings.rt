@@ -4,8 +4,8 @@
 
 ghost use Rattle.std.specs.Prelude.{◌≡◌, ◌≤◌, None, IfSome};
 
-use crate::appends::{DONE, NOTHING, after_appends, next_on};
-use crate::files::{
+use super::appends::{DONE, NOTHING, after_appends, next_on};
+use super::files::{
     BOTH, Held, ONE, OTHER, Opened, PLAIN_BOTH, disk_with, expect_none_wrong, held_on, one,
     opened_on, other,
 };

@@ -4,7 +4,7 @@
 
 ghost use Rattle.std.specs.Prelude.{◌≡◌, ◌≤◌, None, IfSome};
 
-use crate::files::{
+use super::files::{
     BOTH, Held, disk_with, expect_none_wrong, held_on, is_file, may_be_left, one, other,
 };
 use disk_model::{Disk, Failed, MemDisk};

@@ -1,7 +1,7 @@
 //! Many observations whose times are in no order, and whether the file finds their places as a plain list does.
 
-use crate::calls::lines::live_lines;
-use crate::calls::plain::Plain;
+use super::calls::lines::live_lines;
+use super::calls::plain::Plain;
 use item_list::NoMemory;
 use std::alloc::Global;
 use testkit_lines::{ENTRY, begin_track, observe, retract, seen};

@@ -2,7 +2,7 @@
 //!
 //! What carries is over any disk: the type of a disk in memory makes each proof that it stands in dear.
 
-use crate::files::{
+use super::files::{
     BOTH, Held, ONE, PLAIN_BOTH, PLAIN_ONE, disk_with, expect_none_wrong, held_on, is_file,
     may_be_left,
 };

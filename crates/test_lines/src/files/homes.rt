@@ -1,6 +1,6 @@
 //! Tracklets that are given to designations and released, and what is found by designation after each call.
 
-use crate::calls::{Call, make};
+use super::calls::{Call, make};
 use item_list::NoMemory;
 use obs_record::Short;
 use packed_names::{Designation, HalfMonth, Provisional};
