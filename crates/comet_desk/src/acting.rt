@@ -22,7 +22,7 @@ ghost use Rattle.comet_core.specs.Preparing.{announcement};
 ghost use Rattle.comet_desk.specs.Desks.{IsBeside, IsAtRest, ActsInTurn, TakesTurn, TakesAct};
 ghost use Rattle.comet_desk.specs.Events.{IsAct, IsQuery};
 
-use crate::desk::CometDesk;
+use crate::desk::{CometDesk, let_go_act};
 use act_model::{Entry, Shelf};
 use comet_core::Prep;
 use comet_model::{CometRefusal, CometReply, CometRequest};
@@ -218,13 +218,13 @@ impl<D: Disk> CometDesk<D> {
             Prep::Ready(prepared) => prepared,
         };
         let Ok(parcel) = parcel_of(self.alloc, prepared.entry()) else {
-            drop(prepared);
+            let_go_act(Some(prepared));
             return CometReply::Refused(CometRefusal::NoMemory);
         };
         match self.journal.append(parcel) {
             Ok(()) => self.register.commit(prepared),
             Err(AppendFault::Untouched) => {
-                drop(prepared);
+                let_go_act(Some(prepared));
                 CometReply::Refused(CometRefusal::DiskFault { doubt: false })
             }
             Err(AppendFault::InDoubt) => {

@@ -12,6 +12,7 @@ ghost use Rattle.comet_desk.specs.Desks.{IsNextEntry, IsBeside, IsDesk, IsAtRest
 ghost use Rattle.comet_desk.specs.Events.{IsMending};
 
 use comet_core::{Prepared, Register};
+use comet_model::CometReply;
 use disk_model::{Disk, Failed};
 use obs_journal::{Journal, Settled};
 use std::alloc::Global;
@@ -51,6 +52,22 @@ impl<D: Disk> Model for CometDesk<D> {
     ghost invariant = { λ d. IsDesk D.leaves d.register d.journal d.doubt };
 }
 
+/// Lets a register go. So deep a type is let go in one place, since the proof of that takes long, and where it stands
+/// in a longer function the list of its steps is as long again.
+pub(crate) fn let_go(register: Register) {
+    drop(register);
+}
+
+/// Lets an act that was worked out go, where there is one.
+pub(crate) fn let_go_act(act: Option<Prepared>) {
+    drop(act);
+}
+
+/// Lets a reply go.
+fn let_go_reply(reply: CometReply) {
+    drop(reply);
+}
+
 /// Adds the entry of the act in doubt, where its parcel was kept.
 fn settle(register: &mut Register, doubt: Option<Prepared>, settled: Settled)
     requires next { IfSome doubt (IsNextEntry register.old) }
@@ -58,12 +75,9 @@ fn settle(register: &mut Register, doubt: Option<Prepared>, settled: Settled)
     ensures comets { register.new.comets ≡ named_after settled doubt register.old.comets }
     ensures founder { register.new.founder ≡ register.old.founder }
 {
-    match settled {
-        Settled::Dropped | Settled::Nothing => return,
-        Settled::Added => {}
-    }
-    if let Some(prepared) = doubt {
-        register.commit(prepared);
+    match (settled, doubt) {
+        (Settled::Added, Some(prepared)) => let_go_reply(register.commit(prepared)),
+        (_, doubt) => let_go_act(doubt),
     }
 }
 
@@ -122,7 +136,14 @@ impl<D: Disk> CometDesk<D> {
     pub fn close(self) -> D
         ensures { result ≡ self.disk }
     {
-        let CometDesk { journal, .. } = self;
+        let CometDesk {
+            register,
+            journal,
+            doubt,
+            ..
+        } = self;
+        let_go(register);
+        let_go_act(doubt);
         journal.close()
     }
 }

@@ -17,7 +17,7 @@ ghost use Rattle.comet_core.specs.Register.{IsOver};
 ghost use Rattle.comet_desk.specs.Desks.{IsBeside, IsAtRest};
 ghost use Rattle.comet_desk.specs.Opening.{ComesNext, IsNotNext, StopsIn, IsDamaged, EndsOpening, disk_after};
 
-use crate::desk::CometDesk;
+use crate::desk::{CometDesk, let_go};
 use crate::laws as desk_laws;
 use act_model::{Key, Shelf};
 use comet_core::{Register, ReplayFault};
@@ -128,7 +128,10 @@ fn open_chain<D: Disk, V: Shelf>(
 {
     let (journal, parcels) = match Journal::open(alloc, disk) {
         Ok(opened) => opened,
-        Err((fault, disk)) => return Err((of_register(fault), disk)),
+        Err((fault, disk)) => {
+            let_go(register);
+            return Err((of_register(fault), disk));
+        }
     };
     // A position is fewer than 2 ^ 64 bytes.
     let _ = journal.position();
@@ -140,7 +143,10 @@ fn open_chain<D: Disk, V: Shelf>(
             limit,
             doubt: None,
         }),
-        Err(fault) => Err((fault, journal.close())),
+        Err(fault) => {
+            let_go(register);
+            Err((fault, journal.close()))
+        }
     }
 }
 
@@ -173,7 +179,10 @@ fn begin<D: Disk>(
             limit,
             doubt: None,
         }),
-        Err(disk) => Err((OpenFault::DiskFault, disk)),
+        Err(disk) => {
+            let_go(register);
+            Err((OpenFault::DiskFault, disk))
+        }
     }
 }
 
@@ -205,6 +214,7 @@ impl<D: Disk> CometDesk<D> {
             return Err((OpenFault::NoMemory, disk));
         };
         let Ok(is_in_force) = in_force(&mut disk) else {
+            let_go(register);
             return Err((OpenFault::DiskFault, disk));
         };
         if is_in_force {

@@ -18,7 +18,7 @@ ghost use Rattle.mpc_desk.specs.Desks.{IsAtRest, ActsInTurn, TakesAct, office_of
 ghost use Rattle.mpc_desk.specs.Disks.{disk_words};
 ghost use Rattle.mpc_desk.specs.Events.{IsAct, IsQuery};
 
-use crate::chained::ChainedDesk;
+use crate::chained::{ChainedDesk, let_go_act};
 use crate::laws::lines_are_added;
 use crate::parcels::parcel_of;
 use act_model::{Refusal, Reply, Request};
@@ -156,17 +156,17 @@ impl<D: Disk> ChainedDesk<D> {
             Prep::Ready(prepared) => prepared,
         };
         let Ok(parcel) = parcel_of(self.alloc, prepared.entry()) else {
-            drop(prepared);
+            let_go_act(Some(prepared));
             return Reply::Refused(Refusal::NoMemory);
         };
         match self.journal.append(parcel) {
             Ok(()) => self.core.commit(prepared),
             Err(AppendFault::Untouched) => {
-                drop(prepared);
+                let_go_act(Some(prepared));
                 Reply::Refused(Refusal::DiskFault { doubt: false })
             }
             Err(AppendFault::InDoubt) => {
-                self.doubt = Some(prepared);
+                let_go_act(self.doubt.replace(prepared));
                 Reply::Refused(Refusal::DiskFault { doubt: true })
             }
         }

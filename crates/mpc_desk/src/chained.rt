@@ -12,6 +12,7 @@ ghost use Rattle.mpc_desk.specs.Desks.{IsNext, IsDesk, IsAtRest, settled_by};
 ghost use Rattle.mpc_desk.specs.Disks.{disk_words};
 ghost use Rattle.mpc_desk.specs.Events.{IsMending};
 
+use act_model::Reply;
 use desk_core::{Core, Prepared};
 use disk_model::{Disk, Failed};
 use obs_journal::{Journal, Settled};
@@ -48,9 +49,20 @@ impl<D: Disk> Model for ChainedDesk<D> {
     ghost invariant = { λ d. IsDesk D.leaves d.core d.journal d.doubt };
 }
 
-/// Lets an office go. So deep a type is let go in one place, since the proof of that takes long.
+/// Lets an office go. So deep a type is let go in one place, since the proof of that takes long, and where it stands in
+/// a longer function the list of its steps is as long again.
 pub(crate) fn let_go(core: Core) {
     drop(core);
+}
+
+/// Lets an act that was worked out go, where there is one.
+pub(crate) fn let_go_act(act: Option<Prepared>) {
+    drop(act);
+}
+
+/// Lets a reply go.
+fn let_go_reply(reply: Reply) {
+    drop(reply);
 }
 
 /// Adds the entry of the act in doubt, where its parcel was kept.
@@ -59,12 +71,9 @@ fn settle(core: &mut Core, doubt: Option<Prepared>, settled: Settled)
     ensures history { core.new.history ≡ settled_by settled doubt core.old.history }
     ensures founder { core.new.founder ≡ core.old.founder }
 {
-    match settled {
-        Settled::Dropped | Settled::Nothing => return,
-        Settled::Added => {}
-    }
-    if let Some(prepared) = doubt {
-        core.commit(prepared);
+    match (settled, doubt) {
+        (Settled::Added, Some(prepared)) => let_go_reply(core.commit(prepared)),
+        (_, doubt) => let_go_act(doubt),
     }
 }
 
@@ -121,8 +130,14 @@ impl<D: Disk> ChainedDesk<D> {
     pub fn close(self) -> D
         ensures { result ≡ self.disk }
     {
-        let ChainedDesk { journal, core, .. } = self;
+        let ChainedDesk {
+            journal,
+            core,
+            doubt,
+            ..
+        } = self;
         let_go(core);
+        let_go_act(doubt);
         journal.close()
     }
 }

@@ -1,6 +1,6 @@
 //! What is said about the office after the workload.
 
-ghost use Rattle.std.specs.Prelude.{◌≡◌, ◌≤◌, ◌++◌, false, length, IfOk, OnOk};
+ghost use Rattle.std.specs.Prelude.{◌≡◌, ◌≤◌, ◌++◌, [], false, length, IfOk, OnOk};
 ghost use Rattle.act_model.specs.Catalogue.{catalogue};
 ghost use Rattle.act_model.specs.Deeds.{deeds};
 ghost use Rattle.act_model.specs.Designations.{links_of, principals};
@@ -9,6 +9,7 @@ ghost use Rattle.act_model.specs.Tallies.{tally, tally_text};
 ghost use Rattle.office_workload.specs.Running.{is_no_memory};
 ghost use Rattle.office_workload.specs.Summaries.{head_line, last_line, last_designation, catalogue_line, summary_at};
 ghost use Rattle.office_workload.specs.Summaries.{summary};
+ghost use Rattle.office_workload.specs.Workloads.{officer};
 
 use crate::counting::catalogue_bytes;
 use crate::requests::{officer, push_numbered};
@@ -120,6 +121,30 @@ fn told_refusal(alloc: Global, refusal: Refusal) -> Result<Bytes, NoMemory>
     refusal_text(alloc, refusal)
 }
 
+/// What is said of an office without entries that takes the workload.
+fn summary_of(
+    alloc: Global,
+    keeper: &mut PlainKeeper,
+    seed: u64,
+    count: u64,
+) -> Result<Bytes, NoMemory>
+    requires last { count ≤ 20000 }
+    requires founder { keeper.old.founder ≡ officer }
+    requires empty { keeper.old.history ≡ [] }
+    ensures { IfOk result (λ text. text ≡ summary seed count) }
+{
+    match take_all(alloc, keeper, seed, count) {
+        Ok(()) => summary_at(alloc, keeper.core(), seed, count),
+        Err(refusal) => told_refusal(alloc, refusal),
+    }
+}
+
+/// Lets an office go. So deep a type is let go in one place, since the proof of that takes long, and where it stands in
+/// a longer function the list of its steps is as long again.
+fn let_go(keeper: PlainKeeper) {
+    drop(keeper);
+}
+
 /// The summary of the workload that this seed starts, of this many objects, at most 20,000. The requests are taken by
 /// an office in memory one after another; then the tally of the office is told, its last designation, and how many
 /// bytes its catalogue has. Where a request is refused, the lines of the first refusal stand in the summary's place. It
@@ -132,9 +157,12 @@ pub fn summary(alloc: Global, seed: u64, count: u64) -> Result<Bytes, NoMemory>
     requires { count ≤ 20000 }
     ensures { IfOk result (λ text. text ≡ summary seed count) }
 {
-    let mut keeper = PlainKeeper::new(alloc, officer())?;
-    match take_all(alloc, &mut keeper, seed, count) {
-        Ok(()) => summary_at(alloc, keeper.core(), seed, count),
-        Err(refusal) => told_refusal(alloc, refusal),
+    match PlainKeeper::new(alloc, officer()) {
+        Ok(mut keeper) => {
+            let text = summary_of(alloc, &mut keeper, seed, count);
+            let_go(keeper);
+            text
+        }
+        Err(_) => Err(AllocError),
     }
 }

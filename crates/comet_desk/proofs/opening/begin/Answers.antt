@@ -36,6 +36,6 @@ pub returns-in-Ok-clause-any_moment : goal.returns-in-Ok-clause-any_moment
 returns-in-Ok-clause-any_moment g c =
     subst (λ (places : List Placed). During g.D.Disk.moment g.D.Disk.since c.args.disk c.in-Ok.journal.disk (IsCarriedInto (g.D.Disk.reads c.args.disk) (parcels_of places))) c.new.ensures c.in-Ok.ensures.any_moment
 
-pub returns-in-Err-clause-any_moment : goal.returns-in-Err-clause-any_moment
-returns-in-Err-clause-any_moment g c =
+pub returns-clause-any_moment : goal.returns-clause-any_moment
+returns-clause-any_moment g c =
     subst (λ (places : List Placed). During g.D.Disk.moment g.D.Disk.since c.args.disk c.in-Err.disk (IsCarriedInto (g.D.Disk.reads c.args.disk) (parcels_of places))) c.new.ensures c.in-Err.ensures.any_moment

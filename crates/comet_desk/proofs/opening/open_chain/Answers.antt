@@ -40,8 +40,8 @@ returns-in-Err-clause-damaged g c = λ file offset same.
     let d = c.in-Err.ensures.damaged is.1.0 offset is.1.1 in
     (is.0, if_some (g.D.Disk.reads c.args.disk) (λ bytes. IsBrokenAt bytes offset) (λ bytes. IsDamaged c.args.register.founder (deeds (g.V.Shelf.history c.args.shelf.now)) bytes offset) (λ bytes broken. inl broken) d.1)
 
-pub returns-in-Err-replay_all-clause-damaged : goal.returns-in-Err-replay_all-clause-damaged
-returns-in-Err-replay_all-clause-damaged g c = λ file offset same.
+pub returns-clause-damaged : goal.returns-clause-damaged
+returns-clause-damaged g c = λ file offset same.
     let desk = deeds (g.V.Shelf.history c.args.shelf.now) in
     let d = c.in-Err-replay_all.ensures.damaged file offset (ap (λ (fault : OpenFault). Err fault) same) in
     let places = c.in-Ok.opened.1 in

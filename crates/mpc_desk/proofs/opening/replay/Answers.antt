@@ -1,5 +1,5 @@
 use Rattle.std.proofs.Common.{◌≡◌, ◌∷◌, Option, w64, subst, ◌∙◌}
-use Rattle.std.specs.Prelude.{IsSomeAnd}
+use Rattle.std.specs.Prelude.{IfSome, IsSomeAnd}
 use Rattle.std.proofs.lemmas.Int.{to_z-of_z}
 use Rattle.act_model.specs.declared.entry.Entry.{Entry}
 use Rattle.act_model.specs.Legal.{IsAdded}
@@ -15,3 +15,10 @@ returns-clause-taken c =
     (entry_same c.caller.result c.number.result _ c.verb.result c.body.result.now c.args.parcel.now c.caller.ensures c.number.ensures (to_z-of_z w64 c.moment.result (record { sfits = c.moment.type_inv }) ∙ c.moment.ensures) c.verb.ensures c.body.ensures)
     taken))
     c.replay.ensures.added
+
+-- the fields stay closed, since the verb of a number has fourteen cases
+pub returns-clause-not_next : goal.returns-clause-not_next
+returns-clause-not_next c = λ fault entry same added.
+    subst (λ (o : Option Entry). IfSome o (λ (e : Entry). IsAdded c.args.core.now.founder c.args.core.now.history e → ⊥))
+    (entry_same c.caller.result c.number.result _ c.verb.result c.body.result.now c.args.parcel.now c.caller.ensures c.number.ensures (to_z-of_z w64 c.moment.result (record { sfits = c.moment.type_inv }) ∙ c.moment.ensures) c.verb.ensures c.body.ensures ∙ same)
+    (c.replay.ensures.not_legal fault) added

@@ -1,4 +1,4 @@
-use Rattle.std.proofs.Common.{◌≡◌, ◌<◌, List, true, false, refl, Some, Err, sym, ap, subst, ◌∙◌, inr, arith}
+use Rattle.std.proofs.Common.{◌≡◌, ◌<◌, List, Option, true, false, refl, Some, Err, sym, ap, subst, ◌∙◌, inr, arith}
 use Rattle.std.specs.Prelude.{◌^◌, IsErrOf}
 use Rattle.obs_journal.specs.declared.journal.AppendFault.{AppendFault}
 use Rattle.obs_journal.specs.declared.journal.AppendFault.TheVariants.{Untouched, InDoubt}
@@ -9,9 +9,10 @@ use Rattle.act_model.specs.declared.entry.Entry.{Entry}
 use Rattle.act_model.specs.declared.reply.Refusal.TheVariants.{NoMemory, DiskFault}
 use Rattle.act_model.specs.declared.reply.Reply.TheVariants.{Refused}
 use Rattle.act_model.specs.Refusals.{bytes_used, entry_size}
+use Rattle.desk_core.specs.declared.prepared.Prepared.{Prepared}
 use Rattle.desk_core.specs.Office.{IsOfAct, IsReadyAt}
 use Rattle.mpc_desk.specs.Files.{parcel_of}
-use Rattle.mpc_desk.specs.Desks.{DeskState, TakesAct, state_of}
+use Rattle.mpc_desk.specs.Desks.{DeskState, IsDesk, TakesAct, state_of}
 use Rattle.mpc_desk.proofs.FileLemmas.{rests}
 use Rattle.mpc_desk.proofs.Mended.{position_is}
 use Rattle.mpc_desk.proofs.Acted.{answers_kept, answers_refused, prepared_desk, room_is, kept_desk, doubted_desk, untouched_desk, stays, keeps_it, fails_it, untouched_state, doubted_state}
@@ -51,9 +52,10 @@ invariant_of-self-in-Err-Untouched g c =
 
 pub invariant_of-self-in-Err-InDoubt : goal.invariant_of-self-in-Err-InDoubt
 invariant_of-self-in-Err-InDoubt g c =
-    doubted_desk g.D.Disk.leaves c.self.inside.core c.prepare.new.self c.self.inside.journal c.self.inside.doubt c.self.invariant (ap (λ (d : DeskState g.row.D.Denot). d.state.doubt) c.self.view_is ∙ c.requires.settled) c.in-Ready.ensures.history c.in-Ready.ensures.founder c.self.inside.limit c.args.request.now c.args.reading c.histories_are_legal.ensures.step c.requires.reading c.in-Ready.prepared.entry c.in-Ready.ensures.answer.0
+    subst (λ (d : Option Prepared). IsDesk {D = g.row.D.Denot} g.D.Disk.leaves c.prepare.new.self c.append.new.self d) (sym c.replace.ensures.after)
+    (doubted_desk g.D.Disk.leaves c.self.inside.core c.prepare.new.self c.self.inside.journal c.self.inside.doubt c.self.invariant (ap (λ (d : DeskState g.row.D.Denot). d.state.doubt) c.self.view_is ∙ c.requires.settled) c.in-Ready.ensures.history c.in-Ready.ensures.founder c.self.inside.limit c.args.request.now c.args.reading c.histories_are_legal.ensures.step c.requires.reading c.in-Ready.prepared.entry c.in-Ready.ensures.answer.0
     c.append.new.self c.in-Ok.parcel c.in-Ready.prepared refl (c.in-Ok.ensures ∙ ap parcel_of c.entry.ensures.entry) (subst IsOfAct c.entry.ensures.entry (c.entry.ensures.act, c.entry.ensures.short)) (subst (λ (h : List Entry). IsReadyAt h c.in-Ready.prepared) (sym c.in-Ready.ensures.history) c.in-Ready.ensures.answer.1) c.in-Ready.ensures.answer.2
-    (room_is g.D.Disk.leaves c.self.inside.core c.prepare.new.self c.self.inside.journal c.self.inside.doubt c.self.invariant (ap (λ (d : DeskState g.row.D.Denot). d.state.doubt) c.self.view_is ∙ c.requires.settled) c.in-Ready.ensures.history c.in-Ready.ensures.founder c.self.inside.limit c.in-Ready.prepared.entry.body (let fits : c.self.inside.limit < 2 ^ 64 = omega (arith, c.self.ranges) in fits) c.in-Ready.ensures.answer.3) (c.in-Err-InDoubt.ensures.in_doubt (subst (λ (f : AppendFault). IsErrOf {T = Unit {0}} (Err f) InDoubt) (sym c.in-Err-InDoubt.field-0-is) refl))
+    (room_is g.D.Disk.leaves c.self.inside.core c.prepare.new.self c.self.inside.journal c.self.inside.doubt c.self.invariant (ap (λ (d : DeskState g.row.D.Denot). d.state.doubt) c.self.view_is ∙ c.requires.settled) c.in-Ready.ensures.history c.in-Ready.ensures.founder c.self.inside.limit c.in-Ready.prepared.entry.body (let fits : c.self.inside.limit < 2 ^ 64 = omega (arith, c.self.ranges) in fits) c.in-Ready.ensures.answer.3) (c.in-Err-InDoubt.ensures.in_doubt (subst (λ (f : AppendFault). IsErrOf {T = Unit {0}} (Err f) InDoubt) (sym c.in-Err-InDoubt.field-0-is) refl)))
 
 pub returns-in-Ok-append-clause-takes : goal.returns-in-Ok-append-clause-takes
 returns-in-Ok-append-clause-takes g c =
@@ -67,8 +69,9 @@ returns-in-Err-Untouched-clause-takes g c =
 
 pub returns-in-Err-InDoubt-clause-takes : goal.returns-in-Err-InDoubt-clause-takes
 returns-in-Err-InDoubt-clause-takes g c =
-    subst (λ (d : DeskState g.row.D.Denot). TakesAct {D = g.row.D.Denot} g.D.Disk.moment g.D.Disk.since g.D.Disk.faults (record { old = d; request = c.args.request.now; reading = c.args.reading; reply = (Refused (DiskFault true)); new = record { founder = c.prepare.new.self.founder; limit = c.self.inside.limit; state = state_of c.prepare.new.self (Some c.in-Ready.prepared); disk = c.append.new.self.disk } })) c.self.view_is
-    (fails_it g.D.Disk.leaves c.self.inside.core c.prepare.new.self c.self.inside.journal c.self.inside.doubt c.self.invariant (ap (λ (d : DeskState g.row.D.Denot). d.state.doubt) c.self.view_is ∙ c.requires.settled) c.in-Ready.ensures.history c.in-Ready.ensures.founder g.D.Disk.moment g.D.Disk.since g.D.Disk.faults c.self.inside.limit c.args.request.now c.args.reading c.in-Ready.prepared.entry c.in-Ready.ensures.answer.0 (subst IsOfAct c.entry.ensures.entry (c.entry.ensures.act, c.entry.ensures.short)) c.in-Ok.parcel (c.in-Ok.ensures ∙ ap parcel_of c.entry.ensures.entry) c.append.new.self c.append.ensures.any_moment true (Some c.in-Ready.prepared) (doubted_state g.D.Disk.leaves c.self.inside.core c.prepare.new.self c.self.inside.journal c.self.inside.doubt c.self.invariant (ap (λ (d : DeskState g.row.D.Denot). d.state.doubt) c.self.view_is ∙ c.requires.settled) c.in-Ready.ensures.history c.in-Ready.ensures.founder c.in-Ready.prepared) c.in-Err-InDoubt.ensures.cause)
+    subst (λ (o : Option Prepared). TakesAct {D = g.row.D.Denot} g.D.Disk.moment g.D.Disk.since g.D.Disk.faults (record { old = c.args.self.now; request = c.args.request.now; reading = c.args.reading; reply = (Refused (DiskFault true)); new = record { founder = c.prepare.new.self.founder; limit = c.self.inside.limit; state = state_of c.prepare.new.self o; disk = c.append.new.self.disk } })) (sym c.replace.ensures.after)
+    (subst (λ (d : DeskState g.row.D.Denot). TakesAct {D = g.row.D.Denot} g.D.Disk.moment g.D.Disk.since g.D.Disk.faults (record { old = d; request = c.args.request.now; reading = c.args.reading; reply = (Refused (DiskFault true)); new = record { founder = c.prepare.new.self.founder; limit = c.self.inside.limit; state = state_of c.prepare.new.self (Some c.in-Ready.prepared); disk = c.append.new.self.disk } })) c.self.view_is
+    (fails_it g.D.Disk.leaves c.self.inside.core c.prepare.new.self c.self.inside.journal c.self.inside.doubt c.self.invariant (ap (λ (d : DeskState g.row.D.Denot). d.state.doubt) c.self.view_is ∙ c.requires.settled) c.in-Ready.ensures.history c.in-Ready.ensures.founder g.D.Disk.moment g.D.Disk.since g.D.Disk.faults c.self.inside.limit c.args.request.now c.args.reading c.in-Ready.prepared.entry c.in-Ready.ensures.answer.0 (subst IsOfAct c.entry.ensures.entry (c.entry.ensures.act, c.entry.ensures.short)) c.in-Ok.parcel (c.in-Ok.ensures ∙ ap parcel_of c.entry.ensures.entry) c.append.new.self c.append.ensures.any_moment true (Some c.in-Ready.prepared) (doubted_state g.D.Disk.leaves c.self.inside.core c.prepare.new.self c.self.inside.journal c.self.inside.doubt c.self.invariant (ap (λ (d : DeskState g.row.D.Denot). d.state.doubt) c.self.view_is ∙ c.requires.settled) c.in-Ready.ensures.history c.in-Ready.ensures.founder c.in-Ready.prepared) c.in-Err-InDoubt.ensures.cause))
 
 pub returns-in_default-clause-at_rest : goal.returns-in_default-clause-at_rest
 returns-in_default-clause-at_rest g c = rests g.D.Disk.leaves c.doubtful_chain.ensures c.prepare.new.self c.self.inside.journal c.self.inside.doubt (prepared_desk g.D.Disk.leaves c.self.inside.core c.prepare.new.self c.self.inside.journal c.self.inside.doubt c.self.invariant (ap (λ (d : DeskState g.row.D.Denot). d.state.doubt) c.self.view_is ∙ c.requires.settled) c.in-Ready.ensures.history c.in-Ready.ensures.founder)
@@ -77,7 +80,7 @@ pub returns-in-Err-Untouched-clause-at_rest : goal.returns-in-Err-Untouched-clau
 returns-in-Err-Untouched-clause-at_rest g c = rests g.D.Disk.leaves c.doubtful_chain.ensures c.prepare.new.self c.append.new.self c.self.inside.doubt (invariant_of-self-in-Err-Untouched g c)
 
 pub returns-in-Err-InDoubt-clause-at_rest : goal.returns-in-Err-InDoubt-clause-at_rest
-returns-in-Err-InDoubt-clause-at_rest g c = rests g.D.Disk.leaves c.doubtful_chain.ensures c.prepare.new.self c.append.new.self (Some c.in-Ready.prepared) (invariant_of-self-in-Err-InDoubt g c)
+returns-in-Err-InDoubt-clause-at_rest g c = rests g.D.Disk.leaves c.doubtful_chain.ensures c.prepare.new.self c.append.new.self c.replace.new.self (invariant_of-self-in-Err-InDoubt g c)
 
 pub returns-in-Ok-append-clause-at_rest : goal.returns-in-Ok-append-clause-at_rest
 returns-in-Ok-append-clause-at_rest g c = rests g.D.Disk.leaves c.doubtful_chain.ensures c.commit.new.self c.append.new.self c.self.inside.doubt (invariant_of-self-in-Ok-append g c)
