@@ -1,6 +1,6 @@
 //! What a mirror keeps where something fails, and words that are no command.
 
-use mirror_store::MemMirror;
+use mirror_store::{MemMirror, Mirror};
 use std::alloc::Global;
 use testkit_mirror::{Holds, NOTHING, Turn, mirror_in_turn, mirror_of};
 use testkit_sessions::{CHAINED, Call, Drive, Drives, PLAIN, Script, Wrong};
@@ -52,40 +52,56 @@ fn failing_mirror(alloc: Global) -> Result<(), Wrong> {
 }
 
 /// A mirror that holds an object, over an office on two empty disks.
-fn holding(alloc: Global, mirror: &mut MemMirror) -> Result<(), Wrong> {
+fn holding<M: Mirror>(alloc: Global, mirror: &mut M) -> Result<(), Wrong> {
     let mut script = Script::new(alloc);
     script.add_transcript(OPENING)?;
     let turns: [Turn; 2] = [(script.call(1), NOTHING), (mirror_of(1, CARRIED), EA)];
     mirror_in_turn(alloc, &Drives::EMPTY, mirror, &turns)
 }
 
-/// A second file that is cut short, a first one, a disk that fails, and words with one more: the mirror holds what it
-/// held before.
-fn unopened(alloc: Global) -> Result<(), Wrong> {
-    let mut mirror = MemMirror::new(alloc, &[])?;
-    holding(alloc, &mut mirror)?;
+/// A mirror that holds an object holds it after this call.
+fn keeps<M: Mirror>(
+    alloc: Global,
+    drives: &Drives,
+    mirror: &mut M,
+    call: Call,
+) -> Result<(), Wrong> {
+    mirror_in_turn(alloc, drives, mirror, &[(call, EA)])
+}
+
+/// A second file that is cut short, and a first one.
+fn over_cut_files<M: Mirror>(alloc: Global, mirror: &mut M) -> Result<(), Wrong> {
     let (cut, _) = CHAINED.split_at(40);
     let drives = Drives::with_second(Drive::kept(cut));
-    let turns: [Turn; 1] = [(ends(0, "Damaged in 2 at 1", 5), EA)];
-    mirror_in_turn(alloc, &drives, &mut mirror, &turns)?;
+    keeps(alloc, &drives, mirror, ends(0, "Damaged in 2 at 1", 5))?;
     let (cut, _) = PLAIN.split_at(40);
     let drives = Drives {
         first: Drive::kept(cut),
         ..Drives::EMPTY
     };
-    let turns: [Turn; 1] = [(ends(1, "Damaged in 1 at 0", 5), EA)];
-    mirror_in_turn(alloc, &drives, &mut mirror, &turns)?;
+    keeps(alloc, &drives, mirror, ends(1, "Damaged in 1 at 0", 5))
+}
+
+/// A second file that is cut short, a first one, a disk that fails, and words with one more: the mirror holds what it
+/// held before.
+fn unopened<M: Mirror>(alloc: Global, mirror: &mut M) -> Result<(), Wrong> {
+    holding(alloc, mirror)?;
+    over_cut_files(alloc, mirror)?;
     let drives = Drives::with_second(Drive {
         fails: &[1],
         ..Drive::EMPTY
     });
-    let turns: [Turn; 1] = [(ends(2, "DiskFault", 4), EA)];
-    mirror_in_turn(alloc, &drives, &mut mirror, &turns)?;
+    keeps(alloc, &drives, mirror, ends(2, "DiskFault", 4))?;
     let usage = Call {
         words: &["mirror", "x"],
         ..ends(3, "Usage", 2)
     };
-    mirror_in_turn(alloc, &Drives::EMPTY, &mut mirror, &[(usage, EA)])
+    keeps(alloc, &Drives::EMPTY, mirror, usage)
+}
+
+/// The same of a mirror in memory.
+fn unopened_in_memory(alloc: Global) -> Result<(), Wrong> {
+    unopened(alloc, &mut MemMirror::new(alloc, &[])?)
 }
 
 /// The sink fails at the line: the mirror holds the rows all the same. An office of the first file is moved, and stands
@@ -118,7 +134,7 @@ fn a_mirror_that_fails_keeps_its_rows(rt: HostRuntime) {
 
 #[test]
 fn an_office_that_is_not_opened_leaves_the_mirror(rt: HostRuntime) {
-    unopened(rt.alloc()).expect(&rt, "as wanted");
+    unopened_in_memory(rt.alloc()).expect(&rt, "as wanted");
 }
 
 #[test]

@@ -1,7 +1,7 @@
 //! Files of a register that are opened beside one office, each on a disk of its own.
 
-use crate::runs::{Disks, call_on};
-use disk_model::MemDisk;
+use crate::runs::{Disks, call_on, three_disks};
+use disk_model::{Disk, MemDisk};
 use std::alloc::Global;
 use testkit_sessions::{Call, Drive, Drives, NoMemory, Wrong, are_left, disks_of};
 
@@ -27,6 +27,20 @@ pub trait Openings {
 
 const REGISTER: &[u8] = b"+founder-1 0 register 0\n";
 
+/// Makes a call on the office's disks and the second of these, which is then looked at, and gives the office's back.
+fn called_beside<D: Disk>(
+    alloc: Global,
+    call: &Call,
+    drives: &Drives,
+    office: (D, D),
+    others: Result<(D, D), NoMemory>,
+) -> Result<(D, D), Wrong> {
+    let (other, register) = others?;
+    let Disks { office, register } = call_on(alloc, call, Disks { office, register })?;
+    are_left(alloc, drives, (other, register), call.mark)?;
+    Ok(office)
+}
+
 /// Opens a file beside an office, looks whether that is as wanted, and gives the office's disks back.
 fn opened_beside(
     alloc: Global,
@@ -46,10 +60,7 @@ fn opened_beside(
         left: Some(&opening.left),
         ..Drive::EMPTY
     });
-    let (other, register) = disks_of(alloc, &drives)?;
-    let Disks { office, register } = call_on(alloc, &call, Disks { office, register })?;
-    are_left(alloc, &drives, (other, register), mark)?;
-    Ok(office)
+    called_beside(alloc, &call, &drives, office, disks_of(alloc, &drives))
 }
 
 /// Makes a run on two empty disks for the office, and opens these files beside it.
@@ -59,11 +70,7 @@ fn opened_beside(
 /// What is wrong with the run, or with the first file that isn't opened as wanted, whose place is the mark; that
 /// another one was left is told as file 2.
 pub fn comets_over<F: Openings>(alloc: Global, office: &Call, files: &F) -> Result<(), Wrong> {
-    let (register, _) = disks_of(alloc, &Drives::EMPTY)?;
-    let before = Disks {
-        office: disks_of(alloc, &Drives::EMPTY)?,
-        register,
-    };
+    let (before, _) = three_disks(alloc, &Drives::EMPTY)?;
     let Disks { mut office, .. } = call_on(alloc, office, before)?;
     for place in 0..files.count() {
         let opening = files.opening(alloc, place)?;

@@ -3,7 +3,7 @@
 ghost use Rattle.act_model.specs.Deeds.{deeds};
 ghost use Rattle.comet_desk.specs.Desks.{IsBeside};
 
-use crate::runs::{Disks, call_on};
+use crate::runs::{Disks, call_on, three_disks};
 use act_model::{Body, Key, Shelf};
 use comet_desk::{CometDesk, CometReply, CometRequest};
 use comet_model::{comet_reply_text, comet_status, read_comet_verb};
@@ -15,7 +15,7 @@ use obs_time::Instant;
 use std::alloc::Global;
 use testkit_sessions::{
     Asked, Call, Drive, Drives, FOUNDER, Found, Named, NoMemory, Wrong, are_left, asked_in,
-    disks_of, put_number,
+    put_number,
 };
 
 /// What is asked.
@@ -142,6 +142,26 @@ fn clock_of(call: &Call) -> Result<TickClock, Wrong> {
     }
 }
 
+/// What is wrong with the run, or with what this register answers beside the office that the run leaves.
+fn within<D: Disk>(
+    alloc: Global,
+    office: &Call,
+    limit: u64,
+    drives: &Drives,
+    disks: Result<(Disks<D>, D), NoMemory>,
+    asked: &[Asked<'_>],
+) -> Result<(), Wrong> {
+    let (before, other) = disks?;
+    let disks = call_on(alloc, office, before)?;
+    let mut clock = clock_of(office)?;
+    let (register, wrong) = answered_beside(alloc, limit, disks, &mut clock, asked)?;
+    if let Some(mark) = wrong {
+        let found = Found::BytesFrom(0);
+        return Err(Wrong { mark, found });
+    }
+    are_left(alloc, drives, (other, register), asked.len())
+}
+
 /// Makes a run on two empty disks for the office, opens the founding officer's register on this disk beside it, where
 /// its file may have so many bytes, and asks it what this transcript asks, where these texts have names.
 ///
@@ -160,17 +180,6 @@ pub fn comets_within<'a>(
 ) -> Result<(), Wrong> {
     let asked = asked_in(alloc, transcript, named)?;
     let drives = Drives::with_second(*register);
-    let (other, comets) = disks_of(alloc, &drives)?;
-    let before = Disks {
-        office: disks_of(alloc, &Drives::EMPTY)?,
-        register: comets,
-    };
-    let disks = call_on(alloc, office, before)?;
-    let mut clock = clock_of(office)?;
-    let (register, wrong) = answered_beside(alloc, limit, disks, &mut clock, &asked)?;
-    if let Some(mark) = wrong {
-        let found = Found::BytesFrom(0);
-        return Err(Wrong { mark, found });
-    }
-    are_left(alloc, &drives, (other, register), asked.len())
+    let disks = three_disks(alloc, &drives);
+    within(alloc, office, limit, &drives, disks, &asked)
 }

@@ -183,14 +183,28 @@ fn reply_of<'a>(lines: &'a str, named: &[Named<'a>]) -> Result<(&'a str, &'a str
     Ok((status, text_named(named, name)?))
 }
 
-/// The request in these lines, and its reply.
-fn read<'a>(lines: &'a str, named: &[Named<'a>]) -> Result<Asked<'a>, Fault> {
+/// The line of a request, what stands below it, and the reply.
+fn parted<'a>(lines: &'a str) -> Result<(&'a str, &'a str, &'a str), Fault> {
     let (front, reply) = lines.split_once("\n< ").ok_or(Fault::NoReply)?;
     if reply.contains("\n< ") {
         return Err(Fault::TwoReplies);
     }
     let request = lines.get(..front.len().saturating_add(1)).unwrap_or(front);
     let (line, more) = request.split_once('\n').ok_or(Fault::Request)?;
+    Ok((line, more, reply))
+}
+
+/// Who asks for what under which number, and what stands behind the verb.
+#[derive(Clone, Copy)]
+struct Head<'a> {
+    who: &'a str,
+    number: u64,
+    verb: &'a str,
+    behind: Option<&'a str>,
+}
+
+/// What the line of a request says.
+fn head_of<'a>(line: &'a str) -> Result<Head<'a>, Fault> {
     let (who, rest) = line.split_once(' ').ok_or(Fault::Request)?;
     let (number, rest) = rest.split_once(' ').ok_or(Fault::Request)?;
     let (verb, behind) = match rest.split_once(' ') {
@@ -201,12 +215,24 @@ fn read<'a>(lines: &'a str, named: &[Named<'a>]) -> Result<Asked<'a>, Fault> {
         return Err(Fault::Request);
     }
     let number = number_of(number)?;
-    let body = body_of(behind, more, named)?;
-    let (status, text) = reply_of(reply, named)?;
-    Ok(Asked {
+    Ok(Head {
         who,
         number,
         verb,
+        behind,
+    })
+}
+
+/// The request in these lines, and its reply.
+fn read<'a>(lines: &'a str, named: &[Named<'a>]) -> Result<Asked<'a>, Fault> {
+    let (line, more, reply) = parted(lines)?;
+    let head = head_of(line)?;
+    let body = body_of(head.behind, more, named)?;
+    let (status, text) = reply_of(reply, named)?;
+    Ok(Asked {
+        who: head.who,
+        number: head.number,
+        verb: head.verb,
         body,
         status,
         text,

@@ -1,22 +1,18 @@
 //! The mirror over the file `mirror.db`. All of it is one test, since each trial has that file for its own.
 
+use super::trials::{
+    OverFile, each_session, in_turn, looked_once, mirrored_once, number_by, refused_once, run_each,
+};
 use mirror_sqlite::FileMirror;
 use sqlite::Connection;
 use std::fs;
 use std::test::Fail;
-use testkit_mirror::{
-    EA_DAY, EA_LINE, EA_OBJECT, OBJECT, SUBMITTED, each_look, each_office, is_refused, look_faults,
-    look_to, looked, mirrored_after, ordinary, wrong_window,
-};
+use testkit_mirror::{EA_DAY, is_refused, look_faults, look_to};
 
 const FILE: &str = "mirror.db";
 
 /// The log beside it.
 const LOG: &str = "mirror.db-wal";
-
-const FROM: &str = "2024-03-16";
-
-const TO: &str = "2024-03-17";
 
 /// The two tables, as the mirror makes them.
 const TABLES: &str = concat!(
@@ -91,27 +87,18 @@ fn clear(rt: HostRuntime) {
 /// Makes the file by these statements.
 fn make(rt: HostRuntime, texts: &[&str]) -> Result<(), Fail> {
     clear(rt);
-    let mut conn = Connection::open(&rt, FILE)?;
-    for text in texts {
-        conn.execute_batch(text)?;
-    }
-    conn.close()?;
-    Ok(())
+    run_each(Connection::open(&rt, FILE), texts)
 }
 
 /// The number that this query gives.
 fn number_in(rt: HostRuntime, query: &str) -> Result<i64, Fail> {
-    let mut conn = Connection::open(&rt, FILE)?;
-    let number = conn.query_row(query, &[])?.get::<i64>(0)?;
-    Ok(number)
+    number_by(Connection::open(&rt, FILE), query)
 }
 
 /// A mirror over the file refuses both commands, and what lies there keeps its bytes.
 fn is_left(rt: HostRuntime, mark: usize) -> Result<(), Fail> {
     let before = fs::read(&rt, FILE)?;
-    let mut mirror = FileMirror::new(rt);
-    is_refused(rt.alloc(), &mut mirror, mark)?;
-    mirror.close();
+    refused_once(rt.alloc(), FileMirror::new(rt), mark)?;
     let after = fs::read(&rt, FILE)?;
     if before.as_slice() == after.as_slice() {
         Ok(())
@@ -123,50 +110,22 @@ fn is_left(rt: HostRuntime, mark: usize) -> Result<(), Fail> {
 /// The sessions of every mirror.
 fn sessions(rt: HostRuntime) -> Result<(), Fail> {
     clear(rt);
-    let mut mirror = FileMirror::new(rt);
-    each_look(rt.alloc(), &mut mirror)?;
-    each_office(rt.alloc(), &mut mirror)?;
-    if wrong_window(rt.alloc(), &mut mirror)?.is_some() {
-        return Err(Fail::new("another window"));
-    }
-    ordinary(rt.alloc(), &mut mirror)?;
-    mirror.close();
-    Ok(())
+    each_session(rt.alloc(), FileMirror::new(rt))
 }
 
 /// The rows are in the file alone, once it is closed, and in it and its log before.
 fn found_again(rt: HostRuntime) -> Result<(), Fail> {
     clear(rt);
-    let mut mirror = FileMirror::new(rt);
-    mirrored_after(
-        rt.alloc(),
-        &mut mirror,
-        &[SUBMITTED, OBJECT],
-        7,
-        EA_LINE,
-        &EA_OBJECT,
-        0,
-    )?;
-    drop(mirror);
-    let mut mirror = FileMirror::new(rt);
-    looked(rt.alloc(), &mut mirror, FROM, TO, &look_to(1, EA_DAY))?;
-    mirror.close();
+    mirrored_once(rt.alloc(), FileMirror::new(rt))?;
+    looked_once(rt.alloc(), FileMirror::new(rt), &look_to(1, EA_DAY))?;
     fs::remove_file(&rt, LOG)?;
-    let mut mirror = FileMirror::new(rt);
-    looked(rt.alloc(), &mut mirror, FROM, TO, &look_to(2, EA_DAY))?;
-    mirror.close();
+    looked_once(rt.alloc(), FileMirror::new(rt), &look_to(2, EA_DAY))?;
     Ok(())
 }
 
 /// A file that another mirror has open is refused, and is found once that one has closed it.
 fn open_elsewhere(rt: HostRuntime) -> Result<(), Fail> {
-    let mut first = FileMirror::new(rt);
-    let mut second = FileMirror::new(rt);
-    looked(rt.alloc(), &mut first, FROM, TO, &look_to(0, EA_DAY))?;
-    is_refused(rt.alloc(), &mut second, 1)?;
-    first.close();
-    looked(rt.alloc(), &mut second, FROM, TO, &look_to(2, EA_DAY))?;
-    second.close();
+    in_turn(rt.alloc(), FileMirror::new(rt), FileMirror::new(rt))?;
     Ok(())
 }
 
@@ -183,11 +142,14 @@ fn cut_short(rt: HostRuntime) -> Result<(), Fail> {
 fn folder(rt: HostRuntime) -> Result<(), Fail> {
     clear(rt);
     fs::create_dir(&rt, FILE)?;
-    let mut mirror = FileMirror::new(rt);
+    after_folder(rt, FileMirror::new(rt))
+}
+
+/// A mirror that a folder keeps from its file, until that is gone.
+fn after_folder<M: OverFile>(rt: HostRuntime, mut mirror: M) -> Result<(), Fail> {
     is_refused(rt.alloc(), &mut mirror, 0)?;
     fs::remove_dir(&rt, FILE)?;
-    looked(rt.alloc(), &mut mirror, FROM, TO, &look_to(1, ""))?;
-    mirror.close();
+    looked_once(rt.alloc(), mirror, &look_to(1, ""))?;
     Ok(())
 }
 
@@ -203,9 +165,7 @@ fn no_database(rt: HostRuntime) -> Result<(), Fail> {
 fn other_shapes(rt: HostRuntime) -> Result<(), Fail> {
     for (mark, &(tables, query, number)) in SHAPES.iter().enumerate() {
         make(rt, &[tables])?;
-        let mut mirror = FileMirror::new(rt);
-        is_refused(rt.alloc(), &mut mirror, mark)?;
-        mirror.close();
+        refused_once(rt.alloc(), FileMirror::new(rt), mark)?;
         if number_in(rt, query)? != number {
             return Err(Fail::new("another row"));
         }
@@ -217,9 +177,7 @@ fn other_shapes(rt: HostRuntime) -> Result<(), Fail> {
 fn out_of_range(rt: HostRuntime) -> Result<(), Fail> {
     for (mark, row) in OUT_OF_RANGE.iter().enumerate() {
         make(rt, &[TABLES, row])?;
-        let mut mirror = FileMirror::new(rt);
-        looked(rt.alloc(), &mut mirror, FROM, TO, &look_faults(mark))?;
-        mirror.close();
+        looked_once(rt.alloc(), FileMirror::new(rt), &look_faults(mark))?;
         let rows = number_in(
             rt,
             "SELECT (SELECT count(*) FROM object) + (SELECT count(*) FROM sight)",
