@@ -1,5 +1,6 @@
-//! Tests of whole sessions of frames over disks in memory: in pieces, with failing streams, with large bodies, with acts
-//! on tracklets, objects and numbers, and with what the office tells, the catalogue among it.
+//! Tests of whole sessions of frames over disks in memory: in pieces, with failing streams, with large bodies, with
+//! acts on tracklets, objects and numbers, and with what the office tells, the catalogue among it; of the journals that
+//! they leave, and of long histories.
 //!
 //! A crate with tests is proved twice, with and without them, so they stand in a crate above those that they test.
 #![tactic(auto)]
@@ -10,6 +11,10 @@ mod catalogues;
 mod counts;
 #[cfg(test)]
 mod edges;
+#[cfg(test)]
+mod histories;
+#[cfg(test)]
+mod journals;
 #[cfg(test)]
 mod large;
 #[cfg(test)]
