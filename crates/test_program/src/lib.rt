@@ -1,5 +1,6 @@
-//! Tests of the program's commands: without a door, over sources, sinks, disks, clocks and mirrors in memory; and with
-//! one, over doors in memory and a port of this machine, where connections are attended and wait for one another.
+//! Tests of the program's commands: without a door, over sources, sinks, disks, clocks and mirrors in memory; with one,
+//! over doors in memory and a port of this machine, where connections are attended and wait for one another; with a
+//! register of comets beside the office; and with mirrors of each kind.
 //!
 //! A crate with tests is proved twice, with and without them, so they stand in a crate above those that they test.
 #![tactic(auto)]
@@ -18,6 +19,10 @@ mod holding;
 mod limits;
 #[cfg(test)]
 mod look;
+#[cfg(test)]
+mod mirrors;
+#[cfg(test)]
+mod registers;
 #[cfg(test)]
 mod sockets;
 #[cfg(test)]

@@ -1,7 +1,7 @@
 //! A half-month that has all the comets that it may have: a hundred objects, of which 99 get a name and one is refused,
 //! and after it the next half-month; all of it once more of the file that was left.
 
-use crate::office::{batch_text, comets_of, put_comet, put_given};
+use super::office::{batch_text, comets_of, put_comet, put_given};
 use std::alloc::Global;
 use testkit_comets::comets_in_turn;
 use testkit_sessions::Part::{Digits, Number, Text};

@@ -2,7 +2,7 @@
 //! settle a doubt, or at it and all later ones; with crashes after that. Then a run opens, each act is sent again, and
 //! the register opens once more.
 
-use crate::office::{add_act, add_register, comets_of, office_call, office_with};
+use super::office::{add_act, add_register, comets_of, office_call, office_with};
 use std::alloc::Global;
 use testkit_comets::comets_in_turn;
 use testkit_sessions::{Call, Drive, NoMemory, Script, Wrong};

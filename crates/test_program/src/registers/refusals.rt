@@ -1,6 +1,6 @@
 //! Keys, bodies and sizes at which a register refuses a request, and those that it just takes.
 
-use crate::office::{OBJECTS, UNREAD_BODY, comets_of, office_with};
+use super::office::{OBJECTS, UNREAD_BODY, comets_of, office_with};
 use std::alloc::Global;
 use testkit_comets::comets_in_turn;
 use testkit_sessions::{Drive, FOUNDER, NoMemory, Script, Wrong, put};

@@ -1,7 +1,7 @@
 //! The file of a register: what two acts make of it; what is found in it where it was cut at each byte, where each bit
 //! was turned, where its last act wasn't kept, and where an entry isn't one that the register makes beside its office.
 
-use crate::office::{
+use super::office::{
     EA, EA_AS_P, EB, OBJECTS, SA, add_act, add_register, comets_of, office_call, office_with,
     register_text,
 };

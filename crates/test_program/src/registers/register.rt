@@ -1,7 +1,7 @@
 //! A register of comets beside an office, in whole sessions: what the founding officer is answered, lines that are
 //! translated, what is refused, and an object that is identified with another.
 
-use crate::office::{UNREAD_BODY, add_batch, comets_of};
+use super::office::{UNREAD_BODY, add_batch, comets_of};
 use std::alloc::Global;
 use testkit_comets::comets_in_turn;
 use testkit_sessions::{Call, Drive, FOUNDER, NoMemory, Script, Wrong};

@@ -2,8 +2,8 @@
 //! answered all the same. An act on one of these objects takes 89 bytes, 58 and those of its body, and a file without
 //! entries has two.
 
-use crate::files::{ONE, Sealed, TWO, drive_of, file_of};
-use crate::office::{office_call, office_with};
+use super::files::{ONE, Sealed, TWO, drive_of, file_of};
+use super::office::{office_call, office_with};
 use std::alloc::Global;
 use testkit_comets::comets_within;
 use testkit_sessions::Wrong;
