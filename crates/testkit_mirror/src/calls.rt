@@ -11,7 +11,7 @@ use mirror_store::Mirror;
 use run_command::run;
 use std::alloc::Global;
 use testkit_sessions::{
-    Call, Devices, Drive, Drives, Script, Wrong, are_left, disks_of, has_ended,
+    Call, Devices, Drive, Drives, NoMemory, Script, Wrong, are_left, disks_of, has_ended,
 };
 
 /// How many bytes the second disk has room for under a session that is large.
@@ -45,7 +45,7 @@ fn called<S: Source, K: Sink, D: Disk, C: Clock, M: Mirror>(
 }
 
 /// Makes a call on these two disks, looks whether it is as wanted, and gives them back.
-pub(crate) fn call_on<D: Disk, M: Mirror>(
+fn call_on<D: Disk, M: Mirror>(
     alloc: Global,
     call: &Call,
     disks: (D, D),
@@ -67,6 +67,21 @@ pub(crate) fn call_on<D: Disk, M: Mirror>(
     Ok((ended.disk, ended.second))
 }
 
+/// Makes calls one after another on these disks. After each the mirror is asked what it holds. Gives the disks back.
+fn turns_on<D: Disk, M: Mirror>(
+    alloc: Global,
+    disks: Result<(D, D), NoMemory>,
+    mirror: &mut M,
+    turns: &[Turn],
+) -> Result<(D, D), Wrong> {
+    let mut disks = disks?;
+    for (call, wanted) in turns {
+        disks = call_on(alloc, call, disks, mirror)?;
+        is_held(alloc, mirror, wanted, call.mark)?;
+    }
+    Ok(disks)
+}
+
 /// Makes calls one after another on two disks and a mirror. After each the mirror is asked for its objects and then for
 /// its observations, which are two calls of it.
 ///
@@ -80,11 +95,7 @@ pub fn mirror_in_turn<M: Mirror>(
     mirror: &mut M,
     turns: &[Turn],
 ) -> Result<(), Wrong> {
-    let mut disks = disks_of(alloc, drives)?;
-    for (call, wanted) in turns {
-        disks = call_on(alloc, call, disks, mirror)?;
-        is_held(alloc, mirror, wanted, call.mark)?;
-    }
+    let disks = turns_on(alloc, disks_of(alloc, drives), mirror, turns)?;
     are_left(alloc, drives, disks, turns.len())
 }
 
@@ -95,6 +106,20 @@ pub fn mirror_of<'a>(mark: usize, line: &'a str) -> Call<'a> {
         words: &["mirror"],
         ..Call::run(b"", 0, line.as_bytes())
     }
+}
+
+/// Makes these calls one after another on these disks.
+pub(crate) fn calls_on<D: Disk, M: Mirror>(
+    alloc: Global,
+    calls: &[&Call],
+    disks: Result<(D, D), NoMemory>,
+    mirror: &mut M,
+) -> Result<(), Wrong> {
+    let mut disks = disks?;
+    for call in calls {
+        disks = call_on(alloc, call, disks, mirror)?;
+    }
+    Ok(())
 }
 
 /// Runs a session on two empty disks, by which the history grows by so many entries; then calls `mirror`, which writes
@@ -120,9 +145,8 @@ pub fn mirrored_by<M: Mirror>(
         room: ROOM,
         ..Drive::EMPTY
     });
-    let disks = disks_of(alloc, &drives)?;
-    let disks = call_on(alloc, &run, disks, mirror)?;
-    call_on(alloc, &mirror_of(mark, line), disks, mirror)?;
+    let calls = [&run, &mirror_of(mark, line)];
+    calls_on(alloc, &calls, disks_of(alloc, &drives), mirror)?;
     is_held(alloc, mirror, wanted, mark)
 }
 

@@ -122,14 +122,25 @@ fn designate(alloc: Global, script: &mut Script, place: u64) -> Result<(), NoMem
     )
 }
 
+/// The observer's act of this number, which submits the batch of this day, and its answer: before it there were so many
+/// observations and tracklets.
+fn submit(
+    alloc: Global,
+    script: &mut Script,
+    number: u64,
+    day: u64,
+    before: (u64, u64),
+) -> Result<(), NoMemory> {
+    let lines = batch(alloc, day)?;
+    let answer = taken(alloc, number.saturating_add(5), before)?;
+    script.add(OBSERVER, number, "submit80", &lines, "200 ", &answer)
+}
+
 /// The whole session.
 fn session(alloc: Global) -> Result<Script, Wrong> {
     let mut script = Script::begun(alloc)?;
-    let (first, second) = (batch(alloc, 15)?, batch(alloc, 16)?);
-    let answer = taken(alloc, 6, (0, 0))?;
-    script.add(OBSERVER, 1, "submit80", &first, "200 ", &answer)?;
-    let answer = taken(alloc, 7, (LINES, TRACKS))?;
-    script.add(OBSERVER, 2, "submit80", &second, "200 ", &answer)?;
+    submit(alloc, &mut script, 1, 15, (0, 0))?;
+    submit(alloc, &mut script, 2, 16, (LINES, TRACKS))?;
     for place in 0..TRACKS {
         designate(alloc, &mut script, place)?;
     }

@@ -1,14 +1,14 @@
 //! What the command `look` writes of the observations of some days.
 
-use crate::calls::{call_on, mirrored_after};
+use crate::calls::{calls_on, mirrored_after};
 use crate::offices::{EA_LINE, EA_OBJECT, ISOLATED, ISOLATED_LINE, OBJECT, SUBMITTED};
-use command_ends::{Ended, Status};
+use command_ends::Status;
 use desk_io::MemSink;
 use look_command::look;
 use mirror_store::Mirror;
 use obs_time::read_date;
 use std::alloc::Global;
-use testkit_sessions::{Call, Devices, Drives, Wrong, disks_of, has_ended};
+use testkit_sessions::{Call, Devices, Drives, Wrong, disks_of, has_ended_with};
 
 const FROM: &str = "2024-03-16";
 
@@ -69,14 +69,8 @@ pub fn looked<M: Mirror>(
     wanted: &Call,
 ) -> Result<(), Wrong> {
     let mut devices = Devices::new(alloc, wanted)?;
-    let (disk, second) = disks_of(alloc, &Drives::EMPTY)?;
-    let ended = Ended {
-        status: look_of(mirror, &mut devices.sink, from, to),
-        disk,
-        second,
-        added: 0,
-    };
-    has_ended(alloc, wanted, &ended, &devices.sink)
+    let status = look_of(mirror, &mut devices.sink, from, to);
+    has_ended_with(alloc, wanted, &status, 0, &devices.sink)
 }
 
 /// A look that writes this text.
@@ -107,8 +101,22 @@ pub fn is_refused<M: Mirror>(alloc: Global, mirror: &mut M, mark: usize) -> Resu
         words: &["mirror"],
         ..fault
     };
-    call_on(alloc, &call, disks_of(alloc, &Drives::EMPTY)?, mirror)?;
+    calls_on(alloc, &[&call], disks_of(alloc, &Drives::EMPTY), mirror)?;
     looked(alloc, mirror, FROM, TO, &fault)
+}
+
+/// The looks of the table at a mirror that holds the object, numbered from 2 on.
+fn each_day<M: Mirror>(alloc: Global, mirror: &mut M) -> Result<(), Wrong> {
+    for (mark, &(from, to, text)) in LOOKS.iter().enumerate() {
+        looked(
+            alloc,
+            mirror,
+            from,
+            to,
+            &look_to(mark.saturating_add(2), text),
+        )?;
+    }
+    Ok(())
 }
 
 /// What `look` writes of a mirror that holds nothing, of isolated observations, and of those of an object.
@@ -129,14 +137,5 @@ pub fn each_look<M: Mirror>(alloc: Global, mirror: &mut M) -> Result<(), Wrong> 
         &EA_OBJECT,
         2,
     )?;
-    for (mark, &(from, to, text)) in LOOKS.iter().enumerate() {
-        looked(
-            alloc,
-            mirror,
-            from,
-            to,
-            &look_to(mark.saturating_add(2), text),
-        )?;
-    }
-    Ok(())
+    each_day(alloc, mirror)
 }

@@ -267,8 +267,23 @@ pub fn has_ended<D: Disk>(
     ended: &Ended<D>,
     sink: &MemSink,
 ) -> Result<(), Wrong> {
-    let status = format!(in alloc; "{}", ended.status)?;
-    call.is_met(status, ended.status.number(), ended.added, sink.bytes())
+    has_ended_with(alloc, call, &ended.status, ended.added, sink)
+}
+
+/// Whether a call that ended with this status, after so many entries, is as wanted.
+///
+/// # Errors
+///
+/// What is wrong with it.
+pub fn has_ended_with(
+    alloc: Global,
+    call: &Call,
+    status: &Status,
+    added: u64,
+    sink: &MemSink,
+) -> Result<(), Wrong> {
+    let text = format!(in alloc; "{}", status)?;
+    call.is_met(text, status.number(), added, sink.bytes())
 }
 
 /// The two disks of a call before it was made.

@@ -18,7 +18,8 @@ mod transcripts;
 mod wrong;
 
 pub use calls::{
-    Call, Devices, Drive, Drives, are_left, call_alone, call_in_turn, disks_of, has_ended, words_of,
+    Call, Devices, Drive, Drives, are_left, call_alone, call_in_turn, disks_of, has_ended,
+    has_ended_with, words_of,
 };
 pub use frames::Frames;
 pub use item_list::NoMemory;

@@ -1,7 +1,7 @@
 //! Sessions that are written request by request, with the replies to them.
 
 use crate::calls::{Call, Drive, Drives, call_in_turn};
-use crate::pieces::{put, put_number, put_reply};
+use crate::pieces::{Part, put, put_parts, put_reply};
 use crate::setup::SETUP;
 use crate::transcripts::{Asked, Named, asked_in};
 use crate::wrong::Wrong;
@@ -38,21 +38,24 @@ impl Script {
     }
 
     /// A request, by whom it is sent, its number, its verb and its body.
-    fn add_request(
+    fn add_request<'a>(
         &mut self,
-        who: &str,
+        who: &'a str,
         number: u64,
-        verb: &str,
+        verb: &'a str,
         body: &[u8],
     ) -> Result<(), NoMemory> {
-        put(&mut self.bytes, who)?;
-        put(&mut self.bytes, " ")?;
-        put_number(self.alloc, &mut self.bytes, number)?;
-        put(&mut self.bytes, " ")?;
-        put(&mut self.bytes, verb)?;
-        put(&mut self.bytes, " ")?;
-        put_number(self.alloc, &mut self.bytes, body.len() as u64)?;
-        put(&mut self.bytes, "\n")?;
+        let head = [
+            Part::Text(who),
+            Part::Text(" "),
+            Part::Number(number),
+            Part::Text(" "),
+            Part::Text(verb),
+            Part::Text(" "),
+            Part::Number(body.len() as u64),
+            Part::Text("\n"),
+        ];
+        put_parts(self.alloc, &mut self.bytes, &head)?;
         self.bytes.extend_from_slice(body)
     }
 

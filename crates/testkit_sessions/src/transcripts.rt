@@ -164,8 +164,8 @@ fn body_of<'a>(
     }
 }
 
-/// The status of a reply, and its text.
-fn reply_of<'a>(lines: &'a str, named: &[Named<'a>]) -> Result<(&'a str, &'a str), Fault> {
+/// The status of a reply: three digits, before a blank or the line's end.
+fn status_of<'a>(lines: &'a str) -> Result<&'a str, Fault> {
     let (line, _) = lines.split_once('\n').ok_or(Fault::End)?;
     let status = match line.split_once(' ') {
         Some((status, _)) => status,
@@ -174,6 +174,12 @@ fn reply_of<'a>(lines: &'a str, named: &[Named<'a>]) -> Result<(&'a str, &'a str
     if status.len() != 3 || number_of(status).is_err() {
         return Err(Fault::Status);
     }
+    Ok(status)
+}
+
+/// The status of a reply, and its text.
+fn reply_of<'a>(lines: &'a str, named: &[Named<'a>]) -> Result<(&'a str, &'a str), Fault> {
+    let status = status_of(lines)?;
     // What stands behind the status is parted from it by one blank, or by a line end.
     let text = lines.get(4..).unwrap_or("");
     let Some(name) = text.strip_prefix('$') else {
@@ -252,6 +258,19 @@ fn add<'a>(asked: &mut Vec<Asked<'a>>, next: Asked<'a>) -> Result<(), NoMemory> 
     Ok(())
 }
 
+/// What stands behind the mark of a transcript's first request, where the whole ends with a line's end, and each of
+/// these texts has a name of its own.
+fn requests_in<'a>(transcript: &'a str, named: &[Named<'a>]) -> Result<&'a str, Fault> {
+    let rest = transcript.strip_prefix("\n> ").ok_or(Fault::Begin)?;
+    if !rest.ends_with('\n') {
+        return Err(Fault::End);
+    }
+    if !are_single(named) {
+        return Err(Fault::TwoTexts);
+    }
+    Ok(rest)
+}
+
 /// The requests of a transcript, with the replies to them; these texts have names.
 ///
 /// # Errors
@@ -266,15 +285,10 @@ pub fn asked_in<'a>(
     if transcript.is_empty() {
         return Ok(asked);
     }
-    let Some(rest) = transcript.strip_prefix("\n> ") else {
-        return Err(unread(Fault::Begin, 0));
+    let rest = match requests_in(transcript, named) {
+        Ok(rest) => rest,
+        Err(fault) => return Err(unread(fault, 0)),
     };
-    if !rest.ends_with('\n') {
-        return Err(unread(Fault::End, 0));
-    }
-    if !are_single(named) {
-        return Err(unread(Fault::TwoTexts, 0));
-    }
     for piece in rest.split_inclusive("\n> ") {
         let lines = piece.strip_suffix("> ").unwrap_or(piece);
         match read(lines, named) {
