@@ -108,17 +108,27 @@ pub fn mirror_of<'a>(mark: usize, line: &'a str) -> Call<'a> {
     }
 }
 
-/// Makes these calls one after another on these disks.
-pub(crate) fn calls_on<D: Disk, M: Mirror>(
+/// Makes a call on these disks.
+pub(crate) fn call_alone<D: Disk, M: Mirror>(
     alloc: Global,
-    calls: &[&Call],
+    call: &Call,
     disks: Result<(D, D), NoMemory>,
     mirror: &mut M,
 ) -> Result<(), Wrong> {
-    let mut disks = disks?;
-    for call in calls {
-        disks = call_on(alloc, call, disks, mirror)?;
-    }
+    call_on(alloc, call, disks?, mirror)?;
+    Ok(())
+}
+
+/// Makes two calls on these disks, one after the other.
+fn call_both<D: Disk, M: Mirror>(
+    alloc: Global,
+    first: &Call,
+    second: &Call,
+    disks: Result<(D, D), NoMemory>,
+    mirror: &mut M,
+) -> Result<(), Wrong> {
+    let disks = call_on(alloc, first, disks?, mirror)?;
+    call_on(alloc, second, disks, mirror)?;
     Ok(())
 }
 
@@ -145,8 +155,8 @@ pub fn mirrored_by<M: Mirror>(
         room: ROOM,
         ..Drive::EMPTY
     });
-    let calls = [&run, &mirror_of(mark, line)];
-    calls_on(alloc, &calls, disks_of(alloc, &drives), mirror)?;
+    let mirrors = mirror_of(mark, line);
+    call_both(alloc, &run, &mirrors, disks_of(alloc, &drives), mirror)?;
     is_held(alloc, mirror, wanted, mark)
 }
 

@@ -1,6 +1,6 @@
 //! What the command `look` writes of the observations of some days.
 
-use crate::calls::{calls_on, mirrored_after};
+use crate::calls::{call_alone, mirrored_after};
 use crate::offices::{EA_LINE, EA_OBJECT, ISOLATED, ISOLATED_LINE, OBJECT, SUBMITTED};
 use command_ends::Status;
 use desk_io::MemSink;
@@ -101,7 +101,7 @@ pub fn is_refused<M: Mirror>(alloc: Global, mirror: &mut M, mark: usize) -> Resu
         words: &["mirror"],
         ..fault
     };
-    calls_on(alloc, &[&call], disks_of(alloc, &Drives::EMPTY), mirror)?;
+    call_alone(alloc, &call, disks_of(alloc, &Drives::EMPTY), mirror)?;
     looked(alloc, mirror, FROM, TO, &fault)
 }
 
