@@ -5,6 +5,7 @@ mod Adding
 mod Failing
 mod Listing
 mod Codes
+mod Showing
 mod Same
 mod Putting
 mod Creating

@@ -1,5 +1,6 @@
 pub mod Tables
 pub mod Stored
+pub mod Shown
 pub mod Holding
 pub mod Faults
 pub mod SqlMirrors

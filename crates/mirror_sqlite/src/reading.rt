@@ -1,14 +1,15 @@
 //! Rows of the database read as rows of the mirror. A row that isn't one in range is none.
 
-ghost use Rattle.std.specs.Prelude.{◌≡◌, ◌⊎◌, pos, neg_ℤ, ◌≤ℤ◌, map, IfSome, IfOk};
+ghost use Rattle.std.specs.Prelude.{◌≡◌, ◌⊎◌, ℕ, ℤ, pos, ◌<◌, List, [], length, map, false, None, Err, IfSome, IfOk};
 ghost use Rattle.std.specs.List.{list_all, AllByRecursion};
-ghost use Rattle.angle_fixed.specs.Angles.{quarter};
 ghost use Rattle.obs_time.specs.Instants.{IsInstantNs};
 ghost use Rattle.act_bodies.specs.Members.{is_alphanumeric, is_station_code};
 ghost use Rattle.sqlite.specs.declared.types.Value.TheVariants.{Int, Text};
 ghost use Rattle.sqlite.specs.Order.{column};
 ghost use Rattle.mirror_store.specs.Rows.{IsPrintedDesignation, IsEmpty, IsStation, IsObjectRow, IsSightRow};
 ghost use Rattle.mirror_sqlite.specs.Stored.{name_text, code_text, shown_object, shown_sight};
+ghost use Rattle.mirror_sqlite.specs.Shown.{greatest_count, IsCount, IsIntegerIn, IsRightAscension, IsDeclination};
+ghost use Rattle.mirror_sqlite.specs.Shown.{IsDesignationText, ShowsObject, ShowsSight};
 
 use mirror_store::{MirrorErr, ObjectRow, ObjectRows, SightRow, SightRows};
 use obs_record::Short;
@@ -25,23 +26,26 @@ const LAST_RA: i64 = 3_239_999_999_999_999;
 const QUARTER: i64 = 810_000_000_000_000;
 
 fn integer_at(row: &Row, at: usize) -> Option<i64>
-    ensures { IfSome result (λ n. column row.now at ≡ Int n) }
+    ensures shown { IfSome result (λ n. column row.now at ≡ Int n) }
+    ensures none { result ≡ None → at < length row.now → (n : ℤ) → ¬ (column row.now at ≡ Int n) }
 {
-    match row.get::<i64>(at) {
-        Ok(value) => Some(value),
-        Err(_) => None,
+    match row.get_ref(at) {
+        Ok(ValueRef::Int(value)) => Some(value),
+        Ok(_) | Err(_) => None,
     }
 }
 
 fn count_at(row: &Row, at: usize) -> Option<u32>
-    ensures { IfSome result (λ n. column row.now at ≡ Int (pos n)) }
+    ensures shown { IfSome result (λ n. column row.now at ≡ Int (pos n)) }
+    ensures none { result ≡ None → at < length row.now → ¬ IsCount greatest_count (column row.now at) }
 {
     let value = integer_at(row, at)?;
     u32::try_from(value).ok()
 }
 
 fn text_at(row: &Row, at: usize) -> Option<&[u8]>
-    ensures { IfSome result (λ text. column row.now at ≡ Text text.now) }
+    ensures shown { IfSome result (λ text. column row.now at ≡ Text text.now) }
+    ensures none { result ≡ None → at < length row.now → (text : List ℕ) → ¬ (column row.now at ≡ Text text) }
 {
     match row.get_ref(at) {
         Ok(ValueRef::Text(text)) => Some(text),
@@ -51,17 +55,21 @@ fn text_at(row: &Row, at: usize) -> Option<&[u8]>
 
 /// The label of a printed designation.
 fn designation_label(text: &[u8]) -> Option<Label>
-    ensures { IfSome result (λ label. IsPrintedDesignation label × (name_text label ≡ text.now)) }
+    ensures shown { IfSome result (λ label. IsPrintedDesignation label × (name_text label ≡ text.now)) }
+    ensures none { result ≡ None → ¬ IsDesignationText text.now }
 {
     match read(text) {
         Ok(Name::Designation(designation)) => Some(print(Name::Designation(designation))),
-        Ok(Name::Number(_)) | Err(_) => None,
+        Ok(Name::Number(_)) => None,
+        Err(_) => None,
     }
 }
 
 /// The label of a printed designation, or the empty one of an empty text.
 fn object_label(text: &[u8]) -> Option<Label>
-    ensures { IfSome result (λ label. (IsPrintedDesignation label ⊎ IsEmpty label) × (name_text label ≡ text.now)) }
+    ensures shown { IfSome result
+        (λ label. (IsPrintedDesignation label ⊎ IsEmpty label) × (name_text label ≡ text.now)) }
+    ensures none { result ≡ None → ¬ (IsDesignationText text.now ⊎ (text.now ≡ [])) }
 {
     if text.is_empty() {
         return Some(Label {
@@ -92,7 +100,8 @@ fn is_station_code(text: &[u8]) -> bool
 }
 
 fn station(text: &[u8]) -> Option<Short>
-    ensures { IfSome result (λ code. IsStation code × (code_text code ≡ text.now)) }
+    ensures shown { IfSome result (λ code. IsStation code × (code_text code ≡ text.now)) }
+    ensures none { result ≡ None → is_station_code text.now ≡ false }
 {
     if is_station_code(text) {
         Some(Short::new(text))
@@ -105,6 +114,7 @@ fn station(text: &[u8]) -> Option<Short>
 fn moment_at(row: &Row, at: usize) -> Option<i64>
     ensures shown { IfSome result (λ ns. column row.now at ≡ Int ns) }
     ensures range { IfSome result IsInstantNs }
+    ensures none { result ≡ None → at < length row.now → ¬ IsIntegerIn IsInstantNs (column row.now at) }
 {
     let ns = integer_at(row, at)?;
     let _moment = Instant::new(ns)?;
@@ -114,7 +124,8 @@ fn moment_at(row: &Row, at: usize) -> Option<i64>
 /// A right ascension.
 fn ra_at(row: &Row, at: usize) -> Option<i64>
     ensures shown { IfSome result (λ ra. column row.now at ≡ Int ra) }
-    ensures range { IfSome result (λ ra. (pos 0 ≤ℤ ra) × (ra ≤ℤ pos 3239999999999999)) }
+    ensures range { IfSome result IsRightAscension }
+    ensures none { result ≡ None → at < length row.now → ¬ IsIntegerIn IsRightAscension (column row.now at) }
 {
     let ra = integer_at(row, at)?;
     if 0 <= ra && ra <= LAST_RA {
@@ -127,7 +138,8 @@ fn ra_at(row: &Row, at: usize) -> Option<i64>
 /// A declination.
 fn dec_at(row: &Row, at: usize) -> Option<i64>
     ensures shown { IfSome result (λ dec. column row.now at ≡ Int dec) }
-    ensures range { IfSome result (λ dec. (neg_ℤ (pos quarter) ≤ℤ dec) × (dec ≤ℤ pos quarter)) }
+    ensures range { IfSome result IsDeclination }
+    ensures none { result ≡ None → at < length row.now → ¬ IsIntegerIn IsDeclination (column row.now at) }
 {
     let dec = integer_at(row, at)?;
     if -QUARTER <= dec && dec <= QUARTER {
@@ -137,10 +149,11 @@ fn dec_at(row: &Row, at: usize) -> Option<i64>
     }
 }
 
-/// The object that a row shows.
+/// The object that a row shows; none where it shows no object in range.
 pub fn object_of(row: &Row) -> Option<ObjectRow>
     ensures shown { IfSome result (λ object. row.now ≡ shown_object object) }
     ensures range { IfSome result IsObjectRow }
+    ensures none { result ≡ None → ¬ ShowsObject row.now }
 {
     if row.column_count() != 4 {
         return None;
@@ -160,10 +173,11 @@ pub fn object_of(row: &Row) -> Option<ObjectRow>
     })
 }
 
-/// The observation that a row shows.
+/// The observation that a row shows; none where it shows no observation in range.
 pub fn sight_of(row: &Row) -> Option<SightRow>
     ensures shown { IfSome result (λ sight. row.now ≡ shown_sight sight) }
     ensures range { IfSome result IsSightRow }
+    ensures none { result ≡ None → ¬ ShowsSight row.now }
 {
     if row.column_count() != 6 {
         return None;
@@ -192,6 +206,7 @@ pub fn sight_of(row: &Row) -> Option<SightRow>
 pub fn objects_of(alloc: Global, rows: &[Row]) -> Result<ObjectRows, MirrorErr>
     ensures shown { IfOk result (λ objects. rows.now ≡ map shown_object objects) }
     ensures range { IfOk result (AllByRecursion IsObjectRow) }
+    ensures failed { result ≡ Err MirrorErr.Failed → ¬ AllByRecursion ShowsObject rows.now }
 {
     let mut objects = ObjectRows::new(alloc);
     for row in rows {
@@ -211,6 +226,7 @@ pub fn objects_of(alloc: Global, rows: &[Row]) -> Result<ObjectRows, MirrorErr>
 pub fn sights_of(alloc: Global, rows: &[Row]) -> Result<SightRows, MirrorErr>
     ensures shown { IfOk result (λ sights. rows.now ≡ map shown_sight sights) }
     ensures range { IfOk result (AllByRecursion IsSightRow) }
+    ensures failed { result ≡ Err MirrorErr.Failed → ¬ AllByRecursion ShowsSight rows.now }
 {
     let mut sights = SightRows::new(alloc);
     for row in rows {

@@ -12,8 +12,9 @@ returns-clause-shown c =
     let time : SFits w64 c.in_ok-time.time = search rules in
     let ra : SFits w64 c.in_ok-ra.ra = search rules in
     let dec : SFits w64 c.in_ok-dec.dec = search rules in
-    six row _ _ _ _ _ _ len c.in_ok-id.ensures (c.in_ok-text_at.ensures ∙ ap Words (sym c.in_ok-object.ensures.1))
+    six row _ _ _ _ _ _ len c.in_ok-id.ensures.shown
+    (c.in_ok-text_at.ensures.shown ∙ ap Words (sym c.in_ok-object.ensures.shown.1))
     (c.in_ok-time.ensures.shown ∙ ap Int (sym (passed c.in_ok-time.time _ time refl)))
     (c.in_ok-ra.ensures.shown ∙ ap Int (sym (passed c.in_ok-ra.ra _ ra refl)))
     (c.in_ok-dec.ensures.shown ∙ ap Int (sym (passed c.in_ok-dec.dec _ dec refl)))
-    (c.in_ok-text_at-2.ensures ∙ ap Words (sym c.in_ok-station.ensures.1))
+    (c.in_ok-text_at-2.ensures.shown ∙ ap Words (sym c.in_ok-station.ensures.shown.1))
