@@ -161,39 +161,32 @@ fn command_of<'a>(alloc: Global, form: &Form) -> Result<Command<'a>, AllocError>
     Ok(command)
 }
 
-/// A program with one more command, where memory was there for that.
-fn with_command<'a>(
-    program: Command<'a>,
-    next: Result<Command<'a>, AllocError>,
-) -> Result<Command<'a>, AllocError> {
-    program.subcommand(next?)
+/// The commands with their options.
+fn commands<'a>(alloc: Global) -> Result<Vec<Command<'a>>, AllocError> {
+    let mut commands = Vec::new(alloc);
+    for form in forms() {
+        commands.push(command_of(alloc, form)?)?;
+    }
+    Ok(commands)
 }
 
 /// The program, with what its commands do.
 fn program<'a>(alloc: Global) -> Result<Command<'a>, AllocError> {
     let about =
         "A clearing house for minor planet astrometry, on the journal desk.journal2 of the current folder";
-    let mut program = command(alloc, "mpc_cli", about, STATUSES)
-        .version(VERSION)
-        .disable_version_flag(true);
-    for form in forms() {
-        program = with_command(program, command_of(alloc, form))?;
-    }
-    Ok(program)
+    let commands = commands(alloc)?;
+    command(alloc, "mpc_cli", about, STATUSES).subcommands(commands)
 }
 
-/// The help of the program, and its version.
-fn program_texts(alloc: Global) -> Result<(String, String), AllocError> {
-    let mut program = program(alloc)?;
-    let help = program.render_help()?;
-    let version = program.render_version()?;
-    Ok((help, version))
+/// The help of a command, where memory was there for the command.
+fn help_of(command: Result<Command<'_>, AllocError>) -> Result<String, AllocError> {
+    let mut command = command?;
+    command.render_help()
 }
 
-/// The help of a command under the name that it is called by.
-fn help_of(alloc: Global, form: &Form) -> Result<String, AllocError> {
-    let mut named = command_of(alloc, form)?.bin_name(form.called)?;
-    named.render_help()
+/// The help of a command of the program under the name that it is called by.
+fn command_help(alloc: Global, form: &Form) -> Result<String, AllocError> {
+    help_of(command_of(alloc, form)?.bin_name(form.called))
 }
 
 /// Writes a text on a line of its own, after others; where memory was refused for the text, nothing.
@@ -203,16 +196,23 @@ fn push_text(out: &mut String, text: Result<String, AllocError>) -> Result<(), A
     out.push_str(text.as_str())
 }
 
+/// Writes the line with the version, after an empty one.
+fn push_version(out: &mut String) -> Result<(), AllocError> {
+    out.push_str("\nmpc_cli ")?;
+    out.push_str(VERSION)?;
+    out.push_str("\n")
+}
+
 /// The usage of the program, and its version in the last line. It takes memory.
 ///
 /// # Errors
 ///
 /// Memory was refused.
 pub fn usage_text(alloc: Global) -> Result<String, AllocError> {
-    let (mut text, version) = program_texts(alloc)?;
+    let mut text = help_of(program(alloc))?;
     for form in forms() {
-        push_text(&mut text, help_of(alloc, form))?;
+        push_text(&mut text, command_help(alloc, form))?;
     }
-    push_text(&mut text, Ok(version))?;
+    push_version(&mut text)?;
     Ok(text)
 }
