@@ -1,11 +1,12 @@
 //! The text of a half-month.
 
-ghost use Rattle.std.specs.Prelude.{◌≡◌, ◌++◌, IfOk, OnOk};
+ghost use Rattle.std.specs.Prelude.{◌≡◌, ◌++◌, codes, decimal, IfOk, OnOk};
 ghost use Rattle.packed_names.specs.Ranges.{IsHalfMonth};
 ghost use Rattle.designate_core.specs.Takes.{next_of};
 ghost use Rattle.act_model.specs.Deeds.{deeds};
 ghost use Rattle.act_model.specs.Designations.{row_acts_of};
 ghost use Rattle.act_model.specs.QueryTexts.{next_text, half_month_line};
+ghost use Rattle.act_model.specs.Texts.{half_month_text};
 
 use act_model::{Shelf, push_decimal, push_designation};
 use item_list::{Bytes, NoMemory};
@@ -35,6 +36,28 @@ fn push_next(out: &mut Bytes, next: Option<Provisional>) -> Result<(), NoMemory>
     }
 }
 
+/// Writes a half-month and how many designations were given in it.
+fn push_given(out: &mut Bytes, half: HalfMonth, given: u32) -> Result<(), NoMemory>
+    requires { IsHalfMonth half }
+    ensures { OnOk result (out.new
+        ≡ out.old ++ codes "halfmonth " ++ half_month_text half ++ codes " given " ++ decimal given) }
+{
+    out.extend_from_slice(b"halfmonth ")?;
+    out.extend_from_slice(print_half(half).as_slice())?;
+    out.extend_from_slice(b" given ")?;
+    push_decimal(out, u64::from(given))
+}
+
+fn push_half_month<V: Shelf>(shelf: &V, out: &mut Bytes, half: HalfMonth) -> Result<(), NoMemory>
+    requires { IsHalfMonth half }
+    ensures { OnOk result (out.new ≡ out.old ++ half_month_line (row_acts_of (deeds (V.history shelf.now))) half) }
+{
+    push_given(out, half, shelf.given(half))?;
+    out.extend_from_slice(b" next ")?;
+    push_next(out, next_of(shelf, half))?;
+    out.push(b'\n')
+}
+
 /// The line of a half-month: how many designations were given in it, elsewhere and here, and which one is next.
 pub(crate) fn half_month_text<V: Shelf>(
     alloc: Global,
@@ -45,12 +68,6 @@ pub(crate) fn half_month_text<V: Shelf>(
     ensures { IfOk result (λ text. text ≡ half_month_line (row_acts_of (deeds (V.history shelf.now))) half) }
 {
     let mut out = Bytes::new(alloc);
-    out.extend_from_slice(b"halfmonth ")?;
-    out.extend_from_slice(print_half(half).as_slice())?;
-    out.extend_from_slice(b" given ")?;
-    push_decimal(&mut out, u64::from(shelf.given(half)))?;
-    out.extend_from_slice(b" next ")?;
-    push_next(&mut out, next_of(shelf, half))?;
-    out.push(b'\n')?;
+    push_half_month(shelf, &mut out, half)?;
     Ok(out)
 }

@@ -57,14 +57,21 @@ fn push_principal_line(out: &mut Bytes, p: Option<Designation>) -> Result<(), No
     out.push(b'\n')
 }
 
+fn push_name<V: Shelf>(shelf: &V, out: &mut Bytes, name: Name) -> Result<(), NoMemory>
+    ensures { OnOk result (out.new ≡ out.old ++ name_text (links_of (deeds (V.history shelf.now)))
+        (numbers_of (deeds (V.history shelf.now))) name) }
+{
+    push_printed_line(out, name)?;
+    push_packed_line(out, name)?;
+    push_principal_line(out, principal_of(shelf, name))
+}
+
 /// The two forms of a name, and the principal designation of the object that has it.
 pub(crate) fn name_text<V: Shelf>(alloc: Global, shelf: &V, name: Name) -> Result<Bytes, NoMemory>
     ensures { IfOk result (λ text. text ≡ name_text (links_of (deeds (V.history shelf.now)))
         (numbers_of (deeds (V.history shelf.now))) name) }
 {
     let mut out = Bytes::new(alloc);
-    push_printed_line(&mut out, name)?;
-    push_packed_line(&mut out, name)?;
-    push_principal_line(&mut out, principal_of(shelf, name))?;
+    push_name(shelf, &mut out, name)?;
     Ok(out)
 }

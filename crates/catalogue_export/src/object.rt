@@ -1,11 +1,13 @@
 //! The text of an object.
 
 ghost use Rattle.std.specs.Prelude.{◌≡◌, ◌++◌, flat_map, IfOk, OnOk};
+ghost use Rattle.identify_core.specs.Acts.{members};
 ghost use Rattle.act_model.specs.Deeds.{deeds};
 ghost use Rattle.act_model.specs.Designations.{links_of};
 ghost use Rattle.act_model.specs.Holdings.{holdings};
 ghost use Rattle.act_model.specs.Numbers.{numbers_of};
 ghost use Rattle.act_model.specs.QueryTexts.{principal_line, name_line, own_number_line, observed_line, object_text};
+ghost use Rattle.act_model.specs.Shelves.{live_of};
 
 use crate::writing::push_number;
 use act_model::{Shelf, push_decimal, push_designation};
@@ -69,6 +71,35 @@ fn push_observed_lines<V: Shelf>(shelf: &V, out: &mut Bytes, live: &[u64]) -> Re
     Ok(())
 }
 
+/// Writes the designations of the object with this principal, in their order.
+fn push_names<V: Shelf>(shelf: &V, out: &mut Bytes, p: Designation) -> Result<(), NoMemory>
+    ensures { OnOk result (out.new
+        ≡ out.old ++ flat_map name_line (members (links_of (deeds (V.history shelf.now))) p)) }
+{
+    let members = shelf.members(p)?;
+    push_name_lines(out, members.as_slice())
+}
+
+/// Writes the live observations of the object with this principal, by time.
+fn push_observed<V: Shelf>(shelf: &V, out: &mut Bytes, p: Designation) -> Result<(), NoMemory>
+    ensures { OnOk result
+        (out.new ≡ out.old ++ flat_map (observed_line (holdings (deeds (V.history shelf.now))).observations)
+        (live_of (holdings (deeds (V.history shelf.now))) (links_of (deeds (V.history shelf.now))) p)) }
+{
+    let live = shelf.live(p)?;
+    push_observed_lines(shelf, out, live.as_slice())
+}
+
+fn push_object<V: Shelf>(shelf: &V, out: &mut Bytes, p: Designation) -> Result<(), NoMemory>
+    ensures { OnOk result (out.new ≡ out.old ++ object_text (holdings (deeds (V.history shelf.now)))
+        (links_of (deeds (V.history shelf.now))) (numbers_of (deeds (V.history shelf.now))) p) }
+{
+    push_principal_line(out, p)?;
+    push_number_line(out, shelf.number_of(p))?;
+    push_names(shelf, out, p)?;
+    push_observed(shelf, out, p)
+}
+
 /// The text of the object with this principal designation: the principal, the number, the designations in their order,
 /// and the live observations by time.
 pub(crate) fn object_text<V: Shelf>(
@@ -79,12 +110,7 @@ pub(crate) fn object_text<V: Shelf>(
     ensures { IfOk result (λ text. text ≡ object_text (holdings (deeds (V.history shelf.now)))
         (links_of (deeds (V.history shelf.now))) (numbers_of (deeds (V.history shelf.now))) p) }
 {
-    let members = shelf.members(p)?;
-    let live = shelf.live(p)?;
     let mut out = Bytes::new(alloc);
-    push_principal_line(&mut out, p)?;
-    push_number_line(&mut out, shelf.number_of(p))?;
-    push_name_lines(&mut out, members.as_slice())?;
-    push_observed_lines(shelf, &mut out, live.as_slice())?;
+    push_object(shelf, &mut out, p)?;
     Ok(out)
 }

@@ -1,7 +1,7 @@
 //! The other lines of the catalogue.
 
-ghost use Rattle.std.specs.Prelude.{◌≡◌, ◌++◌, codes, length, IfOk};
-ghost use Rattle.act_model.specs.Catalogue.{in_object, object_head};
+ghost use Rattle.std.specs.Prelude.{◌≡◌, ◌++◌, codes, length, IfOk, OnOk};
+ghost use Rattle.act_model.specs.Catalogue.{in_object, object_head, also_line, track_head_line};
 ghost use Rattle.act_model.specs.Deeds.{deeds};
 ghost use Rattle.act_model.specs.Tallies.{tally, tally_text};
 ghost use Rattle.act_model.specs.Texts.{line_of};
@@ -10,18 +10,51 @@ ghost use Rattle.catalogue_export.specs.Pieces.{name_text, is_listed, track_head
 use crate::writing::{push_number, push_track_name};
 use act_model::{Shelf, push_decimal, push_designation, tally_answer};
 use item_list::{Bytes, NoMemory};
+use obs_record::TrackName;
 use packed_names::Designation;
 use std::alloc::Global;
+
+/// Writes the tally.
+fn push_tally<V: Shelf>(alloc: Global, shelf: &V, out: &mut Bytes) -> Result<(), NoMemory>
+    ensures { OnOk result (out.new ≡ out.old ++ tally_text (tally (V.history shelf.now))) }
+{
+    let tally = tally_answer(alloc, shelf.tally())?;
+    out.extend_from_slice(tally.as_slice())
+}
+
+fn push_front<V: Shelf>(alloc: Global, shelf: &V, out: &mut Bytes) -> Result<(), NoMemory>
+    ensures { OnOk result
+        (out.new ≡ out.old ++ line_of (codes "catalogue 1") ++ tally_text (tally (V.history shelf.now))) }
+{
+    out.extend_from_slice(b"catalogue 1\n")?;
+    push_tally(alloc, shelf, out)
+}
 
 /// The lines at the front: what the text is, and the tally.
 pub(crate) fn front<V: Shelf>(alloc: Global, shelf: &V) -> Result<Bytes, NoMemory>
     ensures { IfOk result (λ text. text ≡ line_of (codes "catalogue 1") ++ tally_text (tally (V.history shelf.now))) }
 {
-    let tally = tally_answer(alloc, shelf.tally())?;
     let mut out = Bytes::new(alloc);
-    out.extend_from_slice(b"catalogue 1\n")?;
-    out.extend_from_slice(tally.as_slice())?;
+    push_front(alloc, shelf, &mut out)?;
     Ok(out)
+}
+
+fn push_object_head<V: Shelf>(
+    shelf: &V,
+    out: &mut Bytes,
+    p: Designation,
+    live: u64,
+) -> Result<(), NoMemory>
+    requires { live ≡ length (in_object (deeds (V.history shelf.now)) p) }
+    ensures { OnOk result (out.new ≡ out.old ++ object_head (deeds (V.history shelf.now)) p) }
+{
+    out.extend_from_slice(b"object ")?;
+    push_designation(out, p)?;
+    out.extend_from_slice(b" number ")?;
+    push_number(out, shelf.number_of(p))?;
+    out.extend_from_slice(b" observations ")?;
+    push_decimal(out, live)?;
+    out.push(b'\n')
 }
 
 /// The head of the object with this principal, which has this many live observations.
@@ -35,14 +68,16 @@ pub(crate) fn object_head<V: Shelf>(
     ensures { IfOk result (λ text. text ≡ object_head (deeds (V.history shelf.now)) p) }
 {
     let mut out = Bytes::new(alloc);
-    out.extend_from_slice(b"object ")?;
-    push_designation(&mut out, p)?;
-    out.extend_from_slice(b" number ")?;
-    push_number(&mut out, shelf.number_of(p))?;
-    out.extend_from_slice(b" observations ")?;
-    push_decimal(&mut out, live)?;
-    out.push(b'\n')?;
+    push_object_head(shelf, &mut out, p, live)?;
     Ok(out)
+}
+
+fn push_also_line(out: &mut Bytes, d: Designation) -> Result<(), NoMemory>
+    ensures { OnOk result (out.new ≡ out.old ++ also_line d) }
+{
+    out.extend_from_slice(b"also ")?;
+    push_designation(out, d)?;
+    out.push(b'\n')
 }
 
 /// The line of a designation of the object with this principal: nothing for the principal itself.
@@ -53,10 +88,18 @@ pub(crate) fn name_text(alloc: Global, p: Designation, d: Designation) -> Result
     if d == p {
         return Ok(out);
     }
-    out.extend_from_slice(b"also ")?;
-    push_designation(&mut out, d)?;
-    out.push(b'\n')?;
+    push_also_line(&mut out, d)?;
     Ok(out)
+}
+
+fn push_track_head(out: &mut Bytes, t: u64, name: TrackName) -> Result<(), NoMemory>
+    ensures { OnOk result (out.new ≡ out.old ++ track_head_line t name) }
+{
+    out.extend_from_slice(b"track ")?;
+    push_decimal(out, t)?;
+    out.push(b' ')?;
+    push_track_name(out, name)?;
+    out.push(b'\n')
 }
 
 /// The head of a tracklet that is listed, and nothing for one that isn't.
@@ -76,10 +119,6 @@ pub(crate) fn track_head<V: Shelf>(
     if !listed {
         return Ok(out);
     }
-    out.extend_from_slice(b"track ")?;
-    push_decimal(&mut out, t)?;
-    out.push(b' ')?;
-    push_track_name(&mut out, head.name)?;
-    out.push(b'\n')?;
+    push_track_head(&mut out, t, head.name)?;
     Ok(out)
 }

@@ -1,6 +1,7 @@
 //! The text of a tracklet.
 
 ghost use Rattle.std.specs.Prelude.{◌≡◌, ◌++◌, flat_map, IfOk, OnOk};
+ghost use Rattle.tracklet_file.specs.Observations.{observations_of};
 ghost use Rattle.act_model.specs.Deeds.{deeds};
 ghost use Rattle.act_model.specs.Designations.{links_of};
 ghost use Rattle.act_model.specs.Holdings.{holdings};
@@ -98,6 +99,30 @@ fn push_observation_lines<V: Shelf>(
     Ok(())
 }
 
+/// Writes the observations of a tracklet, by number.
+fn push_observations<V: Shelf>(shelf: &V, out: &mut Bytes, t: u64) -> Result<(), NoMemory>
+    ensures { OnOk result
+        (out.new ≡ out.old ++ flat_map (observation_line (holdings (deeds (V.history shelf.now))).observations)
+        (observations_of (holdings (deeds (V.history shelf.now))).observations t)) }
+{
+    let items = shelf.items(t)?;
+    push_observation_lines(shelf, out, items.as_slice())
+}
+
+fn push_tracklet<V: Shelf>(
+    shelf: &V,
+    out: &mut Bytes,
+    t: u64,
+    head: &TrackHead,
+) -> Result<(), NoMemory>
+    ensures { OnOk result (out.new ≡ out.old ++ tracklet_text (holdings (deeds (V.history shelf.now)))
+        (links_of (deeds (V.history shelf.now))) t head.now) }
+{
+    push_track_line(out, t, head)?;
+    push_home_line(shelf, out, head.home)?;
+    push_observations(shelf, out, t)
+}
+
 /// The text of the tracklet with this number and this head: its name, its home, and its observations by number.
 pub(crate) fn tracklet_text<V: Shelf>(
     alloc: Global,
@@ -108,10 +133,7 @@ pub(crate) fn tracklet_text<V: Shelf>(
     ensures { IfOk result (λ text. text ≡ tracklet_text (holdings (deeds (V.history shelf.now)))
         (links_of (deeds (V.history shelf.now))) t head.now) }
 {
-    let items = shelf.items(t)?;
     let mut out = Bytes::new(alloc);
-    push_track_line(&mut out, t, head)?;
-    push_home_line(shelf, &mut out, head.home)?;
-    push_observation_lines(shelf, &mut out, items.as_slice())?;
+    push_tracklet(shelf, &mut out, t, head)?;
     Ok(out)
 }
