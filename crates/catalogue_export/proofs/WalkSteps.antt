@@ -1,12 +1,14 @@
 -- One step of a walk from each of its stages.
-use Rattle.std.proofs.Common.{◌≡◌, ℕ, suc, ◌+◌, ◌<◌, ◌≤◌, List, ◌∷◌, ◌++◌, length, map, drop, slice_get, Some, refl, sym, ap, ◌∙◌, arith, add-one, codes}
+use Rattle.std.proofs.Common.{◌≡◌, ℕ, suc, ◌+◌, ◌<◌, ◌≤◌, List, ◌∷◌, ◌++◌, length, map, drop, slice_get, Some, refl, sym, ap, ◌∙◌, append_assoc, arith, add-one, codes, flat_map}
 use Rattle.packed_names.specs.declared.name.Designation.{Designation}
+use Rattle.identify_core.specs.Acts.{members}
 use Rattle.act_model.specs.declared.entry.Entry.{Entry}
+use Rattle.act_model.specs.Catalogue.{in_object, object_head}
 use Rattle.act_model.specs.Deeds.{deeds}
-use Rattle.act_model.specs.Designations.{principals}
+use Rattle.act_model.specs.Designations.{links_of, principals}
 use Rattle.act_model.specs.Holdings.{holdings}
 use Rattle.act_model.specs.Texts.{line_of}
-use Rattle.catalogue_export.specs.Pieces.{ObjectName, ObjectLine, TrackHead, TrackLine, End, piece_text, listed_in}
+use Rattle.catalogue_export.specs.Pieces.{Piece, Front, ObjectHead, ObjectName, ObjectLine, TrackHead, TrackLine, End, piece_text, listed_in, object_pieces}
 use Rattle.catalogue_export.specs.Walks.{tracks_after, objects_left, observations_left, left_at, pieces_left, Steps}
 use Rattle.catalogue_export.specs.declared.walk.Stage.{Stage}
 use Rattle.catalogue_export.specs.declared.walk.Stage.TheVariants as stages
@@ -16,6 +18,34 @@ use Rattle.catalogue_export.proofs.WalkLemmas.{stepped, tracks_more, tracks_end,
 module _ (history : List Entry) (old : Walk) (before : List ℕ) where
   at_stage : (stage : Stage) → old.stage ≡ stage → pieces_left (deeds history) old ≡ left_at (deeds history) old stage
   at_stage stage is = ap (left_at (deeds history) old) is
+
+  -- the lines at the front were written
+  pub begun : (names : List Designation) (after : List ℕ) → old.stage ≡ stages.Start → names ≡ principals (links_of (deeds history)) → after ≡ before ++ piece_text history Front
+      → Steps history old (record old { principals = names; stage = stages.Objects 0 }) before after
+  begun names after is names_are grew =
+      let past = deeds history in
+      stepped history old (record old { principals = names; stage = stages.Objects 0 }) Front before (piece_text history Front) after
+      (at_stage stages.Start is ∙ ap (λ (ns : List Designation). Front ∷ objects_left past ns) (sym names_are))
+      (omega arith) refl grew
+
+  -- the head of an object was written
+  pub entered_object : (at : ℕ) (p : Designation) (next : ℕ) (names : List Designation) (observations after : List ℕ) → old.stage ≡ stages.Objects at
+      → drop at old.principals ≡ p ∷ drop next old.principals → names ≡ members (links_of (deeds history)) p → observations ≡ in_object (deeds history) p
+      → after ≡ before ++ object_head (deeds history) p
+      → Steps history old (record old { names = names; observations = observations; stage = stages.Names p next 0 }) before after
+  entered_object at p next names observations after is first names_are observations_are grew =
+      let past = deeds history in
+      let named : List Piece = map (ObjectName p) (members (links_of past) p) in
+      let observed : List Piece = map (ObjectLine p) (in_object past p) in
+      let others : List Piece = flat_map (object_pieces past) (drop next old.principals) in
+      let rest : List Piece = objects_left past (drop next old.principals) in
+      stepped history old (record old { names = names; observations = observations; stage = stages.Names p next 0 }) (ObjectHead p) before (object_head past p) after
+      (at_stage (stages.Objects at) is
+      ∙ ap (objects_left past) first
+      ∙ ap (λ (l : List Piece). ObjectHead p ∷ l) (append_assoc (named ++ observed) others (tracks_after past 0) ∙ append_assoc named observed rest)
+      ∙ ap (λ (ns : List Designation). ObjectHead p ∷ (map (ObjectName p) ns ++ (observed ++ rest))) (sym names_are)
+      ∙ ap (λ (ks : List ℕ). ObjectHead p ∷ (map (ObjectName p) names ++ (map (ObjectLine p) ks ++ rest))) (sym observations_are))
+      (omega arith) refl grew
 
   -- a designation of an object was written
   pub named : (p : Designation) (next at : ℕ) (d : Designation) (text after : List ℕ) → old.stage ≡ stages.Names p next at → slice_get old.names at ≡ Some d

@@ -8,7 +8,8 @@ ghost use Rattle.act_model.specs.Designations.{row_acts_of};
 ghost use Rattle.act_model.specs.QueryTexts.{next_text, half_month_line};
 ghost use Rattle.act_model.specs.Texts.{half_month_text};
 
-use act_model::{Shelf, push_decimal, push_designation};
+use crate::writing::push_numbered;
+use act_model::{Shelf, push_designation};
 use item_list::{Bytes, NoMemory};
 use packed_names::{Designation, HalfMonth, Provisional, limit, print_half};
 use std::alloc::Global;
@@ -44,8 +45,7 @@ fn push_given(out: &mut Bytes, half: HalfMonth, given: u32) -> Result<(), NoMemo
 {
     out.extend_from_slice(b"halfmonth ")?;
     out.extend_from_slice(print_half(half).as_slice())?;
-    out.extend_from_slice(b" given ")?;
-    push_decimal(out, u64::from(given))
+    push_numbered(out, b" given ", u64::from(given))
 }
 
 fn push_half_month<V: Shelf>(shelf: &V, out: &mut Bytes, half: HalfMonth) -> Result<(), NoMemory>

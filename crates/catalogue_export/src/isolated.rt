@@ -2,13 +2,14 @@
 
 ghost use Rattle.std.specs.Prelude.{◌≡◌, ◌≤◌, ◌++◌, filter_map, if◌then◌else◌, [], length, IfOk, OnOk};
 ghost use Rattle.act_model.specs.Deeds.{deeds};
-ghost use Rattle.act_model.specs.Discoveries.{seen_at};
+ghost use Rattle.act_model.specs.Discoveries.{seen_at, seen_of};
 ghost use Rattle.act_model.specs.Holdings.{holdings};
 ghost use Rattle.act_model.specs.QueryTexts.{live_line, isolated_text};
 ghost use Rattle.act_model.specs.Shelves.{has_no_home};
 
 use crate::reading::is_live;
-use act_model::{Shelf, push_decimal};
+use crate::writing::push_numbered;
+use act_model::Shelf;
 use item_list::{Bytes, NoMemory};
 use std::alloc::Global;
 
@@ -27,14 +28,20 @@ fn live_in<V: Shelf>(shelf: &V, items: &[u64]) -> u64
     live
 }
 
+/// How many live observations a tracklet has.
+fn live_of_track<V: Shelf>(shelf: &V, t: u64) -> Result<u64, NoMemory>
+    ensures { IfOk result (λ live. live ≡ length (seen_of (holdings (deeds (V.history shelf.now))).observations t)) }
+{
+    let items = shelf.items(t)?;
+    Ok(live_in(shelf, items.as_slice()))
+}
+
 fn push_live_line<V: Shelf>(shelf: &V, out: &mut Bytes, t: u64) -> Result<(), NoMemory>
     ensures { OnOk result (out.new ≡ out.old ++ live_line (holdings (deeds (V.history shelf.now))).observations t) }
 {
-    let items = shelf.items(t)?;
-    out.extend_from_slice(b"track ")?;
-    push_decimal(out, t)?;
-    out.extend_from_slice(b" live ")?;
-    push_decimal(out, live_in(shelf, items.as_slice()))?;
+    let live = live_of_track(shelf, t)?;
+    push_numbered(out, b"track ", t)?;
+    push_numbered(out, b" live ", live)?;
     out.push(b'\n')
 }
 

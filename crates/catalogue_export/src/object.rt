@@ -9,8 +9,8 @@ ghost use Rattle.act_model.specs.Numbers.{numbers_of};
 ghost use Rattle.act_model.specs.QueryTexts.{principal_line, name_line, own_number_line, observed_line, object_text};
 ghost use Rattle.act_model.specs.Shelves.{live_of};
 
-use crate::writing::push_number;
-use act_model::{Shelf, push_decimal, push_designation};
+use crate::writing::{push_named, push_number, push_numbered};
+use act_model::Shelf;
 use item_list::{Bytes, NoMemory};
 use packed_names::{Designation, Number};
 use std::alloc::Global;
@@ -18,8 +18,7 @@ use std::alloc::Global;
 fn push_principal_line(out: &mut Bytes, p: Designation) -> Result<(), NoMemory>
     ensures { OnOk result (out.new ≡ out.old ++ principal_line p) }
 {
-    out.extend_from_slice(b"principal ")?;
-    push_designation(out, p)?;
+    push_named(out, b"principal ", p)?;
     out.push(b'\n')
 }
 
@@ -34,8 +33,7 @@ fn push_number_line(out: &mut Bytes, number: Option<Number>) -> Result<(), NoMem
 fn push_name_line(out: &mut Bytes, d: Designation) -> Result<(), NoMemory>
     ensures { OnOk result (out.new ≡ out.old ++ name_line d) }
 {
-    out.extend_from_slice(b"name ")?;
-    push_designation(out, d)?;
+    push_named(out, b"name ", d)?;
     out.push(b'\n')
 }
 
@@ -54,10 +52,8 @@ fn push_observed_line<V: Shelf>(shelf: &V, out: &mut Bytes, k: u64) -> Result<()
     let Some(t) = shelf.track_of(k) else {
         return Ok(());
     };
-    out.extend_from_slice(b"obs ")?;
-    push_decimal(out, k)?;
-    out.extend_from_slice(b" track ")?;
-    push_decimal(out, t)?;
+    push_numbered(out, b"obs ", k)?;
+    push_numbered(out, b" track ", t)?;
     out.push(b'\n')
 }
 

@@ -3,15 +3,16 @@
 ghost use Rattle.std.specs.Prelude.{◌≡◌, ◌++◌, codes, length, IfOk, OnOk};
 ghost use Rattle.act_model.specs.Catalogue.{in_object, object_head, also_line, track_head_line};
 ghost use Rattle.act_model.specs.Deeds.{deeds};
+ghost use Rattle.act_model.specs.QueryTexts.{number_text};
 ghost use Rattle.act_model.specs.Tallies.{tally, tally_text};
-ghost use Rattle.act_model.specs.Texts.{line_of};
+ghost use Rattle.act_model.specs.Texts.{line_of, designation_text};
 ghost use Rattle.catalogue_export.specs.Pieces.{name_text, is_listed, track_head};
 
-use crate::writing::{push_number, push_track_name};
-use act_model::{Shelf, push_decimal, push_designation, tally_answer};
+use crate::writing::{push_named, push_number, push_numbered, push_track_name};
+use act_model::{Shelf, tally_answer};
 use item_list::{Bytes, NoMemory};
 use obs_record::TrackName;
-use packed_names::Designation;
+use packed_names::{Designation, Number};
 use std::alloc::Global;
 
 /// Writes the tally.
@@ -39,6 +40,20 @@ pub(crate) fn front<V: Shelf>(alloc: Global, shelf: &V) -> Result<Bytes, NoMemor
     Ok(out)
 }
 
+/// Writes an object's principal designation and its number.
+fn push_object_names(
+    out: &mut Bytes,
+    p: Designation,
+    number: Option<Number>,
+) -> Result<(), NoMemory>
+    ensures { OnOk result (out.new
+        ≡ out.old ++ codes "object " ++ designation_text p ++ codes " number " ++ number_text number) }
+{
+    push_named(out, b"object ", p)?;
+    out.extend_from_slice(b" number ")?;
+    push_number(out, number)
+}
+
 fn push_object_head<V: Shelf>(
     shelf: &V,
     out: &mut Bytes,
@@ -48,12 +63,8 @@ fn push_object_head<V: Shelf>(
     requires { live ≡ length (in_object (deeds (V.history shelf.now)) p) }
     ensures { OnOk result (out.new ≡ out.old ++ object_head (deeds (V.history shelf.now)) p) }
 {
-    out.extend_from_slice(b"object ")?;
-    push_designation(out, p)?;
-    out.extend_from_slice(b" number ")?;
-    push_number(out, shelf.number_of(p))?;
-    out.extend_from_slice(b" observations ")?;
-    push_decimal(out, live)?;
+    push_object_names(out, p, shelf.number_of(p))?;
+    push_numbered(out, b" observations ", live)?;
     out.push(b'\n')
 }
 
@@ -75,8 +86,7 @@ pub(crate) fn object_head<V: Shelf>(
 fn push_also_line(out: &mut Bytes, d: Designation) -> Result<(), NoMemory>
     ensures { OnOk result (out.new ≡ out.old ++ also_line d) }
 {
-    out.extend_from_slice(b"also ")?;
-    push_designation(out, d)?;
+    push_named(out, b"also ", d)?;
     out.push(b'\n')
 }
 
@@ -95,8 +105,7 @@ pub(crate) fn name_text(alloc: Global, p: Designation, d: Designation) -> Result
 fn push_track_head(out: &mut Bytes, t: u64, name: TrackName) -> Result<(), NoMemory>
     ensures { OnOk result (out.new ≡ out.old ++ track_head_line t name) }
 {
-    out.extend_from_slice(b"track ")?;
-    push_decimal(out, t)?;
+    push_numbered(out, b"track ", t)?;
     out.push(b' ')?;
     push_track_name(out, name)?;
     out.push(b'\n')

@@ -1,16 +1,17 @@
 //! The text of a tracklet.
 
-ghost use Rattle.std.specs.Prelude.{◌≡◌, ◌++◌, flat_map, IfOk, OnOk};
+ghost use Rattle.std.specs.Prelude.{◌≡◌, ◌++◌, codes, decimal, flat_map, IfOk, OnOk};
 ghost use Rattle.tracklet_file.specs.Observations.{observations_of};
 ghost use Rattle.act_model.specs.Deeds.{deeds};
 ghost use Rattle.act_model.specs.Designations.{links_of};
 ghost use Rattle.act_model.specs.Holdings.{holdings};
 ghost use Rattle.act_model.specs.QueryTexts.{track_line, home_line, state_text, position_text};
 ghost use Rattle.act_model.specs.QueryTexts.{observation_line, tracklet_text};
+ghost use Rattle.act_model.specs.Texts.{line_of};
 
 use crate::reading::is_live;
-use crate::writing::{push_short, push_track_name};
-use act_model::{Shelf, TrackHead, push_decimal, push_designation};
+use crate::writing::{push_named, push_numbered, push_short, push_track_name};
+use act_model::{Shelf, TrackHead};
 use angle_fixed::{write_dec_degrees, write_ra_degrees};
 use ascii_text::blanks::trimmed;
 use item_list::{Bytes, NoMemory};
@@ -22,8 +23,7 @@ use std::alloc::Global;
 fn push_track_line(out: &mut Bytes, t: u64, head: &TrackHead) -> Result<(), NoMemory>
     ensures { OnOk result (out.new ≡ out.old ++ track_line t head.now) }
 {
-    out.extend_from_slice(b"track ")?;
-    push_decimal(out, t)?;
+    push_numbered(out, b"track ", t)?;
     out.extend_from_slice(b" station ")?;
     push_short(out, head.station)?;
     out.extend_from_slice(b" name ")?;
@@ -41,10 +41,8 @@ fn push_home_line<V: Shelf>(
     let Some(home) = home else {
         return out.extend_from_slice(b"home isolated\n");
     };
-    out.extend_from_slice(b"home ")?;
-    push_designation(out, home)?;
-    out.extend_from_slice(b" principal ")?;
-    push_designation(out, shelf.principal(home).unwrap_or(home))?;
+    push_named(out, b"home ", home)?;
+    push_named(out, b" principal ", shelf.principal(home).unwrap_or(home))?;
     out.push(b'\n')
 }
 
@@ -70,18 +68,25 @@ fn push_position(out: &mut Bytes, s: &Sighting) -> Result<(), NoMemory>
     out.extend_from_slice(&write_dec_degrees(s.dec))
 }
 
+/// Writes the line of an observation with this number, which is live or isn't.
+fn push_seen_line(out: &mut Bytes, k: u64, is_live: bool, s: &Sighting) -> Result<(), NoMemory>
+    ensures { OnOk result (out.new
+        ≡ out.old ++ line_of (codes "obs " ++ decimal k ++ state_text is_live ++ position_text s.now)) }
+{
+    push_numbered(out, b"obs ", k)?;
+    push_state(out, is_live)?;
+    push_position(out, s)?;
+    out.push(b'\n')
+}
+
 fn push_observation_line<V: Shelf>(shelf: &V, out: &mut Bytes, k: u64) -> Result<(), NoMemory>
     ensures { OnOk result
         (out.new ≡ out.old ++ observation_line (holdings (deeds (V.history shelf.now))).observations k) }
 {
-    let Some(s) = shelf.sighting(k) else {
-        return Ok(());
-    };
-    out.extend_from_slice(b"obs ")?;
-    push_decimal(out, k)?;
-    push_state(out, is_live(shelf, k))?;
-    push_position(out, s)?;
-    out.push(b'\n')
+    match shelf.sighting(k) {
+        Some(s) => push_seen_line(out, k, is_live(shelf, k), s),
+        None => Ok(()),
+    }
 }
 
 fn push_observation_lines<V: Shelf>(

@@ -11,6 +11,7 @@ ghost use Rattle.catalogue_export.specs.Walks.{pieces_left, to_write, Steps};
 use crate::lines::{object_line, track_line};
 use crate::pieces::{front, name_text, object_head, track_head};
 use crate::tracks::listed_in;
+use crate::writing::push_made;
 use act_model::{Ids, Names, Shelf};
 use item_list::{Bytes, NoMemory};
 use packed_names::Designation;
@@ -118,8 +119,7 @@ impl Walk {
         ensures err { OnErr result ((self.new ≡ self.old) × (out.new ≡ out.old)) }
     {
         let principals = shelf.principals()?;
-        let text = front(alloc, shelf)?;
-        out.extend_from_slice(text.as_slice())?;
+        push_made(out, front(alloc, shelf))?;
         self.principals = principals;
         self.stage = Stage::Objects(0);
         Ok(())
@@ -164,8 +164,7 @@ impl Walk {
     {
         let names = shelf.members(p)?;
         let observations = shelf.live(p)?;
-        let text = object_head(alloc, shelf, p, observations.len())?;
-        out.extend_from_slice(text.as_slice())?;
+        push_made(out, object_head(alloc, shelf, p, observations.len()))?;
         self.names = names;
         self.observations = observations;
         self.stage = Stage::Names { p, next, at: 0 };
@@ -188,8 +187,7 @@ impl Walk {
         let count = self.names.len();
         match self.names.get(at) {
             Some(d) if at < count => {
-                let text = name_text(alloc, p, *d)?;
-                out.extend_from_slice(text.as_slice())?;
+                push_made(out, name_text(alloc, p, *d))?;
                 self.stage = Stage::Names {
                     p,
                     next,
@@ -220,8 +218,7 @@ impl Walk {
         let count = self.observations.len();
         match self.observations.get(at) {
             Some(k) if at < count => {
-                let text = object_line(alloc, shelf, p, *k)?;
-                out.extend_from_slice(text.as_slice())?;
+                push_made(out, object_line(alloc, shelf, p, *k))?;
                 self.stage = Stage::Observations {
                     p,
                     next,
@@ -268,8 +265,7 @@ impl Walk {
         ensures err { OnErr result ((self.new ≡ self.old) × (out.new ≡ out.old)) }
     {
         let observations = listed_in(alloc, shelf, t)?;
-        let text = track_head(alloc, shelf, t, !observations.is_empty())?;
-        out.extend_from_slice(text.as_slice())?;
+        push_made(out, track_head(alloc, shelf, t, !observations.is_empty()))?;
         self.observations = observations;
         self.stage = Stage::Tracklet { t, at: 0 };
         Ok(())
@@ -290,8 +286,7 @@ impl Walk {
         let count = self.observations.len();
         match self.observations.get(at) {
             Some(k) if at < count => {
-                let text = track_line(alloc, shelf, t, *k)?;
-                out.extend_from_slice(text.as_slice())?;
+                push_made(out, track_line(alloc, shelf, t, *k))?;
                 self.stage = Stage::Tracklet { t, at: at + 1 };
                 Ok(())
             }

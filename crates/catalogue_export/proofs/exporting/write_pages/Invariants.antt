@@ -1,14 +1,13 @@
 use Rattle.std.proofs.Common.{◌≡◌, length}
-use Rattle.act_model.specs.Catalogue.{catalogue}
 use Rattle.catalogue_export.proofs.PageLemmas.{Sends}
 use Rattle.catalogue_export.specs.PageTexts.{to_come}
-use Rattle.catalogue_export.proofs.exporting.export.Given as goal
+use Rattle.catalogue_export.proofs.exporting.write_pages.Given as goal
 
 -- the sink took the pages so far, and never failed
 abbrev pub invariant-pages : goal.invariant-pages
 invariant-pages g l =
     let history = g.V.Shelf.history l.shelf in
-    Sends (g.K.Sink.taken l.fn.sink) (g.K.Sink.taken l.sink) (catalogue history) (to_come history l.pages) l.written
+    Sends (g.K.Sink.taken l.fn.sink) (g.K.Sink.taken l.sink) (to_come history l.fn.pages) (to_come history l.pages) l.written
     × (g.K.Sink.faults l.sink ≡ g.K.Sink.faults l.fn.sink)
     × (g.K.Sink.is_open l.sink ≡ g.K.Sink.is_open l.fn.sink)
 
