@@ -1,15 +1,17 @@
 -- Which rows of a query show an object or an observation.
-use Rattle.std.specs.Prelude.{◌≡◌, ◌⊎◌, ℕ, ◌≤◌, ℤ, pos, neg_ℤ, ◌≤ℤ◌, ◌<ℤ◌, true, List, [], length}
+use Rattle.std.specs.Prelude.{◌≡◌, ℕ, ◌≤◌, ℤ, pos, neg_ℤ, ◌≤ℤ◌, ◌<ℤ◌, List}
 use Rattle.angle_fixed.specs.Angles.{circle, quarter}
 use Rattle.obs_time.specs.Instants.{IsInstantNs}
 use Rattle.packed_names.specs.declared.name.Designation.{Designation}
 use Rattle.packed_names.specs.declared.name.Name.TheVariants as names
-use Rattle.packed_names.specs.declared.number.TheConstants.{GREATEST_NUMBER}
 use Rattle.packed_names.specs.Printed.{IsPrintedAs}
-use Rattle.act_bodies.specs.Members.{is_station_code}
 use Rattle.sqlite.specs.declared.types.Value.{Value}
-use Rattle.sqlite.specs.declared.types.Value.TheVariants.{Int, Text}
-use Rattle.sqlite.specs.Order.{Row, column}
+use Rattle.sqlite.specs.declared.types.Value.TheVariants.{Int}
+use Rattle.sqlite.specs.Order.{Row}
+use Rattle.mirror_store.specs.declared.rows.ObjectRow.{ObjectRow}
+use Rattle.mirror_store.specs.declared.rows.SightRow.{SightRow}
+use Rattle.mirror_store.specs.Rows.{IsObjectRow, IsSightRow}
+use Rattle.mirror_sqlite.specs.Stored.{shown_object, shown_sight}
 
 -- ---- one value
 
@@ -37,30 +39,14 @@ IsDeclination dec = (neg_ℤ (pos quarter) ≤ℤ dec) × (dec ≤ℤ pos quarte
 abbrev pub IsDesignationText : List ℕ → Type 0
 IsDesignationText text = (d : Designation) × IsPrintedAs (names.Designation d) text
 
--- the printed form of a designation
-abbrev pub IsDesignation : Value → Type 0
-IsDesignation value = (text : List ℕ) × IsDesignationText text × (value ≡ Text text)
-
--- a code of 3 letters or digits
-abbrev pub IsCode : Value → Type 0
-IsCode value = (code : List ℕ) × (is_station_code code ≡ true) × (value ≡ Text code)
-
 -- ---- a row
 
--- a place, a principal designation, a number or 0, and how many observations
-pub record ShowsObject (row : Row) : Type 0 where
-  pub columns : length row ≡ 4
-  pub place : IsCount greatest_count (column row 0)
-  pub principal : IsDesignation (column row 1)
-  pub number : IsCount GREATEST_NUMBER (column row 2)
-  pub observations : IsCount greatest_count (column row 3)
+-- the row shows an object that is in range
+abbrev pub ShowsObject : Row → Type 0
+ShowsObject row =
+    (object : ObjectRow) × IsObjectRow object × (object.place ≤ greatest_count)
+    × (object.observations ≤ greatest_count) × (row ≡ shown_object object)
 
--- an id, an object's designation or no text, a moment, a place in the sky, and a station
-pub record ShowsSight (row : Row) : Type 0 where
-  pub columns : length row ≡ 6
-  pub id : IsCount greatest_count (column row 0)
-  pub object : IsDesignation (column row 1) ⊎ (column row 1 ≡ Text [])
-  pub time : IsIntegerIn IsInstantNs (column row 2)
-  pub ra : IsIntegerIn IsRightAscension (column row 3)
-  pub dec : IsIntegerIn IsDeclination (column row 4)
-  pub station : IsCode (column row 5)
+-- the row shows an observation that is in range
+abbrev pub ShowsSight : Row → Type 0
+ShowsSight row = (sight : SightRow) × IsSightRow sight × (sight.id ≤ greatest_count) × (row ≡ shown_sight sight)

@@ -150,6 +150,7 @@ fn dec_at(row: &Row, at: usize) -> Option<i64>
 }
 
 /// The object that a row shows; none where it shows no object in range.
+#[tactic(auto, using(crate::proofs::Showing::object_columns))]
 pub fn object_of(row: &Row) -> Option<ObjectRow>
     ensures shown { IfSome result (λ object. row.now ≡ shown_object object) }
     ensures range { IfSome result IsObjectRow }
@@ -174,6 +175,7 @@ pub fn object_of(row: &Row) -> Option<ObjectRow>
 }
 
 /// The observation that a row shows; none where it shows no observation in range.
+#[tactic(auto, using(crate::proofs::Showing::sight_columns))]
 pub fn sight_of(row: &Row) -> Option<SightRow>
     ensures shown { IfSome result (λ sight. row.now ≡ shown_sight sight) }
     ensures range { IfSome result IsSightRow }
