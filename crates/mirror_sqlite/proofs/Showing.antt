@@ -10,7 +10,6 @@ use Rattle.packed_names.specs.declared.number.TheConstants.{GREATEST_NUMBER}
 use Rattle.packed_names.specs.Printed.{IsPrintedAs}
 use Rattle.packed_names.specs.Ranges.{IsNumber}
 use Rattle.act_bodies.specs.Members.{is_station_code}
-use Rattle.sqlite.specs.declared.types.Value.{Value}
 use Rattle.sqlite.specs.declared.types.Value.TheVariants.{Text as Words}
 use Rattle.sqlite.specs.Order.{Row, column}
 use Rattle.mirror_store.specs.Rows.{IsPrintedDesignation, IsEmpty}

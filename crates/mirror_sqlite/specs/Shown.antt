@@ -1,7 +1,6 @@
 -- Which rows of a query show an object or an observation.
 use Rattle.std.specs.Prelude.{◌≡◌, ℕ, ◌≤◌, ℤ, pos, neg_ℤ, ◌≤ℤ◌, ◌<ℤ◌, List}
 use Rattle.angle_fixed.specs.Angles.{circle, quarter}
-use Rattle.obs_time.specs.Instants.{IsInstantNs}
 use Rattle.packed_names.specs.declared.name.Designation.{Designation}
 use Rattle.packed_names.specs.declared.name.Name.TheVariants as names
 use Rattle.packed_names.specs.Printed.{IsPrintedAs}
