@@ -1,5 +1,6 @@
 -- What the resolver reads in the texts, under the schema that each meets.
 use Rattle.std.proofs.Common.{◌≡◌, ℕ, pos, negsuc, List, [], ◌∷◌, codes, false, None, Ok, refl}
+pub use Rattle.mirror_sqlite.specs.Texts.{add_object, add_sight, list_objects, list_sights}
 use Rattle.sqlite.specs.declared.types.Value.TheVariants.{Null, Int}
 use Rattle.sqlite.specs.Term.{Term, lit, col, op2}
 use Rattle.sqlite.specs.Query.{Query, inner, end}
@@ -32,19 +33,6 @@ empty_sights = codes "DELETE FROM sight"
 
 abbrev pub empty_objects : List ℕ
 empty_objects = codes "DELETE FROM object"
-
-abbrev pub add_object : List ℕ
-add_object = codes "INSERT INTO object VALUES (?1, ?2, ?3, ?4)"
-
-abbrev pub add_sight : List ℕ
-add_sight = codes "INSERT INTO sight VALUES (?1, ?2, ?3, ?4, ?5, ?6)"
-
-abbrev pub list_objects : List ℕ
-list_objects = codes "SELECT place, principal, number, observations FROM object ORDER BY place"
-
-abbrev pub list_sights : List ℕ
-list_sights =
-    codes "SELECT id, object, time, ra, dec, station FROM sight WHERE time >= ?1 AND time < ?2 ORDER BY time, id"
 
 -- ---- what they are
 

@@ -9,4 +9,5 @@ mod Showing
 mod Same
 mod Putting
 mod Creating
+mod Compiling
 mod Back

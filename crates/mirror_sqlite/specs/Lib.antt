@@ -1,4 +1,5 @@
 pub mod Tables
+pub mod Texts
 pub mod Stored
 pub mod Shown
 pub mod Holding

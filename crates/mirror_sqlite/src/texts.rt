@@ -11,6 +11,7 @@ ghost use Rattle.mirror_sqlite.specs.Holding.{LosesSights, LosesObjects, GainsOb
 ghost use Rattle.mirror_sqlite.specs.Holding.{Holds, ListsObjects, ListsSights, KeepsTables};
 ghost use Rattle.mirror_store.specs.declared.rows.MirrorRows.{MirrorRows};
 ghost use Rattle.mirror_sqlite.specs.Stored.{name_text, code_text};
+ghost use Rattle.mirror_sqlite.specs.Texts.{row_texts, IsUnderstood, IsAsItWas};
 
 use crate::faults::fault;
 use crate::reading::{objects_of, sights_of};
@@ -208,19 +209,31 @@ pub fn between<S: Alter>(
 }
 
 /// Tries whether a statement can be compiled.
-fn compile<S: Alter>(conn: &mut Connection<S>, text: &str) -> Result<(), MirrorErr> {
+fn compile<S: Alter>(conn: &mut Connection<S>, text: &str) -> Result<(), MirrorErr>
+    ensures understood { HasCleanDisk (state S.Store conn.new)
+        → OnOk result (IsUnderstood (state S.Store conn.old) text.now) }
+    ensures unchanged { HasCleanDisk (state S.Store conn.new)
+        → OnOk result (IsAsItWas (state S.Store conn.old) (state S.Store conn.new)) }
+    ensures survives { Survives (state S.Store conn.old) (state S.Store conn.new) (λ _. ⊥) }
+{
     match conn.prepare(text) {
         Ok(_) => Ok(()),
         Err(error) => Err(fault(error)),
     }
 }
 
-/// Tries whether the tables have the columns that the statements on rows name, and no others. It changes nothing.
+/// Tries whether the tables have the columns that the statements on rows name, and no others. Where they have, nothing is
+/// changed.
 ///
 /// # Errors
 ///
 /// Those of the database, among them that a table has other columns.
-pub fn compile_all<S: Alter>(conn: &mut Connection<S>) -> Result<(), MirrorErr> {
+pub fn compile_all<S: Alter>(conn: &mut Connection<S>) -> Result<(), MirrorErr>
+    ensures understood { HasCleanDisk (state S.Store conn.new)
+        → OnOk result (AllByRecursion (IsUnderstood (state S.Store conn.old)) row_texts) }
+    ensures unchanged { HasCleanDisk (state S.Store conn.new)
+        → OnOk result (IsAsItWas (state S.Store conn.old) (state S.Store conn.new)) }
+{
     compile(conn, ADD_OBJECT)?;
     compile(conn, ADD_SIGHT)?;
     compile(conn, LIST_OBJECTS)?;
